@@ -1,0 +1,3 @@
+pub mod Limit
+pub mod Floor
+pub mod Fraction

@@ -1,0 +1,77 @@
+//! The ring of bytes.
+ghost use Rattle.std.specs.Prelude.{◌≡◌, ◌+◌, ◌≤◌, ◌++◌, [], length, take, drop, min, IfOk};
+ghost use Rattle.pcm_ring.specs.Ring.{empty_ring, free_bytes};
+
+use circular_buffer::HeapCircularBuffer;
+use std::alloc::{AllocError, Global};
+use std::marker::Model;
+
+/// A queue of at most `size` bytes, the oldest first.
+#[derive(Drop)]
+pub struct ByteRing {
+    buffer: HeapCircularBuffer<u8>,
+    size: usize,
+}
+
+impl Model for ByteRing {
+    ghost use Rattle.pcm_ring.specs.Ring.{Ring};
+    ghost use Rattle.std.specs.Prelude.{◌≤◌, length};
+
+    ghost Value = { Ring };
+
+    ghost view = { λ r. record { bytes = r.buffer.items; size = r.size } };
+
+    ghost invariant = { λ r. (length r.buffer.items ≤ r.size) × (r.size ≤ r.buffer.capacity) };
+}
+
+impl ByteRing {
+    /// An empty ring of `max` bytes.
+    pub fn new(alloc: Global, max: usize) -> Result<ByteRing, AllocError>
+        ensures ok { IfOk result (λ made. made ≡ empty_ring max) }
+    {
+        let buffer = HeapCircularBuffer::with_capacity(alloc, max)?;
+        Ok(ByteRing { buffer, size: max })
+    }
+
+    /// How many bytes wait.
+    pub fn fill(&self) -> usize
+        ensures count { result ≡ length self.now.bytes }
+        ensures within { result ≤ self.now.size }
+    {
+        self.buffer.len()
+    }
+
+    /// How many more bytes fit.
+    pub fn free(&self) -> usize
+        ensures count { result ≡ free_bytes self.now }
+        ensures whole { length self.now.bytes + result ≡ self.now.size }
+    {
+        self.size - self.fill()
+    }
+
+    /// Appends the front of `bytes`, as much as fits, and returns how much that is.
+    pub fn put(&mut self, bytes: &[u8]) -> usize
+        ensures count { result ≡ min (length bytes.now) (free_bytes self.old) }
+        ensures kept { self.new
+            ≡ record self.old { bytes = self.old.bytes ++ take result bytes.now } }
+    {
+        let count = bytes.len().min(self.free());
+        self.buffer.fill_from_slice(&bytes[..count])
+    }
+
+    /// Moves the oldest bytes to the front of `out`, and returns how many. The rest of `out` stays.
+    pub fn take(&mut self, out: &mut [u8]) -> usize
+        ensures count { result ≡ min (length out.old) (length self.old.bytes) }
+        ensures moved { out.new ≡ take result self.old.bytes ++ drop result out.old }
+        ensures left { self.new ≡ record self.old { bytes = drop result self.old.bytes } }
+    {
+        self.buffer.read_into(out)
+    }
+
+    /// Drops all bytes that wait.
+    pub fn clear(&mut self)
+        ensures { self.new ≡ record self.old { bytes = [] } }
+    {
+        self.buffer.clear();
+    }
+}
