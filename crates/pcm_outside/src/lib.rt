@@ -1,0 +1,19 @@
+//! What the outside is to the core: files that are read and one that is written, and a sink for lines.
+//! The forms in memory tell their contents and fail where told to; the real forms are the edge to the system.
+#![tactic(auto)]
+
+mod calls;
+mod mem_files;
+mod mem_sink;
+mod outside;
+mod real_files;
+mod real_sink;
+#[cfg(test)]
+mod tests;
+mod transfer;
+
+pub use mem_files::MemFiles;
+pub use mem_sink::MemSink;
+pub use outside::{Files, ReadFault, Sink, WriteFault};
+pub use real_files::RealFiles;
+pub use real_sink::RealSink;

@@ -1,0 +1,82 @@
+//! A sink in memory whose listed puts fail.
+ghost use Rattle.std.specs.Prelude.{◌≡◌, IfOk, OnOk, OnErr, is_err};
+ghost use Rattle.pcm_outside.specs.Sink.{OnlyPuts, Puts, FailsToPut};
+ghost use Rattle.pcm_outside.specs.Calls.{with_listed};
+ghost use Rattle.pcm_outside.specs.Buffer.{empty_buffer, buffer_seen, put_fails, after_put, after_failed_put};
+
+use crate::calls::CallList;
+use crate::outside::{Sink, WriteFault};
+use std::alloc::{AllocError, Global};
+use std::marker::Model;
+
+/// A sink in memory. The puts that are listed fail, and all that is put fits the room it was made with.
+#[derive(Drop)]
+pub struct MemSink {
+    room: usize,
+    bytes: Vec<u8>,
+    calls: CallList,
+    faults: u64,
+}
+
+impl Model for MemSink {
+    ghost use Rattle.std.specs.Prelude.{◌≤◌, vec_len, vec_capacity};
+    ghost use Rattle.pcm_outside.specs.Buffer.{Buffer};
+
+    ghost Value = { Buffer };
+
+    ghost view = { λ s. record { room = s.room; bytes = s.bytes.items; calls = s.calls; faults = s.faults } };
+
+    ghost invariant = { λ s. (s.room ≤ vec_capacity s.bytes) × (vec_len s.bytes ≤ s.room) };
+}
+
+impl MemSink {
+    /// Makes an empty sink, and takes the memory for `room` bytes.
+    pub fn new(alloc: Global, room: usize) -> Result<MemSink, AllocError>
+        ensures { IfOk result (λ sink. sink ≡ empty_buffer room) }
+    {
+        let bytes = Vec::with_capacity(alloc, room)?;
+        Ok(MemSink {
+            room,
+            bytes,
+            calls: CallList::new(alloc),
+            faults: 0,
+        })
+    }
+
+    /// Lists a put that is to fail. Puts are counted from 1.
+    pub fn fail_at(&mut self, call: u32) -> Result<(), AllocError>
+        ensures ok { OnOk result (self.new ≡ record self.old { calls = with_listed self.old.calls call }) }
+        ensures err { OnErr result (self.new ≡ self.old) }
+    {
+        self.calls.fail_at(call)
+    }
+
+    /// The bytes put so far.
+    pub fn bytes(&self) -> &[u8]
+        ensures { result.now ≡ self.now.bytes }
+    {
+        self.bytes.as_slice()
+    }
+}
+
+impl Sink for MemSink {
+    ghost seen = { buffer_seen };
+
+    fn put(&mut self, piece: &[u8]) -> Result<(), WriteFault>
+        ensures only { OnlyPuts (buffer_seen self.old) (buffer_seen self.new) }
+        ensures ok { OnOk result (Puts (buffer_seen self.old) (buffer_seen self.new) piece.now) }
+        ensures err { OnErr result (FailsToPut (buffer_seen self.old) (buffer_seen self.new) piece.now) }
+
+        // It fails exactly at a listed call, and where more than the room would be put.
+        ensures fails { is_err result ≡ put_fails self.old piece.now }
+        ensures after { OnOk result (self.new ≡ after_put self.old piece.now) }
+        ensures after_failed { OnErr result (self.new ≡ after_failed_put self.old) }
+    {
+        if self.calls.count() || self.room - self.bytes.len() < piece.len() {
+            self.faults = self.faults.saturating_add(1);
+            return Err(WriteFault);
+        }
+        self.bytes.extend_from_slice(piece).unwrap();
+        Ok(())
+    }
+}
