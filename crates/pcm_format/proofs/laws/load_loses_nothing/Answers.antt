@@ -1,0 +1,17 @@
+use Rattle.pcm_format.specs.Formats.{bits_of}
+use Rattle.pcm_format.specs.Samples.{sample_value}
+use Rattle.pcm_format.proofs.Spelling.{at_depth-loaded, stored-loaded, scaled-fits, sample_value-fits, at_depth-fits, bits_of-above, bits_of-within}
+use Rattle.pcm_format.proofs.laws.load_loses_nothing.Goals as goal
+
+pub returns-clause-depth : goal.returns-clause-depth
+returns-clause-depth c = at_depth-loaded
+
+pub returns-clause-again : goal.returns-clause-again
+returns-clause-again c = λ f bytes sample. stored-loaded f bytes sample.whole sample.each
+
+pub returns-clause-range : goal.returns-clause-range
+returns-clause-range c = λ f bytes sample.
+    scaled-fits (bits_of f) (sample_value f bytes) (bits_of-above f) (bits_of-within f) (sample_value-fits f bytes sample.whole sample.each)
+
+pub returns-clause-fits : goal.returns-clause-fits
+returns-clause-fits c = λ f x. at_depth-fits (bits_of f) x (bits_of-above f) (bits_of-within f)

@@ -1,0 +1,5 @@
+pub mod Formats
+pub mod Layouts
+pub mod Samples
+pub mod Frames
+pub mod Replies

@@ -1,0 +1,35 @@
+//! The events of a script, each an indivisible step.
+
+use crate::Settings;
+
+/// Which way sound goes through a descriptor.
+#[derive(Clone, Copy, Debug, PartialEq, Eq)]
+pub enum Way {
+    /// From the client to the device.
+    Play,
+}
+
+/// One step of a run: a client's call, or the device's interrupt.
+#[derive(Clone, Copy, Debug, PartialEq, Eq)]
+pub enum Event {
+    /// A client opens a descriptor with settings of its own.
+    Open {
+        fd: u8,
+        way: Way,
+        settings: Settings,
+    },
+    /// A client writes `len` of the pool's inline bytes, from byte `at` on.
+    Write {
+        fd: u8,
+        at: u32,
+        len: u32,
+    },
+    /// A client closes a descriptor.
+    Close {
+        fd: u8,
+    },
+    /// The device takes `frames` frames out of its ring and wants as many new ones.
+    Intr {
+        frames: u32,
+    },
+}
