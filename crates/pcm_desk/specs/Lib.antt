@@ -1,0 +1,4 @@
+pub mod Usual
+pub mod Books
+pub mod Desk
+pub mod Events

@@ -1,0 +1,45 @@
+//! The device that all channels share, and who holds which channel.
+
+ghost use Rattle.std.specs.Prelude.{◌≡◌};
+
+use pcm_format::{Format, Layout, Settings, Way};
+
+/// What is settled of a device before the first event.
+#[derive(Clone, Copy, Debug, PartialEq, Eq)]
+pub struct Device {
+    pub settings: Settings,
+    /// Frames that an interrupt takes where a script names no number.
+    pub block_frames: u32,
+    /// Frames of the device's ring.
+    pub ring_frames: u32,
+    /// How many channels can play at once.
+    pub play_slots: u32,
+}
+
+impl Device {
+    ghost use Rattle.pcm_desk.specs.Usual.{usual_device};
+
+    /// The device of a run without a configuration: 16 bits, stereo, 48 kHz, a ring of four blocks of 256 frames,
+    /// four channels that play.
+    pub fn usual() -> Device
+        ensures { result ≡ usual_device }
+    {
+        Device {
+            settings: Settings {
+                format: Format::S16Le,
+                layout: Layout::Two,
+                rate: 48000,
+            },
+            block_frames: 256,
+            ring_frames: 1024,
+            play_slots: 4,
+        }
+    }
+}
+
+/// The channel that an open descriptor holds.
+#[derive(Clone, Copy, Debug, PartialEq, Eq)]
+pub struct Held {
+    pub way: Way,
+    pub slot: usize,
+}

@@ -1,0 +1,187 @@
+//! What each event does to a book, as plain arithmetic.
+
+ghost use Rattle.std.specs.Prelude.{◌≡◌, ◌+◌, ◌*◌, ◌^◌, ◌<◌, ◌≤◌};
+ghost use Rattle.pcm_format.specs.Frames.{frame_bytes};
+ghost use Rattle.pcm_desk.specs.Books.{frames_written, fill_of, allowed_in, giving, begun, accepting, close_turn, emptied, refilled, primed_in, started_in, settled_in, drained_in, closed_in, gives, underruns_after};
+
+use crate::{Book, FRAGMENT_BYTES, State};
+use pcm_format::Settings;
+
+impl Book {
+    /// The book of a new opening.
+    pub fn begun(settings: Settings) -> Book
+        ensures { result ≡ begun settings }
+    {
+        Book {
+            settings,
+            state: State::Setup,
+            written: 0,
+            eaten: 0,
+            given: 0,
+            underruns: 0,
+        }
+    }
+
+    /// The whole frames accepted in this run.
+    pub fn frames_written(&self) -> u64
+        ensures { result ≡ frames_written self.now }
+    {
+        self.written / self.settings.frame_bytes() as u64
+    }
+
+    /// The bytes that wait in the ring.
+    pub fn fill(&self) -> u64
+        requires { self.now.eaten * frame_bytes self.now.settings ≤ self.now.written }
+        ensures { result ≡ fill_of self.now }
+    {
+        self.written - self.eaten * self.settings.frame_bytes() as u64
+    }
+
+    /// The book after `accepted` more bytes.
+    pub fn accepting(self, accepted: u64) -> Book
+        requires count { self.written + accepted < 2 ^ 64 }
+        requires eaten { self.eaten * frame_bytes self.settings ≤ self.written }
+        ensures { result ≡ accepting accepted self }
+    {
+        let more = Book {
+            written: self.written + accepted,
+            ..self
+        };
+        more.primed().started()
+    }
+
+    // With bytes in it the book isn't in Setup.
+    fn primed(self) -> Book
+        ensures { result ≡ primed_in self.state self }
+    {
+        match self.state {
+            State::Setup if self.written > 0 => Book {
+                state: State::Primed,
+                ..self
+            },
+            _ => self,
+        }
+    }
+
+    // A primed book starts at a full fragment.
+    fn started(self) -> Book
+        requires { self.eaten * frame_bytes self.settings ≤ self.written }
+        ensures { result ≡ started_in self.state self }
+    {
+        match self.state {
+            State::Primed if self.fill() >= u64::from(FRAGMENT_BYTES) => Book {
+                state: State::Running,
+                ..self
+            },
+            _ => self,
+        }
+    }
+
+    /// The book after a close.
+    pub fn closed(self) -> Book
+        ensures { result ≡ close_turn self }
+    {
+        let drained = self.drained();
+        match drained.state {
+            State::Setup => Book {
+                state: State::Free,
+                ..drained
+            },
+            State::Draining { .. } => Book {
+                state: State::Draining { closed: true },
+                ..drained
+            },
+            _ => drained,
+        }
+    }
+
+    // No more comes. A part of a frame alone is dropped.
+    fn drained(self) -> Book
+        ensures { result ≡ drained_in self.state self }
+    {
+        let draining = Book {
+            state: State::Draining { closed: false },
+            ..self
+        };
+        match self.state {
+            State::Primed if self.frames_written() > 0 => draining,
+            State::Primed => self.emptied(State::Setup),
+            State::Running => draining.settled(),
+            _ => self,
+        }
+    }
+
+    // A run ends: nothing of it is left.
+    fn emptied(self, state: State) -> Book
+        ensures { result ≡ emptied state self }
+    {
+        Book {
+            state,
+            written: 0,
+            eaten: 0,
+            given: 0,
+            ..self
+        }
+    }
+
+    // A draining book that has given its last frame is over.
+    fn settled(self) -> Book
+        ensures { result ≡ settled_in self.state self }
+    {
+        match self.state {
+            State::Draining { closed } if self.given == self.frames_written() => {
+                self.emptied(if closed { State::Free } else { State::Setup })
+            }
+            _ => self,
+        }
+    }
+
+    /// How many of `n` frames the book gives to the mix.
+    pub fn giving(&self, n: u64) -> u64
+        ensures { result ≡ giving n self.now }
+    {
+        let allowed = match self.state {
+            State::Running | State::Draining { .. } => self.frames_written(),
+            State::Free | State::Setup | State::Primed => 0,
+        };
+        n.min(allowed.saturating_sub(self.given))
+    }
+
+    /// The book after an interrupt that mixes `n` frames.
+    pub fn refilled(self, n: u64) -> Book
+        requires { self.given + n < 2 ^ 64 }
+        ensures { result ≡ refilled n self }
+    {
+        match self.state {
+            State::Running => Book {
+                underruns: self.underruns_after(n),
+                ..self.gives(n)
+            },
+            State::Draining { .. } => self.gives(n).settled(),
+            _ => self,
+        }
+    }
+
+    // The frames of an interrupt leave the ring and go into the mix.
+    fn gives(self, n: u64) -> Book
+        requires { self.given + n < 2 ^ 64 }
+        ensures { result ≡ gives n self }
+    {
+        Book {
+            eaten: self.eaten.max(self.frames_written().min(self.given + n)),
+            given: self.given + self.giving(n),
+            ..self
+        }
+    }
+
+    // Fewer than `n` frames are a shortage. The count stands still at its end.
+    fn underruns_after(&self, n: u64) -> u32
+        ensures { result ≡ underruns_after n self.now }
+    {
+        if self.giving(n) < n {
+            self.underruns.saturating_add(1)
+        } else {
+            self.underruns
+        }
+    }
+}
