@@ -1,0 +1,7 @@
+pub mod Sounding
+pub mod Slots
+pub mod Safe
+pub mod Stories
+pub mod Blocks
+pub mod DeviceLists
+pub mod Turns
