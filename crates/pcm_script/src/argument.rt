@@ -1,0 +1,76 @@
+//! The words that follow a command.
+
+ghost use Rattle.std.specs.Prelude.{◌≡◌, ◌≤◌, ◌<◌, IfOk, vec_len};
+ghost use Rattle.pcm_desk.specs.Desk.{descriptor_count};
+ghost use Rattle.pcm_desk.specs.Events.{write_limit};
+ghost use Rattle.pcm_script.specs.Answers.{Gives};
+ghost use Rattle.pcm_script.specs.Commands.{bytes_in, descriptor_in, format_in, layout_in, plays_in, rate_in};
+
+use crate::ScriptKind;
+use crate::fault::LineFault;
+use crate::number::{number_in, number_within};
+use hex::FromHexError;
+use pcm_format::{Format, Layout};
+use std::alloc::Global;
+
+const WRITE_LIMIT: usize = 4096;
+
+// A descriptor.
+pub(crate) fn descriptor_in(word: &[u8]) -> Result<u8, ScriptKind>
+    ensures { result ≡ descriptor_in word.now }
+{
+    Ok(number_within(0, 63, word)? as u8)
+}
+
+// Whether sound goes to the device.
+pub(crate) fn plays_in(word: &[u8]) -> Result<bool, ScriptKind>
+    ensures { result ≡ plays_in word.now }
+{
+    if word == b"play".as_slice() {
+        Ok(true)
+    } else if word == b"rec".as_slice() {
+        Ok(false)
+    } else {
+        Err(ScriptKind::Name)
+    }
+}
+
+// A sample format by its name.
+pub(crate) fn format_in(word: &[u8]) -> Result<Format, ScriptKind>
+    ensures { result ≡ format_in word.now }
+{
+    Format::from_name(word).ok_or(ScriptKind::Name)
+}
+
+// A layout by its number of channels.
+pub(crate) fn layout_in(word: &[u8]) -> Result<Layout, ScriptKind>
+    ensures { result ≡ layout_in word.now }
+{
+    let channels = number_in(word)?;
+    u32::try_from(channels)
+        .ok()
+        .and_then(Layout::of)
+        .ok_or(ScriptKind::Range)
+}
+
+// Frames per second.
+pub(crate) fn rate_in(word: &[u8]) -> Result<u32, ScriptKind>
+    ensures { result ≡ rate_in word.now }
+{
+    number_within(4000, 192000, word)
+}
+
+// The bytes of a write.
+pub(crate) fn bytes_in(alloc: Global, word: &[u8]) -> Result<Vec<u8>, LineFault>
+    ensures value { Gives (λ bytes. bytes.items) result (bytes_in word.now) }
+    ensures room { IfOk result (λ bytes. vec_len bytes ≤ write_limit) }
+{
+    if word == b"-".as_slice() {
+        return Ok(Vec::new(alloc));
+    }
+    match hex::decode(alloc, word) {
+        Ok(bytes) if bytes.len() <= WRITE_LIMIT => Ok(bytes),
+        Err(FromHexError::OutOfMemory) => Err(LineFault::Memory),
+        _ => Err(LineFault::Refused(ScriptKind::Hex)),
+    }
+}

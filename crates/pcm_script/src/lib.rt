@@ -1,0 +1,19 @@
+//! Script text to events.
+//! A text is accepted exactly where every line is, and refused for its first fault.
+#![tactic(auto)]
+
+mod argument;
+mod command;
+mod draft;
+mod fault;
+mod number;
+mod reader;
+mod script;
+mod words;
+
+pub use fault::{Refusal, ScriptFault, ScriptKind};
+pub use reader::script_of;
+pub use script::{Events, Script};
+
+#[cfg(test)]
+mod tests;
