@@ -1,0 +1,3 @@
+pub mod Transcript
+pub mod Verdict
+pub mod Faults
