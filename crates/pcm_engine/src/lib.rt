@@ -1,0 +1,16 @@
+//! The engine: descriptors, channels and the device's ring, stepped one event at a time.
+//! After any list of events it stands for them: its books, rings and bytes are those of their story.
+#![tactic(auto)]
+
+mod channel;
+mod clients;
+mod depth;
+mod engine;
+mod fetch;
+mod mixer;
+mod output;
+
+pub use engine::Engine;
+
+#[cfg(test)]
+mod tests;
