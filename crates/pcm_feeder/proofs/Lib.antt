@@ -1,0 +1,9 @@
+pub mod Counts
+pub mod Frames
+pub mod Streams
+pub mod Outputs
+pub mod Turns
+pub mod Fitted
+pub mod Unrated
+pub mod Silence
+pub mod Driven

@@ -1,0 +1,134 @@
+-- Which frames an output uses.
+use Rattle.std.proofs.Common.{◌≡◌, ◌≢◌, refl, ◌<◌, ◌+◌, ◌*◌, ◌/◌, ◌%◌, ◌++◌, map, sym, ℕ, suc, ℤ, pos, ◌+ℤ◌, ◌-ℤ◌, ◌*ℤ◌, ◌≤ℤ◌, ◌<ℤ◌, ap, ◌∙◌, arith, get_or}
+use Rattle.std.specs.List.{range_with_len}
+use Rattle.std.proofs.lemmas.Int.{ints}
+use Rattle.pcm_feeder.proofs.Counts.{need_grows}
+use Rattle.pcm_feeder.proofs.Frames.{map-range-add, map-range-shift}
+use Rattle.pcm_format.proofs.Streams.{map-range-same}
+use Rattle.pcm_feeder.specs.declared.stage.Gain.{Gain}
+use Rattle.pcm_feeder.specs.declared.stage.Spec.{Spec}
+use Rattle.pcm_feeder.specs.declared.stage.Spec.TheVariants.{Matrix, Hold, Linear, Poly, Volume, Depth}
+use Rattle.pcm_feeder.specs.declared.table.Table.{Table}
+use Rattle.pcm_feeder.specs.Filters.{Filters}
+use Rattle.pcm_feeder.specs.Kinds.{kind_of}
+use Rattle.pcm_feeder.specs.declared.kind.Kind.TheVariants as kinds
+use Rattle.pcm_feeder.specs.Layouts.{in_layout, at_gain, sum_of}
+use Rattle.pcm_feeder.specs.Limits.{IsSpec}
+use Rattle.pcm_feeder.specs.Rates.{rate_of, need}
+use Rattle.pcm_feeder.specs.Stages.{at_bits, blended, table_at, coef, scaled_down, filtered, output_at, conv, outputs}
+use Rattle.pcm_feeder.specs.Streams.{Stream}
+
+-- ---- limits
+
+-- both rates are above 0
+pub src-above : (spec : Spec) → IsSpec spec → 0 < (rate_of spec).src
+src-above (Matrix from to) is = omega arith
+src-above (Hold src dst channels) is = omega (arith, is.source.least)
+src-above (Linear src dst channels) is = omega (arith, is.source.least)
+src-above (Poly src dst channels table taps) is = omega (arith, is.change.source.least)
+src-above (Volume layout) is = omega arith
+src-above (Depth bits channels) is = omega arith
+
+pub dst-above : (spec : Spec) → IsSpec spec → 0 < (rate_of spec).dst
+dst-above (Matrix from to) is = omega arith
+dst-above (Hold src dst channels) is = omega (arith, is.target.least)
+dst-above (Linear src dst channels) is = omega (arith, is.target.least)
+dst-above (Poly src dst channels table taps) is = omega (arith, is.change.target.least)
+dst-above (Volume layout) is = omega arith
+dst-above (Depth bits channels) is = omega arith
+
+-- ---- outputs
+
+-- the first place that an output uses, from the frame under it
+abbrev pub first_used : Spec → ℤ
+first_used (Matrix from to) = pos 0
+first_used (Hold src dst channels) = pos 0
+first_used (Linear src dst channels) = pos 0
+first_used (Poly src dst channels table taps) = pos 1 -ℤ pos (taps / 2)
+first_used (Volume layout) = pos 0
+first_used (Depth bits channels) = pos 0
+
+-- two streams have the same frames at the places that an output uses
+abbrev pub AgreeAround : Spec → Stream → Stream → Type 0
+AgreeAround spec x y = (a : ℤ) → first_used spec ≤ℤ a → a ≤ℤ pos (rate_of spec).lookahead → x a ≡ y a
+
+-- one channel of a filter
+filtered-same : (table : Table) (taps row : ℕ) (x y : Stream) (channel : ℕ)
+    → ((j : ℕ) → j < taps → x (pos (j + 1) -ℤ pos (taps / 2)) ≡ y (pos (j + 1) -ℤ pos (taps / 2)))
+    → filtered table taps row x channel ≡ filtered table taps row y channel
+filtered-same table taps row x y channel same =
+    ap (λ list. scaled_down table.shift (sum_of list))
+    (map-range-same (λ j. coef table row j *ℤ get_or (x (pos (j + 1) -ℤ pos (taps / 2))) channel (pos 0))
+    (λ j. coef table row j *ℤ get_or (y (pos (j + 1) -ℤ pos (taps / 2))) channel (pos 0)) taps
+    (λ j below. ap (λ frame. coef table row j *ℤ get_or frame channel (pos 0)) (same j below)))
+
+-- an output uses no other place
+pub output-same : (spec : Spec) (tables : Filters) (gain : Gain) (f : ℕ) (x y : Stream) → IsSpec spec → AgreeAround spec x y
+    → output_at spec tables gain f x ≡ output_at spec tables gain f y
+output-same (Matrix from to) tables gain f x y is same = ap (in_layout from to) (same (pos 0) (omega (arith, ints)) (omega (arith, ints)))
+output-same (Hold src dst channels) tables gain f x y is same = same (pos 0) (omega (arith, ints)) (omega (arith, ints))
+output-same (Linear src dst channels) tables gain f x y is same =
+    ap (λ frame. blended dst f frame (x (pos 1))) (same (pos 0) (omega (arith, ints)) (omega (arith, ints)))
+    ∙ ap (blended dst f (y (pos 0))) (same (pos 1) (omega (arith, ints)) (omega (arith, ints)))
+output-same (Poly src dst channels table taps) tables gain f x y is same =
+    let found = table_at tables table in
+    let row = f * found.phases / dst in
+    map-range-same (filtered found taps row x) (filtered found taps row y) channels
+    (λ channel within. filtered-same found taps row x y channel
+    (λ j below. same (pos (j + 1) -ℤ pos (taps / 2)) (omega (arith, ints)) (omega (arith, ints, is.row))))
+output-same (Volume layout) tables gain f x y is same = ap (at_gain layout gain) (same (pos 0) (omega (arith, ints)) (omega (arith, ints)))
+output-same (Depth bits channels) tables gain f x y is same = ap (at_bits bits) (same (pos 0) (omega (arith, ints)) (omega (arith, ints)))
+
+-- output k uses the first need (k + 1) frames of a stream, and what lies before them
+pub conv-local : (spec : Spec) (tables : Filters) (gain : Gain) (x y : Stream) (k : ℕ) → IsSpec spec
+    → ((place : ℤ) → place <ℤ pos (need (rate_of spec) (k + 1)) → x place ≡ y place)
+    → conv spec tables gain x k ≡ conv spec tables gain y k
+unfolding conv
+conv-local spec tables gain x y k is same =
+    let rate = rate_of spec in
+    let i = k * rate.src / rate.dst in
+    let next : k + 1 ≡ suc k = omega arith in
+    let first : need rate (k + 1) ≡ i + 1 + rate.lookahead = ap (need rate) next in
+    output-same spec tables gain (k * rate.src % rate.dst) (λ a. x (pos i +ℤ a)) (λ a. y (pos i +ℤ a)) is
+    (λ a least most. same (pos i +ℤ a) (omega (arith, ints)))
+
+-- outputs in two parts
+pub outputs-add : (spec : Spec) (tables : Filters) (gain : Gain) (x : Stream) (from n m : ℕ)
+    → outputs spec tables gain x from (n + m) ≡ outputs spec tables gain x from n ++ outputs spec tables gain x (from + n) m
+outputs-add spec tables gain x from n m = map-range-add (conv spec tables gain x) from n m
+
+-- outputs use only the frames that their counts name
+pub outputs-local : (spec : Spec) (tables : Filters) (gain : Gain) (x y : Stream) (from count : ℕ) → IsSpec spec
+    → ((place : ℤ) → place <ℤ pos (need (rate_of spec) (from + count)) → x place ≡ y place)
+    → outputs spec tables gain x from count ≡ outputs spec tables gain y from count
+outputs-local spec tables gain x y from count is same =
+    let none : from + 0 ≡ from = omega arith in
+    ap (λ s. map (conv spec tables gain x) (range_with_len s count)) (sym none)
+    ∙ sym (map-range-shift (conv spec tables gain x) from 0 count)
+    ∙ map-range-same (λ j. conv spec tables gain x (from + j)) (λ j. conv spec tables gain y (from + j)) count
+    (λ j below. conv-local spec tables gain x y (from + j) is
+    (λ place within. same place (omega (arith, ints, need_grows (rate_of spec) (from + j + 1) (from + count) (dst-above spec is) (omega arith)))))
+    ∙ map-range-shift (conv spec tables gain y) from 0 count
+    ∙ ap (λ s. map (conv spec tables gain y) (range_with_len s count)) none
+
+-- the gain counts for a volume stage alone
+pub conv-gain : (spec : Spec) (tables : Filters) (gain other : Gain) (x : Stream) (k : ℕ) → kind_of spec ≢ kinds.Volume
+    → conv spec tables gain x k ≡ conv spec tables other x k
+unfolding conv
+conv-gain (Matrix from to) tables gain other x k not = refl
+conv-gain (Hold src dst channels) tables gain other x k not = refl
+conv-gain (Linear src dst channels) tables gain other x k not = refl
+conv-gain (Poly src dst channels table taps) tables gain other x k not = refl
+conv-gain (Volume layout) tables gain other x k not = absurd (not refl)
+conv-gain (Depth bits channels) tables gain other x k not = refl
+
+pub outputs-gain : (spec : Spec) (tables : Filters) (gain other : Gain) (x : Stream) (from count : ℕ) → kind_of spec ≢ kinds.Volume
+    → outputs spec tables gain x from count ≡ outputs spec tables other x from count
+outputs-gain spec tables gain other x from count not =
+    let none : from + 0 ≡ from = omega arith in
+    ap (λ s. map (conv spec tables gain x) (range_with_len s count)) (sym none)
+    ∙ sym (map-range-shift (conv spec tables gain x) from 0 count)
+    ∙ map-range-same (λ j. conv spec tables gain x (from + j)) (λ j. conv spec tables other x (from + j)) count
+    (λ j below. conv-gain spec tables gain other x (from + j) not)
+    ∙ map-range-shift (conv spec tables other x) from 0 count
+    ∙ ap (λ s. map (conv spec tables other x) (range_with_len s count)) none

@@ -1,0 +1,89 @@
+-- The limits of what a stage is fitted to, of filters and of gains.
+use Rattle.std.specs.Prelude.{◌≡◌, ◌≤◌, ◌⊎◌, ◌*◌, ◌^◌, ◌/◌, ℕ, ℤ, pos, neg_ℤ, ◌≤ℤ◌, List, length, All, IsSomeAnd, slice_get}
+use Rattle.pcm_feeder.specs.declared.stage.Gain.{Gain}
+use Rattle.pcm_feeder.specs.declared.stage.Spec.{Spec}
+use Rattle.pcm_feeder.specs.declared.stage.Spec.TheVariants.{Matrix, Hold, Linear, Poly, Volume, Depth}
+use Rattle.pcm_feeder.specs.declared.table.Table.{Table}
+use Rattle.pcm_feeder.specs.Filters.{Filters}
+
+-- a coefficient between -(2 ^ 24) and 2 ^ 24
+pub record IsCoef (coef : ℤ) : Type 0 where
+  pub low : neg_ℤ (pos (2 ^ 24)) ≤ℤ coef
+  pub high : coef ≤ℤ pos (2 ^ 24)
+
+-- an even number of taps from 2 to 64
+pub record AreTaps (taps : ℕ) : Type 0 where
+  pub even : taps ≡ 2 * (taps / 2)
+  pub least : 2 ≤ taps
+  pub most : taps ≤ 64
+
+-- a rate in frames per second
+pub record IsRate (rate : ℕ) : Type 0 where
+  pub least : 4000 ≤ rate
+  pub most : rate ≤ 192000
+
+-- the rates of a filter: both, or neither
+abbrev pub AreTableRates : ℕ → ℕ → Type 0
+AreTableRates src dst = ((src ≡ 0) × (dst ≡ 0)) ⊎ (IsRate src × IsRate dst)
+
+-- a filter within its limits, with a coefficient for each phase and tap
+pub record IsTable (table : Table) : Type 0 where
+  pub rates : AreTableRates table.src table.dst
+  pub least_phases : 1 ≤ table.phases
+  pub most_phases : table.phases ≤ 512
+  pub taps : AreTaps table.taps
+  pub coefs : length table.coefs ≡ table.phases * table.taps
+  pub size : table.phases * table.taps ≤ 16384
+  pub range : All IsCoef table.coefs
+  pub least_shift : 1 ≤ table.shift
+  pub most_shift : table.shift ≤ 30
+
+-- at most four filters
+pub record AreFilters (filters : List Table) : Type 0 where
+  pub count : length filters ≤ 4
+  pub each : All IsTable filters
+
+-- as many channels as a layout may have
+pub record AreChannels (channels : ℕ) : Type 0 where
+  pub least : 1 ≤ channels
+  pub most : channels ≤ 8
+
+-- a change of rate within the limits
+pub record IsChange (src dst channels : ℕ) : Type 0 where
+  pub source : IsRate src
+  pub target : IsRate dst
+  pub within : AreChannels channels
+
+-- a filter's change of rate within the limits
+pub record IsFilter (src dst channels taps : ℕ) : Type 0 where
+  pub change : IsChange src dst channels
+  pub row : AreTaps taps
+
+-- a number of bits within the limits
+pub record IsDepth (bits channels : ℕ) : Type 0 where
+  pub least : 1 ≤ bits
+  pub most : bits ≤ 32
+  pub within : AreChannels channels
+
+-- what a stage may be fitted to
+abbrev pub IsSpec : Spec → Type 0
+IsSpec (Matrix from to) = Unit {0}
+IsSpec (Hold src dst channels) = IsChange src dst channels
+IsSpec (Linear src dst channels) = IsChange src dst channels
+IsSpec (Poly src dst channels table taps) = IsFilter src dst channels taps
+IsSpec (Volume layout) = Unit {0}
+IsSpec (Depth bits channels) = IsDepth bits channels
+
+-- a gain of at most one on each side
+pub record IsGain (gain : Gain) : Type 0 where
+  pub left : gain.left ≤ 65536
+  pub right : gain.right ≤ 65536
+
+-- a filter's table is there, with the taps that the stage was fitted to
+abbrev pub HasTable : Spec → Filters → Type 0
+HasTable (Matrix from to) tables = Unit {0}
+HasTable (Hold src dst channels) tables = Unit {0}
+HasTable (Linear src dst channels) tables = Unit {0}
+HasTable (Poly src dst channels table taps) tables = IsSomeAnd (slice_get tables.list table) (λ found. found.taps ≡ taps)
+HasTable (Volume layout) tables = Unit {0}
+HasTable (Depth bits channels) tables = Unit {0}

@@ -1,0 +1,50 @@
+-- The boxes of a rack, and whether each is of its place's kind.
+use Rattle.std.specs.Prelude.{◌≡◌, ◌≢◌, ◌⊎◌, ℕ, List, [], ◌∷◌, All}
+use Rattle.pcm_feeder.specs.declared.kind.Kind.{Kind}
+use Rattle.pcm_feeder.specs.declared.kind.Kind.TheVariants as kinds
+use Rattle.pcm_feeder.specs.declared.rack.SixOf.{SixOf}
+use Rattle.pcm_feeder.specs.declared.rack.RackOf.{RackOf}
+use Rattle.pcm_feeder.specs.declared.rack.RacksOf.{RacksOf}
+use Rattle.pcm_feeder.specs.declared.rack.WrongKind.{WrongKind}
+
+-- a place of a rack: the kind that it asks for, and its box
+pub record Place (B : Type 0) : Type 0 where
+  pub asks : Kind
+  pub box : B
+
+-- the places of a rack, in their order
+abbrev pub places_of : {B : Type 0} → SixOf B → List (Place B)
+places_of six = record { asks = kinds.Depth; box = six.depth } ∷ []
+
+-- a place's box is of another kind
+abbrev pub IsWrongAt : {B : Type 0} → (B → Kind) → Place B → WrongKind → Type 0
+IsWrongAt kind place wrong = (wrong ≡ record { place = place.asks; found = kind place.box }) × (kind place.box ≢ place.asks)
+
+-- the first place whose box is of another kind
+abbrev pub IsFirstWrong : {B : Type 0} → (B → Kind) → List (Place B) → WrongKind → Type 0
+IsFirstWrong kind [] wrong = ⊥
+IsFirstWrong kind (place ∷ rest) wrong = IsWrongAt kind place wrong ⊎ ((kind place.box ≡ place.asks) × IsFirstWrong kind rest wrong)
+
+-- each box is of the kind that its place asks for
+pub record HaveKinds {B : Type 0} (kind : B → Kind) (six : SixOf B) : Type 0 where
+  pub depth : kind six.depth ≡ kinds.Depth
+
+-- the boxes of a rack
+abbrev pub boxes_of : {B : Type 0} → RackOf B → SixOf B
+boxes_of rack = rack.boxes
+
+-- each box of a rack is of the kind that its place asks for
+abbrev pub IsRack : {B : Type 0} → (B → Kind) → RackOf B → Type 0
+IsRack kind rack = HaveKinds kind (boxes_of rack)
+
+-- and so in each of these racks
+abbrev pub AreRacks : {B : Type 0} → (B → Kind) → List (RackOf B) → Type 0
+AreRacks kind racks = All (IsRack kind) racks
+
+-- the racks of a run, in their order
+abbrev pub list_of : {B : Type 0} → RacksOf B → List (RackOf B)
+list_of racks = racks.list.items
+
+-- how many racks a run has: one for each play slot and each record slot
+abbrev pub rack_count : ℕ
+rack_count = 32

@@ -1,0 +1,73 @@
+-- A change of rate in numbers of frames. k output frames at the rate `dst` last as long as k * src / dst input frames.
+use Rattle.std.specs.Prelude.{◌≡◌, ◌≤◌, ◌<◌, ◌↔◌, ℕ, zero, suc, ◌+◌, ◌-◌, ◌*◌, ◌/◌}
+use Rattle.pcm_feeder.specs.declared.stage.Spec.{Spec}
+use Rattle.pcm_feeder.specs.declared.stage.Spec.TheVariants.{Matrix, Hold, Linear, Poly, Volume, Depth}
+
+-- two rates, and how many frames past the one under an output a converter looks ahead
+pub record Rate : Type 0 where
+  pub src : ℕ
+  pub dst : ℕ
+  pub lookahead : ℕ
+
+-- the rate of a stage that gives a frame for each frame
+abbrev pub unchanged : Rate
+unchanged = record { src = 1; dst = 1; lookahead = 0 }
+
+-- the rate of a stage
+abbrev pub rate_of : Spec → Rate
+rate_of (Matrix from to) = unchanged
+rate_of (Hold src dst channels) = record { src = src; dst = dst; lookahead = 0 }
+rate_of (Linear src dst channels) = record { src = src; dst = dst; lookahead = 1 }
+rate_of (Poly src dst channels table taps) = record { src = src; dst = dst; lookahead = taps / 2 }
+rate_of (Volume layout) = unchanged
+rate_of (Depth bits channels) = unchanged
+
+-- a quotient, rounded up
+abbrev pub div_up : ℕ → ℕ → ℕ
+div_up a b = (a + (b - 1)) / b
+
+-- how many input frames the first c outputs use
+abbrev pub need : Rate → ℕ → ℕ
+need rate zero = 0
+need rate (suc c) = c * rate.src / rate.dst + 1 + rate.lookahead
+
+-- how many outputs last as long as n input frames
+abbrev pub len : Rate → ℕ → ℕ
+len rate n = div_up (n * rate.dst) rate.src
+
+-- how many outputs n input frames allow: the greatest c of which need is at most n
+abbrev pub can : Rate → ℕ → ℕ
+can rate n = len rate (n - rate.lookahead)
+
+-- `can` is this greatest number
+abbrev pub IsGreatest : Rate → Type 0
+IsGreatest rate = (c n : ℕ) → (need rate c ≤ n) ↔ (c ≤ can rate n)
+
+-- s input frames last as long as d outputs
+pub record IsPeriod (rate : Rate) (s d : ℕ) : Type 0 where
+  pub src_above : 0 < rate.src
+  pub dst_above : 0 < rate.dst
+  pub same : s * rate.dst ≡ d * rate.src
+
+-- j periods more on one side are j periods more on the other
+pub record IsPeriodic (rate : Rate) (s d : ℕ) : Type 0 where
+  pub need : (c j : ℕ) → 0 < c → need rate (c + j * d) ≡ need rate c + j * s
+  pub can : (n j : ℕ) → 0 < can rate n → can rate (n + j * s) ≡ can rate n + j * d
+  pub len : (n j : ℕ) → len rate (n + j * s) ≡ len rate n + j * d
+
+-- the same rates, both divided by one factor
+pub record IsReduced (rate low : Rate) : Type 0 where
+  pub factor : ℕ
+  pub above : 0 < factor
+  pub src_above : 0 < low.src
+  pub dst_above : 0 < low.dst
+  pub src : rate.src ≡ low.src * factor
+  pub dst : rate.dst ≡ low.dst * factor
+  pub lookahead : rate.lookahead ≡ low.lookahead
+
+-- the same counts, and the same places under the outputs
+pub record HasSameCounts (rate low : Rate) : Type 0 where
+  pub place : (k : ℕ) → k * rate.src / rate.dst ≡ k * low.src / low.dst
+  pub need : (c : ℕ) → need rate c ≡ need low c
+  pub can : (n : ℕ) → can rate n ≡ can low n
+  pub len : (n : ℕ) → len rate n ≡ len low n

@@ -1,0 +1,33 @@
+-- Sound as frames: a list of them, all of time, and samples one after another.
+use Rattle.std.specs.Prelude.{◌≡◌, ℕ, ◌*◌, ◌/◌, ℤ, pos, negsuc, List, length, map, take, drop, replicate, ◌++◌, All, slice_index_or, flat_map}
+use Rattle.std.specs.List.{range_with_len}
+use Rattle.pcm_format.specs.Frames.{Frame}
+
+-- a frame at each place of time
+abbrev pub Stream : Type 0
+Stream = ℤ → Frame
+
+-- a frame without sound
+abbrev pub silence : ℕ → Frame
+silence channels = replicate channels (pos 0)
+
+-- a list of frames, silent before its first frame and past its last
+abbrev pub stream_of : ℕ → List Frame → Stream
+stream_of channels frames (pos place) = slice_index_or frames place (silence channels)
+stream_of channels frames (negsuc _) = silence channels
+
+-- each frame has one sample per channel
+abbrev pub HaveChannels : ℕ → List Frame → Type 0
+HaveChannels channels frames = All (λ frame. length frame ≡ channels) frames
+
+-- interleaved samples, cut into frames
+abbrev pub frames_of : ℕ → List ℤ → List Frame
+frames_of channels samples = map (λ k. take channels (drop (k * channels) samples)) (range_with_len 0 (length samples / channels))
+
+-- frames as interleaved samples
+abbrev pub interleaved : List Frame → List ℤ
+interleaved frames = flat_map (λ frame. frame) frames
+
+-- samples with frames written over their front
+abbrev pub written : List Frame → List ℤ → List ℤ
+written frames samples = interleaved frames ++ drop (length (interleaved frames)) samples

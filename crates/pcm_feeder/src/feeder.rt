@@ -1,0 +1,73 @@
+//! The interface that every stage meets.
+
+use crate::{Gain, Kind, Moved, Spec, Tables};
+
+/// A stage of a chain. What it gives follows from what it keeps and from the arguments alone.
+pub trait Feeder: Drop {
+    ghost use Rattle.std.specs.Prelude.{◌≡◌, ◌≤◌, ◌*◌, length, IsSomeAnd};
+    ghost use Rattle.pcm_feeder.specs.declared.kind.Kind.{Kind};
+    ghost use Rattle.pcm_feeder.specs.Kept.{Kept, fresh};
+    ghost use Rattle.pcm_feeder.specs.Limits.{IsSpec};
+    ghost use Rattle.pcm_feeder.specs.Kinds.{kind_of};
+    ghost use Rattle.pcm_feeder.specs.Streams.{written};
+    ghost use Rattle.pcm_feeder.specs.Turns.{fed, CanFeed};
+
+    ghost kind: { Self → Kind };
+
+    ghost kept: { Self → Kept };
+
+    /// What the stage does, which never changes.
+    fn kind(&self) -> Kind
+        ensures { result ≡ kind self.now };
+
+    /// Begins an empty stream. Takes no memory.
+    fn fit(&mut self, spec: Spec)
+        requires kind { kind_of spec ≡ kind self.old }
+        requires limits { IsSpec spec }
+        ensures kept { kept self.new ≡ fresh spec }
+        ensures kind { kind self.new ≡ kind self.old };
+
+    /// Eats frames of `input`, no more than `want` outputs use, and gives at most `want` frames at the
+    /// front of `output`. Both hold interleaved samples. Takes no memory.
+    fn feed(
+        &mut self,
+        tables: &Tables,
+        gain: Gain,
+        input: &[i32],
+        want: usize,
+        output: &mut [i32],
+    ) -> Moved
+        requires { IsSomeAnd (kept self.old).spec (λ spec. CanFeed spec tables.now gain input.now want output.old) }
+        ensures eaten { result.eaten ≡ (fed (kept self.old) tables.now gain input.now want).eaten }
+        ensures given { result.given ≡ (fed (kept self.old) tables.now gain input.now want).given }
+        ensures most { result.given ≤ want }
+        ensures frames { output.new ≡ written (fed (kept self.old) tables.now gain input.now want).frames output.old }
+        ensures kept { kept self.new ≡ (fed (kept self.old) tables.now gain input.now want).kept }
+        ensures spec { (kept self.new).spec ≡ (kept self.old).spec }
+        ensures kind { kind self.new ≡ kind self.old };
+}
+
+impl Feeder for Box<dyn Feeder> {
+    ghost kind = { λ b. (Feeder-box b).kind b.value };
+
+    ghost kept = { λ b. (Feeder-box b).kept b.value };
+
+    fn kind(&self) -> Kind {
+        (**self).kind()
+    }
+
+    fn fit(&mut self, spec: Spec) {
+        (**self).fit(spec)
+    }
+
+    fn feed(
+        &mut self,
+        tables: &Tables,
+        gain: Gain,
+        input: &[i32],
+        want: usize,
+        output: &mut [i32],
+    ) -> Moved {
+        (**self).feed(tables, gain, input, want, output)
+    }
+}

@@ -1,0 +1,23 @@
+//! One stage of a chain, behind one interface: what it is fitted to, and what it eats and gives.
+//! Whatever box stands in a rack gives the frames of one function of all frames that it has eaten.
+#![tactic(auto)]
+
+mod feeder;
+mod kind;
+mod laws;
+mod rack;
+mod stage;
+mod table;
+
+pub use feeder::Feeder;
+pub use kind::Kind;
+pub use laws::{
+    a_feed_continues_its_stream, counts_are_exact, frames_are_samples, outputs_use_what_is_needed,
+    silence_stays_silence, stages_without_a_rate_map_frames,
+};
+pub use rack::{Rack, RackOf, Racks, RacksOf, Six, SixOf, WrongCount, WrongKind};
+pub use stage::{Gain, Moved, Spec};
+pub use table::{Coefs, Table, Tables};
+
+#[cfg(test)]
+mod tests;

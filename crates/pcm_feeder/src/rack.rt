@@ -1,0 +1,114 @@
+//! The boxes that a chain picks its stages from.
+
+ghost use Rattle.std.specs.Prelude.{◌≡◌, ◌≢◌, MatchResult, IfOk, IfErr, vec_len};
+
+use crate::{Feeder, Kind};
+
+/// How many racks a run has.
+const RACKS: usize = 32;
+
+/// The boxes of a rack, one for each kind of stage.
+#[derive(Drop)]
+pub struct SixOf<B> {
+    pub depth: B,
+}
+
+/// A box of another kind than its place asks for.
+#[derive(Clone, Copy, Debug, PartialEq, Eq)]
+pub struct WrongKind {
+    pub place: Kind,
+    pub found: Kind,
+}
+
+/// Boxes whose kinds were tried.
+#[derive(Drop)]
+pub struct RackOf<B> {
+    boxes: SixOf<B>,
+}
+
+impl<B: Feeder> RackOf<B> {
+    ghost use Rattle.pcm_feeder.specs.Racks.{HaveKinds, IsRack, IsFirstWrong, places_of, boxes_of};
+
+    /// Tries the boxes in the order of their places. They are dropped where one is refused.
+    pub fn new(six: SixOf<B>) -> Result<RackOf<B>, WrongKind>
+        ensures same { IfOk result (λ rack. boxes_of rack ≡ six) }
+        ensures kinds { IfOk result (IsRack B.kind) }
+        ensures wrong { IfErr result (IsFirstWrong B.kind (places_of six)) }
+    {
+        is_of_kind(&six.depth, Kind::Depth)?;
+        Ok(RackOf { boxes: six })
+    }
+
+    /// Hands the boxes out.
+    pub fn into_boxes(self) -> SixOf<B>
+        ensures same { result ≡ boxes_of self }
+        ensures kinds { IsRack B.kind self → HaveKinds B.kind result }
+    {
+        self.boxes
+    }
+}
+
+// Whether a box is of the kind that its place asks for.
+fn is_of_kind<B: Feeder>(tried: &B, place: Kind) -> Result<(), WrongKind>
+    ensures right { IfOk result (λ _. B.kind tried.now ≡ place) }
+    ensures found { IfErr result (λ wrong. wrong ≡ record { place = place; found = B.kind tried.now }) }
+    ensures wrong { IfErr result (λ _. B.kind tried.now ≢ place) }
+{
+    let found = tried.kind();
+    if found == place {
+        Ok(())
+    } else {
+        Err(WrongKind { place, found })
+    }
+}
+
+/// A number of racks that isn't a run's.
+#[derive(Clone, Copy, Debug, PartialEq, Eq)]
+pub struct WrongCount {
+    pub found: usize,
+}
+
+/// The racks of a run: 0 to 15 serve the play slots and 16 to 31 the record slots.
+#[derive(Drop)]
+pub struct RacksOf<B> {
+    list: Vec<RackOf<B>>,
+    ghost count: { vec_len list ≡ 32 },
+}
+
+impl<B: Feeder> RacksOf<B> {
+    ghost use Rattle.pcm_feeder.specs.Racks.{AreRacks, list_of, rack_count};
+
+    /// Takes 32 racks over. They are dropped where there are more or fewer.
+    pub fn new(racks: Vec<RackOf<B>>) -> Result<RacksOf<B>, WrongCount>
+        ensures same { IfOk result (λ made. list_of made ≡ racks.items) }
+        ensures count { IfOk result (λ _. vec_len racks ≡ rack_count) }
+        ensures found { IfErr result (λ wrong. wrong.found ≡ vec_len racks) }
+        ensures wrong { IfErr result (λ _. vec_len racks ≢ rack_count) }
+        ensures kinds { AreRacks B.kind racks.items → IfOk result (λ made. AreRacks B.kind (list_of made)) }
+    {
+        let found = racks.len();
+        if found == RACKS {
+            Ok(RacksOf { list: racks })
+        } else {
+            Err(WrongCount { found })
+        }
+    }
+
+    /// Hands the racks out in their order.
+    pub fn into_list(self) -> Vec<RackOf<B>>
+        ensures same { result.items ≡ list_of self }
+        ensures count { vec_len result ≡ rack_count }
+        ensures kinds { AreRacks B.kind (list_of self) → AreRacks B.kind result.items }
+    {
+        self.list
+    }
+}
+
+/// The boxes of a rack of a run.
+pub type Six = SixOf<Box<dyn Feeder>>;
+
+/// A rack of a run.
+pub type Rack = RackOf<Box<dyn Feeder>>;
+
+/// The racks of a run.
+pub type Racks = RacksOf<Box<dyn Feeder>>;
