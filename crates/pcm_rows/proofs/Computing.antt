@@ -1,0 +1,11 @@
+-- What a row unfolds, so that the definitions compute on its bytes.
+use Rattle.std.specs.Prelude.{⊤}
+use Rattle.std.specs.Fmt.{digits}
+use Rattle.hex.specs.Hex.{decode_pairs, encode_with}
+use Rattle.pcm_feeder.specs.Stages.{conv}
+use Rattle.pcm_script.specs.Lines.{script_read, lines_onto}
+use Rattle.pcm_script.specs.Commands.{line_onto, command_line, open_line, write_line, close_line, interrupt_line}
+
+unfoldable pub row : ⊤
+unfolding digits decode_pairs encode_with conv script_read lines_onto line_onto command_line open_line write_line close_line interrupt_line
+row = tt

@@ -1,0 +1,57 @@
+-- The call that the rows make, and the devices that they make it on.
+use Rattle.std.specs.Prelude.{ℕ, zero, suc, List, [], ◌∷◌, ◌++◌, codes, Option, Some, None, if◌then◌else◌}
+use Rattle.std.specs.Str.{bytes_eq}
+use Rattle.pcm_format.specs.declared.event.Event.{Event}
+use Rattle.pcm_format.specs.declared.event.Event.TheVariants.{Open}
+use Rattle.pcm_format.specs.declared.event.Way.TheVariants.{Play}
+use Rattle.pcm_desk.specs.declared.device.Device.{Device}
+use Rattle.pcm_desk.specs.declared.book.Book.{Book}
+use Rattle.pcm_desk.specs.Desk.{desk_at_start, book_at}
+use Rattle.pcm_desk.specs.Events.{after_all}
+use Rattle.pcm_desk.specs.Usual.{usual_settings}
+use Rattle.pcm_sound.specs.DeviceList.{device_text}
+use Rattle.pcm_script.specs.declared.script.Script.{Script}
+use Rattle.pcm_verdict.specs.Verdict.{Verdict, verdict}
+use Rattle.pcm_verdict.specs.Transcript.{transcript}
+
+-- a ring of four frames, where a row looks at single frames
+abbrev pub small_device : Device
+small_device = record { settings = usual_settings; block_frames = 2; ring_frames = 4; play_slots = 4 }
+
+-- an open with the settings of the device
+abbrev pub opens : ℕ → Event
+opens descriptor = Open descriptor Play usual_settings
+
+-- lines, each with a line feed at its end
+abbrev pub text_of : List (List ℕ) → List ℕ
+text_of [] = []
+text_of (line ∷ lines) = line ++ 10 ∷ text_of lines
+
+-- bytes, so many times
+abbrev pub times : ℕ → List ℕ → List ℕ
+times zero bytes = []
+times (suc count) bytes = bytes ++ times count bytes
+
+-- files of which one alone is there
+abbrev pub only : List ℕ → List ℕ → List ℕ → Option (List ℕ)
+only there bytes other = if bytes_eq other there then Some bytes else None
+
+-- the words after the program's name: run the script `s` into the file `o`
+abbrev pub run_words : List (List ℕ)
+run_words = codes "run" ∷ codes "s" ∷ codes "o" ∷ []
+
+-- the verdict on these words, where the script has these bytes
+abbrev pub judged : Device → List ℕ → Verdict
+judged device bytes = verdict device run_words (only (codes "s") bytes)
+
+-- the bytes that a script makes
+abbrev pub played : Device → Script → List ℕ
+played device script = device_text device script.inline_bytes script.events
+
+-- the lines that a script prints
+abbrev pub printed : Device → Script → List ℕ
+printed device script = transcript device script.events
+
+-- the first slot's book after events
+abbrev pub book_after : Device → List Event → Book
+book_after device events = book_at device (after_all device (desk_at_start device) events) 0

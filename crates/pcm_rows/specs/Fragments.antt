@@ -1,0 +1,76 @@
+-- Writes of whole fragments to the usual device, and what is counted of them.
+use Rattle.std.specs.Prelude.{ℕ, List, [], ◌∷◌, ◌++◌, codes, map, replicate}
+use Rattle.pcm_format.specs.declared.event.Event.TheVariants.{Write, Intr}
+use Rattle.pcm_desk.specs.declared.book.Book.{Book}
+use Rattle.pcm_desk.specs.declared.book.State.TheVariants.{Running}
+use Rattle.pcm_desk.specs.Usual.{usual_device, usual_settings}
+use Rattle.pcm_sound.specs.Runs.{Piece, Run}
+use Rattle.pcm_sound.specs.Story.{story_of}
+use Rattle.pcm_script.specs.declared.script.Script.{Script}
+use Rattle.pcm_rows.specs.Calls.{opens, text_of, times}
+
+-- a fragment, which is 1024 frames
+abbrev pub fragment_bytes : List ℕ
+fragment_bytes = times 1024 (1 ∷ 0 ∷ 2 ∷ 0 ∷ [])
+
+-- the frame that comes after it
+abbrev pub late_frame : List ℕ
+late_frame = 5 ∷ 0 ∷ 6 ∷ 0 ∷ []
+
+-- the fragment plays and the stream starves; a frame comes late, and it starves again
+abbrev pub starved_text : List ℕ
+starved_text = text_of (
+    codes "open 0 play s16le 2 48000" ∷
+    (codes "write 0 " ++ times 1024 (codes "01000200")) ∷
+    codes "intr 1024" ∷
+    codes "intr 4" ∷
+    codes "write 0 05000600" ∷
+    codes "intr 4" ∷
+    codes "intr 1016" ∷
+    codes "intr 8" ∷ [])
+
+abbrev pub starved_script : Script
+starved_script = record {
+  events = opens 0 ∷ Write 0 0 4096 ∷ Intr 1024 ∷ Intr 4 ∷ Write 0 4096 4 ∷ Intr 4 ∷ Intr 1016 ∷ Intr 8 ∷ [];
+  inline_bytes = fragment_bytes ++ late_frame;
+  device_frames = 2056;
+}
+
+abbrev pub starved_bytes : List ℕ
+starved_bytes = replicate 4096 0 ++ fragment_bytes ++ replicate 16 0 ++ late_frame ++ replicate 12 0
+
+abbrev pub starved_lines : List ℕ
+starved_lines = text_of (
+    codes "1: ok 0" ∷ codes "2: ok 4096" ∷ codes "3: ok 1024" ∷ codes "4: ok 4" ∷ codes "5: ok 4" ∷
+    codes "6: ok 4" ∷ codes "7: ok 1016" ∷ codes "8: ok 8" ∷ [])
+
+-- four interrupts were short
+abbrev pub starved_book : Book
+starved_book = record { settings = usual_settings; state = Running; written = 4100; eaten = 1025; given = 1025; underruns = 4 }
+
+abbrev pub piece : ℕ → ℕ → ℕ → ℕ → Piece
+piece position index count short = record { position = position; index = index; count = count; short = short }
+
+-- what the interrupts took of the stream, the newest first: frame 1024 is mixed at 1028
+abbrev pub starved_pieces : List Piece
+starved_pieces = piece 2048 1025 0 8 ∷ piece 1032 1025 0 1016 ∷ piece 1028 1024 1 3 ∷ piece 1024 1024 0 4 ∷ piece 0 0 1024 0 ∷ []
+
+-- the pieces of the first slot's runs, the newest first
+abbrev pub pieces_of : Script → List (List Piece)
+pieces_of script = map (λ (run : Run). run.pieces) ((story_of usual_device script.inline_bytes script.events).runs 0)
+
+-- five fragments, of which the ring holds four
+abbrev pub full_ring_text : List ℕ
+full_ring_text = codes "open 0 play s16le 2 48000\n" ++ times 5 (codes "write 0 " ++ replicate 8192 48 ++ 10 ∷ [])
+
+abbrev pub full_ring_script : Script
+full_ring_script = record {
+  events = opens 0 ∷ Write 0 0 4096 ∷ Write 0 4096 4096 ∷ Write 0 8192 4096 ∷ Write 0 12288 4096 ∷ Write 0 16384 4096 ∷ [];
+  inline_bytes = replicate 20480 0;
+  device_frames = 0;
+}
+
+abbrev pub full_ring_lines : List ℕ
+full_ring_lines = text_of (
+    codes "1: ok 0" ∷ codes "2: ok 4096" ∷ codes "3: ok 4096" ∷ codes "4: ok 4096" ∷ codes "5: ok 4096" ∷
+    codes "6: refused again" ∷ [])

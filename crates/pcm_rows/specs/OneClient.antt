@@ -1,0 +1,104 @@
+-- Scripts with one client at most.
+use Rattle.std.specs.Prelude.{ℕ, List, [], ◌∷◌, codes}
+use Rattle.pcm_format.specs.declared.event.Event.TheVariants.{Write, Close, Intr}
+use Rattle.pcm_desk.specs.declared.book.Book.{Book}
+use Rattle.pcm_desk.specs.declared.book.State.TheVariants.{Free}
+use Rattle.pcm_desk.specs.Usual.{usual_settings}
+use Rattle.pcm_script.specs.declared.script.Script.{Script}
+use Rattle.pcm_rows.specs.Calls.{opens, text_of}
+
+abbrev pub silent_script : Script
+silent_script = record { events = Intr 1024 ∷ []; inline_bytes = []; device_frames = 1024 }
+
+-- four frames: less than a fragment
+abbrev pub drain_text : List ℕ
+drain_text = text_of (
+    codes "open 0 play s16le 2 48000" ∷
+    codes "write 0 01000200030004000500060007000800" ∷
+    codes "close 0" ∷
+    codes "intr 1024" ∷
+    codes "intr 4" ∷ [])
+
+abbrev pub drain_bytes : List ℕ
+drain_bytes = 1 ∷ 0 ∷ 2 ∷ 0 ∷ 3 ∷ 0 ∷ 4 ∷ 0 ∷ 5 ∷ 0 ∷ 6 ∷ 0 ∷ 7 ∷ 0 ∷ 8 ∷ 0 ∷ []
+
+abbrev pub drain_script : Script
+drain_script = record {
+  events = opens 0 ∷ Write 0 0 16 ∷ Close 0 ∷ Intr 1024 ∷ Intr 4 ∷ [];
+  inline_bytes = drain_bytes;
+  device_frames = 1028;
+}
+
+abbrev pub drain_lines : List ℕ
+drain_lines = text_of (codes "1: ok 0" ∷ codes "2: ok 16" ∷ codes "3: ok" ∷ codes "4: ok 1024" ∷ codes "5: ok 4" ∷ [])
+
+-- the same bytes in three writes, which cut frames
+abbrev pub cut_text : List ℕ
+cut_text = text_of (
+    codes "open 0 play s16le 2 48000" ∷
+    codes "write 0 010002" ∷
+    codes "write 0 0003000400" ∷
+    codes "write 0 0500060007000800" ∷
+    codes "close 0" ∷
+    codes "intr 1024" ∷
+    codes "intr 4" ∷ [])
+
+abbrev pub cut_script : Script
+cut_script = record {
+  events = opens 0 ∷ Write 0 0 3 ∷ Write 0 3 5 ∷ Write 0 8 8 ∷ Close 0 ∷ Intr 1024 ∷ Intr 4 ∷ [];
+  inline_bytes = drain_bytes;
+  device_frames = 1028;
+}
+
+abbrev pub cut_lines : List ℕ
+cut_lines = text_of (
+    codes "1: ok 0" ∷ codes "2: ok 3" ∷ codes "3: ok 5" ∷ codes "4: ok 8" ∷ codes "5: ok" ∷ codes "6: ok 1024" ∷ codes "7: ok 4" ∷ [])
+
+abbrev pub stray_close_script : Script
+stray_close_script = record { events = Close 5 ∷ []; inline_bytes = []; device_frames = 0 }
+
+-- two frames, where the first interrupt wants four
+abbrev pub short_drain_text : List ℕ
+short_drain_text = text_of (
+    codes "open 0 play s16le 2 48000" ∷
+    codes "write 0 0100020003000400" ∷
+    codes "close 0" ∷
+    codes "intr 4" ∷
+    codes "intr" ∷
+    codes "intr" ∷ [])
+
+abbrev pub short_drain_script : Script
+short_drain_script = record {
+  events = opens 0 ∷ Write 0 0 8 ∷ Close 0 ∷ Intr 4 ∷ Intr 2 ∷ Intr 2 ∷ [];
+  inline_bytes = 1 ∷ 0 ∷ 2 ∷ 0 ∷ 3 ∷ 0 ∷ 4 ∷ 0 ∷ [];
+  device_frames = 8;
+}
+
+abbrev pub short_drain_lines : List ℕ
+short_drain_lines = text_of (
+    codes "1: ok 0" ∷ codes "2: ok 8" ∷ codes "3: ok" ∷ codes "4: ok 4" ∷ codes "5: ok 2" ∷ codes "6: ok 2" ∷ [])
+
+-- a slot whose run is over
+abbrev pub over_book : Book
+over_book = record { settings = usual_settings; state = Free; written = 0; eaten = 0; given = 0; underruns = 0 }
+
+-- three bytes of a frame of four
+abbrev pub part_text : List ℕ
+part_text = text_of (
+    codes "open 0 play s16le 2 48000" ∷
+    codes "write 0 010002" ∷
+    codes "close 0" ∷
+    codes "open 1 play s16le 2 48000" ∷
+    codes "intr 4" ∷
+    codes "intr 1" ∷ [])
+
+abbrev pub part_script : Script
+part_script = record {
+  events = opens 0 ∷ Write 0 0 3 ∷ Close 0 ∷ opens 1 ∷ Intr 4 ∷ Intr 1 ∷ [];
+  inline_bytes = 1 ∷ 0 ∷ 2 ∷ [];
+  device_frames = 5;
+}
+
+abbrev pub part_lines : List ℕ
+part_lines = text_of (
+    codes "1: ok 0" ∷ codes "2: ok 3" ∷ codes "3: ok" ∷ codes "4: ok 0" ∷ codes "5: ok 4" ∷ codes "6: ok 1" ∷ [])

@@ -1,0 +1,34 @@
+//! Worked rows: scripts with the bytes that the device gets and the lines that are printed, samples, and stages.
+//! Each is a function that does nothing, whose contract says that the definitions give the values that a hand worked out.
+#![tactic(auto)]
+
+mod fragments;
+mod one_client;
+mod refusals;
+mod samples;
+mod several_clients;
+mod stages;
+mod texts;
+mod verdicts;
+
+pub use fragments::{fifth_write_again, full_fragment_starts, shortage_sets_back};
+pub use one_client::{
+    close_of_a_closed_descriptor, cut_into_three_writes, drain_below_a_fragment,
+    drain_counts_no_shortage, empty_script, one_silent_block, part_of_a_frame_is_dropped,
+};
+pub use refusals::{
+    device_bytes_at_the_limit, each_kind_of_fault, interrupt_above_the_ring, other_settings_unbuilt,
+};
+pub use samples::{
+    edges_of_8_bits, edges_of_16_bits, edges_of_24_bits, edges_of_32_bits, fewer_bits_round_down,
+    midpoint_is_silence,
+};
+pub use several_clients::{
+    fifth_open_busy, one_slot_free_after_drain, three_clients_other_order, three_clients_saturate,
+};
+pub use stages::{
+    a_line_waits_for_its_end, depth_rounds_down, hold_doubles, linear_doubles,
+    six_channels_fold_to_two, two_taps_double, volume_halves_the_right_side,
+};
+pub use texts::{comments_and_empty_lines, hex_of_either_case, interrupt_without_a_number};
+pub use verdicts::{script_not_there, words_of_no_form};
