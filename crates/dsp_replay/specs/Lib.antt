@@ -1,0 +1,5 @@
+pub mod Commands
+pub mod Runs
+pub mod Outcomes
+pub mod Endings
+pub mod Playing
