@@ -1,5 +1,5 @@
 -- What is left of a device file.
-use Rattle.std.proofs.Common.{◌≡◌, ℕ, List, [], Option, IsTrue, ◌∙◌, ap, subst}
+use Rattle.std.proofs.Common.{◌≡◌, ℕ, List, [], Option, ◌∙◌, ap, subst}
 use Rattle.pcm_outside.specs.Counts.{Rose}
 use Rattle.pcm_outside.specs.Files.{FilesSeen, Creates, FailsToCreate, Grows, IsLeft, OnlyReads, OnlyWrites}
 use Rattle.pcm_outside.specs.Sink.{SinkSeen, FailsToPut, Puts}

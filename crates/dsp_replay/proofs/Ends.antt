@@ -1,5 +1,5 @@
 -- How a call ends whose script was read.
-use Rattle.std.proofs.Common.{◌≡◌, ℕ, List, Option, Some, None, Result, Ok, Err, IfErr, IfOk, IsTrue, OnOk, ◌∙◌, subst, sym}
+use Rattle.std.proofs.Common.{◌≡◌, ℕ, List, Result, Ok, Err, IfErr, IfOk, IsTrue, OnOk, ◌∙◌, subst, sym}
 use Rattle.pcm_outside.specs.Files.{FilesSeen, OnlyReads}
 use Rattle.pcm_outside.specs.Sink.{SinkSeen}
 use Rattle.pcm_engine.specs.declared.engine.Engine.{Engine}

@@ -1,5 +1,5 @@
 -- What the read of a script says of the verdict.
-use Rattle.std.proofs.Common.{◌≡◌, ℕ, ◌+◌, ◌<◌, ◌≤◌, List, Option, Some, None, Result, Ok, Err, Bool, if◌then◌else◌, length, take, refl, sym, ◌∙◌, ap, arith, inl, inr, length-take-le}
+use Rattle.std.proofs.Common.{◌≡◌, ℕ, ◌+◌, ◌<◌, ◌≤◌, List, Some, Result, Err, Bool, if◌then◌else◌, length, take, refl, sym, ◌∙◌, ap, arith, inl, inr, length-take-le}
 use Rattle.std.proofs.lemmas.Bool.{cases_lt, lt-ltb}
 use Rattle.std.proofs.lemmas.List.{take_all}
 use Rattle.pcm_outside.specs.Files.{FilesSeen, IsFrontOf}
@@ -10,7 +10,7 @@ use Rattle.pcm_script.specs.declared.script.Script.{Script}
 use Rattle.pcm_script.specs.declared.fault.ScriptKind.TheVariants.{Long}
 use Rattle.pcm_script.specs.Lines.{empty_script, lines_onto, script_read, text_limit}
 use Rattle.pcm_script.specs.Words.{lines_of}
-use Rattle.pcm_verdict.specs.Verdict.{Command, Run, Verdict, command_of, judged_command, judged_script, judged_text}
+use Rattle.pcm_verdict.specs.Verdict.{Run, command_of, judged_command, judged_script, judged_text}
 use Rattle.dsp_replay.specs.Outcomes.{judged}
 
 -- a text that is too long is refused as a whole

@@ -1,5 +1,5 @@
 -- A run by one event more.
-use Rattle.std.proofs.Common.{◌≡◌, ℕ, suc, ◌+◌, List, [], ◌∷◌, ◌++◌, ◌≤◌, Result, length, take, drop, refl, sym, ◌∙◌, ap, subst, string_bytes, vec_len, arith, append_assoc, append-nil, length-append}
+use Rattle.std.proofs.Common.{◌≡◌, ℕ, suc, ◌+◌, List, [], ◌∷◌, ◌++◌, ◌≤◌, Result, length, take, refl, sym, ◌∙◌, ap, subst, string_bytes, vec_len, arith, append_assoc, append-nil, length-append}
 use Rattle.std.proofs.lemmas.List.{take-append-le, take_all}
 use Rattle.pcm_format.specs.declared.event.Event.{Event}
 use Rattle.pcm_format.specs.declared.reply.Answer.{Answer}

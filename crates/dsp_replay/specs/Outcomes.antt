@@ -1,5 +1,5 @@
 -- What a call did outside, by how it ended: of its words, and of the files and the sink before and after.
-use Rattle.std.specs.Prelude.{◌≡◌, ◌⊎◌, ℕ, List, Option, Some, None, IsTrue}
+use Rattle.std.specs.Prelude.{◌≡◌, ◌⊎◌, ℕ, List, Some, None, IsTrue}
 use Rattle.pcm_outside.specs.Counts.{Rose}
 use Rattle.pcm_outside.specs.Files.{FilesSeen, FailsToRead, OnlyReads}
 use Rattle.pcm_outside.specs.Sink.{SinkSeen, FailsToPut, Puts}

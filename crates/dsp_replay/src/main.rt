@@ -2,6 +2,10 @@
 //! The top call `dsp_main` says exactly what is written; `main` hands it the real files and standard output.
 #![tactic(auto)]
 
+ghost use Rattle.std.specs.Prelude.{◌≡◌, ◌≢◌, None, map, string_bytes};
+ghost use Rattle.pcm_verdict.specs.Verdict.{command_of};
+ghost use Rattle.dsp_replay.specs.Outcomes.{IsStatus};
+
 mod ending;
 mod fault_lines;
 mod reading;
@@ -47,7 +51,11 @@ fn words_after_name(rt: &HostRuntime) -> io::Result<Vec<String>> {
     Ok(words)
 }
 
-fn run(rt: &HostRuntime, words: &[String]) -> u8 {
+fn run(rt: &HostRuntime, words: &[String]) -> u8
+    ensures statuses { IsStatus result }
+    ensures usage { result ≡ 2 → command_of (map string_bytes words.now) ≡ None }
+    ensures only_usage { command_of (map string_bytes words.now) ≡ None → result ≢ 2 → result ≡ 7 }
+{
     let mut files = RealFiles::new(rt);
     let mut out = RealSink::new(rt);
     let mut ran = None;

@@ -1,4 +1,4 @@
-use Rattle.std.proofs.Common.{List, ℕ, ◌++◌, codes, ◌∙◌, ap, sym}
+use Rattle.std.proofs.Common.{List, ℕ, ◌++◌, codes, ◌∙◌, ap}
 use Rattle.std.specs.Fmt.{decimal}
 use Rattle.dsp_replay.proofs.Texts.{regrouped, spelled}
 use Rattle.dsp_replay.proofs.fault_lines.bad_script_line.Goals as goal

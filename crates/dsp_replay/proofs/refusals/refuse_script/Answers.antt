@@ -1,4 +1,4 @@
-use Rattle.std.proofs.Common.{List, ℕ, ◌∙◌, subst}
+use Rattle.std.proofs.Common.{◌∙◌, subst}
 use Rattle.pcm_outside.specs.Sink.{Puts}
 use Rattle.dsp_replay.specs.Outcomes.{InFaultLine, OfScript}
 use Rattle.dsp_replay.proofs.refusals.refuse_script.Goals as goal

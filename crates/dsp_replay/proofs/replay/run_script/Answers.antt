@@ -1,5 +1,4 @@
-use Rattle.std.proofs.Common.{List, ◌∙◌, ap}
-use Rattle.pcm_format.specs.declared.event.Event.{Event}
+use Rattle.std.proofs.Common.{◌∙◌, ap}
 use Rattle.pcm_desk.specs.Usual.{usual_device}
 use Rattle.pcm_sound.specs.DeviceList.{device_text}
 use Rattle.pcm_verdict.specs.Transcript.{transcript}

@@ -1,5 +1,3 @@
-use Rattle.std.proofs.Common.{List, ℕ}
-use Rattle.pcm_script.specs.declared.script.Script.{Script}
 use Rattle.dsp_replay.specs.Playing.{RanThrough}
 use Rattle.dsp_replay.specs.Runs.{WritesRun, lines_of, text_of}
 use Rattle.dsp_replay.proofs.Ends.{writes_accepted}

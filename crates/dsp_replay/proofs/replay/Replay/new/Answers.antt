@@ -1,4 +1,3 @@
-use Rattle.std.proofs.Common.{refl}
 use Rattle.dsp_replay.proofs.replay.Replay.new.Goals as goal
 
 pub returns : goal.returns
