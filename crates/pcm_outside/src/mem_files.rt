@@ -115,7 +115,7 @@ impl MemFiles {
         Ok(())
     }
 
-    /// Lists a call that is to fail. Reads, creates and appends are counted together, from 1.
+    /// Makes the call of this number fail. The first read, create or append has number 1.
     pub fn fail_at(&mut self, call: u32) -> Result<(), AllocError>
         ensures ok { OnOk result (self.new ≡ record self.old { calls = with_listed self.old.calls call }) }
         ensures err { OnErr result (self.new ≡ self.old) }

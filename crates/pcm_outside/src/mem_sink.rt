@@ -43,7 +43,7 @@ impl MemSink {
         })
     }
 
-    /// Lists a put that is to fail. Puts are counted from 1.
+    /// Makes the put of this number fail. The first one has number 1.
     pub fn fail_at(&mut self, call: u32) -> Result<(), AllocError>
         ensures ok { OnOk result (self.new ≡ record self.old { calls = with_listed self.old.calls call }) }
         ensures err { OnErr result (self.new ≡ self.old) }

@@ -1,4 +1,4 @@
--- What a contract sees of a `ByteRing`.
+-- A ring as its callers know it: bytes in a row, and a size.
 use Rattle.std.specs.Prelude.{ℕ, ◌-◌, List, [], length}
 
 -- the bytes that wait, the oldest first, and how many may wait

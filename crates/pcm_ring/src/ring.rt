@@ -49,7 +49,7 @@ impl ByteRing {
         self.size - self.fill()
     }
 
-    /// Appends the front of `bytes`, as much as fits, and returns how much that is.
+    /// Puts bytes at the back until the ring is full. Answers how many of `bytes` went in.
     pub fn put(&mut self, bytes: &[u8]) -> usize
         ensures count { result ≡ min (length bytes.now) (free_bytes self.old) }
         ensures kept { self.new
@@ -59,7 +59,7 @@ impl ByteRing {
         self.buffer.fill_from_slice(&bytes[..count])
     }
 
-    /// Moves the oldest bytes to the front of `out`, and returns how many. The rest of `out` stays.
+    /// Fills `out` from its start with the bytes that have waited longest. Answers how many there were.
     pub fn take(&mut self, out: &mut [u8]) -> usize
         ensures count { result ≡ min (length out.old) (length self.old.bytes) }
         ensures moved { out.new ≡ take result self.old.bytes ++ drop result out.old }

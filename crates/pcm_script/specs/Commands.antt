@@ -134,7 +134,7 @@ command_line device script word arguments =
     else if bytes_eq word (codes "ioctl") then Err Unbuilt
     else Err Word
 
--- a line without words is no event
+-- an empty line adds nothing; else the first word is the command
 unfoldable pub line_onto : Device → Script → List (List ℕ) → Result Script ScriptKind
 line_onto device script [] = Ok script
 line_onto device script (word ∷ arguments) = command_line device script word arguments

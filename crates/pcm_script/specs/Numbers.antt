@@ -1,4 +1,4 @@
--- A number is 1 to 10 decimal digits, or `0x` and 1 to 8 hexadecimal digits of either case.
+-- Numbers in a script: up to ten decimal digits, or up to eight hexadecimal ones behind `0x`.
 use Rattle.std.specs.Prelude.{ℕ, ◌+◌, ◌*◌, Bool, ◌&&◌, nat_le, if◌then◌else◌, List, length, Option, Some, None, Result, Ok, Err, fold, drop, codes, nat_eq}
 use Rattle.std.specs.List.{list_all, starts_with}
 use Rattle.hex.specs.Hex.{hex_digit_value, is_hex_digit}

@@ -12,7 +12,7 @@ pub enum ScriptKind {
     Word,
     /// The command doesn't have so many words.
     Count,
-    /// A word that must be a number isn't spelled as one.
+    /// There is no number where the command wants one.
     Number,
     /// A direction or a format isn't one.
     Name,
