@@ -5,6 +5,3 @@
 mod depth;
 
 pub use depth::DepthFeeder;
-
-#[cfg(test)]
-mod tests;

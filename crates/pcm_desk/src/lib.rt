@@ -8,6 +8,3 @@ mod turns;
 
 pub use book::{Book, FRAGMENT_BYTES, FRAGMENTS, State};
 pub use device::{Device, Held};
-
-#[cfg(test)]
-mod tests;

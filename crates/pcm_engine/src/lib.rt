@@ -11,6 +11,3 @@ mod mixer;
 mod output;
 
 pub use engine::Engine;
-
-#[cfg(test)]
-mod tests;

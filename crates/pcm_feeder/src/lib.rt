@@ -18,6 +18,3 @@ pub use laws::{
 pub use rack::{Rack, RackOf, Racks, RacksOf, Six, SixOf, WrongCount, WrongKind};
 pub use stage::{Gain, Moved, Spec};
 pub use table::{Coefs, Table, Tables};
-
-#[cfg(test)]
-mod tests;

@@ -1,6 +1,6 @@
 //! The fourteen integer sample formats.
 
-ghost use Rattle.std.specs.Prelude.{◌≡◌, ◌*◌, ◌^◌};
+ghost use Rattle.std.specs.Prelude.{◌≡◌, ◌*◌};
 ghost use Rattle.pcm_format.specs.Formats.{bits_of, bytes_of, code_of, name_of, is_big_endian, is_signed, format_named, format_with_code};
 
 /// How the samples of a stream are spelled as bytes: signed or unsigned, little-endian or big-endian, packed.

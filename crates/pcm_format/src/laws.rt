@@ -1,12 +1,12 @@
 //! What holds of all formats and layouts: each function here has no work, and its contract is a law.
 
-ghost use Rattle.std.specs.Prelude.{◌≡◌, ◌<◌, ◌≤◌, ◌^◌, ℕ, ℤ, pos, List, length, All, Some};
+ghost use Rattle.std.specs.Prelude.{◌≡◌, ℕ, ℤ, pos, List, length, Some};
 ghost use Rattle.pcm_num.specs.Limit.{FitsBits};
 ghost use Rattle.pcm_format.specs.declared.format.Format.{Format};
 ghost use Rattle.pcm_format.specs.declared.layout.Layout.{Layout};
-ghost use Rattle.pcm_format.specs.Formats.{bits_of, bytes_of, code_of, name_of, format_named, format_with_code};
+ghost use Rattle.pcm_format.specs.Formats.{bits_of, code_of, name_of, format_named, format_with_code};
 ghost use Rattle.pcm_format.specs.Layouts.{channels_of, layout_of, positions_of};
-ghost use Rattle.pcm_format.specs.Samples.{IsSample, sample_value, spelled, loaded, stored, at_depth, scale_of};
+ghost use Rattle.pcm_format.specs.Samples.{IsSample, sample_value, spelled, loaded, stored, at_depth};
 
 /// A format is the one that its name and its code stand for, and a layout the one that its channels stand for.
 pub fn tables_are_one_to_one()

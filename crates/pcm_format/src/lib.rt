@@ -11,8 +11,6 @@ mod pool;
 mod reply;
 mod sample;
 mod settings;
-#[cfg(test)]
-mod tests;
 
 pub use event::{Event, Way};
 pub use format::Format;

@@ -1,9 +1,9 @@
 //! One sample as bytes, as a value, and as a 32-bit number.
 
-ghost use Rattle.std.specs.Prelude.{◌≡◌, ◌+◌, ◌*◌, ◌-◌, ◌^◌, ◌<◌, ◌≤◌, pos, length, reverse, All};
+ghost use Rattle.std.specs.Prelude.{◌≡◌, ◌+◌, ◌*◌, ◌-◌, ◌<◌, ◌≤◌, pos, length, reverse};
 ghost use Rattle.pcm_num.specs.Limit.{FitsBits};
 ghost use Rattle.pcm_format.specs.Formats.{bits_of, bytes_of, is_signed};
-ghost use Rattle.pcm_format.specs.Samples.{number_of, low_bytes, in_order, half_of, value_of, number_for, sample_value, spelled, scale_of, loaded, at_depth, stored};
+ghost use Rattle.pcm_format.specs.Samples.{number_of, low_bytes, in_order, half_of, value_of, number_for, spelled, scale_of, loaded, at_depth, stored};
 
 use crate::Format;
 

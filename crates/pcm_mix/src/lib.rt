@@ -5,6 +5,3 @@
 mod mix;
 
 pub use mix::mix_into;
-
-#[cfg(test)]
-mod tests;

@@ -11,6 +11,3 @@ pub use fraction::reduce;
 pub use limit::clamp_bits;
 pub use scale::mul_div;
 pub use shift::floor_shift;
-
-#[cfg(test)]
-mod tests;

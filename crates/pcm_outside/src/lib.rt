@@ -8,8 +8,6 @@ mod mem_sink;
 mod outside;
 mod real_files;
 mod real_sink;
-#[cfg(test)]
-mod tests;
 mod transfer;
 
 pub use mem_files::MemFiles;
@@ -17,3 +15,4 @@ pub use mem_sink::MemSink;
 pub use outside::{Files, ReadFault, Sink, WriteFault};
 pub use real_files::RealFiles;
 pub use real_sink::RealSink;
+pub use transfer::{read_front, write_whole};

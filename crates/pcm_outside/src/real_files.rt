@@ -32,6 +32,13 @@ impl<'a, R: rt::Files> RealFiles<'a, R> {
         }
     }
 
+    /// How many creates and appends failed.
+    pub fn write_faults(&self) -> u64
+        ensures { result ≡ (⟦<RealFiles<'a, R> as Files>⟧.seen self.now).write_faults }
+    {
+        self.write_faults
+    }
+
     fn fail_read(&mut self, name: Vec<u8>) -> ReadFault
         ensures fault { result ≡ ReadFault.Failed }
         ensures count { self.old.read_faults ≤ self.new.read_faults }

@@ -11,7 +11,7 @@ use std::io::{Read, Write};
 const TURN: usize = 4096;
 
 /// Writes all of a piece. A writer that takes nothing of what is left has failed.
-pub(crate) fn write_whole<W: Write>(to: &mut W, piece: &[u8]) -> Result<(), WriteFault>
+pub fn write_whole<W: Write>(to: &mut W, piece: &[u8]) -> Result<(), WriteFault>
     ensures ok { OnOk result (Appends (W.contents to.old) (W.contents to.new) piece.now) }
     ensures err { OnErr result (AppendsPart (W.contents to.old) (W.contents to.new) piece.now) }
 {
@@ -26,11 +26,7 @@ pub(crate) fn write_whole<W: Write>(to: &mut W, piece: &[u8]) -> Result<(), Writ
 }
 
 /// Reads the first `most` bytes, or all where there are fewer.
-pub(crate) fn read_front<R: Read>(
-    alloc: Global,
-    from: &mut R,
-    most: usize,
-) -> Result<Vec<u8>, ReadFault>
+pub fn read_front<R: Read>(alloc: Global, from: &mut R, most: usize) -> Result<Vec<u8>, ReadFault>
     ensures { IfOk result (λ v. IfSome (R.remaining from.old) (λ all. v.items ≡ take most all)) }
 {
     let mut bytes = Vec::new(alloc);

@@ -5,6 +5,3 @@
 mod ring;
 
 pub use ring::ByteRing;
-
-#[cfg(test)]
-mod tests;

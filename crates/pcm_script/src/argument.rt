@@ -1,7 +1,6 @@
 //! The words that follow a command.
 
-ghost use Rattle.std.specs.Prelude.{◌≡◌, ◌≤◌, ◌<◌, IfOk, vec_len};
-ghost use Rattle.pcm_desk.specs.Desk.{descriptor_count};
+ghost use Rattle.std.specs.Prelude.{◌≡◌, ◌≤◌, IfOk, vec_len};
 ghost use Rattle.pcm_desk.specs.Events.{write_limit};
 ghost use Rattle.pcm_script.specs.Answers.{Gives};
 ghost use Rattle.pcm_script.specs.Commands.{bytes_in, descriptor_in, format_in, layout_in, plays_in, rate_in};

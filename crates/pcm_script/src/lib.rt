@@ -14,6 +14,3 @@ mod words;
 pub use fault::{Refusal, ScriptFault, ScriptKind};
 pub use reader::script_of;
 pub use script::{Events, Script};
-
-#[cfg(test)]
-mod tests;

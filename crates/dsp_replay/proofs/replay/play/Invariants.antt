@@ -1,7 +1,0 @@
-use Rattle.std.proofs.Common.{take}
-use Rattle.dsp_replay.specs.Playing.{HasPlayed}
-use Rattle.dsp_replay.proofs.replay.play.Given as goal
-
--- the events so far were run
-abbrev pub invariant-loop-at : goal.invariant-loop-at
-invariant-loop-at l = HasPlayed l.replay l.pool.inline_bytes (take l.at l.events)

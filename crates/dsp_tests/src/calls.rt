@@ -1,0 +1,67 @@
+//! One call over the forms in memory, and what it is to come to.
+
+ghost use Rattle.std.specs.Prelude.{◌≡◌, IfOk, None};
+
+use pcm_outside::{MemFiles, MemSink};
+use pcm_replay::dsp_main;
+use std::alloc::{AllocError, Global};
+
+/// Bytes of room that are enough for each run here.
+pub const ROOM: usize = 16384;
+
+/// A client that plays four frames.
+pub const FOUR_FRAMES: &[u8] =
+    b"open 0 play s16le 2 48000\nwrite 0 01000200030004000500060007000800\nclose 0\nintr 1024\nintr 4\n";
+
+/// What is printed of it.
+pub const FOUR_FRAMES_PRINTED: &[u8] = b"1: ok 0\n2: ok 16\n3: ok\n4: ok 1024\n5: ok 4\n";
+
+/// What is heard of it.
+pub const FOUR_FRAMES_HEARD: &[u8] = b"\x01\0\x02\0\x03\0\x04\0\x05\0\x06\0\x07\0\x08\0";
+
+/// What a call is to come to: the status, what is printed, and the device file, as bytes of silence and then others.
+pub type Expected<'a> = (u8, &'a [u8], Option<(usize, &'a [u8])>);
+
+/// A folder with a script of the name `s`.
+pub fn folder(alloc: Global, room: usize, script: &[u8]) -> Result<MemFiles, AllocError>
+    ensures { IfOk result (λ files. files.created ≡ None) }
+{
+    let mut files = MemFiles::new(alloc, room)?;
+    files.add("s", script)?;
+    Ok(files)
+}
+
+/// Whether a call with these words comes to that. With 0, and only then, it leaves an engine.
+pub fn comes_to(
+    alloc: Global,
+    words: &[&str],
+    files: &mut MemFiles,
+    out: &mut MemSink,
+    expected: Expected,
+) -> Result<bool, AllocError> {
+    let (status, printed, content) = expected;
+    let words = owned(alloc, words)?;
+    let mut ran = None;
+    let found = dsp_main(alloc, &words, files, out, &mut ran);
+    let has_ended = found == status && ran.is_some() == (status == 0);
+    Ok(has_ended && out.bytes() == printed && has_file(files, content))
+}
+
+fn owned(alloc: Global, words: &[&str]) -> Result<Vec<String>, AllocError> {
+    let mut owned = Vec::new(alloc);
+    for word in words {
+        owned.push(String::from_str(alloc, word)?)?;
+    }
+    Ok(owned)
+}
+
+// Whether the device file `o` has so many bytes of silence and then these, or isn't there.
+fn has_file(files: &MemFiles, content: Option<(usize, &[u8])>) -> bool {
+    match (files.content("o"), content) {
+        (Some(bytes), Some((silent, heard))) => match bytes.split_at_checked(silent) {
+            Some((front, rest)) => front.iter().all(|byte| *byte == 0) && rest == heard,
+            None => false,
+        },
+        (found, wanted) => found.is_none() && wanted.is_none(),
+    }
+}

@@ -1,0 +1,10 @@
+//! Tests of the stages and of what holds them: each feeder by itself and in a box, the racks, and the tables.
+//! They hold what no clause says: that what is generic runs at concrete types, with ample memory.
+#![tactic(auto)]
+
+#[cfg(test)]
+mod depth;
+#[cfg(test)]
+mod racks;
+#[cfg(test)]
+mod tables;

@@ -1,0 +1,35 @@
+use Rattle.std.proofs.Common.{◌≡◌, ℕ, ◌+◌, ◌≤◌, ◌++◌, List, take, length, refl, sym, ◌∙◌, ap, subst, arith, string_bytes, length-take-le}
+use Rattle.std.proofs.lemmas.List.{take_more}
+use Rattle.pcm_replay.specs.Playing.{HasPlayed}
+use Rattle.pcm_replay.proofs.Plays.{front, played}
+use Rattle.pcm_replay.proofs.replay.Replay.step_at.Goals as goal
+
+-- the events up to this one were run
+pub returns : goal.returns
+returns c =
+    let replay = c.args.self.now in
+    let inline = c.args.pool.now.inline_bytes in
+    let xs = c.args.events.now in
+    let events = take c.args.at xs in
+    let within : c.args.at ≤ length xs = omega (arith, c.requires.there) in
+    let step = c.step-count.ensures in
+    let piece = take c.step-count.result c.step-count.new.out in
+    let block : c.deref.result.now ≡ c.step-count.new.out =
+    c.deref.ensures.value ∙ front _ c.step-count.new.out _ (c.step-count.auto.out ∙ c.deref_mut.ensures.len) in
+    let text : c.extend_from_slice.new.self.items ≡ replay.text.items ++ piece =
+    c.in_ok-extend_from_slice.ensures.items ∙ ap (λ (bytes : List ℕ). replay.text.items ++ take c.step-count.result bytes) block in
+    let line = c.as_str.ensures.value ∙ c.in_ok-line.ensures in
+    subst (HasPlayed _ inline) (sym (take_more xs c.args.at _ c.requires.there))
+    (played replay _ inline events _ piece (c.args.at + 1) c.result.result
+    (record {
+      device = step.device;
+      stands = step.stands events;
+      steps = step.steps;
+      bytes = step.bytes events;
+      reply = λ stood. c.result.ensures ∙ step.reply events stood;
+      text = text;
+      counted = ap (λ n. n + 1) (sym (length-take-le c.args.at xs within));
+      lines = c.in_ok-push_str.ensures.bytes ∙ ap (λ (more : List ℕ). string_bytes replay.lines ++ more) line;
+      room = refl;
+    })
+    c.requires.played)

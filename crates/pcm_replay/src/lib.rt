@@ -1,0 +1,15 @@
+//! The call of the program: words, files and a sink go in, and a status comes out.
+//! `dsp_main` says exactly what is written, over any files and any sink that meet their traits.
+#![tactic(auto)]
+
+mod ending;
+mod fault_lines;
+mod reading;
+mod refusals;
+mod replay;
+mod reply_lines;
+mod top;
+mod words;
+mod writing;
+
+pub use top::dsp_main;

@@ -1,0 +1,31 @@
+//! What a run leaves: the device file, and then the lines.
+
+ghost use Rattle.std.specs.Prelude.{OnErr, OnOk};
+ghost use Rattle.pcm_replay.specs.Runs.{CutsRun, WritesRun};
+
+use pcm_outside::{Files, Sink, WriteFault};
+
+/// Creates the device file with its whole text, and then puts all lines at once.
+pub fn write_run<F: Files, K: Sink>(
+    files: &mut F,
+    out: &mut K,
+    name: &str,
+    text: &[u8],
+    lines: &[u8],
+) -> Result<(), WriteFault>
+    ensures ok { OnOk result (WritesRun name.now text.now lines.now
+        (F.seen files.old) (F.seen files.new) (K.seen out.old) (K.seen out.new)) }
+    ensures err { OnErr result (CutsRun name.now text.now lines.now
+        (F.seen files.old) (F.seen files.new) (K.seen out.old) (K.seen out.new)) }
+{
+    let Ok(()) = files.create(name) else {
+        return Err(WriteFault);
+    };
+    let Ok(()) = files.append(text) else {
+        return Err(WriteFault);
+    };
+    let Ok(()) = out.put(lines) else {
+        return Err(WriteFault);
+    };
+    Ok(())
+}

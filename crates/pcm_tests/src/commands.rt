@@ -1,0 +1,181 @@
+//! Texts to events: words, numbers, and each kind of fault.
+
+use pcm_desk::Device;
+use pcm_format::{Event, Way};
+use pcm_script::{Events, ScriptFault, script_of};
+use std::alloc::Global;
+use std::test::Fail;
+
+/// How many events a text gives, or the line that is refused and why.
+pub type Outcome = Result<usize, (u32, &'static str)>;
+
+/// What comes of a text.
+pub fn outcome(alloc: Global, text: &[u8]) -> Outcome {
+    match script_of(alloc, text, &Device::usual()) {
+        Ok(script) => Ok(script.events.as_slice().len()),
+        Err(ScriptFault::Refused(refusal)) => Err((refusal.line, refusal.kind.word())),
+        Err(ScriptFault::Memory) => Err((0, "memory")),
+    }
+}
+
+const LINES: [(&[u8], Outcome); 17] = [
+    (b"", Ok(0)),
+    (b"\n\n", Ok(0)),
+    (b"intr", Ok(1)),
+    (b"intr\nintr\n", Ok(2)),
+    (b" \t intr \t 7 \r\n", Ok(1)),
+    (b"\r\nintr\r\n\r", Ok(1)),
+    (b"intr\r\r\n", Err((1, "word"))),
+    (b"intr\r 7", Err((1, "word"))),
+    (b"intr\x0b7", Err((1, "word"))),
+    (b"intr 7 # \xff\xfe and more", Ok(1)),
+    (b"#intr\n  # intr 0\nintr #0", Ok(1)),
+    (b"intr# 7", Err((1, "word"))),
+    (b"intr 7#", Err((1, "number"))),
+    (b"Intr", Err((1, "word"))),
+    (b"\n\nintr\n\nintr 0\nnosuch", Err((5, "range"))),
+    (b"nosuch # twice\nintr 0", Err((1, "word"))),
+    (b"intr\r\n\r\n\nclose", Err((4, "count"))),
+];
+
+#[test]
+fn lines_are_cut_into_words(rt: HostRuntime) {
+    for (text, expected) in &LINES {
+        assert_eq!(rt; outcome(rt.alloc(), text), *expected, "{text:?}");
+    }
+}
+
+// Numbers, and what a descriptor and an interrupt may be: the device's ring has 1024 frames.
+const NUMBERS: [(&[u8], Outcome); 16] = [
+    (b"close 0", Ok(1)),
+    (b"close 63", Ok(1)),
+    (b"close 64", Err((1, "range"))),
+    (b"close 0000000063", Ok(1)),
+    (b"close 00000000063", Err((1, "number"))),
+    (b"close 9999999999", Err((1, "range"))),
+    (b"close 0x3F", Ok(1)),
+    (b"close 0x0000003f", Ok(1)),
+    (b"close 0x00000003f", Err((1, "number"))),
+    (b"close 0xffffffff", Err((1, "range"))),
+    (b"close 0x", Err((1, "number"))),
+    (b"close 0X3f", Err((1, "number"))),
+    (b"close 3f", Err((1, "number"))),
+    (b"close -1", Err((1, "number"))),
+    (b"intr 1\nintr 1024\nintr 1025", Err((3, "range"))),
+    (b"intr 0", Err((1, "range"))),
+];
+
+#[test]
+fn numbers_of_either_base(rt: HostRuntime) {
+    for (text, expected) in &NUMBERS {
+        assert_eq!(rt; outcome(rt.alloc(), text), *expected, "{text:?}");
+    }
+}
+
+// A wrong count of words comes before any other fault. What isn't built is refused whatever follows.
+const COUNTS: [(&[u8], Outcome); 11] = [
+    (b"close", Err((1, "count"))),
+    (b"close x y", Err((1, "count"))),
+    (b"open 0", Err((1, "count"))),
+    (b"open x no s16le", Err((1, "count"))),
+    (b"open x no s16le 2", Err((1, "count"))),
+    (b"open 0 play s16le 2 48000 1", Err((1, "count"))),
+    (b"write 0", Err((1, "count"))),
+    (b"intr 1 1", Err((1, "count"))),
+    (b"send", Err((1, "unbuilt"))),
+    (b"read 64 x y z", Err((1, "unbuilt"))),
+    (b"ioctl 0 nosuch", Err((1, "unbuilt"))),
+];
+
+#[test]
+fn counts_come_first(rt: HostRuntime) {
+    for (text, expected) in &COUNTS {
+        assert_eq!(rt; outcome(rt.alloc(), text), *expected, "{text:?}");
+    }
+}
+
+// Words of an open are judged from left to right, and only then whether it is built.
+const OPENS: [(&[u8], Outcome); 13] = [
+    (b"open 0 play s16le 2 48000", Ok(1)),
+    (b"open 64 no", Err((1, "range"))),
+    (b"open 0 Play", Err((1, "name"))),
+    (b"open 0 rec x x x", Err((1, "name"))),
+    (b"open 0 rec u8 x x", Err((1, "number"))),
+    (b"open 0 rec u8 3 x", Err((1, "range"))),
+    (b"open 0 rec u8 4294967297 x", Err((1, "range"))),
+    (b"open 0 rec u8 8 3999", Err((1, "range"))),
+    (b"open 0 rec u8 8 192001", Err((1, "range"))),
+    (b"open 0 rec u8 8 192000", Err((1, "unbuilt"))),
+    (b"open 0 rec s16le 2 48000", Err((1, "unbuilt"))),
+    (b"open 0 play s16le 2 4000", Err((1, "unbuilt"))),
+    (b"open 0 play", Err((1, "unbuilt"))),
+];
+
+#[test]
+fn an_open_is_judged_from_left_to_right(rt: HostRuntime) {
+    for (text, expected) in &OPENS {
+        assert_eq!(rt; outcome(rt.alloc(), text), *expected, "{text:?}");
+    }
+}
+
+const WRITES: [(&[u8], Outcome); 7] = [
+    (b"write 0 -", Ok(1)),
+    (b"write 0 00fFAb", Ok(1)),
+    (b"write 0 0", Err((1, "hex"))),
+    (b"write 0 0g", Err((1, "hex"))),
+    (b"write 0 0x00", Err((1, "hex"))),
+    (b"write 0 --", Err((1, "hex"))),
+    (b"write 64 0", Err((1, "range"))),
+];
+
+#[test]
+fn the_bytes_of_a_write_are_pairs_of_digits(rt: HostRuntime) {
+    for (text, expected) in &WRITES {
+        assert_eq!(rt; outcome(rt.alloc(), text), *expected, "{text:?}");
+    }
+}
+
+const EVENTS: [Event; 6] = [
+    Event::Write {
+        fd: 3,
+        at: 0,
+        len: 2,
+    },
+    Event::Write {
+        fd: 3,
+        at: 2,
+        len: 0,
+    },
+    Event::Write {
+        fd: 4,
+        at: 2,
+        len: 1,
+    },
+    Event::Intr { frames: 256 },
+    Event::Intr { frames: 16 },
+    Event::Close { fd: 3 },
+];
+
+#[test]
+fn a_script_has_its_events_in_order(rt: HostRuntime) -> Result<(), Fail> {
+    let text = b"write 3 0102\nwrite 3 -\nwrite 4 03\nintr\nintr 0x10\nclose 3";
+    let script = script_of(rt.alloc(), text, &Device::usual())?;
+    assert_eq!(rt; script.events.as_slice(), EVENTS.as_slice());
+    assert_eq!(rt; script.inline_bytes.as_slice(), &b"\x01\x02\x03"[..]);
+    assert_eq!(rt; script.device_frames, 272);
+    let taken = Events::new(script.events.into_vec());
+    assert_eq!(rt; taken.as_slice(), EVENTS.as_slice());
+    Ok(())
+}
+
+#[test]
+fn an_open_has_the_settings_of_the_device(rt: HostRuntime) -> Result<(), Fail> {
+    let script = script_of(rt.alloc(), b"open 3 play s16le 2 48000", &Device::usual())?;
+    let open = Event::Open {
+        fd: 3,
+        way: Way::Play,
+        settings: Device::usual().settings,
+    };
+    assert_eq!(rt; script.events.as_slice(), [open].as_slice());
+    Ok(())
+}

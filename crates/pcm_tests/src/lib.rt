@@ -1,0 +1,26 @@
+//! Tests of the crates below the program, by topic.
+//! They hold what no clause says: outside values, calls with ample memory, and the real forms of the outside.
+#![tactic(auto)]
+
+#[cfg(test)]
+mod books;
+#[cfg(test)]
+mod commands;
+#[cfg(test)]
+mod engines;
+#[cfg(test)]
+mod formats;
+#[cfg(test)]
+mod limits;
+#[cfg(test)]
+mod memory_forms;
+#[cfg(test)]
+mod mixes;
+#[cfg(test)]
+mod numbers;
+#[cfg(test)]
+mod real_forms;
+#[cfg(test)]
+mod rings;
+#[cfg(test)]
+mod transfers;
