@@ -2,7 +2,7 @@
 
 ghost use Rattle.std.specs.Prelude.{◌≡◌, ◌+◌, ◌*◌, ◌^◌, ◌<◌, ◌≤◌};
 ghost use Rattle.pcm_format.specs.Frames.{frame_bytes};
-ghost use Rattle.pcm_desk.specs.Books.{frames_written, fill_of, allowed_in, giving, begun, accepting, close_turn, emptied, refilled, primed_in, started_in, settled_in, drained_in, closed_in, gives, underruns_after};
+ghost use Rattle.pcm_desk.specs.Books.{frames_written, fill_of, giving, begun, accepting, close_turn, emptied, refilled, primed_in, started_in, settled_in, drained_in, gives, underruns_after};
 
 use crate::{Book, FRAGMENT_BYTES, State};
 use pcm_format::Settings;

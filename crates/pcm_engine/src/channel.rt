@@ -5,9 +5,9 @@ ghost use Rattle.pcm_format.specs.Formats.{bits_of};
 ghost use Rattle.pcm_format.specs.Layouts.{channels_of};
 ghost use Rattle.pcm_format.specs.Frames.{frame_bytes};
 ghost use Rattle.pcm_num.specs.Limit.{FitsBits};
-ghost use Rattle.pcm_desk.specs.Books.{is_free, fill_of, frames_written, ring_bytes, giving, begun, write_turn, close_turn, refilled};
+ghost use Rattle.pcm_desk.specs.Books.{is_free, fill_of, ring_bytes, giving, begun, write_turn, close_turn, refilled};
 ghost use Rattle.pcm_desk.specs.Events.{write_limit};
-ghost use Rattle.pcm_sound.specs.Blocks.{waiting_samples, turned};
+ghost use Rattle.pcm_sound.specs.Blocks.{turned};
 
 use crate::fetch::fetch;
 use pcm_desk::{Book, FRAGMENT_BYTES, FRAGMENTS, State};

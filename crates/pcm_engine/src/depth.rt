@@ -3,8 +3,6 @@
 ghost use Rattle.std.specs.Prelude.{◌≡◌, ◌≤◌, map};
 ghost use Rattle.pcm_format.specs.Samples.{at_depth};
 
-use pcm_num::floor_shift;
-
 /// Brings each sample to so many bits, rounded down.
 pub fn bring_to_depth(samples: &mut [i32], bits: u32)
     requires least { 1 ≤ bits }

@@ -1,6 +1,6 @@
 //! The engine and its events.
 
-ghost use Rattle.std.specs.Prelude.{◌≡◌, [], ◌∷◌, ◌++◌, ◌+◌, ◌*◌, ◌^◌, ◌<◌, ◌≤◌, length, vec_len, take, drop, All, List, ℕ, IfOk, IsErr};
+ghost use Rattle.std.specs.Prelude.{◌≡◌, [], ◌∷◌, ◌++◌, ◌+◌, ◌*◌, ◌<◌, ◌≤◌, length, take, drop, All, List, ℕ, IfOk, IsErr};
 ghost use Rattle.pcm_desk.specs.Events.{write_limit, event_limit};
 ghost use Rattle.pcm_sound.specs.Runs.{part};
 ghost use Rattle.pcm_engine.specs.Limits.{ring_limit};
@@ -8,7 +8,7 @@ ghost use Rattle.pcm_engine.specs.Limits.{ring_limit};
 use crate::clients::Clients;
 use crate::output::Output;
 use pcm_desk::Device;
-use pcm_format::{Answer, Errno, Event, Pool, ReplyBuf};
+use pcm_format::{Answer, Event, Pool, ReplyBuf};
 use std::alloc::{AllocError, Global};
 
 /// All channels of a device, the descriptors that hold them, and the device's ring.

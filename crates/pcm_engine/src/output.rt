@@ -5,8 +5,6 @@ ghost use Rattle.std.specs.List.{flat_map};
 ghost use Rattle.pcm_format.specs.Layouts.{channels_of};
 ghost use Rattle.pcm_format.specs.Samples.{spelled};
 ghost use Rattle.pcm_format.specs.Frames.{frame_bytes};
-ghost use Rattle.pcm_sound.specs.Plans.{silence};
-ghost use Rattle.pcm_sound.specs.DeviceList.{spelled_frames};
 ghost use Rattle.pcm_engine.specs.Limits.{ring_limit};
 ghost use Rattle.pcm_engine.specs.Channels.{Refills, turn_of, Each};
 

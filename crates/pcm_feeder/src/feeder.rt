@@ -4,7 +4,7 @@ use crate::{Gain, Kind, Moved, Spec, Tables};
 
 /// A stage of a chain. What it gives follows from what it keeps and from the arguments alone.
 pub trait Feeder: Drop {
-    ghost use Rattle.std.specs.Prelude.{◌≡◌, ◌≤◌, ◌*◌, length, IsSomeAnd};
+    ghost use Rattle.std.specs.Prelude.{◌≡◌, ◌≤◌, IsSomeAnd};
     ghost use Rattle.pcm_feeder.specs.declared.kind.Kind.{Kind};
     ghost use Rattle.pcm_feeder.specs.Kept.{Kept, fresh};
     ghost use Rattle.pcm_feeder.specs.Limits.{IsSpec};

@@ -1,6 +1,6 @@
 //! The boxes that a chain picks its stages from.
 
-ghost use Rattle.std.specs.Prelude.{◌≡◌, ◌≢◌, MatchResult, IfOk, IfErr, vec_len};
+ghost use Rattle.std.specs.Prelude.{◌≡◌, ◌≢◌, IfOk, IfErr, vec_len};
 
 use crate::{Feeder, Kind};
 

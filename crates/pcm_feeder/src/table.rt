@@ -1,6 +1,6 @@
 //! The filters of the polyphase converter.
 
-ghost use Rattle.std.specs.Prelude.{◌≡◌, ◌≤◌, List, ℤ};
+ghost use Rattle.std.specs.Prelude.{◌≡◌, List, ℤ};
 
 use std::marker::Model;
 

@@ -1,7 +1,7 @@
 //! Stages that convert frames, each over a stream that is silent past its end.
 #![tactic(auto, unfolding(crate::proofs::Computing::row))]
 
-ghost use Rattle.std.specs.Prelude.{◌≡◌, ℕ, ℤ, pos, negsuc, List, [], ◌∷◌};
+ghost use Rattle.std.specs.Prelude.{◌≡◌, ℤ, pos, negsuc, [], ◌∷◌};
 ghost use Rattle.pcm_format.specs.declared.layout.Layout.TheVariants as layouts;
 ghost use Rattle.pcm_feeder.specs.declared.stage.Spec.TheVariants as specs;
 ghost use Rattle.pcm_feeder.specs.Layouts.{unity};

@@ -1,11 +1,11 @@
 -- Blocks of frames, joined: what a slot adds to a block of the mix, whole.
-use Rattle.std.proofs.Common.{◌≡◌, ℕ, suc, zero, ◌+◌, ◌-◌, ◌*◌, ◌<◌, ◌≤◌, List, [], ◌∷◌, ◌++◌, length, get_or, min, map, take, drop, Option, Some, None, ℤ, pos, refl, sym, ap, ◌∙◌, subst, arith, length-append, append_assoc, add-zero, zero-add}
+use Rattle.std.proofs.Common.{◌≡◌, ℕ, suc, zero, ◌+◌, ◌-◌, ◌*◌, ◌<◌, ◌≤◌, List, ◌∷◌, ◌++◌, length, take, drop, Option, Some, None, refl, sym, ap, ◌∙◌, arith, length-append, add-zero, zero-add}
 use Rattle.std.specs.List.{range_with_len, flat_map}
-use Rattle.std.proofs.lemmas.List.{take_at, drop_at, map-append, append-nil}
+use Rattle.std.proofs.lemmas.List.{take_at, drop_at}
 use Rattle.std.proofs.lemmas.List.Concat.{flat_map-append}
 use Rattle.pcm_format.specs.Frames.{Frame}
 use Rattle.pcm_mix.specs.Mix.{mixed}
-use Rattle.pcm_mix.proofs.Blocks.{mixed-append, length-mixed}
+use Rattle.pcm_mix.proofs.Blocks.{mixed-append}
 use Rattle.pcm_sound.specs.Mix.{adding}
 
 -- numbers from a on, cut in two

@@ -1,42 +1,35 @@
 -- The device's frames, while the story goes on.
-use Rattle.std.proofs.Common.{◌≡◌, ℕ, suc, zero, ◌+◌, ◌-◌, ◌*◌, ◌/◌, ◌<◌, ◌≤◌, List, [], ◌∷◌, ◌++◌, length, get_or, min, map, take, drop, replicate, Option, Some, None, ◌⊎◌, inl, inr, ℤ, pos, refl, sym, ap, ◌∙◌, subst, arith, rules, All, length-append, append_assoc, add-zero, zero-add, fold}
+use Rattle.std.proofs.Common.{◌≡◌, ℕ, suc, zero, ◌+◌, ◌-◌, ◌*◌, ◌<◌, List, [], ◌∷◌, ◌++◌, length, get_or, map, take, replicate, Option, Some, None, inl, inr, ℤ, pos, refl, sym, ap, ◌∙◌, arith, All, length-append, append_assoc, zero-add, fold}
 use Rattle.std.specs.Prelude.{IfSome, find}
-use Rattle.std.proofs.Math.Seq.{take-append-add, take-add}
-use Rattle.std.proofs.Math.Nat.{zero-div}
+use Rattle.std.proofs.Math.Seq.{take-append-add}
 use Rattle.std.specs.List.{range_with_len, flat_map}
-use Rattle.std.proofs.lemmas.List.{take_all, take_at, drop_at, map-append, append-nil, length-map, length-replicate, take-append-le, get_or_past}
+use Rattle.std.proofs.lemmas.List.{take_all, map-append, length-map, length-replicate, get_or_past}
 use Rattle.std.proofs.lemmas.List.Concat.{flat_map-append}
-use Rattle.std.proofs.lemmas.List.Folds.{flat_map-map}
 use Rattle.std.proofs.lemmas.List.Sums.{fold-append}
 use Rattle.std.proofs.lemmas.List.FromFn.{length-range_with_len}
 use Rattle.std.proofs.lemmas.Bool.{cases_lt}
-use Rattle.std.proofs.lemmas.List.Elements.{All-head, All-tail, All-cons, All-nil, All-append, All-replicate, All-map, All-weaker}
+use Rattle.std.proofs.lemmas.List.Elements.{All-head, All-tail, All-append, All-replicate, All-map}
 use Rattle.pcm_format.specs.declared.settings.Settings.{Settings}
 use Rattle.pcm_format.specs.declared.format.Format.{Format}
 use Rattle.pcm_format.specs.declared.event.Event.{Event}
-use Rattle.pcm_format.specs.declared.event.Event.TheVariants.{Open, Write, Close, Intr}
+use Rattle.pcm_format.specs.declared.event.Event.TheVariants.{Write, Intr}
 use Rattle.pcm_format.specs.Formats.{bits_of, bytes_of}
 use Rattle.pcm_format.specs.Layouts.{channels_of}
-use Rattle.pcm_format.specs.Samples.{at_depth, samples, spelled}
+use Rattle.pcm_format.specs.Samples.{at_depth, spelled}
 use Rattle.pcm_format.specs.Frames.{Frame, frames, frame_at, frame_bytes, whole_frames}
-use Rattle.pcm_format.proofs.Streams.{get_or-frames, length-frame_at, samples-part, map-range-same, length-frames}
+use Rattle.pcm_format.proofs.Streams.{get_or-frames, length-frame_at, map-range-same, length-frames}
 use Rattle.pcm_format.proofs.Spelling.{length-flat_map-spelled}
 use Rattle.pcm_mix.specs.Mix.{mixed}
 use Rattle.pcm_mix.proofs.Blocks.{length-mixed}
-use Rattle.pcm_desk.specs.declared.book.Book.{Book}
 use Rattle.pcm_desk.specs.declared.device.Device.{Device}
-use Rattle.pcm_desk.specs.Books.{giving, frames_written, allowed_in}
-use Rattle.pcm_desk.specs.Desk.{Desk, book_at}
-use Rattle.pcm_sound.specs.Plans.{silence, frame_in, given_frame, unity}
-use Rattle.pcm_sound.specs.Runs.{Run, Piece, covers, is_started, given_by, first_of, sounding, playing, stream_of, newest_bytes}
+use Rattle.pcm_sound.specs.Plans.{silence, frame_in}
+use Rattle.pcm_sound.specs.Runs.{Run, Piece, covers, given_by, first_of, sounding, stream_of}
 use Rattle.pcm_sound.specs.Story.{Story, told}
 use Rattle.pcm_sound.specs.Mix.{Table, adding, mix_of}
 use Rattle.pcm_sound.specs.DeviceList.{table_of, mix_at, device_list, spelled_frame, spelled_frames, device_bytes, device_body}
-use Rattle.pcm_sound.specs.Valid.{RunIsValid, IsNewest, SlotIsValid, StoryIsValid}
-use Rattle.pcm_sound.proofs.Sounding.{frame_fits, sounding-playing_given, sounding-playing_none}
-use Rattle.pcm_sound.proofs.Slots.{allowed-started}
+use Rattle.pcm_sound.specs.Valid.{StoryIsValid}
 use Rattle.pcm_sound.proofs.Stories.{table_of-told}
-use Rattle.pcm_sound.proofs.Blocks.{range-split, adding-block}
+use Rattle.pcm_sound.proofs.Blocks.{range-split}
 
 fold-same : {A B : Type 0} (f g : B → A → B) (start : B) (xs : List A) → ((b : B) (x : A) → f b x ≡ g b x) → fold f start xs ≡ fold g start xs
 fold-same f g start [] h = refl

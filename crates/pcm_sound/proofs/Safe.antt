@@ -1,20 +1,18 @@
 -- The counts of a book stay in order through every event.
-use Rattle.std.proofs.Common.{◌≡◌, ℕ, suc, zero, ◌+◌, ◌-◌, ◌*◌, ◌<◌, ◌≤◌, Bool, true, false, cond, eqb, min, max, Result, Ok, Err, refl, sym, ap, ◌∙◌, subst, arith}
+use Rattle.std.proofs.Common.{◌≡◌, ℕ, ◌+◌, ◌*◌, ◌<◌, ◌≤◌, Bool, true, false, cond, eqb, min, max, Ok, Err, refl, arith}
 use Rattle.std.proofs.Math.Nat.{mul-le-mul_right}
 use Rattle.std.specs.Prelude.{nat_lt, nat_le, ◌&&◌}
 use Rattle.std.proofs.lemmas.Bool.Decides.{nat_tests}
 use Rattle.pcm_format.specs.declared.settings.Settings.{Settings}
-use Rattle.pcm_format.specs.declared.reply.Answer.{Answer}
 use Rattle.pcm_format.specs.declared.reply.Answer.TheVariants.{Number}
-use Rattle.pcm_format.specs.declared.reply.Errno.{Errno}
 use Rattle.pcm_format.specs.declared.reply.Errno.TheVariants.{Again, Busy}
 use Rattle.pcm_format.specs.Frames.{frame_bytes, whole_frames}
 use Rattle.pcm_desk.specs.declared.book.Book.{Book}
 use Rattle.pcm_desk.specs.declared.book.State.{State}
 use Rattle.pcm_desk.specs.declared.book.State.TheVariants.{Free, Setup, Primed, Running, Draining}
-use Rattle.pcm_desk.specs.Books.{BookTurn, is_draining, frames_written, fill_of, free_of, ring_bytes, giving, gives, begun, emptied, accepting, started_in, write_turn, closed_in, close_turn, refilled, underruns_after}
+use Rattle.pcm_desk.specs.Books.{BookTurn, is_draining, frames_written, fill_of, free_of, ring_bytes, giving, gives, begun, emptied, accepting, started_in, write_turn, closed_in, close_turn, refilled}
 use Rattle.pcm_sound.specs.Valid.{IsInOrder, BookIsSafe}
-use Rattle.pcm_sound.proofs.Sounding.{frame_fits, frames_fit, whole_frames-mono}
+use Rattle.pcm_sound.proofs.Sounding.{whole_frames-mono}
 
 -- the fact that every started book keeps beside: what was eaten was given, and is within what was written
 pub record Counts (book : Book) : Type 0 where

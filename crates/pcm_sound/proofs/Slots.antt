@@ -1,6 +1,6 @@
 -- A slot's book and runs stay valid through every event.
-use Rattle.std.proofs.Common.{◌≡◌, ℕ, suc, zero, ◌+◌, ◌-◌, ◌*◌, ◌/◌, ◌<◌, ◌≤◌, Bool, true, false, cond, ltb, leb, eqb, List, [], ◌∷◌, ◌++◌, length, get_or, min, max, map, Option, Some, None, Result, Ok, Err, refl, sym, ap, ◌∙◌, subst, arith, rules, All, length-append}
-use Rattle.std.specs.Prelude.{nat_lt, nat_le, ◌==◌, if◌then◌else◌, ◌&&◌}
+use Rattle.std.proofs.Common.{◌≡◌, ℕ, suc, zero, ◌+◌, ◌<◌, ◌≤◌, Bool, true, false, cond, eqb, List, [], ◌∷◌, ◌++◌, length, min, Ok, Err, refl, sym, ap, ◌∙◌, arith, All, length-append}
+use Rattle.std.specs.Prelude.{nat_lt, nat_le, ◌&&◌}
 use Rattle.std.proofs.lemmas.List.Elements.{All-head, All-tail, All-cons, All-nil, All-weaker}
 use Rattle.std.proofs.lemmas.Bool.Decides.{nat_tests}
 use Rattle.pcm_format.specs.Frames.{whole_frames, frame_bytes}
@@ -8,11 +8,9 @@ use Rattle.pcm_desk.specs.declared.book.Book.{Book}
 use Rattle.pcm_desk.specs.declared.book.State.{State}
 use Rattle.pcm_desk.specs.declared.book.State.TheVariants.{Free, Setup, Primed, Running, Draining}
 use Rattle.pcm_desk.specs.declared.device.Device.{Device}
-use Rattle.pcm_format.specs.declared.reply.Answer.{Answer}
 use Rattle.pcm_format.specs.declared.reply.Answer.TheVariants.{Number}
-use Rattle.pcm_format.specs.declared.reply.Errno.{Errno}
 use Rattle.pcm_format.specs.declared.reply.Errno.TheVariants.{Again, Busy}
-use Rattle.pcm_desk.specs.Books.{BookTurn, is_draining, free_of, allowed_in, frames_written, fill_of, giving, gives, begun, emptied, accepting, primed_in, started_in, write_turn, settled_in, drained_in, closed_in, close_turn, refilled, refilled_in, underruns_after}
+use Rattle.pcm_desk.specs.Books.{BookTurn, is_draining, free_of, allowed_in, frames_written, fill_of, gives, emptied, accepting, started_in, write_turn, closed_in, close_turn, refilled, underruns_after}
 use Rattle.pcm_sound.specs.Runs.{Piece, Run, piece_of, is_started, taking, playing}
 use Rattle.pcm_sound.specs.Valid.{PieceIsValid, RunIsValid, IsNewest, SlotIsValid}
 use Rattle.pcm_format.proofs.Streams.{frame_bytes-above}

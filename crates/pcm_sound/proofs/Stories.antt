@@ -1,9 +1,8 @@
 -- A story stays valid through every event that fits, and what was mixed stays as it was.
-use Rattle.std.proofs.Common.{◌≡◌, ◌≢◌, ℕ, suc, zero, ◌+◌, ◌-◌, ◌*◌, ◌<◌, ◌≤◌, Bool, true, false, cond, eqb, List, [], ◌∷◌, ◌++◌, length, get_or, set, min, map, take, drop, replicate, Option, Some, None, ◌⊎◌, inl, inr, refl, sym, ap, ◌∙◌, subst, arith, rules, All, length-append, length-take, length-drop, get_or-set_same, get_or-set_other}
+use Rattle.std.proofs.Common.{◌≡◌, ℕ, ◌+◌, ◌-◌, ◌<◌, ◌≤◌, Bool, true, false, cond, List, [], ◌∷◌, ◌++◌, length, get_or, map, take, drop, replicate, Option, Some, None, ◌⊎◌, inl, inr, refl, sym, ap, ◌∙◌, subst, arith, All, length-take, length-drop, get_or-set_same, get_or-set_other}
 use Rattle.std.specs.Prelude.{is_some}
 use Rattle.std.proofs.lemmas.List.{get_or-map, get_or_past, get_or-replicate, length-replicate, set_past, length-map}
 use Rattle.std.proofs.lemmas.Bool.{cases_lt, cases_eq}
-use Rattle.std.proofs.lemmas.Bool.Decides.{nat_tests}
 use Rattle.std.proofs.lemmas.List.Elements.{All-nil}
 use Rattle.pcm_format.specs.declared.settings.Settings.{Settings}
 use Rattle.pcm_format.specs.declared.event.Event.{Event}
@@ -14,15 +13,15 @@ use Rattle.pcm_desk.specs.declared.book.Book.{Book}
 use Rattle.pcm_desk.specs.declared.device.Device.{Device}
 use Rattle.pcm_desk.specs.declared.device.Held.{Held}
 use Rattle.pcm_desk.specs.Books.{begun, write_turn, close_turn, refilled}
-use Rattle.pcm_desk.specs.Desk.{Desk, Turn, unopened, desk_at_start, held_by, least_free, book_at, with_book, refusing, open_in, open_turn, write_on, close_on, interrupt_turn, after}
+use Rattle.pcm_desk.specs.Desk.{Desk, Turn, unopened, held_by, least_free, book_at, with_book, refusing, open_in, open_turn, write_on, close_on, interrupt_turn}
 use Rattle.pcm_desk.specs.Events.{Fits, after_all}
-use Rattle.pcm_sound.specs.Runs.{Run, part, taking, playing, runs_after, sounding}
-use Rattle.pcm_sound.specs.Story.{Story, story_at_start, told, told_all, story_of}
+use Rattle.pcm_sound.specs.Runs.{Run, part, taking, playing, sounding}
+use Rattle.pcm_sound.specs.Story.{Story, story_at_start, told, told_all}
 use Rattle.pcm_sound.specs.DeviceList.{table_of}
 use Rattle.pcm_sound.specs.Valid.{BookIsSafe, RunIsValid, SlotIsValid, StoryIsValid}
 use Rattle.pcm_sound.proofs.Sounding.{sounding-taking, sounding-playing}
 use Rattle.pcm_sound.proofs.Safe.{safe-begun, safe-write, safe-close, safe-refilled}
-use Rattle.pcm_sound.proofs.Slots.{Accepts, WritesSome, accepts_none, write_turn-writes, valid-taking, valid-close, valid-refilled, valid-later}
+use Rattle.pcm_sound.proofs.Slots.{Accepts, WritesSome, accepts_none, write_turn-writes, valid-taking, valid-close, valid-refilled}
 
 -- the book of a slot after one book was set
 pub book_at-with : (device : Device) (desk : Desk) (at slot : ℕ) (book : Book)

@@ -1,11 +1,11 @@
 -- What one slot adds to the block of an interrupt, from the bytes that wait in its ring.
-use Rattle.std.proofs.Common.{◌≡◌, ℕ, suc, zero, ◌+◌, ◌-◌, ◌*◌, ◌/◌, ◌<◌, ◌≤◌, Bool, true, false, List, [], ◌∷◌, ◌++◌, length, get_or, min, map, take, drop, Option, Some, None, ◌⊎◌, inl, inr, ℤ, pos, refl, sym, ap, ◌∙◌, subst, arith, rules, All, length-append, zero-add}
+use Rattle.std.proofs.Common.{◌≡◌, ℕ, zero, ◌+◌, ◌*◌, ◌<◌, ◌≤◌, true, List, [], ◌∷◌, ◌++◌, length, get_or, map, take, drop, Option, inl, inr, ℤ, refl, sym, ap, ◌∙◌, arith}
 use Rattle.std.specs.List.{range_with_len, flat_map}
 use Rattle.std.proofs.Math.Nat.{zero-div}
 use Rattle.std.proofs.lemmas.List.{length-map, map-append}
 use Rattle.std.proofs.lemmas.Bool.{cases_lt}
 use Rattle.pcm_format.specs.declared.settings.Settings.{Settings}
-use Rattle.pcm_format.specs.Formats.{bits_of, bytes_of}
+use Rattle.pcm_format.specs.Formats.{bits_of}
 use Rattle.pcm_format.specs.Layouts.{channels_of}
 use Rattle.pcm_format.specs.Samples.{at_depth, samples}
 use Rattle.pcm_format.specs.Frames.{Frame, frames, frame_at, frame_bytes, whole_frames}
@@ -20,7 +20,7 @@ use Rattle.pcm_sound.specs.Plans.{silence, frame_in, given_frame, unity}
 use Rattle.pcm_sound.specs.Runs.{Run, is_started, sounding, playing, stream_of, newest_bytes}
 use Rattle.pcm_sound.specs.Mix.{adding}
 use Rattle.pcm_sound.specs.Blocks.{waiting_samples, turned}
-use Rattle.pcm_sound.specs.Valid.{RunIsValid, IsNewest, SlotIsValid}
+use Rattle.pcm_sound.specs.Valid.{SlotIsValid}
 use Rattle.pcm_sound.proofs.Sounding.{frames_fit, sounding-playing_given, sounding-playing_none}
 use Rattle.pcm_sound.proofs.Slots.{allowed-started}
 use Rattle.pcm_sound.proofs.DeviceLists.{IsDeviceFrame, length-frame_in}

@@ -1,5 +1,5 @@
 -- What the device gets: the silence of its ring, then the mix of each position, spelled.
-use Rattle.std.specs.Prelude.{ℕ, List, ◌++◌, map, replicate, take, ℤ}
+use Rattle.std.specs.Prelude.{ℕ, List, ◌++◌, map, replicate, take}
 use Rattle.std.specs.List.{range_with_len, flat_map}
 use Rattle.pcm_format.specs.declared.format.Format.{Format}
 use Rattle.pcm_format.specs.declared.event.Event.{Event}

@@ -1,5 +1,5 @@
 -- The mix: at each position a fold over the slots, limited after each addition.
-use Rattle.std.specs.Prelude.{ℕ, Option, Some, None, List, fold}
+use Rattle.std.specs.Prelude.{ℕ, Option, Some, None, fold}
 use Rattle.std.specs.List.{range_with_len}
 use Rattle.pcm_format.specs.Frames.{Frame}
 use Rattle.pcm_mix.specs.Mix.{mixed}

@@ -1,5 +1,5 @@
 -- What a client's stream becomes on its way into the mix.
-use Rattle.std.specs.Prelude.{ℕ, List, map, replicate, slice_index_or, ℤ, pos}
+use Rattle.std.specs.Prelude.{ℕ, List, map, replicate, slice_index_or, pos}
 use Rattle.pcm_format.specs.declared.settings.Settings.{Settings}
 use Rattle.pcm_format.specs.Formats.{bits_of}
 use Rattle.pcm_format.specs.Layouts.{channels_of}

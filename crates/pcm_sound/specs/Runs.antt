@@ -8,7 +8,7 @@ use Rattle.pcm_desk.specs.declared.book.Book.{Book}
 use Rattle.pcm_desk.specs.declared.book.State.{State}
 use Rattle.pcm_desk.specs.declared.book.State.TheVariants.{Free, Setup, Primed, Running, Draining}
 use Rattle.pcm_desk.specs.Books.{giving}
-use Rattle.pcm_sound.specs.Plans.{Plan, unity, given_frame}
+use Rattle.pcm_sound.specs.Plans.{unity, given_frame}
 
 -- what one interrupt took of a run: `count` frames from `index` on, mixed from `position` on, and how many were missing
 pub record Piece : Type 0 where

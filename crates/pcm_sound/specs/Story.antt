@@ -1,8 +1,6 @@
 -- What a list of events comes to: the desk, and the runs of each slot.
-use Rattle.std.specs.Prelude.{ℕ, List, [], ◌∷◌, slice_index_or}
+use Rattle.std.specs.Prelude.{ℕ, List, [], ◌∷◌}
 use Rattle.pcm_format.specs.declared.event.Event.{Event}
-use Rattle.pcm_format.specs.Frames.{Frame}
-use Rattle.pcm_desk.specs.declared.book.Book.{Book}
 use Rattle.pcm_desk.specs.declared.device.Device.{Device}
 use Rattle.pcm_desk.specs.Desk.{Desk, desk_at_start, book_at, after}
 use Rattle.pcm_sound.specs.Runs.{Run, runs_after}
