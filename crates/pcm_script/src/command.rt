@@ -1,8 +1,8 @@
 //! What each command adds to a script.
 
-ghost use Rattle.std.specs.Prelude.{◌∷◌, [], map};
+ghost use Rattle.std.specs.Prelude.{◌≡◌, ◌&&◌, ◌∷◌, [], map};
 ghost use Rattle.pcm_script.specs.Answers.{Gives};
-ghost use Rattle.pcm_script.specs.Commands.{close_line, command_line, interrupt_line, line_onto, open_line, opening, write_line};
+ghost use Rattle.pcm_script.specs.Commands.{close_line, command_line, interrupt_line, line_onto, open_line, opening, same_settings, write_line};
 
 use crate::ScriptKind;
 use crate::argument::{bytes_in, descriptor_in, format_in, layout_in, plays_in, rate_in};
@@ -120,10 +120,17 @@ fn add_opening(
 {
     let way = Way::Play;
     draft.add(device, Event::Open { fd, way, settings }, &[], 0)?;
-    if !plays || settings != device.settings {
+    if !is_built(device, plays, settings) {
         return Err(LineFault::Refused(ScriptKind::Unbuilt));
     }
     Ok(())
+}
+
+// So far a client plays with the device's settings.
+fn is_built(device: &Device, plays: bool, settings: Settings) -> bool
+    ensures { result ≡ (plays && same_settings settings device.now.settings) }
+{
+    plays && settings == device.settings
 }
 
 #[tactic(auto, unfolding(crate::specs::Commands::write_line))]

@@ -18,7 +18,16 @@ pub fn outcome(alloc: Global, text: &[u8]) -> Outcome {
     }
 }
 
-const LINES: [(&[u8], Outcome); 17] = [
+// A text, and what is to come of it.
+type Row = (&'static [u8], Outcome);
+
+// The first row whose text comes to something else.
+fn first_wrong(alloc: Global, rows: &[Row]) -> Option<usize> {
+    rows.iter()
+        .position(|(text, expected)| outcome(alloc, text) != *expected)
+}
+
+const LINES: [Row; 17] = [
     (b"", Ok(0)),
     (b"\n\n", Ok(0)),
     (b"intr", Ok(1)),
@@ -40,13 +49,11 @@ const LINES: [(&[u8], Outcome); 17] = [
 
 #[test]
 fn lines_are_cut_into_words(rt: HostRuntime) {
-    for (text, expected) in &LINES {
-        assert_eq!(rt; outcome(rt.alloc(), text), *expected, "{text:?}");
-    }
+    assert_eq!(rt; first_wrong(rt.alloc(), &LINES), None);
 }
 
 // Numbers, and what a descriptor and an interrupt may be: the device's ring has 1024 frames.
-const NUMBERS: [(&[u8], Outcome); 16] = [
+const NUMBERS: [Row; 16] = [
     (b"close 0", Ok(1)),
     (b"close 63", Ok(1)),
     (b"close 64", Err((1, "range"))),
@@ -67,13 +74,11 @@ const NUMBERS: [(&[u8], Outcome); 16] = [
 
 #[test]
 fn numbers_of_either_base(rt: HostRuntime) {
-    for (text, expected) in &NUMBERS {
-        assert_eq!(rt; outcome(rt.alloc(), text), *expected, "{text:?}");
-    }
+    assert_eq!(rt; first_wrong(rt.alloc(), &NUMBERS), None);
 }
 
 // A wrong count of words comes before any other fault. What isn't built is refused whatever follows.
-const COUNTS: [(&[u8], Outcome); 11] = [
+const COUNTS: [Row; 11] = [
     (b"close", Err((1, "count"))),
     (b"close x y", Err((1, "count"))),
     (b"open 0", Err((1, "count"))),
@@ -89,13 +94,11 @@ const COUNTS: [(&[u8], Outcome); 11] = [
 
 #[test]
 fn counts_come_first(rt: HostRuntime) {
-    for (text, expected) in &COUNTS {
-        assert_eq!(rt; outcome(rt.alloc(), text), *expected, "{text:?}");
-    }
+    assert_eq!(rt; first_wrong(rt.alloc(), &COUNTS), None);
 }
 
 // Words of an open are judged from left to right, and only then whether it is built.
-const OPENS: [(&[u8], Outcome); 13] = [
+const OPENS: [Row; 13] = [
     (b"open 0 play s16le 2 48000", Ok(1)),
     (b"open 64 no", Err((1, "range"))),
     (b"open 0 Play", Err((1, "name"))),
@@ -113,12 +116,10 @@ const OPENS: [(&[u8], Outcome); 13] = [
 
 #[test]
 fn an_open_is_judged_from_left_to_right(rt: HostRuntime) {
-    for (text, expected) in &OPENS {
-        assert_eq!(rt; outcome(rt.alloc(), text), *expected, "{text:?}");
-    }
+    assert_eq!(rt; first_wrong(rt.alloc(), &OPENS), None);
 }
 
-const WRITES: [(&[u8], Outcome); 7] = [
+const WRITES: [Row; 7] = [
     (b"write 0 -", Ok(1)),
     (b"write 0 00fFAb", Ok(1)),
     (b"write 0 0", Err((1, "hex"))),
@@ -130,9 +131,7 @@ const WRITES: [(&[u8], Outcome); 7] = [
 
 #[test]
 fn the_bytes_of_a_write_are_pairs_of_digits(rt: HostRuntime) {
-    for (text, expected) in &WRITES {
-        assert_eq!(rt; outcome(rt.alloc(), text), *expected, "{text:?}");
-    }
+    assert_eq!(rt; first_wrong(rt.alloc(), &WRITES), None);
 }
 
 const EVENTS: [Event; 6] = [

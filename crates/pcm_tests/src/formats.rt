@@ -79,23 +79,34 @@ const OF_24: [i32; 7] = [
     0x7fff_ff00,
 ];
 
+// Whether a format's bytes are loaded as these values.
+fn are_loaded(format: Format, bytes: &[u8], values: &[i32; 7]) -> bool {
+    let mut loaded = [0; 7];
+    if bytes.len() != 7 * format.bytes() {
+        return false;
+    }
+    load_frames(format, bytes, &mut loaded);
+    loaded == *values
+}
+
+// Whether these values are stored as a format's bytes.
+fn are_stored(format: Format, bytes: &[u8], values: &[i32; 7]) -> bool {
+    let mut stored = [0; 4];
+    let place = &mut stored[..format.bytes()];
+    for (value, wanted) in values.iter().zip(bytes.chunks_exact(format.bytes())) {
+        store(format, *value, place);
+        if *place != *wanted {
+            return false;
+        }
+    }
+    true
+}
+
 #[test]
 fn samples_are_loaded_and_stored(rt: HostRuntime) {
     for (format, bytes, values) in &SPELLED {
-        let width = format.bytes();
-        assert_eq!(rt; width * 7, bytes.len(), "{format:?}");
-        let mut loaded = [0; 7];
-        load_frames(*format, bytes, &mut loaded);
-        assert_eq!(rt; loaded, *values, "{format:?}");
-        for i in 0..7 {
-            let mut stored = [0; 4];
-            store(*format, values[i], &mut stored[..width]);
-            assert_eq!(rt;
-                &stored[..width],
-                &bytes[i * width..(i + 1) * width],
-                "{format:?}"
-            );
-        }
+        assert!(rt; are_loaded(*format, bytes, values), "{format:?}");
+        assert!(rt; are_stored(*format, bytes, values), "{format:?}");
     }
 }
 

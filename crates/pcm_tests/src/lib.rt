@@ -7,8 +7,6 @@ mod books;
 #[cfg(test)]
 mod commands;
 #[cfg(test)]
-mod engines;
-#[cfg(test)]
 mod formats;
 #[cfg(test)]
 mod limits;
