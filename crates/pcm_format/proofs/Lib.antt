@@ -1,2 +1,4 @@
 pub mod Spelling
+pub mod Ranges
 pub mod Streams
+pub mod Whole

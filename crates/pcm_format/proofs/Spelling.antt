@@ -1,15 +1,15 @@
 -- Each value of a format's range has one spelling. Said of width, order and sign, and not of each format.
-use Rattle.std.proofs.Common.{◌≡◌, ℕ, zero, suc, ◌+◌, ◌*◌, ◌-◌, ◌/◌, ◌%◌, ◌^◌, ◌<◌, ◌≤◌, Bool, true, false, List, [], ◌∷◌, length, reverse, ℤ, pos, negsuc, ◌+ℤ◌, ◌-ℤ◌, ◌*ℤ◌, neg_ℤ, ◌≤ℤ◌, FitsSigned, w32, cond, arith, ap, refl, sym, subst, ◌∙◌, lit<, lit≤}
+use Rattle.std.proofs.Common.{◌≡◌, ℕ, zero, suc, ◌+◌, ◌*◌, ◌-◌, ◌/◌, ◌%◌, ◌^◌, ◌<◌, ◌≤◌, Bool, true, false, List, [], ◌∷◌, length, reverse, ℤ, pos, negsuc, ◌+ℤ◌, ◌-ℤ◌, ◌*ℤ◌, ◌≤ℤ◌, cond, arith, ap, refl, sym, subst, ◌∙◌, lit<, lit≤}
 use Rattle.std.specs.List.{All, flat_map}
-use Rattle.std.proofs.Math.Nat.{pow-suc, zero-mul, zero-div, mul-div_cancel, mul-le-mul_right}
-use Rattle.std.proofs.lemmas.Nat.{div_below, div-mul-add, pow_pos, pow-add}
+use Rattle.std.proofs.Math.Nat.{pow-suc, zero-mul, zero-div}
+use Rattle.std.proofs.lemmas.Nat.{div_below, pow_pos, pow-add}
 use Rattle.std.proofs.lemmas.Bool.{lt-ltb, le-ltb}
 use Rattle.std.proofs.lemmas.Bool.Decides.{nat_tests}
 use Rattle.std.proofs.lemmas.Int.{ints}
 use Rattle.std.proofs.lemmas.List.{length-reverse, reverse-reverse, get_or-reverse, length-append}
 use Rattle.std.proofs.lemmas.List.Elements.{All-nil, All-cons, All-head, All-tail}
-use Rattle.pcm_num.specs.Floor.{floor_div}
 use Rattle.pcm_num.specs.Limit.{FitsBits}
+use Rattle.pcm_num.proofs.Floors.{floor_div-mul_pow}
 use Rattle.pcm_format.specs.declared.format.Format.{Format}
 use Rattle.pcm_format.specs.declared.format.Format.TheVariants.{U8}
 use Rattle.pcm_format.specs.Formats.{bits_of, bytes_of, is_big_endian, is_signed}
@@ -192,16 +192,9 @@ spelled-sample_value format bytes long below =
 
 -- ---- 32 bits
 
--- a product divided again
-pub floor_div-product : (value : ℤ) (scale : ℕ) → 0 < scale → floor_div (value *ℤ pos scale) scale ≡ value
-floor_div-product (pos number) scale above = ap pos (mul-div_cancel number above)
-floor_div-product (negsuc number) scale above =
-    let size : suc number * scale ≡ suc (number * scale + (scale - 1)) = omega arith in
-    ap (λ p. floor_div (neg_ℤ (pos p)) scale) size ∙ ap negsuc (div-mul-add number scale (scale - 1) (omega arith))
-
 -- the depth of a loaded sample is its value
 pub at_depth-loaded : (format : Format) (bytes : List ℕ) → at_depth (bits_of format) (loaded format bytes) ≡ sample_value format bytes
-at_depth-loaded format bytes = floor_div-product (sample_value format bytes) (scale_of (bits_of format)) (pow_pos (32 - bits_of format))
+at_depth-loaded format bytes = floor_div-mul_pow (sample_value format bytes) (32 - bits_of format)
 
 -- so what is loaded and stored again is the same bytes
 pub stored-loaded : (format : Format) (bytes : List ℕ) → length bytes ≡ bytes_of format → All (λ byte. byte < 256) bytes → stored format (loaded format bytes) ≡ bytes
@@ -220,43 +213,6 @@ bits_of-within _ = lit≤ tt
 pub half_of-within : (format : Format) → 2 * half_of format ≤ 2 ^ 32
 half_of-within U8 = lit≤ tt
 half_of-within _ = lit≤ tt
-
--- half the range of 32 bits is half the range of fewer bits, at scale
-halves-scaled : (bits : ℕ) → 1 ≤ bits → bits ≤ 32 → 2 ^ (bits - 1) * scale_of bits ≡ 2 ^ 31
-halves-scaled bits least most =
-    let all : bits - 1 + (32 - bits) ≡ 31 = omega arith in
-    sym (pow-add 2 (bits - 1) (32 - bits)) ∙ ap (λ n. 2 ^ n) all
-
--- the range of 32 bits is that of the type
-pub fits-32 : (z : ℤ) → FitsBits 32 z → FitsSigned w32 z
-fits-32 (pos n) fits = record { sfits = omega (arith, ints) }
-fits-32 (negsuc n) fits = record { sfits = omega (arith, ints) }
-
--- what a value of fewer bits is at 32 bits
-pub scaled-fits : (bits : ℕ) (value : ℤ) → 1 ≤ bits → bits ≤ 32 → FitsBits bits value → FitsBits 32 (value *ℤ pos (scale_of bits))
-scaled-fits bits (pos number) least most fits =
-    let some : 0 < 2 ^ (bits - 1) = pow_pos (bits - 1) in
-    let up : number + 1 ≤ 2 ^ (bits - 1) = omega (arith, ints) in
-    let more = mul-le-mul_right (scale_of bits) up in
-    let above : 0 < scale_of bits = pow_pos (32 - bits) in
-    let all = halves-scaled bits least most in
-    record { low = omega (arith, ints); high = omega (arith, ints) }
-scaled-fits bits (negsuc number) least most fits =
-    let some : 0 < 2 ^ (bits - 1) = pow_pos (bits - 1) in
-    let up : number + 1 ≤ 2 ^ (bits - 1) = omega (arith, ints) in
-    let more = mul-le-mul_right (scale_of bits) up in
-    let above : 0 < scale_of bits = pow_pos (32 - bits) in
-    let all = halves-scaled bits least most in
-    record { low = omega (arith, ints); high = omega (arith, ints) }
-
--- a sample of 32 bits at fewer bits is in their range
-pub at_depth-fits : (bits : ℕ) (sample : ℤ) → 1 ≤ bits → bits ≤ 32 → FitsBits 32 sample → FitsBits bits (at_depth bits sample)
-at_depth-fits bits (pos number) least most fits =
-    let below = div_below number (scale_of bits) (2 ^ (bits - 1)) (pow_pos (32 - bits)) (omega (arith, ints, halves-scaled bits least most)) in
-    record { low = omega (arith, ints); high = omega (arith, ints) }
-at_depth-fits bits (negsuc number) least most fits =
-    let below = div_below number (scale_of bits) (2 ^ (bits - 1)) (pow_pos (32 - bits)) (omega (arith, ints, halves-scaled bits least most)) in
-    record { low = omega (arith, ints); high = omega (arith, ints) }
 
 -- silence stays silence
 pub at_depth-silence : (bits : ℕ) → at_depth bits (pos 0) ≡ pos 0

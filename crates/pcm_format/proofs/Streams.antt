@@ -1,64 +1,19 @@
 -- Samples and frames that stand one after another in bytes: how many, which, and in a part or with more bytes behind.
-use Rattle.std.proofs.Common.{◌≡◌, ℕ, zero, suc, ◌+◌, ◌*◌, ◌-◌, ◌/◌, ◌<◌, ◌≤◌, List, ◌∷◌, ◌++◌, length, map, take, drop, get_or, ℤ, arith, ap, refl, sym, ◌∙◌, add-zero, zero-add}
+use Rattle.std.proofs.Common.{◌≡◌, ℕ, ◌+◌, ◌*◌, ◌-◌, ◌/◌, ◌<◌, ◌≤◌, List, ◌++◌, length, map, take, drop, get_or, arith, ap, refl, sym, ◌∙◌}
 use Rattle.std.proofs.Math.Nat.{mul-le-mul_right, mul-div_cancel, mul-pos, mul_assoc}
-use Rattle.std.proofs.lemmas.List.Folds.{flat_map-map}
 use Rattle.std.specs.List.{range_with_len, flat_map}
-use Rattle.std.proofs.lemmas.List.{drop-append-le, take-append-le, length-drop, length-take, drop-drop, drop-take, take-take, map-append, map-id}
-use Rattle.std.proofs.lemmas.List.FromFn.{length-map-range_with_len, get_or-map-range_with_len, fill_by_all}
+use Rattle.std.proofs.lemmas.List.{drop-append-le, take-append-le, length-drop, length-take, drop-drop, drop-take, take-take}
+use Rattle.std.proofs.lemmas.List.FromFn.{length-map-range_with_len, get_or-map-range_with_len}
 use Rattle.pcm_format.specs.declared.format.Format.{Format}
 use Rattle.pcm_format.specs.declared.format.Format.TheVariants.{U8}
 use Rattle.pcm_format.specs.declared.layout.Layout.{Layout}
 use Rattle.pcm_format.specs.declared.layout.Layout.TheVariants.{One}
 use Rattle.pcm_format.specs.declared.settings.Settings.{Settings}
 use Rattle.pcm_format.specs.Formats.{bytes_of}
-use Rattle.pcm_format.specs.Layouts.{channels_of}
+use Rattle.pcm_format.specs.Layouts.{channels_of, positions_of}
 use Rattle.pcm_format.specs.Samples.{loaded, sample_at, samples}
 use Rattle.pcm_format.specs.Frames.{Frame, frame_bytes, whole_frames, frame_at, frames}
-
--- ---- lists made from a function of the index
-
--- two functions that agree below n make one list
-pub map-range-same : {X : Type 0} (g h : ℕ → X) (n : ℕ) → ((i : ℕ) → i < n → g i ≡ h i) → map g (range_with_len 0 n) ≡ map h (range_with_len 0 n)
-map-range-same g h zero same = refl
-map-range-same g h (suc n) same =
-    fill_by_all h (map g (range_with_len 0 (suc n))) (suc n) (g 0) (length-map-range_with_len g 0 (suc n))
-    (λ i below. get_or-map-range_with_len g 0 (suc n) i i (g 0) below (omega arith) ∙ same i below)
-
--- numbers from a on, in two parts
-range-add : (a n m : ℕ) → range_with_len a (n + m) ≡ range_with_len a n ++ range_with_len (a + n) m
-range-add a zero m = simp (zero-add, add-zero)
-range-add a (suc n) m =
-    let more : suc n + m ≡ suc (n + m) = omega arith in
-    let next : a + 1 + n ≡ a + suc n = omega arith in
-    ap (range_with_len a) more ∙ ap (λ r. a ∷ r) (range-add (a + 1) n m ∙ ap (λ b. range_with_len (a + 1) n ++ range_with_len b m) next)
-
--- a list made from a shifted function
-map-range-shift : {X : Type 0} (g : ℕ → X) (a b n : ℕ) → map (λ i. g (a + i)) (range_with_len b n) ≡ map g (range_with_len (a + b) n)
-map-range-shift g a b zero = refl
-map-range-shift g a b (suc n) =
-    let next : a + (b + 1) ≡ a + b + 1 = omega arith in
-    ap (λ r. g (a + b) ∷ r) (map-range-shift g a (b + 1) n ∙ ap (λ s. map g (range_with_len s n)) next)
-
--- rows of c elements, joined
-rows-joined : {X : Type 0} (g : ℕ → X) (c a m : ℕ) → flat_map (λ j. map (λ i. g (j * c + i)) (range_with_len 0 c)) (range_with_len a m) ≡ map g (range_with_len (a * c) (m * c))
-rows-joined g c a zero =
-    let none : 0 ≡ 0 * c = omega arith in
-    ap (λ n. map g (range_with_len (a * c) n)) none
-rows-joined g c a (suc m) =
-    let start : a * c + 0 ≡ a * c = omega arith in
-    let next : a * c + c ≡ (a + 1) * c = omega arith in
-    let all : suc m * c ≡ c + m * c = omega arith in
-    ap (λ r. map (λ i. g (a * c + i)) (range_with_len 0 c) ++ r) (rows-joined g c (a + 1) m)
-    ∙ ap (λ row. row ++ map g (range_with_len ((a + 1) * c) (m * c))) (map-range-shift g (a * c) 0 c ∙ ap (λ s. map g (range_with_len s c)) start)
-    ∙ sym (ap (map g) (ap (range_with_len (a * c)) all ∙ range-add (a * c) c (m * c) ∙ ap (λ s. range_with_len (a * c) c ++ range_with_len s (m * c)) next)
-    ∙ map-append g (range_with_len (a * c) c) (range_with_len ((a + 1) * c) (m * c)))
-
--- a flat_map over shifted numbers
-flat_map-range-shift : {X : Type 0} (g : ℕ → List X) (a n : ℕ) → flat_map (λ j. g (a + j)) (range_with_len 0 n) ≡ flat_map g (range_with_len a n)
-flat_map-range-shift g a n =
-    let start : a + 0 ≡ a = omega arith in
-    sym (flat_map-map g (λ j. a + j) (range_with_len 0 n))
-    ∙ ap (flat_map g) (map-range-shift (λ j. j) a 0 n ∙ ap (λ s. map (λ (j : ℕ). j) (range_with_len s n)) start ∙ map-id (range_with_len a n))
+use Rattle.pcm_format.proofs.Ranges.{map-range-same, map-range-shift, flat_map-range-shift, rows-joined}
 
 -- ---- samples
 
@@ -72,13 +27,14 @@ pub channels_of-above : (layout : Layout) → 0 < channels_of layout
 channels_of-above One = omega arith
 channels_of-above _ = omega arith
 
+-- and a position for each of them
+pub length-positions : (layout : Layout) → length (positions_of layout) ≡ channels_of layout
+length-positions One = refl
+length-positions _ = refl
+
 -- bytes hold as many samples as they have whole parts of that size
 pub length-samples : (format : Format) (bytes : List ℕ) → length (samples format bytes) ≡ length bytes / bytes_of format
 length-samples format bytes = length-map-range_with_len (sample_at format bytes) 0 (length bytes / bytes_of format)
-
--- sample i of them
-pub get_or-samples : (format : Format) (bytes : List ℕ) (i : ℕ) (d : ℤ) → i < length bytes / bytes_of format → get_or (samples format bytes) i d ≡ sample_at format bytes i
-get_or-samples format bytes i d below = get_or-map-range_with_len (sample_at format bytes) 0 (length bytes / bytes_of format) i i d below (omega arith)
 
 -- more bytes behind change no whole sample
 pub sample_at-append : (format : Format) (bytes more : List ℕ) (i : ℕ) → (i + 1) * bytes_of format ≤ length bytes → sample_at format (bytes ++ more) i ≡ sample_at format bytes i
@@ -135,6 +91,7 @@ samples-part settings bytes k m within =
     let lone : k * (c * w) ≡ k * c * w = sym (mul_assoc k c w) in
     let long : m * (c * w) ≡ m * c * w = sym (mul_assoc m c w) in
     let has : length part ≡ m * c * w = omega (arith, length-take (m * (c * w)) (drop (k * (c * w)) bytes), length-drop (k * (c * w)) bytes) in
+    let start : k + 0 ≡ k = omega arith in
     let count : length part / w ≡ m * c = ap (λ n. n / w) has ∙ mul-div_cancel (m * c) (bytes_of-above f) in
     ap (λ n. map (sample_at f part) (range_with_len 0 n)) count
     ∙ map-range-same (sample_at f part) (λ i. sample_at f bytes (k * c + i)) (m * c)
@@ -143,7 +100,7 @@ samples-part settings bytes k m within =
     ∙ ap (λ n. sample_at f (drop n bytes) i) lone ∙ sample_at-drop f bytes (k * c) i)
     ∙ map-range-shift (sample_at f bytes) (k * c) 0 (m * c)
     ∙ ap (λ s. map (sample_at f bytes) (range_with_len s (m * c))) (omega arith)
-    ∙ sym (flat_map-range-shift (frame_at settings bytes) k m ∙ rows-joined (sample_at f bytes) c k m)
+    ∙ sym (flat_map-range-shift (frame_at settings bytes) k 0 m ∙ ap (λ s. flat_map (frame_at settings bytes) (range_with_len s m)) start ∙ rows-joined (sample_at f bytes) c k m)
 
 -- bytes hold as many frames as they have whole parts of that size
 pub length-frames : (settings : Settings) (bytes : List ℕ) → length (frames settings bytes) ≡ whole_frames settings (length bytes)

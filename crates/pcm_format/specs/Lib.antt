@@ -3,3 +3,4 @@ pub mod Layouts
 pub mod Samples
 pub mod Frames
 pub mod Replies
+pub mod Pools

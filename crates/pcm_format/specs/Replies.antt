@@ -1,8 +1,16 @@
--- What a contract sees of a reply buffer.
-use Rattle.std.specs.Prelude.{Result}
+-- What an event is answered.
+use Rattle.std.specs.Prelude.{ℕ, List, Result, Ok, Err}
 use Rattle.pcm_format.specs.declared.reply.Answer.{Answer}
+use Rattle.pcm_format.specs.declared.reply.Answer.TheVariants.{Done, Number}
 use Rattle.pcm_format.specs.declared.reply.Errno.{Errno}
 
--- the reply of one event
+-- a result, and the bytes that a read got
 pub record Reply : Type 0 where
   pub result : Result Answer Errno
+  pub bytes : List ℕ
+
+-- how many bytes come with a result
+abbrev pub bytes_due : Result Answer Errno → ℕ
+bytes_due (Ok Done) = 0
+bytes_due (Ok (Number number)) = 0
+bytes_due (Err errno) = 0

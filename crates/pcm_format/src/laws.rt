@@ -18,18 +18,25 @@ pub fn tables_are_one_to_one()
 
 /// A value of a format's range has one spelling, and a spelling has one value of the range.
 pub fn spelling_is_unique()
-    ensures value { (f : Format) (value : ℤ) → FitsBits (bits_of f) value → sample_value f (spelled f value) ≡ value }
-    ensures bytes { (f : Format) (bytes : List ℕ) → IsSample f bytes → spelled f (sample_value f bytes) ≡ bytes }
-    ensures range { (f : Format) (bytes : List ℕ) → IsSample f bytes → FitsBits (bits_of f) (sample_value f bytes) }
+    ensures value { (f : Format) (value : ℤ) → FitsBits (bits_of f) value
+        → sample_value f (spelled f value) ≡ value }
+    ensures bytes { (f : Format) (bytes : List ℕ) → IsSample f bytes
+        → spelled f (sample_value f bytes) ≡ bytes }
+    ensures range { (f : Format) (bytes : List ℕ) → IsSample f bytes
+        → FitsBits (bits_of f) (sample_value f bytes) }
     ensures sample { (f : Format) (value : ℤ) → IsSample f (spelled f value) }
 {}
 
 /// What is loaded and stored again is the same bytes, and a 32-bit number keeps the range at each depth.
 pub fn load_loses_nothing()
-    ensures depth { (f : Format) (bytes : List ℕ) → at_depth (bits_of f) (loaded f bytes) ≡ sample_value f bytes }
-    ensures again { (f : Format) (bytes : List ℕ) → IsSample f bytes → stored f (loaded f bytes) ≡ bytes }
-    ensures range { (f : Format) (bytes : List ℕ) → IsSample f bytes → FitsBits 32 (loaded f bytes) }
-    ensures fits { (f : Format) (x : ℤ) → FitsBits 32 x → FitsBits (bits_of f) (at_depth (bits_of f) x) }
+    ensures depth { (f : Format) (bytes : List ℕ)
+        → at_depth (bits_of f) (loaded f bytes) ≡ sample_value f bytes }
+    ensures again { (f : Format) (bytes : List ℕ) → IsSample f bytes
+        → stored f (loaded f bytes) ≡ bytes }
+    ensures range { (f : Format) (bytes : List ℕ) → IsSample f bytes
+        → FitsBits 32 (loaded f bytes) }
+    ensures fits { (f : Format) (x : ℤ) → FitsBits 32 x
+        → FitsBits (bits_of f) (at_depth (bits_of f) x) }
 {}
 
 /// Silence is 0 at each depth and in each format.

@@ -1,7 +1,8 @@
 //! What an event is answered.
 
-ghost use Rattle.std.specs.Prelude.{◌≡◌};
+ghost use Rattle.std.specs.Prelude.{◌≡◌, [], length, IfOk};
 
+use std::alloc::{AllocError, Global};
 use std::marker::Model;
 
 /// Why an event was refused. A refused event changes nothing.
@@ -24,41 +25,64 @@ pub enum Answer {
     Number(u32),
 }
 
-/// Holds the reply of one event.
+/// How many bytes a reply has at most, beside its answer.
+pub const REPLY_BYTES: usize = 4096;
+
+/// Holds the reply of one event: its result, and the bytes that a read got.
 #[derive(Debug, Drop)]
 pub struct ReplyBuf {
     result: Result<Answer, Errno>,
+    bytes: Vec<u8>,
+    count: usize,
 }
 
 impl Model for ReplyBuf {
+    ghost use Rattle.std.specs.Prelude.{◌≡◌, ◌≤◌, length, take};
     ghost use Rattle.pcm_format.specs.Replies.{Reply};
+    ghost use Rattle.pcm_format.specs.declared.reply.TheConstants.{REPLY_BYTES};
 
     ghost Value = { Reply };
 
-    ghost view = { λ buffer. record { result = buffer.result } };
+    ghost view = { λ buffer. record { result = buffer.result; bytes = take buffer.count buffer.bytes.items } };
+
+    ghost invariant = { λ buffer. (length buffer.bytes.items ≡ REPLY_BYTES) × (buffer.count ≤ REPLY_BYTES) };
 }
 
 impl ReplyBuf {
-    /// Begins with the reply of an event that has no more to say.
-    pub fn new() -> Self
-        ensures { result.result ≡ Ok Answer.Done }
+    ghost use Rattle.pcm_format.specs.Replies.{bytes_due};
+
+    /// Begins with the reply of an event that has no more to say. All memory of the buffer is taken here.
+    pub fn new(alloc: Global) -> Result<ReplyBuf, AllocError>
+        ensures { IfOk result (λ made. made ≡ record { result = Ok Answer.Done; bytes = [] }) }
     {
-        ReplyBuf {
+        Ok(ReplyBuf {
             result: Ok(Answer::Done),
-        }
+            bytes: vec![in alloc; 0; REPLY_BYTES]?,
+            count: 0,
+        })
     }
 
-    /// Makes this the reply.
-    pub fn keep(&mut self, reply: Result<Answer, Errno>)
-        ensures { self.new.result ≡ reply }
+    /// Makes this the reply: as many bytes as a read got, and none with any other result.
+    pub fn keep(&mut self, reply: Result<Answer, Errno>, bytes: &[u8])
+        requires { length bytes.now ≡ bytes_due reply }
+        ensures { self.new ≡ record { result = reply; bytes = bytes.now } }
     {
         self.result = reply;
+        self.count = bytes.len();
+        self.bytes[..bytes.len()].copy_from_slice(bytes);
     }
 
-    /// The reply that was kept last.
+    /// The result that was kept last.
     pub fn result(&self) -> Result<Answer, Errno>
         ensures { result ≡ self.now.result }
     {
         self.result
+    }
+
+    /// The bytes that were kept last.
+    pub fn bytes(&self) -> &[u8]
+        ensures { result.now ≡ self.now.bytes }
+    {
+        &self.bytes[..self.count]
     }
 }

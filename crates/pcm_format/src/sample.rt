@@ -5,7 +5,7 @@ ghost use Rattle.pcm_num.specs.Limit.{FitsBits};
 ghost use Rattle.pcm_format.specs.Formats.{bits_of, bytes_of, is_signed};
 ghost use Rattle.pcm_format.specs.Samples.{number_of, low_bytes, in_order, half_of, value_of, number_for, spelled, scale_of, loaded, at_depth, stored};
 
-use crate::Format;
+use crate::{Format, at_depth};
 
 /// The 32-bit number of a sample's bytes: silence is 0, and each format fills the range.
 pub fn load(f: Format, bytes: &[u8]) -> i32
@@ -32,15 +32,7 @@ pub fn store(f: Format, x: i32, out: &mut [u8])
     requires { length out.old ≡ bytes_of f }
     ensures { out.new ≡ stored f x }
 {
-    spell(f, depth(f, x), out);
-}
-
-// What is left of a 32-bit number in the format's bits, rounded down.
-fn depth(f: Format, x: i32) -> i32
-    ensures value { result ≡ at_depth (bits_of f) x }
-    ensures range { FitsBits (bits_of f) result }
-{
-    x >> (32 - f.bits())
+    spell(f, at_depth(x, f.bits()), out);
 }
 
 // What one step of the format is at 32 bits.

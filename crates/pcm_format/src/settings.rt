@@ -4,6 +4,12 @@ ghost use Rattle.std.specs.Prelude.{◌≡◌};
 
 use crate::{Format, Layout};
 
+/// The least number of frames per second.
+pub const RATE_LEAST: u32 = 4000;
+
+/// The greatest number of frames per second.
+pub const RATE_MOST: u32 = 192000;
+
 /// The sample format, the channels and the frames per second of a stream.
 #[derive(Clone, Copy, Debug, PartialEq, Eq)]
 pub struct Settings {

@@ -1,24 +1,8 @@
 -- What rounding down keeps.
-use Rattle.std.proofs.Common.{◌≡◌, ◌<◌, ◌*◌, ◌/◌, ◌-◌, ◌^◌, ℕ, zero, suc, ℤ, pos, negsuc, neg_ℤ, ◌*ℤ◌, ◌+ℤ◌, ◌≤ℤ◌, ◌<ℤ◌, ap, ◌∙◌, arith}
-use Rattle.std.proofs.Math.Nat.{mul-div_cancel, div-mul-le_self, div-eq_of_lt-le, lt-div-mul-add}
-use Rattle.std.proofs.lemmas.Int.{ints}
+use Rattle.std.proofs.Common.{◌≡◌, ◌<◌, ◌*◌, ◌/◌, ◌-◌, ◌^◌, ℕ, zero, suc, ℤ, pos, negsuc, neg_ℤ, ◌*ℤ◌, ap, ◌∙◌, arith}
+use Rattle.std.proofs.Math.Nat.{mul-div_cancel, div-eq_of_lt-le}
 use Rattle.std.proofs.lemmas.Nat.{pow_pos}
 use Rattle.pcm_num.specs.Floor.{floor_div}
-
--- the quotient times d is at most the number
-pub floor_div-low : (z : ℤ) (d : ℕ) → 0 < d → (floor_div z d *ℤ pos d) ≤ℤ z
-floor_div-low (pos n) d above = omega (arith, ints, div-mul-le_self n d)
-floor_div-low (negsuc n) d above = omega (arith, ints, lt-div-mul-add {a = n} {b = d} above)
-
--- one more than a number below zero, times d
-times-next : (q d : ℕ) → ((negsuc q +ℤ pos 1) *ℤ pos d) ≡ neg_ℤ (pos (q * d))
-times-next zero d = omega (arith, ints)
-times-next (suc q) d = let e : (negsuc (suc q) +ℤ pos 1) ≡ negsuc q = omega (arith, ints) in ap (λ z. z *ℤ pos d) e
-
--- and the next quotient is past it
-pub floor_div-high : (z : ℤ) (d : ℕ) → 0 < d → z <ℤ ((floor_div z d +ℤ pos 1) *ℤ pos d)
-floor_div-high (pos n) d above = omega (arith, ints, lt-div-mul-add {a = n} {b = d} above)
-floor_div-high (negsuc n) d above = rw (times-next (n / d) d) (omega (arith, ints, div-mul-le_self n d))
 
 -- the quotient of a number below zero
 floor_div-neg : (m d : ℕ) → 0 < m → floor_div (neg_ℤ (pos m)) d ≡ negsuc ((m - 1) / d)

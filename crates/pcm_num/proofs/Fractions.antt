@@ -36,7 +36,3 @@ above-product (suc q) g n above e = omega arith
 -- and no part that is 0
 pub above_zero-div : (n g : ℕ) → 0 < n → g ∣ n → 0 < n / g
 above_zero-div n g above h = above-product (n / g) g n above (div-mul_cancel g h)
-
--- both fractions are the same number
-pub HasCommonFactor-cross : (src dst s d : ℕ) → HasCommonFactor src dst s d → s * dst ≡ d * src
-HasCommonFactor-cross src dst s d h = rw (h.src_is, h.dst_is) (omega arith)

@@ -1,6 +1,6 @@
 -- What the limit of a sample keeps.
-use Rattle.std.proofs.Common.{◌≡◌, ◌≤◌, ◌<◌, ◌-◌, ◌+◌, ◌*◌, ◌/◌, ◌^◌, ℕ, suc, ℤ, pos, negsuc, ◌*ℤ◌, FitsSigned, w32, sym, ap, ◌∙◌, lit<, pow-add, arith}
-use Rattle.std.proofs.Math.Nat.{pow-le-pow_right, mul-le-mul_right, div-lt_iff_lt-mul}
+use Rattle.std.proofs.Common.{◌≡◌, ◌≤◌, ◌<◌, ◌-◌, ◌+◌, ◌*◌, ◌/◌, ◌^◌, ℕ, suc, ℤ, pos, negsuc, ◌*ℤ◌, FitsSigned, w32, sym, ap, ◌∙◌, pow-add, arith}
+use Rattle.std.proofs.Math.Nat.{mul-le-mul_right, div-lt_iff_lt-mul}
 use Rattle.std.proofs.lemmas.Nat.{pow_pos}
 use Rattle.std.proofs.lemmas.Int.{ints, clamps}
 use Rattle.pcm_num.specs.Floor.{floor_div}
@@ -22,20 +22,9 @@ div-below bits n least most h =
 pub clamped-fits : (bits : ℕ) (z : ℤ) → FitsBits bits (clamped bits z)
 clamped-fits bits z = record { low = omega (arith, ints, clamps); high = omega (arith, ints, clamps) }
 
--- the limit changes no number of the range
-pub clamped_within : (bits : ℕ) (z : ℤ) → FitsBits bits z → clamped bits z ≡ z
-clamped_within bits z h = omega (arith, ints, clamps)
-
 -- no number of the range is nearer
 pub clamped-nearest : (bits : ℕ) (z other : ℤ) → FitsBits bits other → distance z (clamped bits z) ≤ distance z other
 clamped-nearest bits z other h = grind (arith, ints, clamps)
-
--- a sample of fewer bits is one of more bits
-pub FitsBits-more : (bits more : ℕ) (z : ℤ) → bits ≤ more → FitsBits bits z → FitsBits more z
-FitsBits-more bits more z h fits =
-    let grows = pow-le-pow_right {n = 2} (lit< tt) {i = bits - 1} {j = more - 1} (omega arith) in
-    let above = pow_pos (bits - 1) in
-    record { low = omega (arith, ints); high = omega (arith, ints) }
 
 -- the numbers of an i32 are the samples of 32 bits
 pub FitsBits-from_signed : (z : ℤ) → FitsSigned w32 z → FitsBits 32 z

@@ -2,17 +2,18 @@ use Rattle.std.proofs.Common.{◌≡◌, ℕ, ◌<◌, ◌*◌, All, ℤ, pos, �
 use Rattle.std.proofs.lemmas.Int.{to_z-of_z}
 use Rattle.std.proofs.lemmas.List.Elements.{All-from_get_or}
 use Rattle.pcm_num.specs.Limit.{FitsBits}
+use Rattle.pcm_num.proofs.Limits.{FitsBits-mul_pow, FitsSigned-from_bits}
 use Rattle.pcm_format.specs.declared.format.Format.{Format}
 use Rattle.pcm_format.specs.Formats.{bits_of, is_signed}
 use Rattle.pcm_format.specs.Samples.{half_of, scale_of, value_of}
-use Rattle.pcm_format.proofs.Spelling.{number-below, scaled-fits, fits-32, bits_of-above, bits_of-within}
+use Rattle.pcm_format.proofs.Spelling.{number-below, bits_of-above, bits_of-within}
 use Rattle.pcm_format.proofs.sample.load.Goals as goal
 
 -- a value at scale is a 32-bit number
 product-fits : (f : Format) (value scale : ℤ) → FitsBits (bits_of f) value → scale ≡ pos (scale_of (bits_of f)) → FitsSigned w32 (value *ℤ scale)
 product-fits f value scale fits is =
     let P : ℤ → Type 0 = λ s. FitsSigned w32 (value *ℤ s) in
-    subst P (sym is) (fits-32 (value *ℤ pos (scale_of (bits_of f))) (scaled-fits (bits_of f) value (bits_of-above f) (bits_of-within f) fits))
+    subst P (sym is) (FitsSigned-from_bits (value *ℤ pos (scale_of (bits_of f))) (FitsBits-mul_pow (bits_of f) value (bits_of-above f) (bits_of-within f) fits))
 
 pub value_of-requires : goal.value_of-requires
 value_of-requires c =

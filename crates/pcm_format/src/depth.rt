@@ -1,0 +1,26 @@
+//! Samples of 32 bits at fewer bits.
+
+ghost use Rattle.std.specs.Prelude.{◌≡◌, ◌≤◌, map};
+ghost use Rattle.pcm_num.specs.Limit.{FitsBits};
+ghost use Rattle.pcm_format.specs.Samples.{at_depth};
+
+/// A sample at so many bits, rounded down.
+pub fn at_depth(sample: i32, bits: u32) -> i32
+    requires least { 1 ≤ bits }
+    requires most { bits ≤ 32 }
+    ensures value { result ≡ at_depth bits sample }
+    ensures range { FitsBits bits result }
+{
+    sample >> (32 - bits)
+}
+
+/// Brings each sample to so many bits, rounded down.
+pub fn bring_to_depth(samples: &mut [i32], bits: u32)
+    requires least { 1 ≤ bits }
+    requires most { bits ≤ 32 }
+    ensures { samples.new ≡ map (at_depth bits) samples.old }
+{
+    for i in 0..samples.len() {
+        samples[i] = at_depth(samples[i], bits);
+    }
+}
