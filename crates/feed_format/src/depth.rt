@@ -1,11 +1,11 @@
 //! The depth stage.
 
-ghost use Rattle.std.specs.Prelude.{◌≡◌, ◌≤◌, map, length, IfOk, IsOk};
-ghost use Rattle.pcm_format.specs.Samples.{at_depth};
+ghost use Rattle.std.specs.Prelude.{◌≡◌, IfOk, IsOk};
 ghost use Rattle.pcm_feeder.specs.Kept.{unfitted};
 ghost use Rattle.pcm_feeder.specs.Limits.{IsDepth};
 
 use pcm_feeder::{Feeder, Gain, Kind, Moved, Spec, Tables};
+use pcm_format::bring_to_depth;
 use std::alloc::{AllocError, Global};
 
 /// Takes samples of 32 bits to fewer bits.
@@ -65,22 +65,12 @@ impl Feeder for DepthFeeder {
         };
         let frames = want.min(input.len() / fitted.channels);
         let samples = frames * fitted.channels;
-        narrow(fitted.bits, &input[..samples], &mut output[..samples]);
+        let front = &mut output[..samples];
+        front.copy_from_slice(&input[..samples]);
+        bring_to_depth(front, fitted.bits);
         Moved {
             eaten: frames,
             given: frames,
         }
-    }
-}
-
-// Takes each sample to its upper bits.
-fn narrow(bits: u32, input: &[i32], output: &mut [i32])
-    requires least { 1 ≤ bits }
-    requires most { bits ≤ 32 }
-    requires lengths { length output.old ≡ length input.now }
-    ensures { output.new ≡ map (at_depth bits) input.now }
-{
-    for i in 0..output.len() {
-        output[i] = input[i] >> (32 - bits);
     }
 }

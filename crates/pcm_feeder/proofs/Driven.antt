@@ -15,16 +15,17 @@ use Rattle.pcm_feeder.specs.declared.stage.Spec.TheVariants.{Matrix, Hold, Linea
 use Rattle.pcm_feeder.specs.Filters.{Filters}
 use Rattle.pcm_feeder.specs.Kept.{Kept, StandsFor}
 use Rattle.pcm_feeder.specs.Limits.{IsSpec}
-use Rattle.pcm_feeder.specs.Rates.{rate_of, need, unchanged}
+use Rattle.pcm_rate.specs.Rates.{need, unchanged}
 use Rattle.pcm_feeder.specs.Streams.{Stream, silence, stream_of, frames_of, interleaved, written, HaveChannels}
 use Rattle.pcm_feeder.specs.Layouts.{in_layout, at_gain}
-use Rattle.pcm_feeder.specs.Stages.{channels_in, channels_out, at_bits, conv, outputs, all_outputs}
+use Rattle.pcm_feeder.specs.Stages.{rate_of, channels_in, channels_out, at_bits, conv, outputs, all_outputs}
 use Rattle.pcm_feeder.specs.Turns.{Turn, Continues}
-use Rattle.pcm_feeder.proofs.Counts.{need-unchanged}
+use Rattle.pcm_rate.proofs.Counts.{need-unchanged}
 use Rattle.pcm_feeder.proofs.Frames.{frames_of-interleaved, length-interleaved}
 use Rattle.pcm_feeder.proofs.Outputs.{outputs-add, outputs-local}
 use Rattle.pcm_feeder.proofs.Silence.{in_layout-silence, at_gain-silence, at_bits-silence}
 use Rattle.pcm_feeder.proofs.Streams.{stream-append}
+use Rattle.pcm_feeder.proofs.Turns.{given-unchanged}
 use Rattle.pcm_feeder.proofs.Unrated.{conv-matrix, conv-volume, conv-depth}
 
 -- ---- buffers
@@ -55,7 +56,7 @@ frames-written c n frames old above have count =
 -- ---- stages
 
 -- what a stage has given stays its output when more was eaten
-pub outputs-stay : (spec : Spec) (kept : Kept) (tables : Filters) (gain : Gain) (x more : List Frame) (given : ℕ) → IsSpec spec → StandsFor spec kept x given
+pub outputs-stay : (spec : Spec) (kept : Kept) (tables : Filters) (gain : Gain) (x more : List Frame) (given : ℕ) → IsSpec spec → StandsFor spec tables kept x given
     → outputs spec tables gain (stream_of (channels_in spec) (x ++ more)) 0 given ≡ outputs spec tables gain (stream_of (channels_in spec) x) 0 given
 outputs-stay spec kept tables gain x more given is h =
     let none : 0 + given ≡ given = omega arith in
@@ -63,7 +64,7 @@ outputs-stay spec kept tables gain x more given is h =
     (λ place below. stream-append (channels_in spec) x more place (omega (arith, ints, h.least, ap (need (rate_of spec)) none)))
 
 -- so what it gives next goes on from there
-pub outputs-continue : (spec : Spec) (kept : Kept) (tables : Filters) (gain : Gain) (x middle input : List Frame) (want : ℕ) (turned : Turn) → IsSpec spec → StandsFor spec kept x (length middle)
+pub outputs-continue : (spec : Spec) (kept : Kept) (tables : Filters) (gain : Gain) (x middle input : List Frame) (want : ℕ) (turned : Turn) → IsSpec spec → StandsFor spec tables kept x (length middle)
     → middle ≡ outputs spec tables gain (stream_of (channels_in spec) x) 0 (length middle)
     → Continues spec tables gain x (length middle) input want turned
     → middle ++ turned.frames ≡ outputs spec tables gain (stream_of (channels_in spec) (x ++ take turned.eaten input)) 0 (length (middle ++ turned.frames))
@@ -77,18 +78,11 @@ outputs-continue spec kept tables gain x middle input want turned is h are c =
     ∙ sym (outputs-add spec tables gain all 0 (length middle) turned.given)
     ∙ ap (outputs spec tables gain all 0) long
 
--- a stage without a change of rate has given what it has eaten
-pub given-unchanged : (spec : Spec) (kept : Kept) (x : List Frame) (given : ℕ) → rate_of spec ≡ unchanged → StandsFor spec kept x given → length x ≡ given
-given-unchanged spec kept x given level h =
-    let now = ap (λ r. need r given) level ∙ need-unchanged given in
-    let next = ap (λ r. need r (given + 1)) level ∙ need-unchanged (given + 1) in
-    omega (arith, h.least, h.most, now, next)
-
--- and eats all that it is offered, where as much is wanted
-pub eaten-unchanged : (spec : Spec) (kept : Kept) (tables : Filters) (gain : Gain) (x input : List Frame) (given want : ℕ) (turned : Turn) → rate_of spec ≡ unchanged → StandsFor spec kept x given
+-- a stage without a change of rate eats all that it is offered, where as much is wanted
+pub eaten-unchanged : (spec : Spec) (kept : Kept) (tables : Filters) (gain : Gain) (x input : List Frame) (given want : ℕ) (turned : Turn) → rate_of spec ≡ unchanged → StandsFor spec tables kept x given
     → Continues spec tables gain x given input want turned → length input ≤ want → turned.eaten ≡ length input
 eaten-unchanged spec kept tables gain x input given want turned level h c room =
-    let same = given-unchanged spec kept x given level h in
+    let same = given-unchanged spec tables kept x given level h in
     let all = ap (λ r. need r (given + want)) level ∙ need-unchanged (given + want) in
     omega (arith, same, c.eaten, all)
 

@@ -1,25 +1,26 @@
 -- What a fitted feeder keeps is bounded, whatever it is fed.
-use Rattle.std.proofs.Common.{◌≡◌, ◌<◌, ◌≤◌, ◌+◌, ◌*◌, ◌/◌, ℕ, zero, suc, ℤ, pos, negsuc, neg_ℤ, ◌+ℤ◌, ◌-ℤ◌, ◌≤ℤ◌, ◌<ℤ◌, ◌⊎◌, List, [], ◌++◌, length, take, drop, replicate, inl, inr, refl, sym, ap, arith}
+use Rattle.std.proofs.Common.{◌≡◌, ◌<◌, ◌≤◌, ◌+◌, ◌*◌, ◌/◌, ℕ, zero, suc, ℤ, pos, negsuc, neg_ℤ, ◌+ℤ◌, ◌-ℤ◌, ◌≤ℤ◌, ◌<ℤ◌, ◌⊎◌, List, [], length, take, inl, inr, refl, sym, ap, ◌∙◌, arith}
 use Rattle.std.proofs.Math.Nat.{mod-lt, mul-le-mul_right, lt-div-mul-add, div-lt_iff_lt-mul}
 use Rattle.std.proofs.lemmas.Bool.{cases_lt}
 use Rattle.std.proofs.lemmas.Int.{ints, clamps, by_lt_z}
 use Rattle.std.specs.Int.{int_max}
-use Rattle.std.proofs.lemmas.List.{length-append, length-take, length-drop, length-replicate, append-nil}
-use Rattle.std.proofs.lemmas.List.Elements.{All-append, All-take, All-drop, All-replicate, All-nil, All-same}
+use Rattle.std.proofs.lemmas.List.Elements.{All-take, All-nil, All-same}
 use Rattle.pcm_format.specs.Frames.{Frame}
 use Rattle.pcm_format.specs.Samples.{natural}
 use Rattle.pcm_feeder.specs.declared.stage.Gain.{Gain}
 use Rattle.pcm_feeder.specs.declared.stage.Spec.{Spec}
-use Rattle.pcm_feeder.specs.declared.stage.Spec.TheVariants.{Matrix, Hold, Linear, Poly, Volume, Depth}
 use Rattle.pcm_feeder.specs.Filters.{Filters}
 use Rattle.pcm_feeder.specs.Limits.{IsSpec}
-use Rattle.pcm_feeder.specs.Rates.{Rate, rate_of, unchanged}
-use Rattle.pcm_feeder.specs.Streams.{silence, HaveChannels}
-use Rattle.pcm_feeder.specs.Stages.{channels_in, history}
-use Rattle.pcm_feeder.specs.Kept.{Kept, fresh, StandsFor, IsFitted}
+use Rattle.pcm_rate.specs.declared.rate.Rate.{Rate}
+use Rattle.pcm_rate.specs.Rates.{unchanged}
+use Rattle.pcm_feeder.specs.Streams.{HaveChannels}
+use Rattle.pcm_feeder.specs.Stages.{rate_of, channels_in}
+use Rattle.pcm_feeder.specs.Kept.{Kept, fresh, past, StandsFor, IsFitted}
 use Rattle.pcm_feeder.specs.Turns.{step_of, reach, eaten_by, given_by, kept_after, turn}
-use Rattle.pcm_feeder.proofs.Counts.{div_grows, reach_allowed}
+use Rattle.pcm_rate.proofs.Counts.{div_grows}
+use Rattle.pcm_feeder.proofs.Phases.{reach_allowed}
 use Rattle.pcm_feeder.proofs.Outputs.{src-above, dst-above}
+use Rattle.pcm_feeder.proofs.Past.{past-begin, past-count, past-channels, past_after-count, past_after-channels}
 use Rattle.pcm_feeder.proofs.Turns.{natural-is, eaten-within, reach-above, ahead-most, ahead-unrated, turn-fitted}
 
 -- ---- the distance to the next output
@@ -150,21 +151,16 @@ ahead-unchanged-after kept o (suc j) phase even =
     let wanted = natural-is (pos (reach unchanged kept.phase (suc j)) -ℤ kept.ahead) (suc j) 0 (omega (arith, ints)) in
     omega (arith, ints, offered, wanted)
 
-ahead-unrated-after : (spec : Spec) (kept : Kept) (o want : ℕ) → IsSpec spec → IsFitted spec kept → history spec ≡ 0
-    → (kept.ahead +ℤ pos (eaten_by (rate_of spec) kept.phase kept.ahead o want) -ℤ pos (step_of (rate_of spec) kept.phase (given_by (rate_of spec) kept.phase kept.ahead o want))) ≡ pos 0
-ahead-unrated-after (Matrix from to) kept o want is h none = ahead-unchanged-after kept o want h.phase (h.unrated none)
-ahead-unrated-after (Hold src dst channels) kept o want is h none = absurd (omega arith)
-ahead-unrated-after (Linear src dst channels) kept o want is h none = absurd (omega arith)
-ahead-unrated-after (Poly src dst channels table taps) kept o want is h none = absurd (omega (arith, is.row.least))
-ahead-unrated-after (Volume layout) kept o want is h none = ahead-unchanged-after kept o want h.phase (h.unrated none)
-ahead-unrated-after (Depth bits channels) kept o want is h none = ahead-unchanged-after kept o want h.phase (h.unrated none)
+ahead-unrated-after : (rate : Rate) (kept : Kept) (o want : ℕ) → rate ≡ unchanged → kept.phase < rate.dst → kept.ahead ≡ pos 0
+    → (kept.ahead +ℤ pos (eaten_by rate kept.phase kept.ahead o want) -ℤ pos (step_of rate kept.phase (given_by rate kept.phase kept.ahead o want))) ≡ pos 0
+ahead-unrated-after rate kept o want level = rw level (ahead-unchanged-after kept o want)
 
 -- ---- the law
 
 -- a feed leaves a fitted feeder fitted
-fitted-after : (spec : Spec) (kept : Kept) (input : List Frame) (want : ℕ) → IsSpec spec → IsFitted spec kept → HaveChannels (channels_in spec) input
-    → IsFitted spec (kept_after spec kept input (eaten_by (rate_of spec) kept.phase kept.ahead (length input) want) (given_by (rate_of spec) kept.phase kept.ahead (length input) want))
-fitted-after spec kept input want is h have =
+fitted-after : (spec : Spec) (tables : Filters) (kept : Kept) (input : List Frame) (want : ℕ) → IsSpec spec → IsFitted spec kept → HaveChannels (channels_in spec) input
+    → IsFitted spec (kept_after spec tables kept input (eaten_by (rate_of spec) kept.phase kept.ahead (length input) want) (given_by (rate_of spec) kept.phase kept.ahead (length input) want))
+fitted-after spec tables kept input want is h have =
     let rate = rate_of spec in
     let o = length input in
     let eaten = eaten_by rate kept.phase kept.ahead o want in
@@ -176,50 +172,47 @@ fitted-after spec kept input want is h have =
       phase = mod-lt (kept.phase + given * rate.src) (dst-above spec is);
       least = ahead-least-after rate kept o want (src-above spec is) (dst-above spec is) h.phase h.least;
       most = ahead-most-after rate kept o want (src-above spec is) (dst-above spec is) h.phase h.most;
-      unrated = ahead-unrated-after spec kept o want is h;
-      count = omega (arith, length-drop eaten (kept.tail ++ take eaten input), length-append kept.tail (take eaten input), length-take eaten input, h.count);
-      frames = All-drop P eaten (kept.tail ++ take eaten input) (All-append P kept.tail (take eaten input) h.frames (All-take P eaten input have));
+      unrated = λ level. ahead-unrated-after rate kept o want level h.phase (h.unrated level);
+      count = past_after-count spec tables kept.tail (take eaten input) h.count;
+      frames = past_after-channels spec tables kept.tail (take eaten input) h.frames (All-take P eaten input have);
     }
 
 pub turn-fits : (spec : Spec) (kept : Kept) (tables : Filters) (gain : Gain) (input : List Frame) (want : ℕ) → IsSpec spec → IsFitted spec kept
     → HaveChannels (channels_in spec) input → IsFitted spec (turn kept tables gain input want).kept
 turn-fits spec kept tables gain input want is h have =
-    rw (turn-fitted spec kept tables gain input want h.fitted) (fitted-after spec kept input want is h have)
+    rw (turn-fitted spec kept tables gain input want h.fitted) (fitted-after spec tables kept input want is h have)
 
 -- a feeder that stands for frames is fitted
-ahead-least : (spec : Spec) (kept : Kept) (x : List Frame) (given : ℕ) → IsSpec spec → StandsFor spec kept x given
+ahead-least : (spec : Spec) (tables : Filters) (kept : Kept) (x : List Frame) (given : ℕ) → IsSpec spec → StandsFor spec tables kept x given
     → neg_ℤ (pos ((rate_of spec).src / (rate_of spec).dst)) ≤ℤ kept.ahead
-ahead-least spec kept x zero is h = omega (arith, ints, h.ahead, step-zero (rate_of spec) 0 (dst-above spec is))
-ahead-least spec kept x (suc given) is h =
+ahead-least spec tables kept x zero is h = omega (arith, ints, h.ahead, step-zero (rate_of spec) 0 (dst-above spec is))
+ahead-least spec tables kept x (suc given) is h =
     let rate = rate_of spec in
     let start : (0 + suc given * rate.src) / rate.dst ≡ suc given * rate.src / rate.dst = ap (λ z. z / rate.dst) (omega arith) in
     let before : (0 + given * rate.src) / rate.dst ≡ given * rate.src / rate.dst = ap (λ z. z / rate.dst) (omega arith) in
     omega (arith, ints, h.ahead, h.least, step-more rate 0 given (dst-above spec is))
 
-pub StandsFor-fitted : (spec : Spec) (kept : Kept) (x : List Frame) (given : ℕ) → IsSpec spec → StandsFor spec kept x given → IsFitted spec kept
-StandsFor-fitted spec kept x given is h =
-    let c = channels_in spec in
-    let t = history spec in
-    let P : Frame → Type 0 = λ frame. length frame ≡ c in
+pub StandsFor-fitted : (spec : Spec) (tables : Filters) (kept : Kept) (x : List Frame) (given : ℕ) → IsSpec spec → StandsFor spec tables kept x given → IsFitted spec kept
+StandsFor-fitted spec tables kept x given is h =
+    let P : Frame → Type 0 = λ frame. length frame ≡ channels_in spec in
     record {
       fitted = h.fitted;
       phase = rw h.phase (mod-lt (given * (rate_of spec).src) (dst-above spec is));
-      least = ahead-least spec kept x given is h;
-      most = ahead-most spec kept x given is h;
-      unrated = ahead-unrated spec kept x given is h;
-      count = omega (arith, ap length h.tail, length-drop (length x) (replicate t (silence c) ++ x), length-append (replicate t (silence c)) x, length-replicate t (silence c));
-      frames = All-same P kept.tail (drop (length x) (replicate t (silence c) ++ x)) h.tail
-          (All-drop P (length x) (replicate t (silence c) ++ x) (All-append P (replicate t (silence c)) x (All-replicate P t (silence c) (length-replicate c (pos 0))) h.frames));
+      least = ahead-least spec tables kept x given is h;
+      most = ahead-most spec tables kept x given is h;
+      unrated = ahead-unrated spec tables kept x given h;
+      count = ap length h.tail ∙ past-count spec tables x;
+      frames = All-same P kept.tail (past spec tables x) h.tail (past-channels spec tables x h.frames);
     }
 
 -- a feeder that was just fitted stands for no frames
-pub fresh-stands : (spec : Spec) → IsSpec spec → StandsFor spec (fresh spec) [] 0
-fresh-stands spec is = record {
+pub fresh-stands : (spec : Spec) (tables : Filters) → IsSpec spec → StandsFor spec tables (fresh spec) [] 0
+fresh-stands spec tables is = record {
   fitted = refl;
   phase = omega (arith, dst-above spec is);
   ahead = omega (arith, ints, step-zero (rate_of spec) 0 (dst-above spec is));
   least = omega arith;
   most = omega arith;
-  tail = sym (append-nil (replicate (history spec) (silence (channels_in spec))));
+  tail = past-begin spec tables;
   frames = All-nil (λ frame. length frame ≡ channels_in spec);
 }

@@ -1,40 +1,20 @@
 -- Interleaved samples and frames: cut, joined, and loaded from bytes.
-use Rattle.std.proofs.Common.{◌≡◌, ◌<◌, ◌≤◌, ◌+◌, ◌-◌, ◌*◌, ◌/◌, ◌%◌, ℕ, zero, suc, ℤ, List, [], ◌∷◌, ◌++◌, length, map, take, drop, get_or, refl, sym, ap, ◌∙◌, arith}
+use Rattle.std.proofs.Common.{◌≡◌, ◌<◌, ◌≤◌, ◌+◌, ◌*◌, ◌/◌, ◌%◌, ℕ, zero, suc, ℤ, List, [], ◌∷◌, ◌++◌, length, map, take, drop, get_or, refl, sym, ap, ◌∙◌, arith}
 use Rattle.std.specs.List.{range_with_len}
 use Rattle.std.proofs.Math.Nat.{mul-le-mul_right, mul-div_cancel, add-mul-div_right, div-add-mod', zero-div, mod_self, div-div-eq-div-mul}
 use Rattle.std.proofs.Math.Seq.{take-add, drop-append-add}
-use Rattle.std.proofs.lemmas.List.{length-take, length-drop, length-append, take-append-le, drop-append-le, drop-drop, take_at, append_assoc, take_all, map-append, drop_at, append-nil}
+use Rattle.std.proofs.lemmas.List.{length-take, length-drop, length-append, take-append-le, drop-append-le, drop-drop, take_at, append_assoc, take_all, map-append, append-nil}
 use Rattle.std.proofs.lemmas.List.Concat.{flat_map-append}
 use Rattle.std.proofs.lemmas.List.Elements.{All-head, All-tail, All-map}
-use Rattle.std.proofs.lemmas.List.FromFn.{length-map-range_with_len, get_or-map-range_with_len, get_or-range_with_len, length-range_with_len, take-map-range_with_len}
-use Rattle.pcm_format.proofs.Streams.{map-range-same, length-samples}
+use Rattle.std.proofs.lemmas.List.FromFn.{length-map-range_with_len, get_or-range_with_len, length-range_with_len, take-map-range_with_len}
+use Rattle.pcm_format.proofs.Ranges.{map-range-same, map-range-shift, map-range-add, part-of-range}
+use Rattle.pcm_format.proofs.Streams.{length-samples}
 use Rattle.pcm_format.specs.declared.settings.Settings.{Settings}
 use Rattle.pcm_format.specs.Formats.{bytes_of}
 use Rattle.pcm_format.specs.Layouts.{channels_of}
 use Rattle.pcm_format.specs.Samples.{sample_at, samples}
 use Rattle.pcm_format.specs.Frames.{Frame, frame_at, frames}
 use Rattle.pcm_feeder.specs.Streams.{HaveChannels, frames_of, interleaved, written}
-
--- ---- ranges
-
--- numbers from a on, in two parts
-pub range-add : (a n m : ℕ) → range_with_len a (n + m) ≡ range_with_len a n ++ range_with_len (a + n) m
-range-add a zero m = let none : zero + m ≡ m = omega arith in let here : a + zero ≡ a = omega arith in rw (none, here) refl
-range-add a (suc n) m =
-    let more : suc n + m ≡ suc (n + m) = omega arith in
-    let next : a + 1 + n ≡ a + suc n = omega arith in
-    ap (range_with_len a) more ∙ ap (λ r. a ∷ r) (range-add (a + 1) n m ∙ ap (λ b. range_with_len (a + 1) n ++ range_with_len b m) next)
-
--- a list made from a shifted function
-pub map-range-shift : {X : Type 0} (g : ℕ → X) (a b n : ℕ) → map (λ i. g (a + i)) (range_with_len b n) ≡ map g (range_with_len (a + b) n)
-map-range-shift g a b zero = refl
-map-range-shift g a b (suc n) =
-    let next : a + (b + 1) ≡ a + b + 1 = omega arith in
-    ap (λ r. g (a + b) ∷ r) (map-range-shift g a (b + 1) n ∙ ap (λ s. map g (range_with_len s n)) next)
-
--- a list made from a function, in two parts
-pub map-range-add : {X : Type 0} (g : ℕ → X) (a n m : ℕ) → map g (range_with_len a (n + m)) ≡ map g (range_with_len a n) ++ map g (range_with_len (a + n) m)
-map-range-add g a n m = ap (map g) (range-add a n m) ∙ map-append g (range_with_len a n) (range_with_len (a + n) m)
 
 -- ---- frames
 
@@ -45,10 +25,6 @@ frame_in channels samples k = take channels (drop (k * channels) samples)
 -- samples hold as many frames as they have whole parts of that size
 pub length-frames_of : (c : ℕ) (samples : List ℤ) → length (frames_of c samples) ≡ length samples / c
 length-frames_of c samples = length-map-range_with_len (frame_in c samples) 0 (length samples / c)
-
--- frame k of them
-pub get_or-frames_of : (c : ℕ) (samples : List ℤ) (k : ℕ) (d : Frame) → k < length samples / c → get_or (frames_of c samples) k d ≡ take c (drop (k * c) samples)
-get_or-frames_of c samples k d below = get_or-map-range_with_len (frame_in c samples) 0 (length samples / c) k k d below (omega arith)
 
 -- whole frames have no part left
 whole : (c n : ℕ) → n % c ≡ 0 → n / c * c ≡ n
@@ -149,19 +125,6 @@ frames_of-interleaved c (frame ∷ list) above have =
 pub interleaved-map : (f : ℤ → ℤ) (list : List Frame) → interleaved (map (map f) list) ≡ map f (interleaved list)
 interleaved-map f [] = refl
 interleaved-map f (frame ∷ list) = ap (λ rest. map f frame ++ rest) (interleaved-map f list) ∙ sym (map-append f frame (interleaved list))
-
--- a part of a list that is made from a function
-part-of-range : {X : Type 0} (g : ℕ → X) (a m n : ℕ) → a + m ≤ n → take m (drop a (map g (range_with_len 0 n))) ≡ map (λ i. g (a + i)) (range_with_len 0 m)
-part-of-range g a m n within =
-    let split : n ≡ a + (n - a) = omega arith in
-    let none : a + 0 ≡ a = omega arith in
-    ap (λ z. take m (drop a (map g (range_with_len 0 z)))) split
-    ∙ ap (λ l. take m (drop a l)) (map-range-add g 0 a (n - a))
-    ∙ ap (take m) (drop_at (map g (range_with_len 0 a)) (map g (range_with_len (0 + a) (n - a))) a (length-map-range_with_len g 0 a))
-    ∙ take-map-range_with_len g (0 + a) (n - a) m (omega arith)
-    ∙ ap (λ z. map g (range_with_len z m)) (omega arith)
-    ∙ ap (λ z. map g (range_with_len z m)) (sym none)
-    ∙ sym (map-range-shift g a 0 m)
 
 -- the samples of bytes, cut into frames, are the frames of the bytes
 pub frames_of-samples : (settings : Settings) (bytes : List ℕ) → frames_of (channels_of settings.layout) (samples settings.format bytes) ≡ frames settings bytes

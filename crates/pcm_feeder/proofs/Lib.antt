@@ -1,6 +1,7 @@
-pub mod Counts
+pub mod Phases
 pub mod Frames
 pub mod Streams
+pub mod Past
 pub mod Outputs
 pub mod Turns
 pub mod Fitted

@@ -2,9 +2,8 @@
 use Rattle.std.proofs.Common.{◌≡◌, ◌≢◌, refl, ◌<◌, ◌+◌, ◌*◌, ◌/◌, ◌%◌, ◌++◌, map, sym, ℕ, suc, ℤ, pos, ◌+ℤ◌, ◌-ℤ◌, ◌*ℤ◌, ◌≤ℤ◌, ◌<ℤ◌, ap, ◌∙◌, arith, get_or}
 use Rattle.std.specs.List.{range_with_len}
 use Rattle.std.proofs.lemmas.Int.{ints}
-use Rattle.pcm_feeder.proofs.Counts.{need_grows}
-use Rattle.pcm_feeder.proofs.Frames.{map-range-add, map-range-shift}
-use Rattle.pcm_format.proofs.Streams.{map-range-same}
+use Rattle.pcm_rate.proofs.Counts.{need_grows, need-unchanged}
+use Rattle.pcm_format.proofs.Ranges.{map-range-same, map-range-shift, map-range-add}
 use Rattle.pcm_feeder.specs.declared.stage.Gain.{Gain}
 use Rattle.pcm_feeder.specs.declared.stage.Spec.{Spec}
 use Rattle.pcm_feeder.specs.declared.stage.Spec.TheVariants.{Matrix, Hold, Linear, Poly, Volume, Depth}
@@ -13,9 +12,10 @@ use Rattle.pcm_feeder.specs.Filters.{Filters}
 use Rattle.pcm_feeder.specs.Kinds.{kind_of}
 use Rattle.pcm_feeder.specs.declared.kind.Kind.TheVariants as kinds
 use Rattle.pcm_feeder.specs.Layouts.{in_layout, at_gain, sum_of}
-use Rattle.pcm_feeder.specs.Limits.{IsSpec}
-use Rattle.pcm_feeder.specs.Rates.{rate_of, need}
-use Rattle.pcm_feeder.specs.Stages.{at_bits, blended, table_at, coef, scaled_down, filtered, output_at, conv, outputs}
+use Rattle.pcm_feeder.specs.Limits.{IsSpec, AreTaps}
+use Rattle.pcm_rate.specs.declared.rate.Rate.{Rate}
+use Rattle.pcm_rate.specs.Rates.{need}
+use Rattle.pcm_feeder.specs.Stages.{rate_of, at_bits, blended, table_at, coef, scaled_down, filtered, Converter, held, on_line, through, converted, conv, outputs}
 use Rattle.pcm_feeder.specs.Streams.{Stream}
 
 -- ---- limits
@@ -39,18 +39,17 @@ dst-above (Depth bits channels) is = omega arith
 
 -- ---- outputs
 
--- the first place that an output uses, from the frame under it
-abbrev pub first_used : Spec → ℤ
-first_used (Matrix from to) = pos 0
-first_used (Hold src dst channels) = pos 0
-first_used (Linear src dst channels) = pos 0
-first_used (Poly src dst channels table taps) = pos 1 -ℤ pos (taps / 2)
-first_used (Volume layout) = pos 0
-first_used (Depth bits channels) = pos 0
+-- a converter's output uses the frames from `first` to `last`, counted from the one under it, and no other
+abbrev pub Uses : Converter → ℤ → ℕ → Type 0
+Uses converter first last = (f : ℕ) (x y : Stream) → ((a : ℤ) → first ≤ℤ a → a ≤ℤ pos last → x a ≡ y a) → converter f x ≡ converter f y
 
--- two streams have the same frames at the places that an output uses
-abbrev pub AgreeAround : Spec → Stream → Stream → Type 0
-AgreeAround spec x y = (a : ℤ) → first_used spec ≤ℤ a → a ≤ℤ pos (rate_of spec).lookahead → x a ≡ y a
+pub hold-uses : Uses held (pos 0) 0
+hold-uses f x y same = same (pos 0) (omega (arith, ints)) (omega (arith, ints))
+
+pub line-uses : (dst : ℕ) → Uses (on_line dst) (pos 0) 1
+line-uses dst f x y same =
+    ap (λ frame. blended dst f frame (x (pos 1))) (same (pos 0) (omega (arith, ints)) (omega (arith, ints)))
+    ∙ ap (blended dst f (y (pos 0))) (same (pos 1) (omega (arith, ints)) (omega (arith, ints)))
 
 -- one channel of a filter
 filtered-same : (table : Table) (taps row : ℕ) (x y : Stream) (channel : ℕ)
@@ -62,35 +61,36 @@ filtered-same table taps row x y channel same =
     (λ j. coef table row j *ℤ get_or (y (pos (j + 1) -ℤ pos (taps / 2))) channel (pos 0)) taps
     (λ j below. ap (λ frame. coef table row j *ℤ get_or frame channel (pos 0)) (same j below)))
 
--- an output uses no other place
-pub output-same : (spec : Spec) (tables : Filters) (gain : Gain) (f : ℕ) (x y : Stream) → IsSpec spec → AgreeAround spec x y
-    → output_at spec tables gain f x ≡ output_at spec tables gain f y
-output-same (Matrix from to) tables gain f x y is same = ap (in_layout from to) (same (pos 0) (omega (arith, ints)) (omega (arith, ints)))
-output-same (Hold src dst channels) tables gain f x y is same = same (pos 0) (omega (arith, ints)) (omega (arith, ints))
-output-same (Linear src dst channels) tables gain f x y is same =
-    ap (λ frame. blended dst f frame (x (pos 1))) (same (pos 0) (omega (arith, ints)) (omega (arith, ints)))
-    ∙ ap (blended dst f (y (pos 0))) (same (pos 1) (omega (arith, ints)) (omega (arith, ints)))
-output-same (Poly src dst channels table taps) tables gain f x y is same =
-    let found = table_at tables table in
-    let row = f * found.phases / dst in
-    map-range-same (filtered found taps row x) (filtered found taps row y) channels
-    (λ channel within. filtered-same found taps row x y channel
-    (λ j below. same (pos (j + 1) -ℤ pos (taps / 2)) (omega (arith, ints)) (omega (arith, ints, is.row))))
-output-same (Volume layout) tables gain f x y is same = ap (at_gain layout gain) (same (pos 0) (omega (arith, ints)) (omega (arith, ints)))
-output-same (Depth bits channels) tables gain f x y is same = ap (at_bits bits) (same (pos 0) (omega (arith, ints)) (omega (arith, ints)))
+pub filter-uses : (table : Table) (taps channels dst : ℕ) → AreTaps taps → Uses (through table taps channels dst) (pos 1 -ℤ pos (taps / 2)) (taps / 2)
+filter-uses table taps channels dst are f x y same =
+    let row = f * table.phases / dst in
+    map-range-same (filtered table taps row x) (filtered table taps row y) channels
+    (λ channel within. filtered-same table taps row x y channel
+    (λ j below. same (pos (j + 1) -ℤ pos (taps / 2)) (omega (arith, ints)) (omega (arith, ints, are))))
 
--- output k uses the first need (k + 1) frames of a stream, and what lies before them
+-- output k of a converter uses the first need (k + 1) frames of a stream, and what lies before them
+converted-local : (converter : Converter) (first : ℤ) (rate : Rate) (x y : Stream) (k : ℕ) → Uses converter first rate.lookahead
+    → ((place : ℤ) → place <ℤ pos (need rate (k + 1)) → x place ≡ y place)
+    → converted converter rate x k ≡ converted converter rate y k
+converted-local converter first rate x y k uses same =
+    let i = k * rate.src / rate.dst in
+    let next : k + 1 ≡ suc k = omega arith in
+    let count : need rate (k + 1) ≡ i + 1 + rate.lookahead = ap (need rate) next in
+    uses (k * rate.src % rate.dst) (λ a. x (pos i +ℤ a)) (λ a. y (pos i +ℤ a)) (λ a least most. same (pos i +ℤ a) (omega (arith, ints)))
+
+-- and so does output k of each stage
 pub conv-local : (spec : Spec) (tables : Filters) (gain : Gain) (x y : Stream) (k : ℕ) → IsSpec spec
     → ((place : ℤ) → place <ℤ pos (need (rate_of spec) (k + 1)) → x place ≡ y place)
     → conv spec tables gain x k ≡ conv spec tables gain y k
 unfolding conv
-conv-local spec tables gain x y k is same =
-    let rate = rate_of spec in
-    let i = k * rate.src / rate.dst in
-    let next : k + 1 ≡ suc k = omega arith in
-    let first : need rate (k + 1) ≡ i + 1 + rate.lookahead = ap (need rate) next in
-    output-same spec tables gain (k * rate.src % rate.dst) (λ a. x (pos i +ℤ a)) (λ a. y (pos i +ℤ a)) is
-    (λ a least most. same (pos i +ℤ a) (omega (arith, ints)))
+conv-local (Matrix from to) tables gain x y k is same = ap (in_layout from to) (same (pos k) (omega (arith, ints, need-unchanged (k + 1))))
+conv-local (Hold src dst channels) tables gain x y k is same = converted-local held (pos 0) (rate_of (Hold src dst channels)) x y k hold-uses same
+conv-local (Linear src dst channels) tables gain x y k is same = converted-local (on_line dst) (pos 0) (rate_of (Linear src dst channels)) x y k (line-uses dst) same
+conv-local (Poly src dst channels table taps) tables gain x y k is same =
+    converted-local (through (table_at tables table) taps channels dst) (pos 1 -ℤ pos (taps / 2)) (rate_of (Poly src dst channels table taps)) x y k
+    (filter-uses (table_at tables table) taps channels dst is.row) same
+conv-local (Volume layout) tables gain x y k is same = ap (at_gain layout gain) (same (pos k) (omega (arith, ints, need-unchanged (k + 1))))
+conv-local (Depth bits channels) tables gain x y k is same = ap (at_bits bits) (same (pos k) (omega (arith, ints, need-unchanged (k + 1))))
 
 -- outputs in two parts
 pub outputs-add : (spec : Spec) (tables : Filters) (gain : Gain) (x : Stream) (from n m : ℕ)
@@ -121,14 +121,3 @@ conv-gain (Linear src dst channels) tables gain other x k not = refl
 conv-gain (Poly src dst channels table taps) tables gain other x k not = refl
 conv-gain (Volume layout) tables gain other x k not = absurd (not refl)
 conv-gain (Depth bits channels) tables gain other x k not = refl
-
-pub outputs-gain : (spec : Spec) (tables : Filters) (gain other : Gain) (x : Stream) (from count : ℕ) → kind_of spec ≢ kinds.Volume
-    → outputs spec tables gain x from count ≡ outputs spec tables other x from count
-outputs-gain spec tables gain other x from count not =
-    let none : from + 0 ≡ from = omega arith in
-    ap (λ s. map (conv spec tables gain x) (range_with_len s count)) (sym none)
-    ∙ sym (map-range-shift (conv spec tables gain x) from 0 count)
-    ∙ map-range-same (λ j. conv spec tables gain x (from + j)) (λ j. conv spec tables other x (from + j)) count
-    (λ j below. conv-gain spec tables gain other x (from + j) not)
-    ∙ map-range-shift (conv spec tables other x) from 0 count
-    ∙ ap (λ s. map (conv spec tables other x) (range_with_len s count)) none

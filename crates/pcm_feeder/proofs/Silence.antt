@@ -9,10 +9,10 @@ use Rattle.pcm_format.specs.Layouts.{positions_of, channels_of}
 use Rattle.pcm_format.specs.declared.layout.Layout.{Layout}
 use Rattle.pcm_format.specs.declared.layout.Position.{Position}
 use Rattle.pcm_feeder.specs.declared.stage.Gain.{Gain}
-use Rattle.pcm_feeder.specs.Layouts.{weight, gathered, in_layout, gain_at, at_gain}
+use Rattle.pcm_feeder.specs.Layouts.{weight, gathered, in_layout, side_gain, at_gain}
 use Rattle.pcm_feeder.specs.Streams.{silence}
 use Rattle.pcm_feeder.specs.Stages.{at_bits}
-use Rattle.pcm_feeder.proofs.Turns.{length-positions}
+use Rattle.pcm_format.proofs.Streams.{length-positions}
 
 -- a weighted sum of zeros
 sum-silence : (w : Position → ℕ) (positions : List Position) (n : ℕ) → fold ◌+ℤ◌ (pos 0) (zip2 (λ p s. pos (w p) *ℤ s) positions (replicate n (pos 0))) ≡ pos 0
@@ -37,11 +37,11 @@ in_layout-silence from to =
     ∙ ap (λ n. replicate n (pos 0)) (length-positions to)
 
 zip-silence : (gain : Gain) (positions : List Position)
-    → zip2 (λ p s. floor_div (s *ℤ pos (gain_at gain p)) 65536) positions (replicate (length positions) (pos 0)) ≡ replicate (length positions) (pos 0)
+    → zip2 (λ p s. floor_div (s *ℤ pos (side_gain gain p)) 65536) positions (replicate (length positions) (pos 0)) ≡ replicate (length positions) (pos 0)
 zip-silence gain [] = refl
 zip-silence gain (p ∷ positions) =
-    let none : (pos 0 *ℤ pos (gain_at gain p)) ≡ pos 0 = omega (arith, ints) in
-    ap (λ z. floor_div z 65536 ∷ zip2 (λ p s. floor_div (s *ℤ pos (gain_at gain p)) 65536) positions (replicate (length positions) (pos 0))) none
+    let none : (pos 0 *ℤ pos (side_gain gain p)) ≡ pos 0 = omega (arith, ints) in
+    ap (λ z. floor_div z 65536 ∷ zip2 (λ p s. floor_div (s *ℤ pos (side_gain gain p)) 65536) positions (replicate (length positions) (pos 0))) none
     ∙ ap (λ rest. pos 0 ∷ rest) (zip-silence gain positions)
 
 pub at_gain-silence : (layout : Layout) (gain : Gain) → at_gain layout gain (silence (channels_of layout)) ≡ silence (channels_of layout)

@@ -4,7 +4,7 @@ use Rattle.std.proofs.lemmas.Bool.{cases_lt}
 use Rattle.std.proofs.lemmas.Int.{ints}
 use Rattle.std.proofs.lemmas.List.{get_or-take, get_or-drop, get_or-append-add, get_or_append_left, get_or-replicate, get_or_past, get_or-append_right, length-replicate, append_assoc, drop-append-le, length-append}
 use Rattle.pcm_format.specs.Frames.{Frame}
-use Rattle.pcm_feeder.specs.Streams.{silence, stream_of}
+use Rattle.pcm_feeder.specs.Streams.{silence, stream_of, HaveChannels}
 
 -- what is cut off behind a place doesn't change it
 pub stream-take : (c n : ℕ) (frames : List Frame) (place : ℤ) → place <ℤ pos n → stream_of c (take n frames) place ≡ stream_of c frames place
@@ -55,3 +55,12 @@ stream-silence-after c n x (pos k) =
           | inl within ↦ get_or-replicate m i (silence c) (silence c) within
           | inr past ↦ get_or_past (replicate m (silence c)) i (silence c) (omega (arith, length-replicate m (silence c)))
         ]
+
+-- a list of frames has a frame of these channels at each place
+pub stream-channels : (c : ℕ) (frames : List Frame) (place : ℤ) → HaveChannels c frames → length (stream_of c frames place) ≡ c
+stream-channels c frames (pos k) have =
+    elim (cases_lt k (length frames)) [
+      | inl within ↦ have k (silence c) within
+      | inr past ↦ ap length (get_or_past frames k (silence c) past) ∙ length-replicate c (pos 0)
+    ]
+stream-channels c frames (negsuc k) have = length-replicate c (pos 0)

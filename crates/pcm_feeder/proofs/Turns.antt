@@ -1,20 +1,19 @@
 -- What a feed eats, gives and keeps is what the counts and the stage's outputs over all frames eaten say.
-use Rattle.std.proofs.Common.{◌≡◌, ◌↔◌, ◌<◌, ◌≤◌, ◌+◌, ◌-◌, ◌*◌, ◌/◌, ◌%◌, ◌*ℤ◌, get_or, min, max, ℕ, zero, suc, ℤ, pos, negsuc, ◌+ℤ◌, ◌-ℤ◌, ◌≤ℤ◌, List, ◌++◌, length, map, take, drop, replicate, Option, None, Some, inl, inr, refl, sym, ap, ◌∙◌, arith}
+use Rattle.std.proofs.Common.{◌≡◌, ◌↔◌, ◌<◌, ◌≤◌, ◌+◌, ◌-◌, ◌*◌, ◌/◌, ◌%◌, ◌*ℤ◌, get_or, min, max, ℕ, zero, suc, ℤ, pos, negsuc, ◌+ℤ◌, ◌-ℤ◌, ◌≤ℤ◌, List, ◌++◌, length, map, take, replicate, Option, None, Some, inl, inr, refl, sym, ap, ◌∙◌, arith}
 use Rattle.std.proofs.Math.Seq.{take-append-add}
 use Rattle.std.specs.List.{range_with_len}
 use Rattle.std.proofs.lemmas.Bool.{cases_lt}
 use Rattle.std.proofs.lemmas.Int.{ints}
-use Rattle.std.proofs.lemmas.List.{length-append, length-take, length-replicate, length-map, drop-drop, get_or_past}
+use Rattle.std.proofs.lemmas.List.{length-append, length-take, length-take-le, length-map, get_or-map, get_or-take, get_or-append-add}
 use Rattle.std.proofs.lemmas.List.Elements.{All-append, All-take, All-map, All-same}
 use Rattle.std.proofs.lemmas.Simd.{length-zip2}
 use Rattle.pcm_num.specs.Floor.{floor_div}
 use Rattle.pcm_format.specs.Samples.{at_depth}
 use Rattle.pcm_format.specs.Layouts.{positions_of, channels_of}
-use Rattle.pcm_format.specs.declared.layout.Layout.{Layout}
-use Rattle.pcm_format.specs.declared.layout.Layout.TheVariants.{One, Two, Four, Six, Eight}
-use Rattle.pcm_feeder.specs.Layouts.{gathered, gain_at}
-use Rattle.std.proofs.lemmas.List.FromFn.{length-map-range_with_len}
-use Rattle.pcm_format.proofs.Streams.{map-range-same}
+use Rattle.pcm_feeder.specs.Layouts.{gathered, side_gain, in_layout, at_gain}
+use Rattle.std.proofs.lemmas.List.FromFn.{length-map-range_with_len, fill_by_all}
+use Rattle.pcm_format.proofs.Ranges.{map-range-same, map-range-shift}
+use Rattle.pcm_format.proofs.Streams.{length-positions}
 use Rattle.pcm_format.specs.Frames.{Frame}
 use Rattle.pcm_format.specs.Samples.{natural}
 use Rattle.pcm_feeder.specs.declared.stage.Gain.{Gain}
@@ -22,15 +21,18 @@ use Rattle.pcm_feeder.specs.declared.stage.Spec.{Spec}
 use Rattle.pcm_feeder.specs.declared.stage.Spec.TheVariants.{Matrix, Hold, Linear, Poly, Volume, Depth}
 use Rattle.pcm_feeder.specs.Filters.{Filters}
 use Rattle.pcm_feeder.specs.Limits.{IsSpec}
-use Rattle.pcm_feeder.specs.Rates.{Rate, rate_of, need, can, unchanged}
+use Rattle.pcm_rate.specs.declared.rate.Rate.{Rate}
+use Rattle.pcm_rate.specs.Rates.{need, can, unchanged}
 use Rattle.pcm_feeder.specs.Streams.{frames_of, Stream, silence, stream_of, HaveChannels}
-use Rattle.pcm_feeder.specs.Stages.{channels_in, channels_out, history, output_at, conv, outputs, filtered, table_at}
-use Rattle.pcm_feeder.specs.Kept.{Kept, StandsFor}
-use Rattle.pcm_feeder.specs.Turns.{step_of, phase_of, reach, allowed, eaten_by, given_by, around, next_output, kept_after, turn_of, turn_at, turn, frames_for, fed, Continues}
-use Rattle.pcm_feeder.proofs.Counts.{same-bound, reach_allowed, can-greatest, need_grows, need-unchanged, place_from, phase_from, need_from}
-use Rattle.pcm_feeder.proofs.Streams.{stream-take, stream-drop, stream-padded, history-append}
-use Rattle.pcm_feeder.proofs.Frames.{frames_of-channels, map-range-shift}
-use Rattle.pcm_feeder.proofs.Outputs.{src-above, dst-above, first_used, output-same}
+use Rattle.pcm_feeder.specs.Stages.{rate_of, channels_in, channels_out, history, at_bits, Converter, held, on_line, through, converted, conv, outputs, filtered, table_at}
+use Rattle.pcm_feeder.specs.Kept.{Kept, last_frames, past, past_after, StandsFor}
+use Rattle.pcm_feeder.specs.Turns.{step_of, phase_of, reach, allowed, eaten_by, given_by, around, next_outputs, frames_by, kept_after, turn_of, turn_at, turn, frames_for, fed, Continues}
+use Rattle.pcm_rate.proofs.Counts.{same-bound, can-greatest, need_grows, need-unchanged}
+use Rattle.pcm_feeder.proofs.Phases.{reach_allowed, place_from, phase_from, need_from}
+use Rattle.pcm_feeder.proofs.Streams.{stream-channels, stream-take, stream-drop, stream-padded, history-append}
+use Rattle.pcm_feeder.proofs.Frames.{frames_of-channels}
+use Rattle.pcm_feeder.proofs.Outputs.{src-above, dst-above, Uses, hold-uses, line-uses, filter-uses}
+use Rattle.pcm_feeder.proofs.Past.{past-append}
 
 -- ---- counts
 
@@ -40,14 +42,14 @@ natural-is (pos k) m n e = omega (arith, ints)
 natural-is (negsuc k) m n e = omega (arith, ints)
 
 -- the frames that a feeder has before it, from the one under its next output on
-ahead-is : (spec : Spec) (kept : Kept) (x : List Frame) (given o : ℕ) → StandsFor spec kept x given
+ahead-is : (spec : Spec) (tables : Filters) (kept : Kept) (x : List Frame) (given o : ℕ) → StandsFor spec tables kept x given
     → natural (kept.ahead +ℤ pos o) ≡ length x + o - given * (rate_of spec).src / (rate_of spec).dst
-ahead-is spec kept x given o h = natural-is (kept.ahead +ℤ pos o) (length x + o) (given * (rate_of spec).src / (rate_of spec).dst) (omega (arith, ints))
+ahead-is spec tables kept x given o h = natural-is (kept.ahead +ℤ pos o) (length x + o) (given * (rate_of spec).src / (rate_of spec).dst) (omega (arith, ints))
 
 -- the frames that the next outputs use
-need-is : (spec : Spec) (kept : Kept) (x : List Frame) (given j : ℕ) → IsSpec spec → StandsFor spec kept x given → 0 < j
+need-is : (spec : Spec) (tables : Filters) (kept : Kept) (x : List Frame) (given j : ℕ) → IsSpec spec → StandsFor spec tables kept x given → 0 < j
     → need (rate_of spec) (given + j) ≡ given * (rate_of spec).src / (rate_of spec).dst + reach (rate_of spec) kept.phase j
-need-is spec kept x given j is h above =
+need-is spec tables kept x given j is h above =
     need_from (rate_of spec) given j (dst-above spec is) above
     ∙ ap (λ phase. given * (rate_of spec).src / (rate_of spec).dst + reach (rate_of spec) phase j) (sym h.phase)
 
@@ -57,40 +59,40 @@ reach-above rate phase zero above = absurd (omega arith)
 reach-above rate phase (suc j) above = omega arith
 
 -- an output is allowed exactly where all frames are enough for it
-bound-is : (spec : Spec) (kept : Kept) (x : List Frame) (given o c : ℕ) → IsSpec spec → StandsFor spec kept x given
+bound-is : (spec : Spec) (tables : Filters) (kept : Kept) (x : List Frame) (given o c : ℕ) → IsSpec spec → StandsFor spec tables kept x given
     → (c ≤ allowed (rate_of spec) kept.phase (natural (kept.ahead +ℤ pos o))) ↔ (c ≤ can (rate_of spec) (length x + o) - given)
-bound-is spec kept x given o zero is h = (λ q. omega arith, λ q. omega arith)
-bound-is spec kept x given o (suc j) is h =
+bound-is spec tables kept x given o zero is h = (λ q. omega arith, λ q. omega arith)
+bound-is spec tables kept x given o (suc j) is h =
     let rate = rate_of spec in
     let n = natural (kept.ahead +ℤ pos o) in
-    let room = ahead-is spec kept x given o h in
-    let uses = need-is spec kept x given (suc j) is h (omega arith) in
+    let room = ahead-is spec tables kept x given o h in
+    let uses = need-is spec tables kept x given (suc j) is h (omega arith) in
     let near = reach_allowed rate kept.phase (suc j) n (src-above spec is) (dst-above spec is) in
     let far = can-greatest rate (src-above spec is) (dst-above spec is) (given + suc j) (length x + o) in
     (λ q. omega (arith, far.0 (omega (arith, near.1 q))), λ q. near.0 (omega (arith, far.1 (omega arith))))
 
 -- how many outputs are allowed
-allowed-is : (spec : Spec) (kept : Kept) (x : List Frame) (given o : ℕ) → IsSpec spec → StandsFor spec kept x given
+allowed-is : (spec : Spec) (tables : Filters) (kept : Kept) (x : List Frame) (given o : ℕ) → IsSpec spec → StandsFor spec tables kept x given
     → allowed (rate_of spec) kept.phase (natural (kept.ahead +ℤ pos o)) ≡ can (rate_of spec) (length x + o) - given
-allowed-is spec kept x given o is h =
+allowed-is spec tables kept x given o is h =
     same-bound (allowed (rate_of spec) kept.phase (natural (kept.ahead +ℤ pos o))) (can (rate_of spec) (length x + o) - given)
-    (λ c. bound-is spec kept x given o c is h)
+    (λ c. bound-is spec tables kept x given o c is h)
 
 -- how many frames are given
-given-is : (spec : Spec) (kept : Kept) (x : List Frame) (given o want : ℕ) → IsSpec spec → StandsFor spec kept x given
+given-is : (spec : Spec) (tables : Filters) (kept : Kept) (x : List Frame) (given o want : ℕ) → IsSpec spec → StandsFor spec tables kept x given
     → given_by (rate_of spec) kept.phase kept.ahead o want ≡ min want (can (rate_of spec) (length x + o) - given)
-given-is spec kept x given o want is h = ap (min want) (allowed-is spec kept x given o is h)
+given-is spec tables kept x given o want is h = ap (min want) (allowed-is spec tables kept x given o is h)
 
 -- how many frames are eaten, with those eaten before
-eaten-is : (spec : Spec) (kept : Kept) (x : List Frame) (given o want : ℕ) → IsSpec spec → StandsFor spec kept x given
+eaten-is : (spec : Spec) (tables : Filters) (kept : Kept) (x : List Frame) (given o want : ℕ) → IsSpec spec → StandsFor spec tables kept x given
     → length x + eaten_by (rate_of spec) kept.phase kept.ahead o want ≡ max (length x) (min (length x + o) (need (rate_of spec) (given + want)))
-eaten-is spec kept x given o zero is h =
+eaten-is spec tables kept x given o zero is h =
     let none : given + 0 ≡ given = omega arith in
     omega (arith, h.least, ap (need (rate_of spec)) none)
-eaten-is spec kept x given o (suc j) is h =
+eaten-is spec tables kept x given o (suc j) is h =
     let rate = rate_of spec in
     let start = given * rate.src / rate.dst in
-    let uses = need-is spec kept x given (suc j) is h (omega arith) in
+    let uses = need-is spec tables kept x given (suc j) is h (omega arith) in
     let more = natural-is (pos (reach rate kept.phase (suc j)) -ℤ kept.ahead) (reach rate kept.phase (suc j) + start) (length x) (omega (arith, ints, h.ahead)) in
     omega (arith, more, uses)
 
@@ -107,12 +109,12 @@ record Counts (rate : Rate) (E G o want eaten given : ℕ) : Type 0 where
   least : need rate G ≤ E
   most : E ≤ max (need rate G) (need rate (G + 1) - 1)
 
-counts-are : (spec : Spec) (kept : Kept) (x : List Frame) (given o want : ℕ) → IsSpec spec → StandsFor spec kept x given
+counts-are : (spec : Spec) (tables : Filters) (kept : Kept) (x : List Frame) (given o want : ℕ) → IsSpec spec → StandsFor spec tables kept x given
     → Counts (rate_of spec) (length x) given o want (eaten_by (rate_of spec) kept.phase kept.ahead o want) (given_by (rate_of spec) kept.phase kept.ahead o want)
-counts-are spec kept x given o want is h = record {
-  total = eaten-is spec kept x given o want is h;
+counts-are spec tables kept x given o want is h = record {
+  total = eaten-is spec tables kept x given o want is h;
   within = eaten-within (rate_of spec) kept o want;
-  gives = given-is spec kept x given o want is h;
+  gives = given-is spec tables kept x given o want is h;
   least = h.least;
   most = h.most;
 }
@@ -154,9 +156,9 @@ need-within : (rate : Rate) (k : ℕ) → 0 < rate.dst → need rate k ≤ k * r
 need-within rate k dst = omega (arith, need_grows rate k (k + 1) dst (omega arith), need-next rate k)
 
 -- it is never more than one frame past what the next output uses
-pub ahead-most : (spec : Spec) (kept : Kept) (x : List Frame) (given : ℕ) → IsSpec spec → StandsFor spec kept x given
+pub ahead-most : (spec : Spec) (tables : Filters) (kept : Kept) (x : List Frame) (given : ℕ) → IsSpec spec → StandsFor spec tables kept x given
     → kept.ahead ≤ℤ pos (1 + (rate_of spec).lookahead)
-ahead-most spec kept x given is h =
+ahead-most spec tables kept x given is h =
     omega (arith, ints, h.ahead, h.most, need-next (rate_of spec) given, need-within (rate_of spec) given (dst-above spec is))
 
 -- a stage without a change of rate has given what it has eaten
@@ -164,151 +166,179 @@ ahead-unchanged : (E G : ℕ) (ahead : ℤ) → need unchanged G ≤ E → E ≤
     → ahead +ℤ pos (G * 1 / 1) ≡ pos E → ahead ≡ pos 0
 ahead-unchanged E G ahead least most same = omega (arith, ints, need-unchanged G, need-unchanged (G + 1))
 
-pub ahead-unrated : (spec : Spec) (kept : Kept) (x : List Frame) (given : ℕ) → IsSpec spec → StandsFor spec kept x given
-    → history spec ≡ 0 → kept.ahead ≡ pos 0
-ahead-unrated (Matrix from to) kept x given is h none = ahead-unchanged (length x) given kept.ahead h.least h.most h.ahead
-ahead-unrated (Hold src dst channels) kept x given is h none = absurd (omega arith)
-ahead-unrated (Linear src dst channels) kept x given is h none = absurd (omega arith)
-ahead-unrated (Poly src dst channels table taps) kept x given is h none = absurd (omega (arith, is.row.least))
-ahead-unrated (Volume layout) kept x given is h none = ahead-unchanged (length x) given kept.ahead h.least h.most h.ahead
-ahead-unrated (Depth bits channels) kept x given is h none = ahead-unchanged (length x) given kept.ahead h.least h.most h.ahead
+pub ahead-unrated : (spec : Spec) (tables : Filters) (kept : Kept) (x : List Frame) (given : ℕ) → StandsFor spec tables kept x given
+    → rate_of spec ≡ unchanged → kept.ahead ≡ pos 0
+ahead-unrated spec tables kept x given h level = from_rate (rate_of spec) level h.least h.most h.ahead
+  where
+    from_rate : (rate : Rate) → rate ≡ unchanged → need rate given ≤ length x → length x ≤ max (need rate given) (need rate (given + 1) - 1)
+        → kept.ahead +ℤ pos (given * rate.src / rate.dst) ≡ pos (length x) → kept.ahead ≡ pos 0
+    from_rate rate level = rw level (ahead-unchanged (length x) given kept.ahead)
 
--- the frames that the next output uses are kept, or come
-ahead-kept : (spec : Spec) (kept : Kept) → IsSpec spec → (history spec ≡ 0 → kept.ahead ≡ pos 0) → kept.ahead ≤ℤ pos (1 + (rate_of spec).lookahead)
-    → kept.ahead ≤ℤ (pos (history spec) +ℤ first_used spec)
-ahead-kept (Matrix from to) kept is none most = omega (arith, ints, none refl)
-ahead-kept (Hold src dst channels) kept is none most = omega (arith, ints)
-ahead-kept (Linear src dst channels) kept is none most = omega (arith, ints)
-ahead-kept (Poly src dst channels table taps) kept is none most = omega (arith, ints, is.row.even)
-ahead-kept (Volume layout) kept is none most = omega (arith, ints, none refl)
-ahead-kept (Depth bits channels) kept is none most = omega (arith, ints, none refl)
+-- and has eaten as many frames as it has given
+pub given-unchanged : (spec : Spec) (tables : Filters) (kept : Kept) (x : List Frame) (given : ℕ) → rate_of spec ≡ unchanged → StandsFor spec tables kept x given → length x ≡ given
+given-unchanged spec tables kept x given level h =
+    let now = ap (λ r. need r given) level ∙ need-unchanged given in
+    let next = ap (λ r. need r (given + 1)) level ∙ need-unchanged (given + 1) in
+    omega (arith, h.least, h.most, now, next)
 
 -- ---- the frames
-
--- the frames kept and offered are the end of all frames, with silence before them
-kept-are : (spec : Spec) (kept : Kept) (x input : List Frame) (given : ℕ) → StandsFor spec kept x given
-    → kept.tail ++ input ≡ drop (length x) (replicate (history spec) (silence (channels_in spec)) ++ (x ++ input))
-kept-are spec kept x input given h =
-    ap (λ tail. tail ++ input) h.tail ∙ history-append (history spec) (silence (channels_in spec)) x input
 
 -- a natural number that an integer is
 the_natural : (z : ℤ) → pos 0 ≤ℤ z → (n : ℕ) × (z ≡ pos n)
 the_natural (pos n) above = (n, refl)
 the_natural (negsuc n) above = absurd (omega (arith, ints))
 
+-- A converter: the frames that its outputs use are kept, or come.
+record Converts (converter : Converter) (spec : Spec) (tables : Filters) (x : List Frame) (first : ℤ) : Type 0 where
+  uses : Uses converter first (rate_of spec).lookahead
+  reaches : pos (1 + (rate_of spec).lookahead) ≤ℤ (pos (history spec) +ℤ first)
+  keeps : past spec tables x ≡ last_frames (channels_in spec) (history spec) x
+
 -- a frame around an output from now, by its place among all frames
-around-is : (spec : Spec) (kept : Kept) (x input : List Frame) (given j : ℕ) (a : ℤ) → IsSpec spec → StandsFor spec kept x given
-    → first_used spec ≤ℤ a
+around-is : (converter : Converter) (spec : Spec) (tables : Filters) (kept : Kept) (x input : List Frame) (given j : ℕ) (first a : ℤ) → IsSpec spec
+    → StandsFor spec tables kept x given → Converts converter spec tables x first → first ≤ℤ a
     → around spec kept input j a
     ≡ stream_of (channels_in spec) (x ++ input) (pos (given * (rate_of spec).src / (rate_of spec).dst + step_of (rate_of spec) kept.phase j) +ℤ a)
-around-is spec kept x input given j a is h least =
+around-is converter spec tables kept x input given j first a is h converts least =
     let c = channels_in spec in
     let t = history spec in
     let step = step_of (rate_of spec) kept.phase j in
     let start = given * (rate_of spec).src / (rate_of spec).dst in
-    let back = ahead-kept spec kept is (ahead-unrated spec kept x given is h) (ahead-most spec kept x given is h) in
+    let most = ahead-most spec tables kept x given is h in
+    let back = converts.reaches in
     let place = the_natural (pos (t + step) -ℤ kept.ahead +ℤ a) (omega (arith, ints)) in
     let moved : pos (length x + place.0) ≡ pos t +ℤ (pos (start + step) +ℤ a) = omega (arith, ints, place.1, h.ahead) in
     ap (stream_of c (kept.tail ++ input)) place.1
-    ∙ ap (λ list. stream_of c list (pos place.0)) (kept-are spec kept x input given h)
+    ∙ ap (λ list. stream_of c list (pos place.0)) (ap (λ tail. tail ++ input) (h.tail ∙ converts.keeps) ∙ history-append t (silence c) x input)
     ∙ stream-drop c (length x) place.0 (replicate t (silence c) ++ (x ++ input))
     ∙ ap (stream_of c (replicate t (silence c) ++ (x ++ input))) moved
     ∙ stream-padded c t (x ++ input) (pos (start + step) +ℤ a) (omega (arith, ints, moved))
 
--- an output from now is the stage's output over all frames eaten, which are enough for it
-output-is : (spec : Spec) (kept : Kept) (tables : Filters) (gain : Gain) (x input : List Frame) (given eaten j : ℕ) → IsSpec spec → StandsFor spec kept x given
+-- an output from now is the converter's output over all frames eaten, which are enough for it
+output-is : (converter : Converter) (spec : Spec) (tables : Filters) (kept : Kept) (x input : List Frame) (given eaten j : ℕ) (first : ℤ) → IsSpec spec
+    → StandsFor spec tables kept x given → Converts converter spec tables x first
     → need (rate_of spec) (given + suc j) ≤ length x + eaten
-    → next_output spec kept tables gain input j ≡ conv spec tables gain (stream_of (channels_in spec) (x ++ take eaten input)) (given + j)
-unfolding conv
-output-is spec kept tables gain x input given eaten j is h enough =
+    → converter (phase_of (rate_of spec) kept.phase j) (around spec kept input j)
+    ≡ converted converter (rate_of spec) (stream_of (channels_in spec) (x ++ take eaten input)) (given + j)
+output-is converter spec tables kept x input given eaten j first is h converts enough =
     let rate = rate_of spec in
     let c = channels_in spec in
     let start = given * rate.src / rate.dst in
     let step = step_of rate kept.phase j in
-    let uses = need-is spec kept x given (suc j) is h (omega arith) in
+    let uses = need-is spec tables kept x given (suc j) is h (omega arith) in
     let place : (given + j) * rate.src / rate.dst ≡ start + step = place_from rate given j (dst-above spec is) ∙ ap (λ phase. start + step_of rate phase j) (sym h.phase) in
     let phase : phase_of rate kept.phase j ≡ (given + j) * rate.src % rate.dst = ap (λ phase. phase_of rate phase j) h.phase ∙ sym (phase_from rate given j) in
-    ap (λ f. output_at spec tables gain f (around spec kept input j)) phase
-    ∙ output-same spec tables gain ((given + j) * rate.src % rate.dst) (around spec kept input j)
-    (λ a. stream_of c (x ++ take eaten input) (pos ((given + j) * rate.src / rate.dst) +ℤ a)) is
-    (λ a least most. around-is spec kept x input given j a is h least
+    ap (λ f. converter f (around spec kept input j)) phase
+    ∙ converts.uses ((given + j) * rate.src % rate.dst) (around spec kept input j)
+    (λ a. stream_of c (x ++ take eaten input) (pos ((given + j) * rate.src / rate.dst) +ℤ a))
+    (λ a least most. around-is converter spec tables kept x input given j first a is h converts least
     ∙ sym (stream-take c (length x + eaten) (x ++ input) (pos (start + step) +ℤ a) (omega (arith, ints)))
     ∙ ap (λ list. stream_of c list (pos (start + step) +ℤ a)) (take-append-add x input eaten)
     ∙ ap (λ n. stream_of c (x ++ take eaten input) (pos n +ℤ a)) (sym place))
 
+-- so the next outputs are its outputs from there on
+converter-gives : (converter : Converter) (spec : Spec) (tables : Filters) (gain : Gain) (kept : Kept) (x input : List Frame) (given eaten count : ℕ) (first : ℤ) → IsSpec spec
+    → StandsFor spec tables kept x given → Converts converter spec tables x first
+    → ((s : Stream) (k : ℕ) → converted converter (rate_of spec) s k ≡ conv spec tables gain s k)
+    → need (rate_of spec) (given + count) ≤ length x + eaten
+    → next_outputs converter spec kept input count ≡ outputs spec tables gain (stream_of (channels_in spec) (x ++ take eaten input)) given count
+converter-gives converter spec tables gain kept x input given eaten count first is h converts same enough =
+    let rate = rate_of spec in
+    let s = stream_of (channels_in spec) (x ++ take eaten input) in
+    let g = conv spec tables gain s in
+    let start : given + 0 ≡ given = omega arith in
+    map-range-same (λ j. converter (phase_of rate kept.phase j) (around spec kept input j)) (λ j. g (given + j)) count
+    (λ j below. output-is converter spec tables kept x input given eaten j first is h converts
+    (omega (arith, need_grows rate (given + suc j) (given + count) (dst-above spec is) (omega arith))) ∙ same s (given + j))
+    ∙ map-range-shift g given 0 count ∙ ap (λ z. map g (range_with_len z count)) start
+
+-- A stage without a change of rate gives a function of each frame.
+mapped-gives : (f : Frame → Frame) (c : ℕ) (g : ℕ → Frame) (x input : List Frame) (given eaten count : ℕ) → length x ≡ given → count ≤ eaten → eaten ≤ length input
+    → ((k : ℕ) → f (stream_of c (x ++ take eaten input) (pos k)) ≡ g k)
+    → map f (take count input) ≡ map g (range_with_len given count)
+mapped-gives f c g x input given eaten count level within offered same =
+    let d = silence c in
+    let has : length (take count input) ≡ count = length-take-le count input (omega arith) in
+    let start : given + 0 ≡ given = omega arith in
+    fill_by_all (λ j. g (given + j)) (map f (take count input)) count (f d) (length-map (take count input) f ∙ has)
+    (λ j below. get_or-map f (take count input) j d (f d) (omega arith)
+    ∙ ap f (get_or-take count input j d below ∙ sym (get_or-take eaten input j d (omega arith)) ∙ sym (get_or-append-add x (take eaten input) j d))
+    ∙ ap (λ n. f (get_or (x ++ take eaten input) (n + j) d)) level
+    ∙ same (given + j))
+    ∙ map-range-shift g given 0 count ∙ ap (λ z. map g (range_with_len z count)) start
+
 -- ---- how many channels the frames have
 
--- a list of frames has a frame of these channels at each place
-pub stream-channels : (c : ℕ) (frames : List Frame) (place : ℤ) → HaveChannels c frames → length (stream_of c frames place) ≡ c
-stream-channels c frames (pos k) have =
-    elim (cases_lt k (length frames)) [
-      | inl within ↦ have k (silence c) within
-      | inr past ↦ ap length (get_or_past frames k (silence c) past) ∙ length-replicate c (pos 0)
-    ]
-stream-channels c frames (negsuc k) have = length-replicate c (pos 0)
-
--- a layout has as many positions as channels
-pub length-positions : (layout : Layout) → length (positions_of layout) ≡ channels_of layout
-length-positions One = refl
-length-positions Two = refl
-length-positions Four = refl
-length-positions Six = refl
-length-positions Eight = refl
-
 -- an output has the channels that its stage gives
-pub length-output : (spec : Spec) (tables : Filters) (gain : Gain) (f : ℕ) (x : Stream)
-    → ((a : ℤ) → length (x a) ≡ channels_in spec) → length (output_at spec tables gain f x) ≡ channels_out spec
-length-output (Matrix from to) tables gain f x have = length-map (positions_of to) (λ target. gathered from to target (x (pos 0))) ∙ length-positions to
-length-output (Hold src dst channels) tables gain f x have = have (pos 0)
-length-output (Linear src dst channels) tables gain f x have =
-    length-zip2 (λ a b. floor_div (a *ℤ pos (dst - f) +ℤ b *ℤ pos f) dst) (x (pos 0)) (x (pos 1)) (have (pos 0) ∙ sym (have (pos 1))) ∙ have (pos 0)
-length-output (Poly src dst channels table taps) tables gain f x have =
-    length-map-range_with_len (filtered (table_at tables table) taps (f * (table_at tables table).phases / dst) x) 0 channels
-length-output (Volume layout) tables gain f x have =
-    length-zip2 (λ position sample. floor_div (sample *ℤ pos (gain_at gain position)) 65536) (positions_of layout) (x (pos 0)) (length-positions layout ∙ sym (have (pos 0)))
+pub length-conv : (spec : Spec) (tables : Filters) (gain : Gain) (x : Stream) (k : ℕ)
+    → ((a : ℤ) → length (x a) ≡ channels_in spec) → length (conv spec tables gain x k) ≡ channels_out spec
+unfolding conv
+length-conv (Matrix from to) tables gain x k have = length-map (positions_of to) (λ target. gathered from to target (x (pos k))) ∙ length-positions to
+length-conv (Hold src dst channels) tables gain x k have = have (pos (k * src / dst) +ℤ pos 0)
+length-conv (Linear src dst channels) tables gain x k have =
+    let i = k * src / dst in
+    let f = k * src % dst in
+    let here = have (pos i +ℤ pos 0) in
+    length-zip2 (λ a b. floor_div (a *ℤ pos (dst - f) +ℤ b *ℤ pos f) dst) (x (pos i +ℤ pos 0)) (x (pos i +ℤ pos 1)) (here ∙ sym (have (pos i +ℤ pos 1))) ∙ here
+length-conv (Poly src dst channels table taps) tables gain x k have =
+    let found = table_at tables table in
+    length-map-range_with_len (filtered found taps (k * src % dst * found.phases / dst) (λ a. x (pos (k * src / dst) +ℤ a))) 0 channels
+length-conv (Volume layout) tables gain x k have =
+    length-zip2 (λ position sample. floor_div (sample *ℤ pos (side_gain gain position)) 65536) (positions_of layout) (x (pos k)) (length-positions layout ∙ sym (have (pos k)))
     ∙ length-positions layout
-length-output (Depth bits channels) tables gain f x have = length-map (x (pos 0)) (at_depth bits) ∙ have (pos 0)
+length-conv (Depth bits channels) tables gain x k have = length-map (x (pos k)) (at_depth bits) ∙ have (pos k)
 
 -- the outputs over a list of frames have the channels that their stage gives
 pub outputs-channels : (spec : Spec) (tables : Filters) (gain : Gain) (frames : List Frame) (from count : ℕ) → HaveChannels (channels_in spec) frames
     → HaveChannels (channels_out spec) (outputs spec tables gain (stream_of (channels_in spec) frames) from count)
-unfolding conv
 outputs-channels spec tables gain frames from count have =
-    let rate = rate_of spec in
     let x = stream_of (channels_in spec) frames in
     let P : Frame → Type 0 = λ frame. length frame ≡ channels_out spec in
     All-map P (conv spec tables gain x) (range_with_len from count)
-    (λ i d below. length-output spec tables gain (get_or (range_with_len from count) i d * rate.src % rate.dst)
-    (λ a. x (pos (get_or (range_with_len from count) i d * rate.src / rate.dst) +ℤ a))
-    (λ a. stream-channels (channels_in spec) frames (pos (get_or (range_with_len from count) i d * rate.src / rate.dst) +ℤ a) have))
+    (λ i d below. length-conv spec tables gain x (get_or (range_with_len from count) i d) (λ a. stream-channels (channels_in spec) frames a have))
 
 -- ---- the law
 
 -- the frames given are the stage's outputs over all frames eaten
-frames-are : (spec : Spec) (kept : Kept) (tables : Filters) (gain : Gain) (x input : List Frame) (given eaten count : ℕ) → IsSpec spec → StandsFor spec kept x given
-    → need (rate_of spec) (given + count) ≤ length x + eaten
-    → map (next_output spec kept tables gain input) (range_with_len 0 count) ≡ outputs spec tables gain (stream_of (channels_in spec) (x ++ take eaten input)) given count
-frames-are spec kept tables gain x input given eaten count is h enough =
-    let rate = rate_of spec in
-    let g = conv spec tables gain (stream_of (channels_in spec) (x ++ take eaten input)) in
-    let start : given + 0 ≡ given = omega arith in
-    map-range-same (next_output spec kept tables gain input) (λ j. g (given + j)) count
-    (λ j below. output-is spec kept tables gain x input given eaten j is h (omega (arith, need_grows rate (given + suc j) (given + count) (dst-above spec is) (omega arith))))
-    ∙ map-range-shift g given 0 count ∙ ap (λ s. map g (range_with_len s count)) start
+frames-are : (spec : Spec) (tables : Filters) (gain : Gain) (kept : Kept) (x input : List Frame) (given eaten count : ℕ) → IsSpec spec → StandsFor spec tables kept x given
+    → eaten ≤ length input → need (rate_of spec) (given + count) ≤ length x + eaten
+    → frames_by spec kept tables gain input count ≡ outputs spec tables gain (stream_of (channels_in spec) (x ++ take eaten input)) given count
+unfolding conv
+frames-are (Matrix from to) tables gain kept x input given eaten count is h offered enough =
+    let level = given-unchanged (Matrix from to) tables kept x given refl h in
+    mapped-gives (in_layout from to) (channels_of from) (conv (Matrix from to) tables gain (stream_of (channels_of from) (x ++ take eaten input))) x input given eaten count
+    level (omega (arith, need-unchanged (given + count))) offered (λ k. refl)
+frames-are (Hold src dst channels) tables gain kept x input given eaten count is h offered enough =
+    converter-gives held (Hold src dst channels) tables gain kept x input given eaten count (pos 0) is h
+    (record { uses = hold-uses; reaches = omega (arith, ints); keeps = refl }) (λ s k. refl) enough
+frames-are (Linear src dst channels) tables gain kept x input given eaten count is h offered enough =
+    converter-gives (on_line dst) (Linear src dst channels) tables gain kept x input given eaten count (pos 0) is h
+    (record { uses = line-uses dst; reaches = omega (arith, ints); keeps = refl }) (λ s k. refl) enough
+frames-are (Poly src dst channels table taps) tables gain kept x input given eaten count is h offered enough =
+    let found = table_at tables table in
+    converter-gives (through found taps channels dst) (Poly src dst channels table taps) tables gain kept x input given eaten count (pos 1 -ℤ pos (taps / 2)) is h
+    (record { uses = filter-uses found taps channels dst is.row; reaches = omega (arith, ints, is.row.even); keeps = refl }) (λ s k. refl) enough
+frames-are (Volume layout) tables gain kept x input given eaten count is h offered enough =
+    let level = given-unchanged (Volume layout) tables kept x given refl h in
+    mapped-gives (at_gain layout gain) (channels_of layout) (conv (Volume layout) tables gain (stream_of (channels_of layout) (x ++ take eaten input))) x input given eaten count
+    level (omega (arith, need-unchanged (given + count))) offered (λ k. refl)
+frames-are (Depth bits channels) tables gain kept x input given eaten count is h offered enough =
+    let level = given-unchanged (Depth bits channels) tables kept x given refl h in
+    mapped-gives (at_bits bits) channels (conv (Depth bits channels) tables gain (stream_of channels (x ++ take eaten input))) x input given eaten count
+    level (omega (arith, need-unchanged (given + count))) offered (λ k. refl)
 
 -- all frames eaten
 length-eaten : (x input : List Frame) (eaten : ℕ) → eaten ≤ length input → length (x ++ take eaten input) ≡ length x + eaten
 length-eaten x input eaten within = omega (arith, length-append x (take eaten input), length-take eaten input)
 
 -- what is kept stands for all frames eaten and given
-stands-after : (spec : Spec) (kept : Kept) (x input : List Frame) (given o want eaten count : ℕ) → IsSpec spec → StandsFor spec kept x given
+stands-after : (spec : Spec) (tables : Filters) (kept : Kept) (x input : List Frame) (given o want eaten count : ℕ) → IsSpec spec → StandsFor spec tables kept x given
     → HaveChannels (channels_in spec) input → eaten ≤ length input → Counts (rate_of spec) (length x) given o want eaten count
-    → StandsFor spec (kept_after spec kept input eaten count) (x ++ take eaten input) (given + count)
-stands-after spec kept x input given o want eaten count is h have within counts =
+    → StandsFor spec tables (kept_after spec tables kept input eaten count) (x ++ take eaten input) (given + count)
+stands-after spec tables kept x input given o want eaten count is h have within counts =
     let rate = rate_of spec in
     let all = length-eaten x input eaten within in
     let c = channels_in spec in
-    let t = history spec in
     let place : (given + count) * rate.src / rate.dst ≡ given * rate.src / rate.dst + step_of rate kept.phase count =
     place_from rate given count (dst-above spec is) ∙ ap (λ phase. given * rate.src / rate.dst + step_of rate phase count) (sym h.phase) in
     record {
@@ -317,34 +347,31 @@ stands-after spec kept x input given o want eaten count is h have within counts 
       ahead = omega (arith, ints, h.ahead, place, all);
       least = omega (arith, all, least-after rate (length x) given o want eaten count (src-above spec is) (dst-above spec is) counts);
       most = omega (arith, all, most-after rate (length x) given o want eaten count (src-above spec is) (dst-above spec is) counts);
-      tail =
-          ap (drop eaten) (kept-are spec kept x (take eaten input) given h)
-          ∙ drop-drop eaten (length x) (replicate t (silence c) ++ (x ++ take eaten input))
-          ∙ ap (λ n. drop n (replicate t (silence c) ++ (x ++ take eaten input))) (sym all);
+      tail = ap (λ tail. past_after spec tables tail (take eaten input)) h.tail ∙ past-append spec tables x (take eaten input);
       frames =
           let P : Frame → Type 0 = λ frame. length frame ≡ c in
           All-append P x (take eaten input) h.frames (All-take P eaten input have);
     }
 
 -- a feed of a feeder that is fitted
-turn_of-continues : (spec : Spec) (kept : Kept) (tables : Filters) (gain : Gain) (x input : List Frame) (given want : ℕ) → IsSpec spec → StandsFor spec kept x given
+turn_of-continues : (spec : Spec) (kept : Kept) (tables : Filters) (gain : Gain) (x input : List Frame) (given want : ℕ) → IsSpec spec → StandsFor spec tables kept x given
     → HaveChannels (channels_in spec) input → Continues spec tables gain x given input want (turn_of spec kept tables gain input want)
 turn_of-continues spec kept tables gain x input given want is h have =
     let rate = rate_of spec in
     let o = length input in
     let eaten = eaten_by rate kept.phase kept.ahead o want in
     let count = given_by rate kept.phase kept.ahead o want in
-    let counts = counts-are spec kept x given o want is h in
-    let stands = stands-after spec kept x input given o want eaten count is h have counts.within counts in
-    let frames = frames-are spec kept tables gain x input given eaten count is h (least-after rate (length x) given o want eaten count (src-above spec is) (dst-above spec is) counts) in
+    let counts = counts-are spec tables kept x given o want is h in
+    let stands = stands-after spec tables kept x input given o want eaten count is h have counts.within counts in
+    let frames = frames-are spec tables gain kept x input given eaten count is h counts.within (least-after rate (length x) given o want eaten count (src-above spec is) (dst-above spec is) counts) in
     let P : Frame → Type 0 = λ frame. length frame ≡ channels_out spec in
     record {
       eaten = counts.total;
       within = counts.within;
       given = counts.gives;
       frames = frames;
-      count = length-map-range_with_len (next_output spec kept tables gain input) 0 count;
-      channels = All-same P (map (next_output spec kept tables gain input) (range_with_len 0 count)) (outputs spec tables gain (stream_of (channels_in spec) (x ++ take eaten input)) given count) frames
+      count = ap length frames ∙ length-map-range_with_len (conv spec tables gain (stream_of (channels_in spec) (x ++ take eaten input))) given count;
+      channels = All-same P (frames_by spec kept tables gain input count) (outputs spec tables gain (stream_of (channels_in spec) (x ++ take eaten input)) given count) frames
           (outputs-channels spec tables gain (x ++ take eaten input) given count stands.frames);
       stands = stands;
     }
@@ -356,7 +383,7 @@ unfolding turn
 turn-fitted spec kept tables gain input want fitted = ap (λ s. turn_at s kept tables gain input want) fitted
 
 -- the law of a feed
-pub turn-continues : (spec : Spec) (kept : Kept) (tables : Filters) (gain : Gain) (x input : List Frame) (given want : ℕ) → IsSpec spec → StandsFor spec kept x given
+pub turn-continues : (spec : Spec) (kept : Kept) (tables : Filters) (gain : Gain) (x input : List Frame) (given want : ℕ) → IsSpec spec → StandsFor spec tables kept x given
     → HaveChannels (channels_in spec) input → Continues spec tables gain x given input want (turn kept tables gain input want)
 turn-continues spec kept tables gain x input given want is h have =
     rw (turn-fitted spec kept tables gain input want h.fitted) (turn_of-continues spec kept tables gain x input given want is h have)
@@ -367,7 +394,7 @@ pub fed-fitted : (spec : Spec) (kept : Kept) (tables : Filters) (gain : Gain) (s
 unfolding fed
 fed-fitted spec kept tables gain samples want fitted = ap (λ s. turn kept tables gain (frames_for s samples) want) fitted
 
-pub fed-continues : (spec : Spec) (kept : Kept) (tables : Filters) (gain : Gain) (x : List Frame) (given : ℕ) (samples : List ℤ) (want : ℕ) → IsSpec spec → StandsFor spec kept x given
+pub fed-continues : (spec : Spec) (kept : Kept) (tables : Filters) (gain : Gain) (x : List Frame) (given : ℕ) (samples : List ℤ) (want : ℕ) → IsSpec spec → StandsFor spec tables kept x given
     → Continues spec tables gain x given (frames_of (channels_in spec) samples) want (fed kept tables gain samples want)
 fed-continues spec kept tables gain x given samples want is h =
     rw (fed-fitted spec kept tables gain samples want h.fitted)

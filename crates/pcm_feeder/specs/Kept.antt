@@ -2,12 +2,14 @@
 use Rattle.std.specs.Prelude.{◌≡◌, ◌≤◌, ◌<◌, ℕ, ◌+◌, ◌-◌, ◌*◌, ◌/◌, ◌%◌, max, ℤ, pos, neg_ℤ, ◌+ℤ◌, ◌≤ℤ◌, List, [], ◌++◌, length, drop, replicate, Option, Some, None}
 use Rattle.pcm_format.specs.Frames.{Frame}
 use Rattle.pcm_feeder.specs.declared.stage.Spec.{Spec}
-use Rattle.pcm_feeder.specs.Rates.{rate_of, need}
+use Rattle.pcm_feeder.specs.declared.stage.Spec.TheVariants.{Matrix, Hold, Linear, Poly, Volume, Depth}
+use Rattle.pcm_feeder.specs.Filters.{Filters}
+use Rattle.pcm_rate.specs.Rates.{unchanged, need}
 use Rattle.pcm_feeder.specs.Streams.{silence, HaveChannels}
-use Rattle.pcm_feeder.specs.Stages.{channels_in, history}
+use Rattle.pcm_feeder.specs.Stages.{rate_of, channels_in, history}
 
--- The next output lies `phase` parts of dst past the input frame under it. From that frame on `ahead` frames were eaten;
--- it may be below zero. `tail` are the last frames eaten.
+-- The next output lies `phase` parts of dst past the input frame under it. From that frame on
+-- `ahead` frames were eaten; it may be below zero. `tail` is what is kept of the past.
 pub record Kept : Type 0 where
   pub spec : Option Spec
   pub phase : ℕ
@@ -20,16 +22,48 @@ unfitted = record { spec = None; phase = 0; ahead = pos 0; tail = [] }
 
 -- a feeder at the begin of a stream
 abbrev pub fresh : Spec → Kept
-fresh spec = record { spec = Some spec; phase = 0; ahead = pos 0; tail = replicate (history spec) (silence (channels_in spec)) }
+fresh spec = record {
+  spec = Some spec;
+  phase = 0;
+  ahead = pos 0;
+  tail = replicate (history spec) (silence (channels_in spec));
+}
 
--- a feeder that has eaten the frames x and given so many
-pub record StandsFor (spec : Spec) (kept : Kept) (x : List Frame) (given : ℕ) : Type 0 where
+-- the last n frames of silence followed by x
+abbrev pub last_frames : ℕ → ℕ → List Frame → List Frame
+last_frames channels n x = drop (length x) (replicate n (silence channels) ++ x)
+
+-- what a stage keeps of the past, after it has eaten the frames x
+abbrev pub past : Spec → Filters → List Frame → List Frame
+past (Matrix from to) tables x = []
+past (Hold src dst channels) tables x = last_frames channels 1 x
+past (Linear src dst channels) tables x = last_frames channels 2 x
+past (Poly src dst channels table taps) tables x = last_frames channels taps x
+past (Volume layout) tables x = []
+past (Depth bits channels) tables x = []
+
+-- as many last frames as before, after more were eaten
+abbrev pub moved_on : List Frame → List Frame → List Frame
+moved_on tail eaten = drop (length eaten) (tail ++ eaten)
+
+-- what a stage keeps of the past, out of what it kept before and the frames eaten since
+abbrev pub past_after : Spec → Filters → List Frame → List Frame → List Frame
+past_after (Matrix from to) tables tail eaten = []
+past_after (Hold src dst channels) tables tail eaten = moved_on tail eaten
+past_after (Linear src dst channels) tables tail eaten = moved_on tail eaten
+past_after (Poly src dst channels table taps) tables tail eaten = moved_on tail eaten
+past_after (Volume layout) tables tail eaten = []
+past_after (Depth bits channels) tables tail eaten = []
+
+-- a feeder that has eaten the frames x and given so many, all with these tables
+pub record StandsFor (spec : Spec) (tables : Filters) (kept : Kept) (x : List Frame) (given : ℕ)
+    : Type 0 where
   pub fitted : kept.spec ≡ Some spec
   pub phase : kept.phase ≡ given * (rate_of spec).src % (rate_of spec).dst
   pub ahead : kept.ahead +ℤ pos (given * (rate_of spec).src / (rate_of spec).dst) ≡ pos (length x)
   pub least : need (rate_of spec) given ≤ length x
   pub most : length x ≤ max (need (rate_of spec) given) (need (rate_of spec) (given + 1) - 1)
-  pub tail : kept.tail ≡ drop (length x) (replicate (history spec) (silence (channels_in spec)) ++ x)
+  pub tail : kept.tail ≡ past spec tables x
   pub frames : HaveChannels (channels_in spec) x
 
 -- the bounds of what a fitted feeder keeps, however long the stream
@@ -38,6 +72,6 @@ pub record IsFitted (spec : Spec) (kept : Kept) : Type 0 where
   pub phase : kept.phase < (rate_of spec).dst
   pub least : neg_ℤ (pos ((rate_of spec).src / (rate_of spec).dst)) ≤ℤ kept.ahead
   pub most : kept.ahead ≤ℤ pos (1 + (rate_of spec).lookahead)
-  pub unrated : history spec ≡ 0 → kept.ahead ≡ pos 0
+  pub unrated : rate_of spec ≡ unchanged → kept.ahead ≡ pos 0
   pub count : length kept.tail ≡ history spec
   pub frames : HaveChannels (channels_in spec) kept.tail

@@ -71,7 +71,9 @@ position_number SR = 8
 -- the weight that these shares give a position, 0 where they don't name it
 abbrev pub weight_among : Position → List Share → ℕ
 weight_among target [] = 0
-weight_among target (given ∷ rest) = if position_number given.position == position_number target then given.weight else weight_among target rest
+weight_among target (given ∷ rest) =
+    if position_number given.position == position_number target then given.weight
+    else weight_among target rest
 
 -- the weight with which a source position goes to a target position of a layout
 abbrev pub weight : Layout → Position → Position → ℕ
@@ -81,9 +83,11 @@ weight to target source = weight_among target (shares to source)
 abbrev pub sum_of : List ℤ → ℤ
 sum_of samples = fold ◌+ℤ◌ (pos 0) samples
 
--- the sample of a target position: the weighted sum of a frame's samples, rounded down and limited to 32 bits
+-- the sample of a target position: the weighted sum of a frame's samples, rounded down and limited
 abbrev pub gathered : Layout → Layout → Position → Frame → ℤ
-gathered from to target frame = clamped 32 (floor_div (sum_of (zip2 (λ source sample. pos (weight to target source) *ℤ sample) (positions_of from) frame)) 65536)
+gathered from to target frame =
+    clamped 32 (floor_div (sum_of (zip2 (λ source sample. pos (weight to target source) *ℤ sample)
+    (positions_of from) frame)) 65536)
 
 -- a frame in another layout
 abbrev pub in_layout : Layout → Layout → Frame → Frame
@@ -93,18 +97,20 @@ in_layout from to frame = map (λ target. gathered from to target frame) (positi
 abbrev pub unity : Gain
 unity = record { left = 65536; right = 65536 }
 
--- the gain of a position
-abbrev pub gain_at : Gain → Position → ℕ
-gain_at gain M = (gain.left + gain.right) / 2
-gain_at gain FL = gain.left
-gain_at gain FR = gain.right
-gain_at gain FC = (gain.left + gain.right) / 2
-gain_at gain LFE = (gain.left + gain.right) / 2
-gain_at gain BL = gain.left
-gain_at gain BR = gain.right
-gain_at gain SL = gain.left
-gain_at gain SR = gain.right
+-- the gain of a position: that of its side, or the mean of both
+abbrev pub side_gain : Gain → Position → ℕ
+side_gain gain M = (gain.left + gain.right) / 2
+side_gain gain FL = gain.left
+side_gain gain FR = gain.right
+side_gain gain FC = (gain.left + gain.right) / 2
+side_gain gain LFE = (gain.left + gain.right) / 2
+side_gain gain BL = gain.left
+side_gain gain BR = gain.right
+side_gain gain SL = gain.left
+side_gain gain SR = gain.right
 
 -- a frame times the gain of each position, rounded down
 abbrev pub at_gain : Layout → Gain → Frame → Frame
-at_gain layout gain frame = zip2 (λ position sample. floor_div (sample *ℤ pos (gain_at gain position)) 65536) (positions_of layout) frame
+at_gain layout gain frame =
+    zip2 (λ position sample. floor_div (sample *ℤ pos (side_gain gain position)) 65536)
+    (positions_of layout) frame

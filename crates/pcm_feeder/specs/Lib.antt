@@ -2,7 +2,6 @@ pub mod Kinds
 pub mod Filters
 pub mod Limits
 pub mod Streams
-pub mod Rates
 pub mod Layouts
 pub mod Stages
 pub mod Kept

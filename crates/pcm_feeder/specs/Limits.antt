@@ -1,5 +1,6 @@
 -- The limits of what a stage is fitted to, of filters and of gains.
 use Rattle.std.specs.Prelude.{◌≡◌, ◌≤◌, ◌⊎◌, ◌*◌, ◌^◌, ◌/◌, ℕ, ℤ, pos, neg_ℤ, ◌≤ℤ◌, List, length, All, IsSomeAnd, slice_get}
+use Rattle.pcm_format.specs.declared.settings.TheConstants.{RATE_LEAST, RATE_MOST}
 use Rattle.pcm_feeder.specs.declared.stage.Gain.{Gain}
 use Rattle.pcm_feeder.specs.declared.stage.Spec.{Spec}
 use Rattle.pcm_feeder.specs.declared.stage.Spec.TheVariants.{Matrix, Hold, Linear, Poly, Volume, Depth}
@@ -19,8 +20,8 @@ pub record AreTaps (taps : ℕ) : Type 0 where
 
 -- a rate in frames per second
 pub record IsRate (rate : ℕ) : Type 0 where
-  pub least : 4000 ≤ rate
-  pub most : rate ≤ 192000
+  pub least : RATE_LEAST ≤ rate
+  pub most : rate ≤ RATE_MOST
 
 -- the rates of a filter: both, or neither
 abbrev pub AreTableRates : ℕ → ℕ → Type 0
@@ -84,6 +85,7 @@ abbrev pub HasTable : Spec → Filters → Type 0
 HasTable (Matrix from to) tables = Unit {0}
 HasTable (Hold src dst channels) tables = Unit {0}
 HasTable (Linear src dst channels) tables = Unit {0}
-HasTable (Poly src dst channels table taps) tables = IsSomeAnd (slice_get tables.list table) (λ found. found.taps ≡ taps)
+HasTable (Poly src dst channels table taps) tables =
+    IsSomeAnd (slice_get tables.list table) (λ found. found.taps ≡ taps)
 HasTable (Volume layout) tables = Unit {0}
 HasTable (Depth bits channels) tables = Unit {0}

@@ -6,6 +6,7 @@ use Rattle.pcm_feeder.specs.declared.rack.SixOf.{SixOf}
 use Rattle.pcm_feeder.specs.declared.rack.RackOf.{RackOf}
 use Rattle.pcm_feeder.specs.declared.rack.RacksOf.{RacksOf}
 use Rattle.pcm_feeder.specs.declared.rack.WrongKind.{WrongKind}
+use Rattle.pcm_feeder.specs.declared.rack.TheConstants.{RACKS}
 
 -- a place of a rack: the kind that it asks for, and its box
 pub record Place (B : Type 0) : Type 0 where
@@ -18,12 +19,14 @@ places_of six = record { asks = kinds.Depth; box = six.depth } ∷ []
 
 -- a place's box is of another kind
 abbrev pub IsWrongAt : {B : Type 0} → (B → Kind) → Place B → WrongKind → Type 0
-IsWrongAt kind place wrong = (wrong ≡ record { place = place.asks; found = kind place.box }) × (kind place.box ≢ place.asks)
+IsWrongAt kind place wrong =
+    (wrong ≡ record { place = place.asks; found = kind place.box }) × (kind place.box ≢ place.asks)
 
 -- the first place whose box is of another kind
 abbrev pub IsFirstWrong : {B : Type 0} → (B → Kind) → List (Place B) → WrongKind → Type 0
 IsFirstWrong kind [] wrong = ⊥
-IsFirstWrong kind (place ∷ rest) wrong = IsWrongAt kind place wrong ⊎ ((kind place.box ≡ place.asks) × IsFirstWrong kind rest wrong)
+IsFirstWrong kind (place ∷ rest) wrong =
+    IsWrongAt kind place wrong ⊎ ((kind place.box ≡ place.asks) × IsFirstWrong kind rest wrong)
 
 -- each box is of the kind that its place asks for
 pub record HaveKinds {B : Type 0} (kind : B → Kind) (six : SixOf B) : Type 0 where
@@ -47,4 +50,4 @@ list_of racks = racks.list.items
 
 -- how many racks a run has: one for each play slot and each record slot
 abbrev pub rack_count : ℕ
-rack_count = 32
+rack_count = RACKS

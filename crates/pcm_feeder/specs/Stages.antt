@@ -3,6 +3,8 @@ use Rattle.std.specs.Prelude.{ℕ, ◌+◌, ◌-◌, ◌*◌, ◌/◌, ◌%◌, 
 use Rattle.std.specs.List.{range_with_len}
 use Rattle.std.specs.Simd.Lanes.{zip2}
 use Rattle.pcm_num.specs.Floor.{floor_div}
+use Rattle.pcm_rate.specs.declared.rate.Rate.{Rate}
+use Rattle.pcm_rate.specs.Rates.{unchanged}
 use Rattle.pcm_num.specs.Limit.{clamped}
 use Rattle.pcm_format.specs.Samples.{at_depth}
 use Rattle.pcm_format.specs.Layouts.{channels_of}
@@ -13,7 +15,6 @@ use Rattle.pcm_feeder.specs.Filters.{Filters}
 use Rattle.pcm_feeder.specs.declared.stage.Spec.{Spec}
 use Rattle.pcm_feeder.specs.declared.stage.Spec.TheVariants.{Matrix, Hold, Linear, Poly, Volume, Depth}
 use Rattle.pcm_feeder.specs.Layouts.{in_layout, at_gain, sum_of}
-use Rattle.pcm_feeder.specs.Rates.{rate_of}
 use Rattle.pcm_feeder.specs.Streams.{Stream, silence}
 
 -- the channels that a stage takes
@@ -34,7 +35,16 @@ channels_out (Poly src dst channels table taps) = channels
 channels_out (Volume layout) = channels_of layout
 channels_out (Depth bits channels) = channels
 
--- how many frames up to the last one eaten a later output may use
+-- the rate of a stage
+abbrev pub rate_of : Spec → Rate
+rate_of (Matrix from to) = unchanged
+rate_of (Hold src dst channels) = record { src = src; dst = dst; lookahead = 0 }
+rate_of (Linear src dst channels) = record { src = src; dst = dst; lookahead = 1 }
+rate_of (Poly src dst channels table taps) = record { src = src; dst = dst; lookahead = taps / 2 }
+rate_of (Volume layout) = unchanged
+rate_of (Depth bits channels) = unchanged
+
+-- how many frames of the past a stage keeps
 abbrev pub history : Spec → ℕ
 history (Matrix from to) = 0
 history (Hold src dst channels) = 1
@@ -53,37 +63,59 @@ blended dst f frame next = zip2 (λ a b. floor_div (a *ℤ pos (dst - f) +ℤ b 
 
 -- the filter at a place, which is empty past the last one
 abbrev pub table_at : Filters → ℕ → Table
-table_at tables place = slice_index_or tables.list place (record { src = 0; dst = 0; phases = 1; taps = 2; shift = 1; coefs = [] })
+table_at tables place =
+    slice_index_or tables.list place
+    (record { src = 0; dst = 0; phases = 1; taps = 2; shift = 1; coefs = [] })
 
 -- coefficient j of a row
 abbrev pub coef : Table → ℕ → ℕ → ℤ
 coef table row j = slice_index_or table.coefs (row * table.taps + j) (pos 0)
 
--- a sum of coefficients times samples, divided by 2 ^ shift, rounded to the nearest and limited to 32 bits
+-- a sum of products divided by 2 ^ shift, rounded to the nearest and limited to 32 bits
 abbrev pub scaled_down : ℕ → ℤ → ℤ
 scaled_down shift sum = clamped 32 (floor_div (sum +ℤ pos (2 ^ (shift - 1))) (2 ^ shift))
 
 -- a channel of the frames around a place, through one row of a filter
 abbrev pub filtered : Table → ℕ → ℕ → Stream → ℕ → ℤ
 filtered table taps row around channel =
-    scaled_down table.shift (sum_of (map
-    (λ j. coef table row j *ℤ slice_index_or (around (pos (j + 1) -ℤ pos (taps / 2))) channel (pos 0)) (range_with_len 0 taps)))
+    scaled_down table.shift (sum_of (map (λ j. coef table row j
+    *ℤ slice_index_or (around (pos (j + 1) -ℤ pos (taps / 2))) channel (pos 0))
+    (range_with_len 0 taps)))
 
--- the output that lies f of dst parts past the frame `around 0`
-abbrev pub output_at : Spec → Filters → Gain → ℕ → Stream → Frame
-output_at (Matrix from to) tables gain f around = in_layout from to (around (pos 0))
-output_at (Hold src dst channels) tables gain f around = around (pos 0)
-output_at (Linear src dst channels) tables gain f around = blended dst f (around (pos 0)) (around (pos 1))
-output_at (Poly src dst channels table taps) tables gain f around =
-    map (filtered (table_at tables table) taps (f * (table_at tables table).phases / dst) around) (range_with_len 0 channels)
-output_at (Volume layout) tables gain f around = at_gain layout gain (around (pos 0))
-output_at (Depth bits channels) tables gain f around = at_bits bits (around (pos 0))
+-- What a converter gives f of dst parts past an input frame, from the frames around that one:
+-- `around (pos 0)` is the frame itself and `around (pos 1)` the next.
+abbrev pub Converter : Type 0
+Converter = ℕ → Stream → Frame
+
+-- a hold: the frame itself
+abbrev pub held : Converter
+held f around = around (pos 0)
+
+-- a line: the point between the frame and the next
+abbrev pub on_line : ℕ → Converter
+on_line dst f around = blended dst f (around (pos 0)) (around (pos 1))
+
+-- a filter: each channel through the row for f
+abbrev pub through : Table → ℕ → ℕ → ℕ → Converter
+through table taps channels dst f around =
+    map (filtered table taps (f * table.phases / dst) around) (range_with_len 0 channels)
+
+-- output k of a converter over a whole stream
+abbrev pub converted : Converter → Rate → Stream → ℕ → Frame
+converted converter rate x k =
+    converter (k * rate.src % rate.dst) (λ a. x (pos (k * rate.src / rate.dst) +ℤ a))
 
 -- output k of a stage over a whole stream
 unfoldable pub conv : Spec → Filters → Gain → Stream → ℕ → Frame
-conv spec tables gain x k =
-    output_at spec tables gain (k * (rate_of spec).src % (rate_of spec).dst)
-    (λ a. x (pos (k * (rate_of spec).src / (rate_of spec).dst) +ℤ a))
+conv (Matrix from to) tables gain x k = in_layout from to (x (pos k))
+conv (Hold src dst channels) tables gain x k = converted held (rate_of (Hold src dst channels)) x k
+conv (Linear src dst channels) tables gain x k =
+    converted (on_line dst) (rate_of (Linear src dst channels)) x k
+conv (Poly src dst channels table taps) tables gain x k =
+    converted (through (table_at tables table) taps channels dst)
+    (rate_of (Poly src dst channels table taps)) x k
+conv (Volume layout) tables gain x k = at_gain layout gain (x (pos k))
+conv (Depth bits channels) tables gain x k = at_bits bits (x (pos k))
 
 -- so many outputs, from output `from` on
 abbrev pub outputs : Spec → Filters → Gain → Stream → ℕ → ℕ → List Frame

@@ -22,7 +22,9 @@ HaveChannels channels frames = All (λ frame. length frame ≡ channels) frames
 
 -- interleaved samples, cut into frames
 abbrev pub frames_of : ℕ → List ℤ → List Frame
-frames_of channels samples = map (λ k. take channels (drop (k * channels) samples)) (range_with_len 0 (length samples / channels))
+frames_of channels samples =
+    map (λ k. take channels (drop (k * channels) samples))
+    (range_with_len 0 (length samples / channels))
 
 -- frames as interleaved samples
 abbrev pub interleaved : List Frame → List ℤ

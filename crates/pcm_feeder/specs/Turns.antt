@@ -1,16 +1,19 @@
 -- What one feed eats, gives and keeps.
-use Rattle.std.specs.Prelude.{◌≡◌, ◌≤◌, ℕ, zero, suc, ◌+◌, ◌-◌, ◌*◌, ◌/◌, ◌%◌, min, max, ℤ, pos, ◌+ℤ◌, ◌-ℤ◌, List, [], ◌++◌, length, map, take, drop, Option, Some, None}
+use Rattle.std.specs.Prelude.{◌≡◌, ◌≤◌, ℕ, zero, suc, ◌+◌, ◌-◌, ◌*◌, ◌/◌, ◌%◌, min, max, ℤ, pos, ◌+ℤ◌, ◌-ℤ◌, List, [], ◌++◌, length, map, take, Option, Some, None}
 use Rattle.std.specs.List.{range_with_len}
 use Rattle.pcm_format.specs.Frames.{Frame}
 use Rattle.pcm_format.specs.Samples.{natural}
 use Rattle.pcm_feeder.specs.declared.stage.Gain.{Gain}
 use Rattle.pcm_feeder.specs.declared.stage.Spec.{Spec}
+use Rattle.pcm_feeder.specs.declared.stage.Spec.TheVariants.{Matrix, Hold, Linear, Poly, Volume, Depth}
 use Rattle.pcm_feeder.specs.Filters.{Filters}
-use Rattle.pcm_feeder.specs.Rates.{Rate, rate_of, need, can, div_up}
+use Rattle.pcm_rate.specs.declared.rate.Rate.{Rate}
+use Rattle.pcm_rate.specs.Rates.{need, can, div_up}
 use Rattle.pcm_feeder.specs.Streams.{Stream, stream_of, frames_of, HaveChannels}
-use Rattle.pcm_feeder.specs.Stages.{channels_in, channels_out, history, output_at, outputs}
+use Rattle.pcm_feeder.specs.Layouts.{in_layout, at_gain}
+use Rattle.pcm_feeder.specs.Stages.{rate_of, channels_in, channels_out, history, at_bits, table_at, Converter, held, on_line, through, outputs}
 use Rattle.pcm_feeder.specs.Limits.{IsGain, HasTable}
-use Rattle.pcm_feeder.specs.Kept.{Kept, fresh, StandsFor}
+use Rattle.pcm_feeder.specs.Kept.{Kept, fresh, past_after, StandsFor}
 
 -- what a feed does, in frames
 pub record Turn : Type 0 where
@@ -19,7 +22,7 @@ pub record Turn : Type 0 where
   pub frames : List Frame
   pub kept : Kept
 
--- how many input frames lie between the one under the next output and the one under output j from now
+-- how many input frames lie between those under the next output and under output j from now
 abbrev pub step_of : Rate → ℕ → ℕ → ℕ
 step_of rate phase j = (phase + j * rate.src) / rate.dst
 
@@ -39,11 +42,13 @@ allowed rate phase n = div_up ((n - rate.lookahead) * rate.dst - phase) rate.src
 -- how many of the frames offered a feed eats: none beyond what the wanted outputs use
 abbrev pub eaten_by : Rate → ℕ → ℤ → ℕ → ℕ → ℕ
 eaten_by rate phase ahead offered zero = 0
-eaten_by rate phase ahead offered (suc j) = min offered (natural (pos (reach rate phase (suc j)) -ℤ ahead))
+eaten_by rate phase ahead offered (suc j) =
+    min offered (natural (pos (reach rate phase (suc j)) -ℤ ahead))
 
 -- how many frames a feed gives: as many as are wanted and the frames offered allow
 abbrev pub given_by : Rate → ℕ → ℤ → ℕ → ℕ → ℕ
-given_by rate phase ahead offered want = min want (allowed rate phase (natural (ahead +ℤ pos offered)))
+given_by rate phase ahead offered want =
+    min want (allowed rate phase (natural (ahead +ℤ pos offered)))
 
 -- the frames around output j from now, out of those kept and those offered
 abbrev pub around : Spec → Kept → List Frame → ℕ → Stream
@@ -51,17 +56,33 @@ around spec kept input j =
     λ a. stream_of (channels_in spec) (kept.tail ++ input)
     (pos (history spec + step_of (rate_of spec) kept.phase j) -ℤ kept.ahead +ℤ a)
 
--- output j from now
-abbrev pub next_output : Spec → Kept → Filters → Gain → List Frame → ℕ → Frame
-next_output spec kept tables gain input j = output_at spec tables gain (phase_of (rate_of spec) kept.phase j) (around spec kept input j)
+-- the next outputs of a converter
+abbrev pub next_outputs : Converter → Spec → Kept → List Frame → ℕ → List Frame
+next_outputs converter spec kept input given =
+    map (λ j. converter (phase_of (rate_of spec) kept.phase j) (around spec kept input j))
+    (range_with_len 0 given)
+
+-- the frames that a feed gives, out of what is kept and the frames offered
+abbrev pub frames_by : Spec → Kept → Filters → Gain → List Frame → ℕ → List Frame
+frames_by (Matrix from to) kept tables gain input given = map (in_layout from to) (take given input)
+frames_by (Hold src dst channels) kept tables gain input given =
+    next_outputs held (Hold src dst channels) kept input given
+frames_by (Linear src dst channels) kept tables gain input given =
+    next_outputs (on_line dst) (Linear src dst channels) kept input given
+frames_by (Poly src dst channels table taps) kept tables gain input given =
+    next_outputs (through (table_at tables table) taps channels dst)
+    (Poly src dst channels table taps) kept input given
+frames_by (Volume layout) kept tables gain input given =
+    map (at_gain layout gain) (take given input)
+frames_by (Depth bits channels) kept tables gain input given = map (at_bits bits) (take given input)
 
 -- what is kept after so many frames were eaten and given
-abbrev pub kept_after : Spec → Kept → List Frame → ℕ → ℕ → Kept
-kept_after spec kept input eaten given = record {
+abbrev pub kept_after : Spec → Filters → Kept → List Frame → ℕ → ℕ → Kept
+kept_after spec tables kept input eaten given = record {
   spec = Some spec;
   phase = phase_of (rate_of spec) kept.phase given;
   ahead = kept.ahead +ℤ pos eaten -ℤ pos (step_of (rate_of spec) kept.phase given);
-  tail = drop eaten (kept.tail ++ take eaten input);
+  tail = past_after spec tables kept.tail (take eaten input);
 }
 
 -- a feed of a feeder that is fitted to a spec
@@ -72,8 +93,8 @@ turn_of spec kept tables gain input want =
     record {
       eaten = eaten;
       given = given;
-      frames = map (next_output spec kept tables gain input) (range_with_len 0 given);
-      kept = kept_after spec kept input eaten given;
+      frames = frames_by spec kept tables gain input given;
+      kept = kept_after spec tables kept input eaten given;
     }
 
 -- a feed by what a feeder is fitted to; without that nothing happens
@@ -94,26 +115,32 @@ frames_for (Some spec) samples = frames_of (channels_in spec) samples
 unfoldable pub fed : Kept → Filters → Gain → List ℤ → ℕ → Turn
 fed kept tables gain samples want = turn kept tables gain (frames_for kept.spec samples) want
 
--- what a feed asks: whole frames, room for the frames wanted, a gain, and the filter that the feeder was fitted to
-pub record CanFeed (spec : Spec) (tables : Filters) (gain : Gain) (input : List ℤ) (want : ℕ) (output : List ℤ) : Type 0 where
+-- what a feed asks: whole frames, room for the frames wanted, a gain, and the filter of the spec
+pub record CanFeed (spec : Spec) (tables : Filters) (gain : Gain)
+    (input : List ℤ) (want : ℕ) (output : List ℤ) : Type 0 where
   pub whole_frames : length input % channels_in spec ≡ 0
   pub room : want * channels_out spec ≤ length output
   pub limits : IsGain gain
   pub filter : HasTable spec tables
 
--- What a feed means to whoever knows the frames x that were eaten and how many were given: both go on
--- as far as the counts say, and the frames given are the stage's outputs over all frames eaten.
-pub record Continues (spec : Spec) (tables : Filters) (gain : Gain) (x : List Frame) (before : ℕ) (input : List Frame) (want : ℕ) (turn : Turn) : Type 0 where
-  pub eaten : length x + turn.eaten ≡ max (length x) (min (length x + length input) (need (rate_of spec) (before + want)))
+-- What a feed means to whoever knows the frames x that were eaten and how many were given: both go
+-- on as far as the counts say, and the frames given are the stage's outputs over all frames eaten.
+pub record Continues (spec : Spec) (tables : Filters) (gain : Gain) (x : List Frame) (before : ℕ)
+    (input : List Frame) (want : ℕ) (turn : Turn) : Type 0 where
+  pub eaten : length x + turn.eaten
+      ≡ max (length x) (min (length x + length input) (need (rate_of spec) (before + want)))
   pub within : turn.eaten ≤ length input
   pub given : turn.given ≡ min want (can (rate_of spec) (length x + length input) - before)
-  pub frames : turn.frames ≡ outputs spec tables gain (stream_of (channels_in spec) (x ++ take turn.eaten input)) before turn.given
+  pub frames : turn.frames
+      ≡ outputs spec tables gain (stream_of (channels_in spec) (x ++ take turn.eaten input))
+      before turn.given
   pub count : length turn.frames ≡ turn.given
   pub channels : HaveChannels (channels_out spec) turn.frames
-  pub stands : StandsFor spec turn.kept (x ++ take turn.eaten input) (before + turn.given)
+  pub stands : StandsFor spec tables turn.kept (x ++ take turn.eaten input) (before + turn.given)
 
 -- a feed of a stage without a change of rate: a function of each frame, and nothing to keep
-pub record MapsFrames (spec : Spec) (f : Frame → Frame) (input : List Frame) (want : ℕ) (turn : Turn) : Type 0 where
+pub record MapsFrames (spec : Spec) (f : Frame → Frame) (input : List Frame) (want : ℕ)
+    (turn : Turn) : Type 0 where
   pub eaten : turn.eaten ≡ min want (length input)
   pub given : turn.given ≡ min want (length input)
   pub frames : turn.frames ≡ map f (take (min want (length input)) input)

@@ -27,8 +27,8 @@ pub trait Feeder: Drop {
         ensures kept { kept self.new ≡ fresh spec }
         ensures kind { kind self.new ≡ kind self.old };
 
-    /// Eats frames of `input`, no more than `want` outputs use, and gives at most `want` frames at the
-    /// front of `output`. Both hold interleaved samples. Takes no memory.
+    /// Eats frames of `input`, no more than `want` outputs use, and gives at most `want` frames at
+    /// the front of `output`. Both hold interleaved samples. Takes no memory.
     fn feed(
         &mut self,
         tables: &Tables,
@@ -37,12 +37,17 @@ pub trait Feeder: Drop {
         want: usize,
         output: &mut [i32],
     ) -> Moved
-        requires { IsSomeAnd (kept self.old).spec (λ spec. CanFeed spec tables.now gain input.now want output.old) }
-        ensures eaten { result.eaten ≡ (fed (kept self.old) tables.now gain input.now want).eaten }
-        ensures given { result.given ≡ (fed (kept self.old) tables.now gain input.now want).given }
+        requires { IsSomeAnd (kept self.old).spec
+            (λ spec. CanFeed spec tables.now gain input.now want output.old) }
+        ensures eaten { result.eaten
+            ≡ (fed (kept self.old) tables.now gain input.now want).eaten }
+        ensures given { result.given
+            ≡ (fed (kept self.old) tables.now gain input.now want).given }
         ensures most { result.given ≤ want }
-        ensures frames { output.new ≡ written (fed (kept self.old) tables.now gain input.now want).frames output.old }
-        ensures kept { kept self.new ≡ (fed (kept self.old) tables.now gain input.now want).kept }
+        ensures frames { output.new
+            ≡ written (fed (kept self.old) tables.now gain input.now want).frames output.old }
+        ensures kept { kept self.new
+            ≡ (fed (kept self.old) tables.now gain input.now want).kept }
         ensures spec { (kept self.new).spec ≡ (kept self.old).spec }
         ensures kind { kind self.new ≡ kind self.old };
 }

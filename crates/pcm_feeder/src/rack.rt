@@ -1,11 +1,12 @@
 //! The boxes that a chain picks its stages from.
 
 ghost use Rattle.std.specs.Prelude.{◌≡◌, ◌≢◌, IfOk, IfErr, vec_len};
+ghost use Rattle.pcm_feeder.specs.declared.rack.TheConstants.{RACKS};
 
 use crate::{Feeder, Kind};
 
-/// How many racks a run has.
-const RACKS: usize = 32;
+/// How many racks a run has: one for each play slot and each record slot.
+pub const RACKS: usize = 32;
 
 /// The boxes of a rack, one for each kind of stage.
 #[derive(Drop)]
@@ -51,7 +52,8 @@ impl<B: Feeder> RackOf<B> {
 // Whether a box is of the kind that its place asks for.
 fn is_of_kind<B: Feeder>(tried: &B, place: Kind) -> Result<(), WrongKind>
     ensures right { IfOk result (λ _. B.kind tried.now ≡ place) }
-    ensures found { IfErr result (λ wrong. wrong ≡ record { place = place; found = B.kind tried.now }) }
+    ensures found { IfErr result
+        (λ wrong. wrong ≡ record { place = place; found = B.kind tried.now }) }
     ensures wrong { IfErr result (λ _. B.kind tried.now ≢ place) }
 {
     let found = tried.kind();
@@ -72,19 +74,20 @@ pub struct WrongCount {
 #[derive(Drop)]
 pub struct RacksOf<B> {
     list: Vec<RackOf<B>>,
-    ghost count: { vec_len list ≡ 32 },
+    ghost count: { vec_len list ≡ RACKS },
 }
 
 impl<B: Feeder> RacksOf<B> {
     ghost use Rattle.pcm_feeder.specs.Racks.{AreRacks, list_of, rack_count};
 
-    /// Takes 32 racks over. They are dropped where there are more or fewer.
+    /// Takes the racks of a run over. They are dropped where there are more or fewer.
     pub fn new(racks: Vec<RackOf<B>>) -> Result<RacksOf<B>, WrongCount>
         ensures same { IfOk result (λ made. list_of made ≡ racks.items) }
         ensures count { IfOk result (λ _. vec_len racks ≡ rack_count) }
         ensures found { IfErr result (λ wrong. wrong.found ≡ vec_len racks) }
         ensures wrong { IfErr result (λ _. vec_len racks ≢ rack_count) }
-        ensures kinds { AreRacks B.kind racks.items → IfOk result (λ made. AreRacks B.kind (list_of made)) }
+        ensures kinds { AreRacks B.kind racks.items
+            → IfOk result (λ made. AreRacks B.kind (list_of made)) }
     {
         let found = racks.len();
         if found == RACKS {

@@ -32,8 +32,9 @@ impl Coefs {
     }
 }
 
-/// A filter for a change of rate, or for any where both rates are 0: a row of `taps` coefficients for
-/// each of `phases` phases, one row after another. A coefficient counts as divided by `2 ^ shift`.
+/// A filter for a change of rate, or for any where both rates are 0: a row of `taps` coefficients
+/// for each of `phases` phases, one row after another. A coefficient counts as divided by
+/// `2 ^ shift`.
 #[derive(Debug, Drop)]
 pub struct Table {
     pub src: u32,

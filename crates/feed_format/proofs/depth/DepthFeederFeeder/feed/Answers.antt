@@ -1,5 +1,6 @@
 -- A feed turns each frame by itself.
-use Rattle.std.proofs.Common.{◌++◌, ◌*◌, drop, refl, ap, ◌∙◌, arith}
+use Rattle.std.proofs.Common.{◌++◌, ◌*◌, map, drop, refl, ap, ◌∙◌, arith}
+use Rattle.pcm_format.specs.Samples.{at_depth}
 use Rattle.feed_format.specs.Depth.{kept_by, kept_of}
 use Rattle.feed_format.proofs.Written.{narrowed}
 use Rattle.feed_format.proofs.depth.DepthFeederFeeder.feed.Goals as goal
@@ -14,7 +15,7 @@ returns c =
     record {
       eaten = does.eaten;
       given = does.given;
-      frames = ap (λ front. front ++ drop (n * fitted.channels) old) c.narrow.ensures ∙ does.frames;
+      frames = ap (λ front. front ++ drop (n * fitted.channels) old) (c.bring_to_depth.ensures ∙ ap (map (at_depth fitted.bits)) c.copy_from_slice.ensures.after) ∙ does.frames;
       most = omega (arith, c.min-frames.ensures);
       kept = does.kept;
       spec = refl;
