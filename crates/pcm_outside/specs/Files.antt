@@ -42,13 +42,18 @@ pub record IsFrontOf (files : FilesSeen) (name : List ℕ) (most : ℕ) (bytes :
   pub front : bytes ≡ take most whole
 
 -- a read gave the bytes
-abbrev pub Reads : FilesSeen → List ℕ → ℕ → List ℕ → Type 0
-Reads files name most bytes = IsTrue files.tells → IsFrontOf files name most bytes
+abbrev pub ReadsFile : FilesSeen → List ℕ → ℕ → List ℕ → Type 0
+ReadsFile files name most bytes = IsTrue files.tells → IsFrontOf files name most bytes
 
 -- a read of the name failed
 pub record FailsToRead (old new : FilesSeen) (name : List ℕ) : Type 0 where
   pub rose : Rose old.read_faults new.read_faults
   pub failed : new.failed ≡ Some name
+
+-- no read failed: the count of those that did stays, and so does the name
+pub record NoReadFails (old new : FilesSeen) : Type 0 where
+  pub read_faults : new.read_faults ≡ old.read_faults
+  pub failed : new.failed ≡ old.failed
 
 -- what neither create nor append changes, and the count that never falls
 pub record OnlyWrites (old new : FilesSeen) : Type 0 where

@@ -1,6 +1,6 @@
 //! A folder in memory whose listed calls fail.
 ghost use Rattle.std.specs.Prelude.{◌≡◌, ◌≢◌, take, IsTrue, IsErrOf, IfOk, OnOk, OnErr, Err, Some, None, is_err, option_copied};
-ghost use Rattle.pcm_outside.specs.Files.{OnlyReads, Reads, FailsToRead, OnlyWrites, Creates, FailsToCreate, OnlyAppends, Appends, FailsToAppend};
+ghost use Rattle.pcm_outside.specs.Files.{OnlyReads, ReadsFile, FailsToRead, NoReadFails, OnlyWrites, Creates, FailsToCreate, OnlyAppends, Appends, FailsToAppend};
 ghost use Rattle.pcm_outside.specs.Counts.{raised};
 ghost use Rattle.pcm_outside.specs.Calls.{with_listed};
 ghost use Rattle.pcm_outside.specs.Folder.{empty_folder, with_added, bytes_named, is_created, content_of, folder_seen, read_of, after_call, after_failed_read, is_other_created, create_fails, after_create, after_failed_create, append_fails, after_append, after_failed_append};
@@ -117,7 +117,8 @@ impl MemFiles {
 
     /// Makes the call of this number fail. The first read, create or append has number 1.
     pub fn fail_at(&mut self, call: u32) -> Result<(), AllocError>
-        ensures ok { OnOk result (self.new ≡ record self.old { calls = with_listed self.old.calls call }) }
+        ensures ok { OnOk result
+            (self.new ≡ record self.old { calls = with_listed self.old.calls call }) }
         ensures err { OnErr result (self.new ≡ self.old) }
     {
         self.calls.fail_at(call)
@@ -171,14 +172,16 @@ impl Files for MemFiles {
 
     fn read(&mut self, alloc: Global, name: &str, most: usize) -> Result<Vec<u8>, ReadFault>
         ensures only { OnlyReads (folder_seen self.old) (folder_seen self.new) }
-        ensures ok { IfOk result (λ v. Reads (folder_seen self.old) name.now most v.items) }
+        ensures ok { IfOk result (λ v. ReadsFile (folder_seen self.old) name.now most v.items) }
         ensures failed { IsErrOf result ReadFault.Failed
             → FailsToRead (folder_seen self.old) (folder_seen self.new) name.now }
-        ensures kept { result ≢ Err ReadFault.Failed → self.new.failed ≡ self.old.failed }
+        ensures kept { result ≢ Err ReadFault.Failed
+            → NoReadFails (folder_seen self.old) (folder_seen self.new) }
 
         // It fails exactly at a listed call, and where the name isn't there.
         ensures gives { IfOk result (λ v. read_of self.old name.now most ≡ Some v.items) }
-        ensures gives_none { IsErrOf result ReadFault.Failed → read_of self.old name.now most ≡ None }
+        ensures gives_none { IsErrOf result ReadFault.Failed
+            → read_of self.old name.now most ≡ None }
         ensures after { result ≢ Err ReadFault.Failed → self.new ≡ after_call self.old }
         ensures after_failed { IsErrOf result ReadFault.Failed
             → self.new ≡ after_failed_read self.old name.now }

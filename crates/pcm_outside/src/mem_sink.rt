@@ -45,7 +45,8 @@ impl MemSink {
 
     /// Makes the put of this number fail. The first one has number 1.
     pub fn fail_at(&mut self, call: u32) -> Result<(), AllocError>
-        ensures ok { OnOk result (self.new ≡ record self.old { calls = with_listed self.old.calls call }) }
+        ensures ok { OnOk result
+            (self.new ≡ record self.old { calls = with_listed self.old.calls call }) }
         ensures err { OnErr result (self.new ≡ self.old) }
     {
         self.calls.fail_at(call)
@@ -65,7 +66,8 @@ impl Sink for MemSink {
     fn put(&mut self, piece: &[u8]) -> Result<(), WriteFault>
         ensures only { OnlyPuts (buffer_seen self.old) (buffer_seen self.new) }
         ensures ok { OnOk result (Puts (buffer_seen self.old) (buffer_seen self.new) piece.now) }
-        ensures err { OnErr result (FailsToPut (buffer_seen self.old) (buffer_seen self.new) piece.now) }
+        ensures err { OnErr result
+            (FailsToPut (buffer_seen self.old) (buffer_seen self.new) piece.now) }
 
         // It fails exactly at a listed call, and where more than the room would be put.
         ensures fails { is_err result ≡ put_fails self.old piece.now }

@@ -1,6 +1,6 @@
 //! The two traits through which the core reaches the outside, and their faults.
-ghost use Rattle.std.specs.Prelude.{◌≡◌, ◌≢◌, IsTrue, IsErrOf, IfOk, OnOk, OnErr, Err};
-ghost use Rattle.pcm_outside.specs.Files.{OnlyReads, Reads, FailsToRead, OnlyWrites, Creates, FailsToCreate, OnlyAppends, Appends, FailsToAppend};
+ghost use Rattle.std.specs.Prelude.{◌≢◌, IsTrue, IsErrOf, IfOk, OnOk, OnErr, Err};
+ghost use Rattle.pcm_outside.specs.Files.{OnlyReads, ReadsFile, FailsToRead, NoReadFails, OnlyWrites, Creates, FailsToCreate, OnlyAppends, Appends, FailsToAppend};
 ghost use Rattle.pcm_outside.specs.Sink.{OnlyPuts, Puts, FailsToPut};
 
 use std::alloc::Global;
@@ -28,10 +28,11 @@ pub trait Files {
     /// Reads the first `most` bytes of a file, or all of them where there are fewer.
     fn read(&mut self, alloc: Global, name: &str, most: usize) -> Result<Vec<u8>, ReadFault>
         ensures only { OnlyReads (seen self.old) (seen self.new) }
-        ensures ok { IfOk result (λ v. Reads (seen self.old) name.now most v.items) }
+        ensures ok { IfOk result (λ v. ReadsFile (seen self.old) name.now most v.items) }
         ensures failed { IsErrOf result ReadFault.Failed
             → FailsToRead (seen self.old) (seen self.new) name.now }
-        ensures kept { result ≢ Err ReadFault.Failed → (seen self.new).failed ≡ (seen self.old).failed };
+        ensures kept { result ≢ Err ReadFault.Failed
+            → NoReadFails (seen self.old) (seen self.new) };
 
     /// Makes a file empty, as the one that is appended to.
     fn create(&mut self, name: &str) -> Result<(), WriteFault>
