@@ -6,6 +6,8 @@ use Rattle.pcm_format.specs.declared.reply.Answer.TheVariants.{Number}
 use Rattle.pcm_format.specs.declared.reply.Errno.{Errno}
 use Rattle.pcm_format.specs.declared.reply.Errno.TheVariants.{Again, Busy}
 use Rattle.pcm_format.specs.Frames.{frame_bytes, whole_frames}
+use Rattle.pcm_rate.specs.declared.rate.Rate.{Rate}
+use Rattle.pcm_rate.specs.Rates.{need, can, len}
 use Rattle.pcm_desk.specs.declared.book.Book.{Book}
 use Rattle.pcm_desk.specs.declared.book.State.{State}
 use Rattle.pcm_desk.specs.declared.book.State.TheVariants.{Free, Setup, Primed, Running, Draining}
@@ -25,6 +27,13 @@ is_draining Primed = false
 is_draining Running = false
 is_draining (Draining _) = true
 
+abbrev pub is_started : State → Bool
+is_started Free = false
+is_started Setup = false
+is_started Primed = false
+is_started Running = true
+is_started (Draining _) = true
+
 -- the whole frames accepted in this run
 abbrev pub frames_written : Book → ℕ
 frames_written book = whole_frames book.settings book.written
@@ -41,31 +50,19 @@ ring_bytes book = FRAGMENTS * FRAGMENT_BYTES
 abbrev pub free_of : Book → ℕ
 free_of book = ring_bytes book - fill_of book
 
--- Counts of frames between the client's side and the mix. All rates are one, so a frame stands for a frame.
-
--- how many frames of the client the first frames of the mix use
-abbrev pub need_of : Book → ℕ → ℕ
-need_of book frames = frames
-
--- how many frames of the mix so many frames of the client allow while more may come
-abbrev pub can_of : Book → ℕ → ℕ
-can_of book frames = frames
-
--- how many frames of the mix so many frames of the client are once no more come
-abbrev pub len_of : Book → ℕ → ℕ
-len_of book frames = frames
+-- Counts of frames on the side of the mix stand to those of the client's side by the rate between the two.
 
 -- how many frames of the mix the book has allowed so far
-abbrev pub allowed_in : State → Book → ℕ
-allowed_in Free book = 0
-allowed_in Setup book = 0
-allowed_in Primed book = 0
-allowed_in Running book = can_of book (frames_written book)
-allowed_in (Draining _) book = len_of book (frames_written book)
+abbrev pub allowed_in : Rate → State → Book → ℕ
+allowed_in rate Free book = 0
+allowed_in rate Setup book = 0
+allowed_in rate Primed book = 0
+allowed_in rate Running book = can rate (frames_written book)
+allowed_in rate (Draining _) book = len rate (frames_written book)
 
 -- how many of n frames the book gives to the mix
-abbrev pub giving : ℕ → Book → ℕ
-giving n book = min n (allowed_in book.state book - book.given)
+abbrev pub giving : Rate → ℕ → Book → ℕ
+giving rate n book = min n (allowed_in rate book.state book - book.given)
 
 -- a book and the reply after an event
 pub record BookTurn : Type 0 where
@@ -111,22 +108,22 @@ write_turn length book =
     else record { book = accepting (min length (free_of book)) book; reply = Ok (Number (min length (free_of book))) }
 
 -- a draining book that has given its last frame is over
-abbrev pub settled_in : State → Book → Book
-settled_in Free book = book
-settled_in Setup book = book
-settled_in Primed book = book
-settled_in Running book = book
-settled_in (Draining closed) book =
-    if book.given == len_of book (frames_written book) then emptied (if closed then Free else Setup) book else book
+abbrev pub settled_in : Rate → State → Book → Book
+settled_in rate Free book = book
+settled_in rate Setup book = book
+settled_in rate Primed book = book
+settled_in rate Running book = book
+settled_in rate (Draining closed) book =
+    if book.given == len rate (frames_written book) then emptied (if closed then Free else Setup) book else book
 
 -- No more comes: what was written plays to its end, and a part of a frame alone is dropped.
-abbrev pub drained_in : State → Book → Book
-drained_in Free book = book
-drained_in Setup book = book
-drained_in Primed book =
+abbrev pub drained_in : Rate → State → Book → Book
+drained_in rate Free book = book
+drained_in rate Setup book = book
+drained_in rate Primed book =
     if nat_lt 0 (frames_written book) then record book { state = Draining false } else emptied Setup book
-drained_in Running book = settled_in (Draining false) (record book { state = Draining false })
-drained_in (Draining closed) book = book
+drained_in rate Running book = settled_in rate (Draining false) (record book { state = Draining false })
+drained_in rate (Draining closed) book = book
 
 -- no descriptor has the book any more
 abbrev pub closed_in : State → Book → Book
@@ -137,27 +134,27 @@ closed_in Running book = book
 closed_in (Draining closed) book = record book { state = Draining true }
 
 -- a close: a drain, and then no descriptor
-abbrev pub close_turn : Book → Book
-close_turn book = let drained : Book = drained_in book.state book in closed_in drained.state drained
+abbrev pub close_turn : Rate → Book → Book
+close_turn rate book = let drained : Book = drained_in rate book.state book in closed_in drained.state drained
 
--- `given` frames went into the mix, of n that it wanted
-abbrev pub gives : ℕ → Book → Book
-gives n book = record book {
-  eaten = max book.eaten (min (frames_written book) (need_of book (book.given + n)));
-  given = book.given + giving n book;
+-- what the next n frames of the mix need leaves the ring, and what is allowed of them goes into the mix
+abbrev pub gives : Rate → ℕ → Book → Book
+gives rate n book = record book {
+  eaten = max book.eaten (min (frames_written book) (need rate (book.given + n)));
+  given = book.given + giving rate n book;
 }
 
 -- a running book that gave fewer than n frames was short; the count stands still at its end
-abbrev pub underruns_after : ℕ → Book → ℕ
-underruns_after n book = if nat_lt (giving n book) n then min (book.underruns + 1) (2 ^ 32 - 1) else book.underruns
+abbrev pub underruns_after : Rate → ℕ → Book → ℕ
+underruns_after rate n book = if nat_lt (giving rate n book) n then min (book.underruns + 1) (2 ^ 32 - 1) else book.underruns
 
 -- an interrupt that mixes n frames
-abbrev pub refilled_in : State → ℕ → Book → Book
-refilled_in Free n book = book
-refilled_in Setup n book = book
-refilled_in Primed n book = book
-refilled_in Running n book = record (gives n book) { underruns = underruns_after n book }
-refilled_in (Draining closed) n book = settled_in (Draining closed) (gives n book)
+abbrev pub refilled_in : Rate → State → ℕ → Book → Book
+refilled_in rate Free n book = book
+refilled_in rate Setup n book = book
+refilled_in rate Primed n book = book
+refilled_in rate Running n book = record (gives rate n book) { underruns = underruns_after rate n book }
+refilled_in rate (Draining closed) n book = settled_in rate (Draining closed) (gives rate n book)
 
-abbrev pub refilled : ℕ → Book → Book
-refilled n book = refilled_in book.state n book
+abbrev pub refilled : Rate → ℕ → Book → Book
+refilled rate n book = refilled_in rate book.state n book

@@ -1,34 +1,37 @@
--- Lists of events: which fit, the desk after them, and their replies.
-use Rattle.std.specs.Prelude.{◌≡◌, ℕ, ◌+◌, ◌<◌, ◌≤◌, List, [], ◌∷◌, Result}
+-- Lists of events: which fit, how many frames they take, and the desk after them.
+use Rattle.std.specs.Prelude.{◌≡◌, ℕ, ◌+◌, ◌*◌, ◌<◌, ◌≤◌, List, [], ◌∷◌, length}
+use Rattle.std.specs.List.{sum_by}
 use Rattle.pcm_format.specs.declared.event.Event.{Event}
 use Rattle.pcm_format.specs.declared.event.Event.TheVariants.{Open, Write, Close, Intr}
-use Rattle.pcm_format.specs.declared.reply.Answer.{Answer}
-use Rattle.pcm_format.specs.declared.reply.Errno.{Errno}
-use Rattle.pcm_desk.specs.declared.device.Device.{Device}
-use Rattle.pcm_desk.specs.Desk.{Desk, descriptor_count, after}
+use Rattle.pcm_format.specs.declared.pool.Pool.{Pool}
+use Rattle.pcm_desk.specs.declared.limits.TheConstants.{DESCRIPTORS, WRITE_BYTES}
+use Rattle.pcm_desk.specs.Device.{DeviceSeen, device_frame_bytes, mix_settings, ring_frames}
+use Rattle.pcm_desk.specs.Desk.{Desk, after}
 
--- how many bytes a write has at most
-abbrev pub write_limit : ℕ
-write_limit = 4096
+-- the event keeps the limits of a device, and names bytes that are there
+abbrev pub Fits : DeviceSeen → Pool → Event → Type 0
+Fits device pool (Open fd way settings) = (fd < DESCRIPTORS) × (settings ≡ mix_settings device)
+Fits device pool (Write fd at count) =
+    (fd < DESCRIPTORS) × (count ≤ WRITE_BYTES) × (at + count ≤ length pool.inline_bytes)
+Fits device pool (Close fd) = fd < DESCRIPTORS
+Fits device pool (Intr frames) = (0 < frames) × (frames ≤ ring_frames device)
 
--- how many events a script has at most
-abbrev pub event_limit : ℕ
-event_limit = 1048576
+-- the frames that an event takes out of the device's ring
+abbrev pub frames_taken : Event → ℕ
+frames_taken (Open fd way settings) = 0
+frames_taken (Write fd at count) = 0
+frames_taken (Close fd) = 0
+frames_taken (Intr frames) = frames
 
--- the event keeps the limits of a device and names bytes that are there, of so many inline bytes
-abbrev pub Fits : Device → ℕ → Event → Type 0
-Fits device inline_bytes (Open fd way settings) = (fd < descriptor_count) × (settings ≡ device.settings)
-Fits device inline_bytes (Write fd at length) =
-    (fd < descriptor_count) × (length ≤ write_limit) × (at + length ≤ inline_bytes)
-Fits device inline_bytes (Close fd) = fd < descriptor_count
-Fits device inline_bytes (Intr frames) = (0 < frames) × (frames ≤ device.ring_frames)
+-- the bytes that an event hands over
+abbrev pub bytes_handed : DeviceSeen → Event → ℕ
+bytes_handed device event = frames_taken event * device_frame_bytes device
+
+-- the frames that the interrupts of these events take
+abbrev pub all_frames_taken : List Event → ℕ
+all_frames_taken events = sum_by frames_taken events
 
 -- the desk after a list of events
-abbrev pub after_all : Device → Desk → List Event → Desk
+abbrev pub after_all : DeviceSeen → Desk → List Event → Desk
 after_all device desk [] = desk
 after_all device desk (event ∷ events) = after_all device (after device desk event).desk events
-
--- the replies to a list of events
-abbrev pub replies : Device → Desk → List Event → List (Result Answer Errno)
-replies device desk [] = []
-replies device desk (event ∷ events) = (after device desk event).reply ∷ replies device (after device desk event).desk events

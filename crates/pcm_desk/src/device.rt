@@ -4,6 +4,13 @@ ghost use Rattle.std.specs.Prelude.{◌≡◌};
 
 use pcm_format::{Format, Layout, Settings, Way};
 
+/// What an open without settings means.
+pub const OPENING: Settings = Settings {
+    format: Format::U8,
+    layout: Layout::One,
+    rate: 8000,
+};
+
 /// What is settled of a device before the first event.
 #[derive(Clone, Copy, Debug, PartialEq, Eq)]
 pub struct Device {
@@ -17,12 +24,13 @@ pub struct Device {
 }
 
 impl Device {
+    ghost use Rattle.pcm_desk.specs.Device.{seen};
     ghost use Rattle.pcm_desk.specs.Usual.{usual_device};
 
     /// The device of a run without a configuration: 16 bits, stereo, 48 kHz, a ring of four blocks of 256 frames,
     /// four channels that play.
     pub fn usual() -> Device
-        ensures { result ≡ usual_device }
+        ensures { seen result ≡ usual_device }
     {
         Device {
             settings: Settings {

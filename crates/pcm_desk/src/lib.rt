@@ -4,7 +4,11 @@
 
 mod book;
 mod device;
+mod laws;
+mod limits;
 mod turns;
 
 pub use book::{Book, FRAGMENT_BYTES, FRAGMENTS, State};
-pub use device::{Device, Held};
+pub use device::{Device, Held, OPENING};
+pub use laws::books_stay_in_order;
+pub use limits::{DESCRIPTORS, DEVICE_BYTES, EVENTS, RING_FRAMES, SLOTS, WRITE_BYTES};

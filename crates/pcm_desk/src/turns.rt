@@ -2,10 +2,12 @@
 
 ghost use Rattle.std.specs.Prelude.{◌≡◌, ◌+◌, ◌*◌, ◌^◌, ◌<◌, ◌≤◌};
 ghost use Rattle.pcm_format.specs.Frames.{frame_bytes};
-ghost use Rattle.pcm_desk.specs.Books.{frames_written, fill_of, giving, begun, accepting, close_turn, emptied, refilled, primed_in, started_in, settled_in, drained_in, gives, underruns_after};
+ghost use Rattle.pcm_rate.specs.Rates.{IsRatio};
+ghost use Rattle.pcm_desk.specs.Books.{is_free, is_draining, frames_written, fill_of, giving, begun, accepting, close_turn, emptied, refilled, primed_in, started_in, settled_in, drained_in, gives, underruns_after};
 
 use crate::{Book, FRAGMENT_BYTES, State};
 use pcm_format::Settings;
+use pcm_rate::Rate;
 
 impl Book {
     /// The book of a new opening.
@@ -20,6 +22,20 @@ impl Book {
             given: 0,
             underruns: 0,
         }
+    }
+
+    /// Whether nobody has the channel, and nothing of it is left to play.
+    pub fn is_free(&self) -> bool
+        ensures { result ≡ is_free self.now.state }
+    {
+        matches!(self.state, State::Free)
+    }
+
+    /// Whether nothing more will be written of the run.
+    pub fn is_draining(&self) -> bool
+        ensures { result ≡ is_draining self.now.state }
+    {
+        matches!(self.state, State::Draining { .. })
     }
 
     /// The whole frames accepted in this run.
@@ -78,10 +94,11 @@ impl Book {
     }
 
     /// The book after a close.
-    pub fn closed(self) -> Book
-        ensures { result ≡ close_turn self }
+    pub fn closed(self, rate: Rate) -> Book
+        requires { IsRatio rate }
+        ensures { result ≡ close_turn rate self }
     {
-        let drained = self.drained();
+        let drained = self.drained(rate);
         match drained.state {
             State::Setup => Book {
                 state: State::Free,
@@ -96,8 +113,9 @@ impl Book {
     }
 
     // No more comes. A part of a frame alone is dropped.
-    fn drained(self) -> Book
-        ensures { result ≡ drained_in self.state self }
+    fn drained(self, rate: Rate) -> Book
+        requires { IsRatio rate }
+        ensures { result ≡ drained_in rate self.state self }
     {
         let draining = Book {
             state: State::Draining { closed: false },
@@ -106,7 +124,7 @@ impl Book {
         match self.state {
             State::Primed if self.frames_written() > 0 => draining,
             State::Primed => self.emptied(State::Setup),
-            State::Running => draining.settled(),
+            State::Running => draining.settled(rate),
             _ => self,
         }
     }
@@ -125,11 +143,13 @@ impl Book {
     }
 
     // A draining book that has given its last frame is over.
-    fn settled(self) -> Book
-        ensures { result ≡ settled_in self.state self }
+    fn settled(self, rate: Rate) -> Book
+        requires { IsRatio rate }
+        ensures { result ≡ settled_in rate self.state self }
     {
         match self.state {
-            State::Draining { closed } if self.given == self.frames_written() => {
+            State::Draining { closed }
+                if u128::from(self.given) == rate.len(self.frames_written()) => {
                 self.emptied(if closed { State::Free } else { State::Setup })
             }
             _ => self,
@@ -137,48 +157,57 @@ impl Book {
     }
 
     /// How many of `n` frames the book gives to the mix.
-    pub fn giving(&self, n: u64) -> u64
-        ensures { result ≡ giving n self.now }
+    pub fn giving(&self, rate: Rate, n: u64) -> u64
+        requires { IsRatio rate }
+        ensures value { result ≡ giving rate n self.now }
+        ensures within { result ≤ n }
     {
         let allowed = match self.state {
-            State::Running | State::Draining { .. } => self.frames_written(),
+            State::Running => rate.can(self.frames_written()),
+            State::Draining { .. } => rate.len(self.frames_written()),
             State::Free | State::Setup | State::Primed => 0,
         };
-        n.min(allowed.saturating_sub(self.given))
+        u128::from(n).min(allowed.saturating_sub(u128::from(self.given))) as u64
     }
 
     /// The book after an interrupt that mixes `n` frames.
-    pub fn refilled(self, n: u64) -> Book
-        requires { self.given + n < 2 ^ 64 }
-        ensures { result ≡ refilled n self }
+    pub fn refilled(self, rate: Rate, n: u64) -> Book
+        requires rate { IsRatio rate }
+        requires count { self.given + n < 2 ^ 64 }
+        ensures { result ≡ refilled rate n self }
     {
         match self.state {
             State::Running => Book {
-                underruns: self.underruns_after(n),
-                ..self.gives(n)
+                underruns: self.underruns_after(rate, n),
+                ..self.gives(rate, n)
             },
-            State::Draining { .. } => self.gives(n).settled(),
+            State::Draining { .. } => self.gives(rate, n).settled(rate),
             _ => self,
         }
     }
 
     // The frames of an interrupt leave the ring and go into the mix.
-    fn gives(self, n: u64) -> Book
-        requires { self.given + n < 2 ^ 64 }
-        ensures { result ≡ gives n self }
+    fn gives(self, rate: Rate, n: u64) -> Book
+        requires rate { IsRatio rate }
+        requires count { self.given + n < 2 ^ 64 }
+        ensures { result ≡ gives rate n self }
     {
+        let needed = rate
+            .need(self.given + n)
+            .min(u128::from(self.frames_written()));
         Book {
-            eaten: self.eaten.max(self.frames_written().min(self.given + n)),
-            given: self.given + self.giving(n),
+            eaten: self.eaten.max(needed as u64),
+            given: self.given + self.giving(rate, n),
             ..self
         }
     }
 
     // Fewer than `n` frames are a shortage. The count stands still at its end.
-    fn underruns_after(&self, n: u64) -> u32
-        ensures { result ≡ underruns_after n self.now }
+    fn underruns_after(&self, rate: Rate, n: u64) -> u32
+        requires { IsRatio rate }
+        ensures { result ≡ underruns_after rate n self.now }
     {
-        if self.giving(n) < n {
+        if self.giving(rate, n) < n {
             self.underruns.saturating_add(1)
         } else {
             self.underruns

@@ -1,0 +1,264 @@
+-- The counts of a book stay in order through every event, for every rate between the client and the mix.
+use Rattle.std.proofs.Common.{◌≡◌, ℕ, suc, zero, ◌+◌, ◌-◌, ◌*◌, ◌<◌, ◌≤◌, Bool, true, false, cond, eqb, min, max, Ok, Err, inl, inr, refl, ap, arith}
+use Rattle.std.proofs.Math.Nat.{mul-le-mul_right}
+use Rattle.std.specs.Prelude.{nat_lt, nat_le, ◌&&◌}
+use Rattle.std.proofs.lemmas.Bool.{cases_lt}
+use Rattle.std.proofs.lemmas.Bool.Decides.{nat_tests}
+use Rattle.pcm_format.specs.declared.settings.Settings.{Settings}
+use Rattle.pcm_format.specs.declared.reply.Answer.TheVariants.{Number}
+use Rattle.pcm_format.specs.declared.reply.Errno.TheVariants.{Again, Busy}
+use Rattle.pcm_format.specs.Frames.{frame_bytes, whole_frames}
+use Rattle.pcm_format.proofs.Whole.{whole_frames-mono}
+use Rattle.pcm_rate.specs.declared.rate.Rate.{Rate}
+use Rattle.pcm_rate.specs.Rates.{IsRatio, need, can, len}
+use Rattle.pcm_rate.proofs.Counts.{can-greatest, can-le-len, need_grows, len_above, need-can, need-past}
+use Rattle.pcm_desk.specs.declared.book.Book.{Book}
+use Rattle.pcm_desk.specs.declared.book.State.{State}
+use Rattle.pcm_desk.specs.declared.book.State.TheVariants.{Free, Setup, Primed, Running, Draining}
+use Rattle.pcm_desk.specs.Books.{BookTurn, is_draining, is_started, allowed_in, frames_written, fill_of, free_of, ring_bytes, giving, gives, begun, emptied, accepting, started_in, write_turn, closed_in, close_turn, refilled}
+use Rattle.pcm_desk.specs.Safe.{EatsInTime, IsRunning, IsDraining, IsUnstarted, IsInOrder, BookIsSafe}
+
+-- ---- counts alone
+
+-- with nothing eaten and given a run may start
+unstarted_running : (rate : Rate) (frames eaten given : ℕ) → IsUnstarted eaten given → IsRunning rate frames eaten given
+unstarted_running rate frames eaten given u =
+    let none = u.eaten_none in
+    let start = u.given_none in
+    let needs : need rate given ≡ 0 = ap (need rate) start in
+    record { eats = record { written = omega arith; early = omega arith }; needed = omega arith; allowed = omega arith }
+
+-- a run without a frame of its own is over before it drains, and any other may drain from its start
+unstarted_draining : (rate : Rate) (frames eaten given : ℕ) → IsRatio rate → 0 < frames → IsUnstarted eaten given → IsDraining rate frames eaten given
+unstarted_draining rate frames eaten given r some u =
+    let none = u.eaten_none in
+    let start = u.given_none in
+    let last = len_above rate frames r.src r.dst some in
+    record { eats = record { written = omega arith; early = omega arith }; needed = (let needs : need rate given ≡ 0 = ap (need rate) start in omega arith); left = omega arith }
+
+-- more frames were written
+running-more : (rate : Rate) (frames more eaten given : ℕ) → IsRatio rate → frames ≤ more → IsRunning rate frames eaten given → IsRunning rate more eaten given
+running-more rate frames more eaten given r grew o =
+    let written = o.eats.written in
+    let needed = o.needed in
+    record {
+      eats = record { written = omega arith; early = o.eats.early };
+      needed = o.needed;
+      allowed = (can-greatest rate r.src r.dst given more).0 (omega arith);
+    }
+
+-- no more comes
+running-drains : (rate : Rate) (frames eaten given : ℕ) → IsRatio rate → (given ≡ len rate frames → ⊥) → IsRunning rate frames eaten given → IsDraining rate frames eaten given
+running-drains rate frames eaten given r left o =
+    let allowed = o.allowed in
+    let within = can-le-len rate frames r.src in
+    let needed = o.needed in
+    record {
+      eats = o.eats;
+      needed = omega arith;
+      left = elim (cases_lt given (len rate frames)) [
+        | inl below ↦ below
+        | inr all ↦ absurd (left (omega arith))
+      ];
+    }
+
+-- what is eaten for the next n frames of the mix is eaten in time, wherever the giving stops
+early-more : (rate : Rate) (frames eaten given n m : ℕ) → IsRatio rate → EatsInTime rate frames eaten given → m ≤ n → (m ≡ n → ⊥) → frames < need rate (given + m + 1)
+    → EatsInTime rate frames (max eaten (min frames (need rate (given + n)))) (given + m)
+early-more rate frames eaten given n m r o within short past =
+    let written = o.written in
+    record { written = omega arith; early = omega arith }
+
+early-all : (rate : Rate) (frames eaten given n : ℕ) → IsRatio rate → EatsInTime rate frames eaten given
+    → EatsInTime rate frames (max eaten (min frames (need rate (given + n)))) (given + n)
+early-all rate frames eaten given zero r o =
+    let written = o.written in
+    let early = o.early in
+    let same : given + 0 ≡ given = omega arith in
+    record { written = omega arith; early = rw same (omega arith) }
+early-all rate frames eaten given (suc n) r o =
+    let written = o.written in
+    let early = o.early in
+    let first = need_grows rate given (given + suc n) r.dst (omega arith) in
+    let next = need_grows rate (given + 1) (given + suc n) r.dst (omega arith) in
+    record { written = omega arith; early = omega arith }
+
+-- a running book at an interrupt: it gives all n frames, or as many as are allowed
+running-gives : (rate : Rate) (frames eaten given n : ℕ) → IsRatio rate → IsRunning rate frames eaten given
+    → IsRunning rate frames (max eaten (min frames (need rate (given + n)))) (given + min n (can rate frames - given))
+running-gives rate frames eaten given n r o =
+    let allowed = o.allowed in
+    let needed = o.needed in
+    let written = o.eats.written in
+    elim (cases_lt (can rate frames - given) n) [
+      | inl fewer ↦ (
+          let m : ℕ = can rate frames - given in
+          let gave : min n m ≡ m = omega arith in
+          let last : given + m ≡ can rate frames = omega arith in
+          let most : need rate (given + m) ≤ frames = rw last (need-can rate frames r) in
+          let grows = need_grows rate (given + m) (given + n) r.dst (omega arith) in
+          rw gave (record {
+            eats = early-more rate frames eaten given n m r o.eats (omega arith) (λ e. omega arith) (need-past rate (given + m + 1) frames r (omega arith));
+            needed = omega arith;
+            allowed = omega arith;
+          }))
+      | inr all ↦ (
+          let gave : min n (can rate frames - given) ≡ n = omega arith in
+          let within : given + n ≤ can rate frames = omega arith in
+          let most = (can-greatest rate r.src r.dst (given + n) frames).1 within in
+          rw gave (record { eats = early-all rate frames eaten given n r o.eats; needed = omega arith; allowed = within }))
+    ]
+
+-- a draining book at an interrupt that doesn't end it
+draining-gives : (rate : Rate) (frames eaten given n : ℕ) → IsRatio rate → IsDraining rate frames eaten given → (given + min n (len rate frames - given) ≡ len rate frames → ⊥)
+    → IsDraining rate frames (max eaten (min frames (need rate (given + n)))) (given + min n (len rate frames - given))
+draining-gives rate frames eaten given n r o left =
+    let before = o.left in
+    elim (cases_lt (given + n) (len rate frames)) [
+      | inl below ↦ (
+          let gave : min n (len rate frames - given) ≡ n = omega arith in
+          rw gave (record { eats = early-all rate frames eaten given n r o.eats; needed = omega arith; left = below }))
+      | inr all ↦ absurd (left (omega arith))
+    ]
+
+-- ---- a book after each event
+
+-- a book with more bytes and a state
+abbrev pub grown : ℕ → State → Book → Book
+grown accepted state old = record old { state = state; written = old.written + accepted }
+
+-- the bytes that wait grow by what is accepted
+grown_fill : (accepted : ℕ) (state : State) (old : Book) → fill_of old ≤ ring_bytes old → accepted ≤ free_of old → fill_of (grown accepted state old) ≤ ring_bytes old
+grown_fill accepted state old fill room = omega arith
+
+grown_frames : (accepted : ℕ) (state : State) (old : Book) → frames_written old ≤ frames_written (grown accepted state old)
+grown_frames accepted state old = whole_frames-mono old.settings old.written (old.written + accepted) (omega arith)
+
+safe_primed : (b : Bool) (rate : Rate) (accepted : ℕ) (old : Book) → IsUnstarted old.eaten old.given → 0 < old.written + accepted → fill_of old ≤ ring_bytes old → accepted ≤ free_of old
+    → BookIsSafe rate (cond b (grown accepted Running old) (grown accepted Primed old))
+safe_primed true rate accepted old u written fill room =
+    record { order = unstarted_running rate (frames_written (grown accepted Running old)) old.eaten old.given u; fill = grown_fill accepted Running old fill room }
+safe_primed false rate accepted old u written fill room = record { order = (written, u); fill = grown_fill accepted Primed old fill room }
+
+safe_setup : (b : Bool) (rate : Rate) (accepted : ℕ) (old : Book) → nat_lt 0 (old.written + accepted) ≡ b → IsUnstarted old.eaten old.given → fill_of old ≤ ring_bytes old → accepted ≤ free_of old
+    → BookIsSafe rate (let primed : Book = cond b (grown accepted Primed old) (grown accepted Setup old) in started_in primed.state primed)
+safe_setup true rate accepted old e u fill room = safe_primed (nat_le 4096 (fill_of (grown accepted Primed old))) rate accepted old u (grind (arith, nat_tests)) fill room
+safe_setup false rate accepted old e u fill room = record { order = (grind (arith, nat_tests), u); fill = grown_fill accepted Setup old fill room }
+
+safe_accepting_at : (state : State) (rate : Rate) (accepted : ℕ) (book : Book) → IsRatio rate → is_draining state ≡ false → accepted ≤ free_of (record book { state = state })
+    → BookIsSafe rate (record book { state = state }) → BookIsSafe rate (accepting accepted (record book { state = state }))
+safe_accepting_at Free rate accepted book r more room s = record { order = tt; fill = grown_fill accepted Free (record book { state = Free }) s.fill room }
+safe_accepting_at Setup rate accepted book r more room s = let o = s.order in safe_setup (nat_lt 0 (book.written + accepted)) rate accepted (record book { state = Setup }) refl o.1 s.fill room
+safe_accepting_at Primed rate accepted book r more room s =
+    let o = s.order in
+    let above = o.0 in
+    safe_primed (nat_le 4096 (fill_of (grown accepted Primed (record book { state = Primed })))) rate accepted (record book { state = Primed }) o.1 (omega arith) s.fill room
+safe_accepting_at Running rate accepted book r more room s =
+    let old : Book = record book { state = Running } in
+    record {
+      order = running-more rate (frames_written old) (frames_written (grown accepted Running old)) book.eaten book.given r (grown_frames accepted Running old) s.order;
+      fill = grown_fill accepted Running old s.fill room;
+    }
+safe_accepting_at (Draining closed) rate accepted book r more room s = cc
+
+-- bytes that fit, while more may come
+pub safe-accepting : (rate : Rate) (accepted : ℕ) (book : Book) → IsRatio rate → is_draining book.state ≡ false → accepted ≤ free_of book → BookIsSafe rate book → BookIsSafe rate (accepting accepted book)
+safe-accepting rate accepted book r more room s = safe_accepting_at book.state rate accepted book r more room s
+
+-- a write
+pub safe-write : (rate : Rate) (length : ℕ) (book : Book) → IsRatio rate → BookIsSafe rate book → BookIsSafe rate (write_turn length book).book
+safe-write rate length book r s = at (is_draining book.state) refl
+  where
+    full : Bool
+    full = nat_lt 0 length && eqb (free_of book) 0
+
+    fitting : Bool → BookTurn
+    fitting b = cond b (record { book = book; reply = Err Again }) (record { book = accepting (min length (free_of book)) book; reply = Ok (Number (min length (free_of book))) })
+
+    fits : (b : Bool) → is_draining book.state ≡ false → BookIsSafe rate (fitting b).book
+    fits true more = s
+    fits false more = safe-accepting rate (min length (free_of book)) book r more (omega arith) s
+
+    at : (b : Bool) → is_draining book.state ≡ b → BookIsSafe rate (cond {A = BookTurn} b (record { book = book; reply = Err Busy }) (fitting full)).book
+    at true busy = s
+    at false more = fits full more
+
+-- an opening
+pub safe-begun : (rate : Rate) (settings : Settings) → BookIsSafe rate (begun settings)
+safe-begun rate settings = record { order = (refl, record { eaten_none = refl; given_none = refl }); fill = omega arith }
+
+safe_emptied : (rate : Rate) (state : State) (book : Book) → IsInOrder rate state (emptied state book) → BookIsSafe rate (emptied state book)
+safe_emptied rate state book order = record { order = order; fill = omega arith }
+
+safe_close_running : (b : Bool) (rate : Rate) (book : Book) → IsRatio rate → eqb book.given (len rate (frames_written book)) ≡ b → BookIsSafe rate (record book { state = Running })
+    → BookIsSafe rate (let drained : Book = cond b (emptied Setup (record book { state = Draining false })) (record book { state = Draining false }) in closed_in drained.state drained)
+safe_close_running true rate book r e s = safe_emptied rate Free book tt
+safe_close_running false rate book r e s = record { order = running-drains rate (frames_written book) book.eaten book.given r (λ all. grind (arith, nat_tests)) s.order; fill = s.fill }
+
+safe_close_primed : (b : Bool) (rate : Rate) (book : Book) → IsRatio rate → nat_lt 0 (frames_written book) ≡ b → BookIsSafe rate (record book { state = Primed })
+    → BookIsSafe rate (let drained : Book = cond b (record book { state = Draining false }) (emptied Setup book) in closed_in drained.state drained)
+safe_close_primed true rate book r e s = record { order = unstarted_draining rate (frames_written book) book.eaten book.given r (grind (arith, nat_tests)) (let o = s.order in o.1); fill = s.fill }
+safe_close_primed false rate book r e s = safe_emptied rate Free book tt
+
+safe_close_at : (state : State) (rate : Rate) (book : Book) → IsRatio rate → BookIsSafe rate (record book { state = state }) → BookIsSafe rate (close_turn rate (record book { state = state }))
+safe_close_at Free rate book r s = s
+safe_close_at Setup rate book r s = record { order = tt; fill = s.fill }
+safe_close_at Primed rate book r s = safe_close_primed (nat_lt 0 (frames_written (record book { state = Primed }))) rate book r refl s
+safe_close_at Running rate book r s = safe_close_running (eqb book.given (len rate (frames_written book))) rate book r refl s
+safe_close_at (Draining closed) rate book r s = record { order = s.order; fill = s.fill }
+
+-- a close
+pub safe-close : (rate : Rate) (book : Book) → IsRatio rate → BookIsSafe rate book → BookIsSafe rate (close_turn rate book)
+safe-close rate book r s = safe_close_at book.state rate book r s
+
+gives_fill : (rate : Rate) (n : ℕ) (book : Book) → fill_of book ≤ ring_bytes book → fill_of (gives rate n book) ≤ ring_bytes book
+gives_fill rate n book fill =
+    let more : book.eaten * frame_bytes book.settings ≤ max book.eaten (min (frames_written book) (need rate (book.given + n))) * frame_bytes book.settings = mul-le-mul_right (frame_bytes book.settings) (omega arith) in
+    omega arith
+
+safe_settled : (b closed : Bool) (rate : Rate) (n : ℕ) (book : Book) → IsRatio rate → eqb (book.given + giving rate n (record book { state = Draining closed })) (len rate (frames_written book)) ≡ b → BookIsSafe rate (record book { state = Draining closed })
+    → BookIsSafe rate (let given : Book = gives rate n (record book { state = Draining closed }) in cond b (emptied (cond closed Free Setup) given) given)
+safe_settled true true rate n book r e s = safe_emptied rate Free (gives rate n (record book { state = Draining true })) tt
+safe_settled true false rate n book r e s = safe_emptied rate Setup (gives rate n (record book { state = Draining false })) (refl, record { eaten_none = refl; given_none = refl })
+safe_settled false closed rate n book r e s = record {
+  order = draining-gives rate (frames_written book) book.eaten book.given n r s.order (λ all. grind (arith, nat_tests));
+  fill = gives_fill rate n (record book { state = Draining closed }) s.fill;
+}
+
+safe_refilled_at : (state : State) (rate : Rate) (n : ℕ) (book : Book) → IsRatio rate → BookIsSafe rate (record book { state = state }) → BookIsSafe rate (refilled rate n (record book { state = state }))
+safe_refilled_at Free rate n book r s = s
+safe_refilled_at Setup rate n book r s = s
+safe_refilled_at Primed rate n book r s = s
+safe_refilled_at Running rate n book r s = record { order = running-gives rate (frames_written book) book.eaten book.given n r s.order; fill = gives_fill rate n (record book { state = Running }) s.fill }
+safe_refilled_at (Draining closed) rate n book r s =
+    safe_settled (eqb (book.given + giving rate n (record book { state = Draining closed })) (len rate (frames_written book))) closed rate n book r refl s
+
+-- an interrupt
+pub safe-refilled : (rate : Rate) (n : ℕ) (book : Book) → IsRatio rate → BookIsSafe rate book → BookIsSafe rate (refilled rate n book)
+safe-refilled rate n book r s = safe_refilled_at book.state rate n book r s
+
+-- ---- what a book allows
+
+-- a started book gave no more than it allows
+pub given-allowed : (state : State) (rate : Rate) (book : Book) → IsRatio rate → is_started state ≡ true → IsInOrder rate state book → book.given ≤ allowed_in rate state book
+given-allowed Free rate book r e o = cc
+given-allowed Setup rate book r e o = cc
+given-allowed Primed rate book r e o = cc
+given-allowed Running rate book r e o = o.allowed
+given-allowed (Draining closed) rate book r e o = let left = o.left in omega arith
+
+-- and allows no more than lasts as long as what was written
+pub allowed-lasts : (state : State) (rate : Rate) (book : Book) → IsRatio rate → allowed_in rate state book ≤ len rate (frames_written book)
+allowed-lasts Free rate book r = omega arith
+allowed-lasts Setup rate book r = omega arith
+allowed-lasts Primed rate book r = omega arith
+allowed-lasts Running rate book r = can-le-len rate (frames_written book) r.src
+allowed-lasts (Draining closed) rate book r = omega arith
+
+-- only a started book allows any
+pub allowed-started : (state : State) (rate : Rate) (book : Book) → 0 < allowed_in rate state book → is_started state ≡ true
+allowed-started Free rate book h = absurd (omega arith)
+allowed-started Setup rate book h = absurd (omega arith)
+allowed-started Primed rate book h = absurd (omega arith)
+allowed-started Running rate book h = refl
+allowed-started (Draining closed) rate book h = refl

@@ -1,0 +1,14 @@
+use Rattle.pcm_desk.proofs.Safe.{safe-begun, safe-write, safe-close, safe-refilled}
+use Rattle.pcm_desk.proofs.laws.books_stay_in_order.Goals as goal
+
+pub returns-clause-begun : goal.returns-clause-begun
+returns-clause-begun c = safe-begun
+
+pub returns-clause-written : goal.returns-clause-written
+returns-clause-written c = safe-write
+
+pub returns-clause-closed : goal.returns-clause-closed
+returns-clause-closed c = safe-close
+
+pub returns-clause-refilled : goal.returns-clause-refilled
+returns-clause-refilled c = safe-refilled

@@ -1,0 +1,50 @@
+-- What the rules read of a device. Whatever a device has beside it is read by one more word here.
+use Rattle.std.specs.Prelude.{ℕ}
+use Rattle.pcm_format.specs.declared.settings.Settings.{Settings}
+use Rattle.pcm_format.specs.Frames.{frame_bytes}
+use Rattle.pcm_rate.specs.declared.rate.Rate.{Rate}
+use Rattle.pcm_rate.specs.Rates.{unchanged}
+use Rattle.pcm_desk.specs.declared.device.Device.{Device}
+
+pub record DeviceSeen : Type 0 where
+  pub settings : Settings
+  pub slots : ℕ
+  pub ring : ℕ
+  pub block : ℕ
+
+-- what a device is seen as
+abbrev pub seen : Device → DeviceSeen
+seen device = record {
+  settings = device.settings;
+  slots = device.play_slots;
+  ring = device.ring_frames;
+  block = device.block_frames;
+}
+
+-- the settings of the frames that are handed over
+abbrev pub device_settings : DeviceSeen → Settings
+device_settings device = device.settings
+
+-- the settings of the mix, which are the device's
+abbrev pub mix_settings : DeviceSeen → Settings
+mix_settings device = device.settings
+
+-- how many clients can play at once
+abbrev pub play_slots : DeviceSeen → ℕ
+play_slots device = device.slots
+
+-- the frames of the device's ring
+abbrev pub ring_frames : DeviceSeen → ℕ
+ring_frames device = device.ring
+
+-- the frames of an interrupt that names no number
+abbrev pub block_frames : DeviceSeen → ℕ
+block_frames device = device.block
+
+-- the bytes of a frame that is handed over
+abbrev pub device_frame_bytes : DeviceSeen → ℕ
+device_frame_bytes device = frame_bytes (device_settings device)
+
+-- The change of rate from a client with these settings to the mix. Every client has the rate of the mix so far.
+abbrev pub rate_between : DeviceSeen → Settings → Rate
+rate_between device settings = unchanged

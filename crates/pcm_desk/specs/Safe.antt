@@ -1,0 +1,45 @@
+-- What holds of the counts of a book at every moment.
+use Rattle.std.specs.Prelude.{◌≡◌, ℕ, ◌+◌, ◌-◌, ◌<◌, ◌≤◌, min, max}
+use Rattle.pcm_rate.specs.declared.rate.Rate.{Rate}
+use Rattle.pcm_rate.specs.Rates.{need, can, len}
+use Rattle.pcm_desk.specs.declared.book.Book.{Book}
+use Rattle.pcm_desk.specs.declared.book.State.{State}
+use Rattle.pcm_desk.specs.declared.book.State.TheVariants.{Free, Setup, Primed, Running, Draining}
+use Rattle.pcm_desk.specs.Books.{frames_written, fill_of, ring_bytes}
+
+-- Of the frames written in a run, how many were eaten, and how many frames of the mix were given for them.
+
+-- no frame is eaten that wasn't written, and none before the next frame of the mix needs it
+pub record EatsInTime (rate : Rate) (frames eaten given : ℕ) : Type 0 where
+  pub written : eaten ≤ frames
+  pub early : eaten ≤ max (need rate given) (need rate (given + 1) - 1)
+
+-- while more may come, all that is given was eaten for and is allowed
+pub record IsRunning (rate : Rate) (frames eaten given : ℕ) : Type 0 where
+  pub eats : EatsInTime rate frames eaten given
+  pub needed : need rate given ≤ eaten
+  pub allowed : given ≤ can rate frames
+
+-- once no more comes, silence stands in for what is needed past the last frame, and some is still to be given
+pub record IsDraining (rate : Rate) (frames eaten given : ℕ) : Type 0 where
+  pub eats : EatsInTime rate frames eaten given
+  pub needed : min frames (need rate given) ≤ eaten
+  pub left : given < len rate frames
+
+-- nothing was eaten or given
+pub record IsUnstarted (eaten given : ℕ) : Type 0 where
+  pub eaten_none : eaten ≡ 0
+  pub given_none : given ≡ 0
+
+-- the counts of a book in each state
+abbrev pub IsInOrder : Rate → State → Book → Type 0
+IsInOrder rate Free book = Unit {0}
+IsInOrder rate Setup book = (book.written ≡ 0) × IsUnstarted book.eaten book.given
+IsInOrder rate Primed book = (0 < book.written) × IsUnstarted book.eaten book.given
+IsInOrder rate Running book = IsRunning rate (frames_written book) book.eaten book.given
+IsInOrder rate (Draining closed) book = IsDraining rate (frames_written book) book.eaten book.given
+
+-- the counts of a book are in order, and no more waits than its ring holds
+pub record BookIsSafe (rate : Rate) (book : Book) : Type 0 where
+  pub order : IsInOrder rate book.state book
+  pub fill : fill_of book ≤ ring_bytes book

@@ -1,0 +1,19 @@
+//! The limits of a run: each has its one home here, for definitions and for code.
+
+/// How many descriptors there are, from 0 on.
+pub const DESCRIPTORS: usize = 64;
+
+/// How many bytes a write has at most.
+pub const WRITE_BYTES: usize = 4096;
+
+/// How many events a script has at most.
+pub const EVENTS: usize = 1048576;
+
+/// How many bytes all interrupts of a script hand over at most.
+pub const DEVICE_BYTES: u64 = 268435456;
+
+/// The greatest ring of a device, in frames.
+pub const RING_FRAMES: u32 = 262144;
+
+/// How many clients a device has at most.
+pub const SLOTS: u32 = 16;
