@@ -12,24 +12,27 @@ use Rattle.std.proofs.lemmas.List.Elements.{All-head, All-tail, All-append, All-
 use Rattle.pcm_format.specs.declared.settings.Settings.{Settings}
 use Rattle.pcm_format.specs.declared.format.Format.{Format}
 use Rattle.pcm_format.specs.declared.event.Event.{Event}
-use Rattle.pcm_format.specs.declared.event.Event.TheVariants.{Write, Intr}
+use Rattle.pcm_format.specs.declared.event.Event.TheVariants.{Intr}
+use Rattle.pcm_format.specs.declared.pool.Pool.{Pool}
 use Rattle.pcm_format.specs.Formats.{bits_of, bytes_of}
 use Rattle.pcm_format.specs.Layouts.{channels_of}
 use Rattle.pcm_format.specs.Samples.{at_depth, spelled}
-use Rattle.pcm_format.specs.Frames.{Frame, frames, frame_at, frame_bytes, whole_frames}
-use Rattle.pcm_format.proofs.Streams.{get_or-frames, length-frame_at, map-range-same, length-frames}
+use Rattle.pcm_format.specs.Frames.{Frame, frames, whole_frames}
+use Rattle.pcm_format.proofs.Ranges.{map-range-same, range-add}
+use Rattle.pcm_format.proofs.Streams.{get_or-frames, length-frame_at, length-frames}
 use Rattle.pcm_format.proofs.Spelling.{length-flat_map-spelled}
-use Rattle.pcm_mix.specs.Mix.{mixed}
+use Rattle.pcm_feeder.specs.declared.stage.Gain.{Gain}
+use Rattle.pcm_feeder.specs.Streams.{stream_of}
 use Rattle.pcm_mix.proofs.Blocks.{length-mixed}
-use Rattle.pcm_desk.specs.declared.device.Device.{Device}
-use Rattle.pcm_sound.specs.Plans.{silence, frame_in}
-use Rattle.pcm_sound.specs.Runs.{Run, Piece, covers, given_by, first_of, sounding, stream_of}
+use Rattle.pcm_desk.specs.Device.{DeviceSeen, mix_settings, play_slots, ring_frames, device_frame_bytes}
+use Rattle.pcm_sound.specs.Plans.{given_frame}
+use Rattle.pcm_sound.specs.Gains.{last_gain}
+use Rattle.pcm_sound.specs.Runs.{Run, Piece, covers, run_frames, piece_frame, first_of, sounding}
 use Rattle.pcm_sound.specs.Story.{Story, told}
 use Rattle.pcm_sound.specs.Mix.{Table, adding, mix_of}
-use Rattle.pcm_sound.specs.DeviceList.{table_of, mix_at, device_list, spelled_frame, spelled_frames, device_bytes, device_body}
+use Rattle.pcm_sound.specs.DeviceList.{table_of, silence_in, mix_at, device_frame, device_list, spelled_frame, spelled_frames, device_bytes, device_body}
 use Rattle.pcm_sound.specs.Valid.{StoryIsValid}
 use Rattle.pcm_sound.proofs.Stories.{table_of-told}
-use Rattle.pcm_sound.proofs.Blocks.{range-split}
 
 fold-same : {A B : Type 0} (f g : B → A → B) (start : B) (xs : List A) → ((b : B) (x : A) → f b x ≡ g b x) → fold f start xs ≡ fold g start xs
 fold-same f g start [] h = refl
@@ -43,99 +46,103 @@ mix_of-same bits silent a b slots position h =
 -- one slot more
 pub mix_of-more : (bits : ℕ) (silent : Frame) (table : Table) (slots position : ℕ) → mix_of bits silent table (slots + 1) position ≡ adding bits (mix_of bits silent table slots position) (table slots position)
 mix_of-more bits silent table slots position =
-    ap (fold (λ (sum : Frame) (slot : ℕ). adding bits sum (table slot position)) silent) (range-split 0 slots 1 ∙ ap (λ a. range_with_len 0 slots ++ a ∷ []) (zero-add slots))
+    ap (fold (λ (sum : Frame) (slot : ℕ). adding bits sum (table slot position)) silent) (range-add 0 slots 1 ∙ ap (λ a. range_with_len 0 slots ++ a ∷ []) (zero-add slots))
     ∙ fold-append (λ (sum : Frame) (slot : ℕ). adding bits sum (table slot position)) silent (range_with_len 0 slots) (slots ∷ [])
 
 -- the frames that were mixed stay as they were
-pub device_list-same : (device : Device) (a b : Table) (count : ℕ) → ((slot position : ℕ) → position < count → a slot position ≡ b slot position) → device_list device a count ≡ device_list device b count
+pub device_list-same : (device : DeviceSeen) (a b : Table) (count : ℕ) → ((slot position : ℕ) → position < count → a slot position ≡ b slot position) → device_list device a count ≡ device_list device b count
 device_list-same device a b count h =
-    ap (λ mixed. replicate device.ring_frames (silence device.settings) ++ mixed)
-    (map-range-same (mix_at device a) (mix_at device b) count
-    (λ position l. mix_of-same (bits_of device.settings.format) (silence device.settings) a b device.play_slots position (λ slot. h slot position l)))
+    ap (λ mixed. replicate (ring_frames device) (silence_in (mix_settings device)) ++ mixed)
+    (map-range-same (device_frame device (mix_at device a)) (device_frame device (mix_at device b)) count
+    (λ position l. mix_of-same (bits_of (mix_settings device).format) (silence_in (mix_settings device)) a b (play_slots device) position (λ slot. h slot position l)))
 
 -- more positions
-pub device_list-more : (device : Device) (table : Table) (count n : ℕ) → device_list device table (count + n) ≡ device_list device table count ++ map (mix_at device table) (range_with_len count n)
+pub device_list-more : (device : DeviceSeen) (table : Table) (count n : ℕ) → device_list device table (count + n) ≡ device_list device table count ++ map (device_frame device (mix_at device table)) (range_with_len count n)
 device_list-more device table count n =
-    ap (λ positions. replicate device.ring_frames (silence device.settings) ++ map (mix_at device table) positions) (range-split 0 count n ∙ ap (λ a. range_with_len 0 count ++ range_with_len a n) (zero-add count))
-    ∙ ap (λ mixed. replicate device.ring_frames (silence device.settings) ++ mixed) (map-append (mix_at device table) (range_with_len 0 count) (range_with_len count n))
-    ∙ sym (append_assoc (replicate device.ring_frames (silence device.settings)) (map (mix_at device table) (range_with_len 0 count)) (map (mix_at device table) (range_with_len count n)))
+    ap (λ positions. replicate (ring_frames device) (silence_in (mix_settings device)) ++ map (device_frame device (mix_at device table)) positions) (range-add 0 count n ∙ ap (λ a. range_with_len 0 count ++ range_with_len a n) (zero-add count))
+    ∙ ap (λ mixed. replicate (ring_frames device) (silence_in (mix_settings device)) ++ mixed) (map-append (device_frame device (mix_at device table)) (range_with_len 0 count) (range_with_len count n))
+    ∙ sym (append_assoc (replicate (ring_frames device) (silence_in (mix_settings device))) (map (device_frame device (mix_at device table)) (range_with_len 0 count)) (map (device_frame device (mix_at device table)) (range_with_len count n)))
 
-length-silence : (settings : Settings) → length (silence settings) ≡ channels_of settings.layout
+length-silence : (settings : Settings) → length (silence_in settings) ≡ channels_of settings.layout
 length-silence settings = length-replicate (channels_of settings.layout) (pos 0)
 
 -- frame k of a stream has the stream's channels
-pub length-frame_in : (settings : Settings) (bytes : List ℕ) (k : ℕ) → length (frame_in settings (frames settings bytes) k) ≡ channels_of settings.layout
-length-frame_in settings bytes k =
+pub length-stream_of : (settings : Settings) (bytes : List ℕ) (k : ℕ) → length (stream_of (channels_of settings.layout) (frames settings bytes) (pos k)) ≡ channels_of settings.layout
+length-stream_of settings bytes k =
     elim (cases_lt k (whole_frames settings (length bytes))) [
-      | inl here ↦ ap length (get_or-frames settings bytes k (silence settings) here) ∙ length-frame_at settings bytes k
-      | inr past ↦ ap length (get_or_past (frames settings bytes) k (silence settings) (omega (arith, length-frames settings bytes))) ∙ length-silence settings
+      | inl here ↦ ap length (get_or-frames settings bytes k (silence_in settings) here) ∙ length-frame_at settings bytes k
+      | inr past ↦ ap length (get_or_past (frames settings bytes) k (silence_in settings) (omega (arith, length-frames settings bytes))) ∙ length-silence settings
     ]
 
--- a frame has the device's channels
-abbrev pub IsDeviceFrame : Device → Frame → Type 0
-IsDeviceFrame device frame = length frame ≡ channels_of device.settings.layout
+-- what a client's frames give has its channels
+pub length-given_frame : (device : DeviceSeen) (settings : Settings) (bytes : List ℕ) (k : ℕ) (gain : Gain) → length (given_frame device settings (frames settings bytes) k gain) ≡ channels_of settings.layout
+length-given_frame device settings bytes k gain =
+    length-map (stream_of (channels_of settings.layout) (frames settings bytes) (pos k)) (at_depth (bits_of (mix_settings device).format)) ∙ length-stream_of settings bytes k
 
-given_by-frame : (device : Device) (run : Run) (position : ℕ) (found : Option Piece) → run.settings ≡ device.settings → IfSome (given_by device.settings run position found) (IsDeviceFrame device)
-given_by-frame device run position None e = tt
-given_by-frame device run position (Some piece) e =
-    length-map (frame_in run.settings (stream_of run) (piece.index + (position - piece.position))) (at_depth (bits_of device.settings.format))
-    ∙ length-frame_in run.settings run.bytes (piece.index + (position - piece.position))
-    ∙ ap (λ (s : Settings). channels_of s.layout) e
+-- a frame has the device's channels
+abbrev pub IsDeviceFrame : DeviceSeen → Frame → Type 0
+IsDeviceFrame device frame = length frame ≡ channels_of (mix_settings device).layout
+
+piece_frame-frame : (device : DeviceSeen) (gain : Gain) (settings : Settings) (bytes : List ℕ) (position : ℕ) (found : Option Piece) → settings ≡ mix_settings device
+    → IfSome (piece_frame device gain settings (frames settings bytes) position found) (IsDeviceFrame device)
+piece_frame-frame device gain settings bytes position None e = tt
+piece_frame-frame device gain settings bytes position (Some piece) e =
+    length-given_frame device settings bytes (piece.index + (position - piece.position)) gain ∙ ap (λ (s : Settings). channels_of s.layout) e
 
 first_of-either : (P : Frame → Type 0) (a b : Option Frame) → IfSome a P → IfSome b P → IfSome (first_of a b) P
 first_of-either P None b p q = q
 first_of-either P (Some frame) b p q = p
 
 -- what a slot gives is a frame of the device
-pub sounding-frame : (device : Device) (runs : List Run) (position : ℕ) → All (λ (run : Run). run.settings ≡ device.settings) runs → IfSome (sounding device.settings runs position) (IsDeviceFrame device)
-sounding-frame device [] position own = tt
-sounding-frame device (run ∷ runs) position own =
-    first_of-either (IsDeviceFrame device) (given_by device.settings run position (find (covers position) run.pieces)) (sounding device.settings runs position)
-    (given_by-frame device run position (find (covers position) run.pieces) (All-head (λ (r : Run). r.settings ≡ device.settings) run runs own))
-    (sounding-frame device runs position (All-tail (λ (r : Run). r.settings ≡ device.settings) run runs own))
+pub sounding-frame : (device : DeviceSeen) (gain : Gain) (runs : List Run) (position : ℕ) → All (λ (run : Run). run.settings ≡ mix_settings device) runs → IfSome (sounding device gain runs position) (IsDeviceFrame device)
+sounding-frame device gain [] position own = tt
+sounding-frame device gain (run ∷ runs) position own =
+    first_of-either (IsDeviceFrame device) (piece_frame device gain run.settings (run_frames run) position (find (covers position) run.pieces)) (sounding device gain runs position)
+    (piece_frame-frame device gain run.settings run.bytes position (find (covers position) run.pieces) (All-head (λ (r : Run). r.settings ≡ mix_settings device) run runs own))
+    (sounding-frame device gain runs position (All-tail (λ (r : Run). r.settings ≡ mix_settings device) run runs own))
 
-adding-frame : (device : Device) (bits : ℕ) (sum : Frame) (given : Option Frame) → IsDeviceFrame device sum → IfSome given (IsDeviceFrame device) → IsDeviceFrame device (adding bits sum given)
+adding-frame : (device : DeviceSeen) (bits : ℕ) (sum : Frame) (given : Option Frame) → IsDeviceFrame device sum → IfSome given (IsDeviceFrame device) → IsDeviceFrame device (adding bits sum given)
 adding-frame device bits sum None s g = s
 adding-frame device bits sum (Some frame) s g = length-mixed bits sum frame (s ∙ sym g) ∙ s
 
-fold-frame : (device : Device) (bits : ℕ) (table : Table) (position : ℕ) (sum : Frame) (slots : List ℕ) → IsDeviceFrame device sum → ((slot : ℕ) → IfSome (table slot position) (IsDeviceFrame device))
+fold-frame : (device : DeviceSeen) (bits : ℕ) (table : Table) (position : ℕ) (sum : Frame) (slots : List ℕ) → IsDeviceFrame device sum → ((slot : ℕ) → IfSome (table slot position) (IsDeviceFrame device))
     → IsDeviceFrame device (fold (λ s slot. adding bits s (table slot position)) sum slots)
 fold-frame device bits table position sum [] s g = s
 fold-frame device bits table position sum (slot ∷ slots) s g = fold-frame device bits table position (adding bits sum (table slot position)) slots (adding-frame device bits sum (table slot position) s (g slot)) g
 
 -- the mix of some slots is a frame of the device
-pub mix_of-frame : (device : Device) (bits : ℕ) (table : Table) (slots position : ℕ) → ((slot : ℕ) → IfSome (table slot position) (IsDeviceFrame device)) → IsDeviceFrame device (mix_of bits (silence device.settings) table slots position)
-mix_of-frame device bits table slots position g = fold-frame device bits table position (silence device.settings) (range_with_len 0 slots) (length-silence device.settings) g
+pub mix_of-frame : (device : DeviceSeen) (bits : ℕ) (table : Table) (slots position : ℕ) → ((slot : ℕ) → IfSome (table slot position) (IsDeviceFrame device)) → IsDeviceFrame device (mix_of bits (silence_in (mix_settings device)) table slots position)
+mix_of-frame device bits table slots position g = fold-frame device bits table position (silence_in (mix_settings device)) (range_with_len 0 slots) (length-silence (mix_settings device)) g
 
-pub device_list-frames : (device : Device) (table : Table) (count : ℕ) → ((slot position : ℕ) → IfSome (table slot position) (IsDeviceFrame device)) → All (IsDeviceFrame device) (device_list device table count)
+pub device_list-frames : (device : DeviceSeen) (table : Table) (count : ℕ) → ((slot position : ℕ) → IfSome (table slot position) (IsDeviceFrame device)) → All (IsDeviceFrame device) (device_list device table count)
 device_list-frames device table count g =
-    All-append (IsDeviceFrame device) (replicate device.ring_frames (silence device.settings)) (map (mix_at device table) (range_with_len 0 count))
-    (All-replicate (IsDeviceFrame device) device.ring_frames (silence device.settings) (length-silence device.settings))
-    (All-map (IsDeviceFrame device) (mix_at device table) (range_with_len 0 count)
-    (λ k d l. mix_of-frame device (bits_of device.settings.format) table device.play_slots (get_or (range_with_len 0 count) k d) (λ slot. g slot (get_or (range_with_len 0 count) k d))))
+    All-append (IsDeviceFrame device) (replicate (ring_frames device) (silence_in (mix_settings device))) (map (device_frame device (mix_at device table)) (range_with_len 0 count))
+    (All-replicate (IsDeviceFrame device) (ring_frames device) (silence_in (mix_settings device)) (length-silence (mix_settings device)))
+    (All-map (IsDeviceFrame device) (device_frame device (mix_at device table)) (range_with_len 0 count)
+    (λ k d l. mix_of-frame device (bits_of (mix_settings device).format) table (play_slots device) (get_or (range_with_len 0 count) k d) (λ slot. g slot (get_or (range_with_len 0 count) k d))))
 
-length-spelled_frame : (device : Device) (frame : Frame) → IsDeviceFrame device frame → length (spelled_frame device.settings.format frame) ≡ frame_bytes device.settings
-length-spelled_frame device frame h = length-flat_map-spelled device.settings.format frame ∙ ap (λ n. n * bytes_of device.settings.format) h
+length-spelled_frame : (device : DeviceSeen) (frame : Frame) → IsDeviceFrame device frame → length (spelled_frame (mix_settings device).format frame) ≡ device_frame_bytes device
+length-spelled_frame device frame h = length-flat_map-spelled (mix_settings device).format frame ∙ ap (λ n. n * bytes_of (mix_settings device).format) h
 
 -- the bytes of the device's frames
-pub length-spelled_frames : (device : Device) (list : List Frame) → All (IsDeviceFrame device) list → length (spelled_frames device.settings.format list) ≡ length list * frame_bytes device.settings
+pub length-spelled_frames : (device : DeviceSeen) (list : List Frame) → All (IsDeviceFrame device) list → length (spelled_frames (mix_settings device).format list) ≡ length list * device_frame_bytes device
 length-spelled_frames device [] v = omega arith
 length-spelled_frames device (frame ∷ list) v =
     let here = length-spelled_frame device frame (All-head (IsDeviceFrame device) frame list v) in
     let rest = length-spelled_frames device list (All-tail (IsDeviceFrame device) frame list v) in
-    omega (arith, length-append (spelled_frame device.settings.format frame) (spelled_frames device.settings.format list))
+    omega (arith, length-append (spelled_frame (mix_settings device).format frame) (spelled_frames (mix_settings device).format list))
 
 -- the first frames are the first bytes
-pub spelled_frames-take : (device : Device) (n : ℕ) (list : List Frame) → All (IsDeviceFrame device) list → spelled_frames device.settings.format (take n list) ≡ take (n * frame_bytes device.settings) (spelled_frames device.settings.format list)
-spelled_frames-take device zero list v = let none : 0 * frame_bytes device.settings ≡ 0 = omega arith in rw none refl
-spelled_frames-take device (suc n) [] v = sym (take_all (suc n * frame_bytes device.settings) [] (omega arith))
+pub spelled_frames-take : (device : DeviceSeen) (n : ℕ) (list : List Frame) → All (IsDeviceFrame device) list → spelled_frames (mix_settings device).format (take n list) ≡ take (n * device_frame_bytes device) (spelled_frames (mix_settings device).format list)
+spelled_frames-take device zero list v = let none : 0 * device_frame_bytes device ≡ 0 = omega arith in rw none refl
+spelled_frames-take device (suc n) [] v = sym (take_all (suc n * device_frame_bytes device) [] (omega arith))
 spelled_frames-take device (suc n) (frame ∷ list) v =
-    let first : List ℕ = spelled_frame device.settings.format frame in
-    let rest : List ℕ = spelled_frames device.settings.format list in
+    let first : List ℕ = spelled_frame (mix_settings device).format frame in
+    let rest : List ℕ = spelled_frames (mix_settings device).format list in
     let size = length-spelled_frame device frame (All-head (IsDeviceFrame device) frame list v) in
-    let count : suc n * frame_bytes device.settings ≡ length first + n * frame_bytes device.settings = omega arith in
+    let count : suc n * device_frame_bytes device ≡ length first + n * device_frame_bytes device = omega arith in
     ap (λ bytes. first ++ bytes) (spelled_frames-take device n list (All-tail (IsDeviceFrame device) frame list v))
-    ∙ sym (take-append-add first rest (n * frame_bytes device.settings))
+    ∙ sym (take-append-add first rest (n * device_frame_bytes device))
     ∙ ap (λ bytes. take bytes (first ++ rest)) (sym count)
 
 spelled_frames-map : (format : Format) (f : ℕ → Frame) (positions : List ℕ) → spelled_frames format (map f positions) ≡ flat_map (spelled format) (flat_map f positions)
@@ -144,43 +151,43 @@ spelled_frames-map format f (position ∷ positions) =
     ap (λ bytes. flat_map (spelled format) (f position) ++ bytes) (spelled_frames-map format f positions)
     ∙ sym (flat_map-append (spelled format) (f position) (flat_map f positions))
 
-table-frames : (device : Device) (story : Story) → StoryIsValid device story → (slot position : ℕ) → IfSome (table_of device story slot position) (IsDeviceFrame device)
-table-frames device story v slot position = sounding-frame device (story.runs slot) position (v.slots slot).own
+table-frames : (device : DeviceSeen) (story : Story) → StoryIsValid device story → (slot position : ℕ) → IfSome (table_of device story slot position) (IsDeviceFrame device)
+table-frames device story v slot position = sounding-frame device (last_gain (story.gains slot) position) (story.runs slot) position (v.slots slot).own
 
 -- how long they are
-pub length-device_bytes : (device : Device) (story : Story) → StoryIsValid device story → length (device_bytes device story) ≡ (device.ring_frames + story.desk.mixed) * frame_bytes device.settings
+pub length-device_bytes : (device : DeviceSeen) (story : Story) → StoryIsValid device story → length (device_bytes device story) ≡ ((ring_frames device) + story.desk.handed) * device_frame_bytes device
 length-device_bytes device story v =
-    length-spelled_frames device (device_list device (table_of device story) story.desk.mixed) (device_list-frames device (table_of device story) story.desk.mixed (table-frames device story v))
-    ∙ ap (λ n. n * frame_bytes device.settings) (length-append (replicate device.ring_frames (silence device.settings)) (map (mix_at device (table_of device story)) (range_with_len 0 story.desk.mixed))
-    ∙ (let ring = length-replicate device.ring_frames (silence device.settings) in
-    let mixed : length (map (mix_at device (table_of device story)) (range_with_len 0 story.desk.mixed)) ≡ story.desk.mixed = length-map (range_with_len 0 story.desk.mixed) (mix_at device (table_of device story)) ∙ length-range_with_len 0 story.desk.mixed in
+    length-spelled_frames device (device_list device (table_of device story) story.desk.handed) (device_list-frames device (table_of device story) story.desk.handed (table-frames device story v))
+    ∙ ap (λ n. n * device_frame_bytes device) (length-append (replicate (ring_frames device) (silence_in (mix_settings device))) (map (device_frame device (mix_at device (table_of device story))) (range_with_len 0 story.desk.handed))
+    ∙ (let ring = length-replicate (ring_frames device) (silence_in (mix_settings device)) in
+    let mixed_length : length (map (device_frame device (mix_at device (table_of device story))) (range_with_len 0 story.desk.handed)) ≡ story.desk.handed = length-map (range_with_len 0 story.desk.handed) (device_frame device (mix_at device (table_of device story))) ∙ length-range_with_len 0 story.desk.handed in
     omega arith))
 
 -- what was handed over is the front of them
-pub device_body-bytes : (device : Device) (story : Story) → StoryIsValid device story → device_body device story ≡ take (story.desk.handed * frame_bytes device.settings) (device_bytes device story)
+pub device_body-bytes : (device : DeviceSeen) (story : Story) → StoryIsValid device story → device_body device story ≡ take (story.desk.handed * device_frame_bytes device) (device_bytes device story)
 device_body-bytes device story v =
-    spelled_frames-take device story.desk.handed (device_list device (table_of device story) story.desk.mixed) (device_list-frames device (table_of device story) story.desk.mixed (table-frames device story v))
+    spelled_frames-take device story.desk.handed (device_list device (table_of device story) story.desk.handed) (device_list-frames device (table_of device story) story.desk.handed (table-frames device story v))
 
 -- the new frames of an interrupt, joined
-abbrev pub new_block : Device → List ℕ → Story → ℕ → List ℤ
-new_block device inline story n = flat_map (mix_at device (table_of device (told device inline story (Intr n)))) (range_with_len story.desk.mixed n)
+abbrev pub new_block : DeviceSeen → Pool → Story → ℕ → List ℤ
+new_block device pool story n = flat_map (device_frame device (mix_at device (table_of device (told device pool story (Intr n))))) (range_with_len story.desk.handed n)
 
 -- an interrupt mixes its frames behind those that were mixed before
-pub device_bytes-interrupt : (device : Device) (inline : List ℕ) (story : Story) (n : ℕ) → StoryIsValid device story
-    → device_bytes device (told device inline story (Intr n)) ≡ device_bytes device story ++ flat_map (spelled device.settings.format) (new_block device inline story n)
-device_bytes-interrupt device inline story n v =
-    let new : Story = told device inline story (Intr n) in
-    ap (spelled_frames device.settings.format)
-    (device_list-more device (table_of device new) story.desk.mixed n
-    ∙ ap (λ list. list ++ map (mix_at device (table_of device new)) (range_with_len story.desk.mixed n))
-    (device_list-same device (table_of device new) (table_of device story) story.desk.mixed (λ slot position l. table_of-told device inline story (Intr n) slot position v l)))
-    ∙ flat_map-append (spelled_frame device.settings.format) (device_list device (table_of device story) story.desk.mixed) (map (mix_at device (table_of device new)) (range_with_len story.desk.mixed n))
-    ∙ ap (λ bytes. device_bytes device story ++ bytes) (spelled_frames-map device.settings.format (mix_at device (table_of device new)) (range_with_len story.desk.mixed n))
+pub device_bytes-interrupt : (device : DeviceSeen) (pool : Pool) (story : Story) (n : ℕ) → StoryIsValid device story
+    → device_bytes device (told device pool story (Intr n)) ≡ device_bytes device story ++ flat_map (spelled (mix_settings device).format) (new_block device pool story n)
+device_bytes-interrupt device pool story n v =
+    let new : Story = told device pool story (Intr n) in
+    ap (spelled_frames (mix_settings device).format)
+    (device_list-more device (table_of device new) story.desk.handed n
+    ∙ ap (λ list. list ++ map (device_frame device (mix_at device (table_of device new))) (range_with_len story.desk.handed n))
+    (device_list-same device (table_of device new) (table_of device story) story.desk.handed (λ slot position l. table_of-told device pool story (Intr n) slot position v (let even = v.mixed in omega arith))))
+    ∙ flat_map-append (spelled_frame (mix_settings device).format) (device_list device (table_of device story) story.desk.handed) (map (device_frame device (mix_at device (table_of device new))) (range_with_len story.desk.handed n))
+    ∙ ap (λ bytes. device_bytes device story ++ bytes) (spelled_frames-map (mix_settings device).format (device_frame device (mix_at device (table_of device new))) (range_with_len story.desk.handed n))
 
 -- every other event leaves them
-pub device_bytes-same : (device : Device) (inline : List ℕ) (story : Story) (event : Event) → StoryIsValid device story → (told device inline story event).desk.mixed ≡ story.desk.mixed
-    → device_bytes device (told device inline story event) ≡ device_bytes device story
-device_bytes-same device inline story event v e =
-    let new : Story = told device inline story event in
-    ap (λ count. spelled_frames device.settings.format (device_list device (table_of device new) count)) e
-    ∙ ap (spelled_frames device.settings.format) (device_list-same device (table_of device new) (table_of device story) story.desk.mixed (λ slot position l. table_of-told device inline story event slot position v l))
+pub device_bytes-same : (device : DeviceSeen) (pool : Pool) (story : Story) (event : Event) → StoryIsValid device story → (told device pool story event).desk.handed ≡ story.desk.handed
+    → device_bytes device (told device pool story event) ≡ device_bytes device story
+device_bytes-same device pool story event v e =
+    let new : Story = told device pool story event in
+    ap (λ count. spelled_frames (mix_settings device).format (device_list device (table_of device new) count)) e
+    ∙ ap (spelled_frames (mix_settings device).format) (device_list-same device (table_of device new) (table_of device story) story.desk.handed (λ slot position l. table_of-told device pool story event slot position v (let even = v.mixed in omega arith)))

@@ -1,6 +1,5 @@
 pub mod Sounding
 pub mod Slots
-pub mod Safe
 pub mod Stories
 pub mod Blocks
 pub mod DeviceLists

@@ -1,30 +1,42 @@
--- What the device gets: the silence of its ring, then the mix of each position, spelled.
+-- What the device gets: the silence of its ring, then what stands for the mix, spelled.
 use Rattle.std.specs.Prelude.{ℕ, List, ◌++◌, map, replicate, take}
 use Rattle.std.specs.List.{range_with_len, flat_map}
 use Rattle.pcm_format.specs.declared.format.Format.{Format}
+use Rattle.pcm_format.specs.declared.settings.Settings.{Settings}
 use Rattle.pcm_format.specs.declared.event.Event.{Event}
+use Rattle.pcm_format.specs.declared.pool.Pool.{Pool}
 use Rattle.pcm_format.specs.Formats.{bits_of}
+use Rattle.pcm_format.specs.Layouts.{channels_of}
 use Rattle.pcm_format.specs.Samples.{spelled}
 use Rattle.pcm_format.specs.Frames.{Frame}
-use Rattle.pcm_desk.specs.declared.device.Device.{Device}
-use Rattle.pcm_sound.specs.Plans.{silence}
+use Rattle.pcm_feeder.specs.Streams.{silence}
+use Rattle.pcm_desk.specs.Device.{DeviceSeen, device_settings, mix_settings, play_slots, ring_frames}
+use Rattle.pcm_sound.specs.Gains.{last_gain}
 use Rattle.pcm_sound.specs.Runs.{sounding}
 use Rattle.pcm_sound.specs.Story.{Story, story_of}
 use Rattle.pcm_sound.specs.Mix.{Table, mix_of}
 
 -- what the runs of a story give
-abbrev pub table_of : Device → Story → Table
-table_of device story slot position = sounding device.settings (story.runs slot) position
+abbrev pub table_of : DeviceSeen → Story → Table
+table_of device story slot position = sounding device (last_gain (story.gains slot) position) (story.runs slot) position
+
+-- a frame of silence in these settings
+abbrev pub silence_in : Settings → Frame
+silence_in settings = silence (channels_of settings.layout)
 
 -- the mix of a table at a position
-abbrev pub mix_at : Device → Table → ℕ → Frame
+abbrev pub mix_at : DeviceSeen → Table → ℕ → Frame
 mix_at device table position =
-    mix_of (bits_of device.settings.format) (silence device.settings) table device.play_slots position
+    mix_of (bits_of (mix_settings device).format) (silence_in (mix_settings device)) table (play_slots device) position
 
--- the frames of the device, of which so many are mixed: its ring begins as silence
-abbrev pub device_list : Device → Table → ℕ → List Frame
-device_list device table mixed =
-    replicate device.ring_frames (silence device.settings) ++ map (mix_at device table) (range_with_len 0 mixed)
+-- frame k behind the ring's silence: the mix at its place, since the settings of both are the same
+abbrev pub device_frame : DeviceSeen → (ℕ → Frame) → ℕ → Frame
+device_frame device mix k = mix k
+
+-- the frames of the device once so many were handed over: its ring begins as silence
+abbrev pub device_list : DeviceSeen → Table → ℕ → List Frame
+device_list device table handed =
+    replicate (ring_frames device) (silence_in (device_settings device)) ++ map (device_frame device (mix_at device table)) (range_with_len 0 handed)
 
 -- the bytes of a frame
 abbrev pub spelled_frame : Format → Frame → List ℕ
@@ -35,14 +47,14 @@ abbrev pub spelled_frames : Format → List Frame → List ℕ
 spelled_frames format frames = flat_map (spelled_frame format) frames
 
 -- the bytes of all frames of the device, handed over or still in its ring
-abbrev pub device_bytes : Device → Story → List ℕ
-device_bytes device story = spelled_frames device.settings.format (device_list device (table_of device story) story.desk.mixed)
+abbrev pub device_bytes : DeviceSeen → Story → List ℕ
+device_bytes device story = spelled_frames (device_settings device).format (device_list device (table_of device story) story.desk.handed)
 
 -- the bytes of the frames that the interrupts of a story handed over
-abbrev pub device_body : Device → Story → List ℕ
+abbrev pub device_body : DeviceSeen → Story → List ℕ
 device_body device story =
-    spelled_frames device.settings.format (take story.desk.handed (device_list device (table_of device story) story.desk.mixed))
+    spelled_frames (device_settings device).format (take story.desk.handed (device_list device (table_of device story) story.desk.handed))
 
 -- the device's whole text
-abbrev pub device_text : Device → List ℕ → List Event → List ℕ
-device_text device inline events = device_body device (story_of device inline events)
+abbrev pub device_text : DeviceSeen → Pool → List Event → List ℕ
+device_text device pool events = device_body device (story_of device pool events)

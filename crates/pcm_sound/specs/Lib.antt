@@ -1,6 +1,8 @@
 pub mod Plans
+pub mod Gains
 pub mod Runs
 pub mod Story
+pub mod Replies
 pub mod Mix
 pub mod DeviceList
 pub mod Blocks

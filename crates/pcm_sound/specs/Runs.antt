@@ -1,14 +1,19 @@
 -- A run is what a client wrote from an empty ring to the end of its drain, and where its frames were mixed.
-use Rattle.std.specs.Prelude.{ℕ, ◌+◌, ◌-◌, Bool, true, false, ◌&&◌, nat_lt, nat_le, ◌==◌, if◌then◌else◌, List, [], ◌∷◌, ◌++◌, take, drop, Option, Some, None, find}
+use Rattle.std.specs.Prelude.{ℕ, ◌+◌, ◌-◌, Bool, false, not, ◌&&◌, ◌||◌, nat_lt, nat_le, ◌==◌, if◌then◌else◌, List, [], ◌∷◌, ◌++◌, Option, Some, None, find}
 use Rattle.pcm_format.specs.declared.settings.Settings.{Settings}
 use Rattle.pcm_format.specs.declared.event.Event.{Event}
 use Rattle.pcm_format.specs.declared.event.Event.TheVariants.{Open, Write, Close, Intr}
+use Rattle.pcm_format.specs.declared.pool.Pool.{Pool}
 use Rattle.pcm_format.specs.Frames.{Frame, frames}
+use Rattle.pcm_format.specs.Pools.{bytes_at}
+use Rattle.pcm_feeder.specs.declared.stage.Gain.{Gain}
 use Rattle.pcm_desk.specs.declared.book.Book.{Book}
 use Rattle.pcm_desk.specs.declared.book.State.{State}
 use Rattle.pcm_desk.specs.declared.book.State.TheVariants.{Free, Setup, Primed, Running, Draining}
-use Rattle.pcm_desk.specs.Books.{giving}
-use Rattle.pcm_sound.specs.Plans.{unity, given_frame}
+use Rattle.pcm_desk.specs.Device.{DeviceSeen}
+use Rattle.pcm_desk.specs.Books.{giving, is_draining, is_started}
+use Rattle.pcm_desk.specs.Desk.{Desk, mixed_by, rate_at}
+use Rattle.pcm_sound.specs.Plans.{given_frame}
 
 -- what one interrupt took of a run: `count` frames from `index` on, mixed from `position` on, and how many were missing
 pub record Piece : Type 0 where
@@ -21,57 +26,89 @@ pub record Run : Type 0 where
   pub settings : Settings
   -- all bytes accepted, however the writes cut them
   pub bytes : List ℕ
+  -- how many frames were mixed when it started
+  pub start : Option ℕ
+  -- whether no more was to come
+  pub drained : Bool
+  -- how many frames were mixed when it was dropped
+  pub dropped : Option ℕ
   -- the newest first
   pub pieces : List Piece
 
--- so many bytes of a list, from a place on
-abbrev pub part : List ℕ → ℕ → ℕ → List ℕ
-part bytes at length = take length (drop at bytes)
+-- a run of a book that begins with these bytes
+abbrev pub begun_run : Book → List ℕ → Run
+begun_run book bytes = record { settings = book.settings; bytes = bytes; start = None; drained = false; dropped = None; pieces = [] }
 
 -- Bytes go to the newest run of a slot. They begin a new one where nothing was written since the last drain.
 abbrev pub taking : List ℕ → Book → List Run → List Run
 taking [] book runs = runs
-taking (byte ∷ bytes) book [] = record { settings = book.settings; bytes = byte ∷ bytes; pieces = [] } ∷ []
+taking (byte ∷ bytes) book [] = begun_run book (byte ∷ bytes) ∷ []
 taking (byte ∷ bytes) book (run ∷ runs) =
-    if book.written == 0 then record { settings = book.settings; bytes = byte ∷ bytes; pieces = [] } ∷ run ∷ runs
+    if book.written == 0 then begun_run book (byte ∷ bytes) ∷ run ∷ runs
     else record run { bytes = run.bytes ++ byte ∷ bytes } ∷ runs
 
 -- the frames that an interrupt wanted of a started run and didn't get; a drain is never short
-abbrev pub missing_in : State → ℕ → Book → ℕ
-missing_in Free n book = 0
-missing_in Setup n book = 0
-missing_in Primed n book = 0
-missing_in Running n book = n - giving n book
-missing_in (Draining closed) n book = 0
+abbrev pub missing_in : DeviceSeen → State → ℕ → Book → ℕ
+missing_in device Free n book = 0
+missing_in device Setup n book = 0
+missing_in device Primed n book = 0
+missing_in device Running n book = n - giving (rate_at device book) n book
+missing_in device (Draining closed) n book = 0
 
-abbrev pub is_started : State → Bool
-is_started Free = false
-is_started Setup = false
-is_started Primed = false
-is_started Running = true
-is_started (Draining closed) = true
-
--- the piece of an interrupt of n frames
-abbrev pub piece_of : ℕ → ℕ → Book → Piece
-piece_of position n book = record {
+-- the piece of an interrupt that mixes n frames
+abbrev pub piece_of : DeviceSeen → ℕ → ℕ → Book → Piece
+piece_of device position n book = record {
   position = position;
   index = book.given;
-  count = giving n book;
-  short = missing_in book.state n book;
+  count = giving (rate_at device book) n book;
+  short = missing_in device book.state n book;
 }
 
--- an interrupt takes a piece of the newest run of a slot that has started
-abbrev pub playing : ℕ → ℕ → Book → List Run → List Run
-playing position n book [] = []
-playing position n book (run ∷ runs) =
-    if is_started book.state then record run { pieces = piece_of position n book ∷ run.pieces } ∷ runs else run ∷ runs
+-- An interrupt takes a piece of the newest run of a slot that has started. Where nothing is mixed there is no piece.
+abbrev pub playing : DeviceSeen → ℕ → ℕ → Book → List Run → List Run
+playing device position n book [] = []
+playing device position n book (run ∷ runs) =
+    if is_started book.state && nat_lt 0 n then record run { pieces = piece_of device position n book ∷ run.pieces } ∷ runs
+    else run ∷ runs
 
--- The runs of a slot after an event, from its book before and after: what was written is what the book grew by.
-abbrev pub runs_after : List ℕ → Event → ℕ → Book → Book → List Run → List Run
-runs_after inline (Open fd way settings) position old new runs = runs
-runs_after inline (Write fd at length) position old new runs = taking (part inline at (new.written - old.written)) old runs
-runs_after inline (Close fd) position old new runs = runs
-runs_after inline (Intr n) position old new runs = playing position n old runs
+-- a slot that hadn't started has
+abbrev pub starts : Book → Book → Bool
+starts old new = not (is_started old.state) && is_started new.state
+
+-- a slot that had started has not
+abbrev pub ends : Book → Book → Bool
+ends old new = is_started old.state && not (is_started new.state)
+
+-- whether an event drops what it ends; so far a run ends by its drain alone
+abbrev pub drops : Event → Bool
+drops (Open fd way settings) = false
+drops (Write fd at count) = false
+drops (Close fd) = false
+drops (Intr n) = false
+
+-- what an event tells of a run: where it starts, whether no more comes, and where it is dropped
+abbrev pub marked : ℕ → Event → Book → Book → Run → Run
+marked position event old new run = record run {
+  start = if starts old new then Some position else run.start;
+  drained = run.drained || is_draining new.state || ends old new && not (drops event);
+  dropped = if ends old new && drops event then Some position else run.dropped;
+}
+
+-- what an event tells of the runs of a slot is told of the newest
+abbrev pub marking : ℕ → Event → Book → Book → List Run → List Run
+marking position event old new [] = []
+marking position event old new (run ∷ runs) = marked position event old new run ∷ runs
+
+-- The bytes and the pieces of a slot's runs after an event: what was written is what the book grew by.
+abbrev pub carrying : DeviceSeen → Pool → Desk → Event → Book → Book → List Run → List Run
+carrying device pool desk (Open fd way settings) old new runs = runs
+carrying device pool desk (Write fd at count) old new runs = taking (bytes_at pool at (new.written - old.written)) old runs
+carrying device pool desk (Close fd) old new runs = runs
+carrying device pool desk (Intr n) old new runs = playing device desk.mixed (mixed_by device desk n) old runs
+
+-- the runs of a slot after an event at a desk, from its book before and after
+abbrev pub runs_after : DeviceSeen → Pool → Desk → Event → Book → Book → List Run → List Run
+runs_after device pool desk event old new runs = marking desk.mixed event old new (carrying device pool desk event old new runs)
 
 -- the bytes of the newest run of a slot
 abbrev pub newest_bytes : List Run → List ℕ
@@ -82,23 +119,23 @@ newest_bytes (run ∷ runs) = run.bytes
 abbrev pub covers : ℕ → Piece → Bool
 covers position piece = nat_le piece.position position && nat_lt position (piece.position + piece.count)
 
--- the stream of a run: every whole frame accepted
-abbrev pub stream_of : Run → List Frame
-stream_of run = frames run.settings run.bytes
+-- every whole frame that a run accepted
+abbrev pub run_frames : Run → List Frame
+run_frames run = frames run.settings run.bytes
 
--- what a run gives at a position of one of its pieces
-abbrev pub given_by : Settings → Run → ℕ → Option Piece → Option Frame
-given_by target run position None = None
-given_by target run position (Some piece) =
-    Some (given_frame (record { source = run.settings; target = target }) (stream_of run) (piece.index + (position - piece.position)) unity)
+-- what the frames of a run in these settings give at a position of one of its pieces
+abbrev pub piece_frame : DeviceSeen → Gain → Settings → List Frame → ℕ → Option Piece → Option Frame
+piece_frame device gain settings frames position None = None
+piece_frame device gain settings frames position (Some piece) =
+    Some (given_frame device settings frames (piece.index + (position - piece.position)) gain)
 
 -- the first that is there
 abbrev pub first_of : Option Frame → Option Frame → Option Frame
 first_of None other = other
 first_of (Some frame) other = Some frame
 
--- what the runs of a slot give at a position: a frame, or nothing
-abbrev pub sounding : Settings → List Run → ℕ → Option Frame
-sounding target [] position = None
-sounding target (run ∷ runs) position =
-    first_of (given_by target run position (find (covers position) run.pieces)) (sounding target runs position)
+-- what the runs of a slot give at a position, with the gain there: a frame, or nothing
+abbrev pub sounding : DeviceSeen → Gain → List Run → ℕ → Option Frame
+sounding device gain [] position = None
+sounding device gain (run ∷ runs) position =
+    first_of (piece_frame device gain run.settings (run_frames run) position (find (covers position) run.pieces)) (sounding device gain runs position)

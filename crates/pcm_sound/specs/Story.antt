@@ -1,33 +1,38 @@
--- What a list of events comes to: the desk, and the runs of each slot.
+-- What a list of events comes to: the desk, and for each slot its runs and its gains.
 use Rattle.std.specs.Prelude.{ℕ, List, [], ◌∷◌}
 use Rattle.pcm_format.specs.declared.event.Event.{Event}
-use Rattle.pcm_desk.specs.declared.device.Device.{Device}
+use Rattle.pcm_format.specs.declared.pool.Pool.{Pool}
+use Rattle.pcm_desk.specs.Device.{DeviceSeen}
 use Rattle.pcm_desk.specs.Desk.{Desk, desk_at_start, book_at, after}
+use Rattle.pcm_sound.specs.Gains.{GainSet, gains_after}
 use Rattle.pcm_sound.specs.Runs.{Run, runs_after}
 
 pub record Story : Type 0 where
   pub desk : Desk
   -- the runs of each slot, the newest first
   pub runs : ℕ → List Run
+  -- the gains that were set of each slot, the newest first
+  pub gains : ℕ → List GainSet
 
 -- before the first event
-abbrev pub story_at_start : Device → Story
-story_at_start device = record { desk = desk_at_start device; runs = λ slot. [] }
+abbrev pub story_at_start : DeviceSeen → Story
+story_at_start device = record { desk = desk_at_start device; runs = λ slot. []; gains = λ slot. [] }
 
--- one event more, whose writes name bytes of `inline`
-abbrev pub told : Device → List ℕ → Story → Event → Story
-told device inline story event =
+-- one event more, whose bytes are found in a pool
+abbrev pub told : DeviceSeen → Pool → Story → Event → Story
+told device pool story event =
     let new : Desk = (after device story.desk event).desk in
     record {
       desk = new;
-      runs = λ slot. runs_after inline event story.desk.mixed (book_at device story.desk slot) (book_at device new slot) (story.runs slot);
+      runs = λ slot. runs_after device pool story.desk event (book_at device story.desk slot) (book_at device new slot) (story.runs slot);
+      gains = λ slot. gains_after story.desk.mixed event (book_at device story.desk slot) (book_at device new slot) (story.gains slot);
     }
 
 -- a list of events
-abbrev pub told_all : Device → List ℕ → Story → List Event → Story
-told_all device inline story [] = story
-told_all device inline story (event ∷ events) = told_all device inline (told device inline story event) events
+abbrev pub told_all : DeviceSeen → Pool → Story → List Event → Story
+told_all device pool story [] = story
+told_all device pool story (event ∷ events) = told_all device pool (told device pool story event) events
 
 -- the story of a script
-abbrev pub story_of : Device → List ℕ → List Event → Story
-story_of device inline events = told_all device inline (story_at_start device) events
+abbrev pub story_of : DeviceSeen → Pool → List Event → Story
+story_of device pool events = told_all device pool (story_at_start device) events
