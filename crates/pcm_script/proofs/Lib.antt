@@ -1,5 +1,8 @@
 pub mod Cuts
 pub mod Numerals
 pub mod Counts
-pub mod Limits
+pub mod Judgements
+pub mod Asked
+pub mod SameSettings
+pub mod Kept
 pub mod Reading

@@ -14,6 +14,10 @@ Gives shown (Ok value) judged = judged ≡ Ok (shown value)
 Gives shown (Err (Refused kind)) judged = judged ≡ Err kind
 Gives shown (Err Memory) judged = Unit {0}
 
+-- what a line asks for, as it was judged
+abbrev pub Asks : {A : Type 0} → Result A LineFault → Result A ScriptKind → Type 0
+Asks answer judged = Gives (λ asked. asked) answer judged
+
 -- The script that a text is, or its refusal. Where memory ran out, nothing is said of the text.
 abbrev pub Reads : Result Script ScriptFault → Result Script Refusal → Type 0
 Reads (Ok script) read = read ≡ Ok script

@@ -1,36 +1,53 @@
--- A script's text, line by line: the events, or the first line that is refused.
-use Rattle.std.specs.Prelude.{ℕ, ◌+◌, nat_lt, if◌then◌else◌, List, [], ◌∷◌, length, Result, Ok, Err}
-use Rattle.pcm_desk.specs.declared.device.Device.{Device}
+-- A script's text: each line is judged by itself, and then all are collected, up to the first that is refused.
+use Rattle.std.specs.Prelude.{ℕ, ◌+◌, ◌*◌, nat_lt, if◌then◌else◌, List, [], ◌∷◌, length, map, Option, Result, Ok, Err, All}
+use Rattle.pcm_format.specs.declared.pool.Pool.{Pool}
+use Rattle.pcm_desk.specs.Device.{DeviceSeen, device_frame_bytes}
+use Rattle.pcm_desk.specs.Events.{Fits}
 use Rattle.pcm_script.specs.declared.fault.ScriptKind.{ScriptKind}
 use Rattle.pcm_script.specs.declared.fault.ScriptKind.TheVariants.{Long}
 use Rattle.pcm_script.specs.declared.fault.Refusal.{Refusal}
+use Rattle.pcm_script.specs.declared.limits.TheConstants.{TEXT_BYTES}
+use Rattle.pcm_script.specs.declared.line_event.LineEvent.{LineEvent}
 use Rattle.pcm_script.specs.declared.script.Script.{Script}
 use Rattle.pcm_script.specs.Steps.{◌>>=◌}
 use Rattle.pcm_script.specs.Words.{lines_of, words_of}
-use Rattle.pcm_script.specs.Commands.{line_onto}
-
--- how many bytes a text has at most
-abbrev pub text_limit : ℕ
-text_limit = 67108864
+use Rattle.pcm_script.specs.Commands.{line_event}
+use Rattle.pcm_script.specs.Collecting.{with_line}
 
 -- a script without events
 abbrev pub empty_script : Script
 empty_script = record { events = []; inline_bytes = []; device_frames = 0 }
+
+-- where the bytes of a script's events are found
+abbrev pub pool_of : Script → Pool
+pool_of script = record { inline_bytes = script.inline_bytes }
+
+-- each event fits the device, and names bytes that are there
+abbrev pub AllFit : DeviceSeen → Script → Type 0
+AllFit device script = All (Fits device (pool_of script)) script.events
+
+-- the bytes that the device takes
+abbrev pub bytes_taken : DeviceSeen → Script → ℕ
+bytes_taken device script = script.device_frames * device_frame_bytes device
+
+-- what the lines of a text ask for, each judged by itself
+abbrev pub lines_read : DeviceSeen → List (List ℕ) → List (Result (Option LineEvent) ScriptKind)
+lines_read device lines = map (λ line. line_event device (words_of line)) lines
 
 -- what a line is refused for, with its number
 abbrev pub at_line : ℕ → Result Script ScriptKind → Result Script Refusal
 at_line number (Ok script) = Ok script
 at_line number (Err kind) = Err (record { line = number; kind = kind })
 
--- the lines from a number on, each added to what the lines before it gave
-unfoldable pub lines_onto : Device → ℕ → Script → List (List ℕ) → Result Script Refusal
-lines_onto device number script [] = Ok script
-lines_onto device number script (line ∷ lines) = do
-  more ← at_line number (line_onto device script (words_of line))
-  lines_onto device (number + 1) more lines
+-- A script with the lines from a number on, collected one after another. The first that is refused is the answer.
+unfoldable pub collected : DeviceSeen → Script → ℕ → List (Result (Option LineEvent) ScriptKind) → Result Script Refusal
+collected device script number [] = Ok script
+collected device script number (line ∷ lines) = do
+  more ← at_line number (with_line device script line)
+  collected device more (number + 1) lines
 
 -- the script that a text is; too long a text is refused as line 0
-unfoldable pub script_read : Device → List ℕ → Result Script Refusal
+unfoldable pub script_read : DeviceSeen → List ℕ → Result Script Refusal
 script_read device text =
-    if nat_lt text_limit (length text) then Err (record { line = 0; kind = Long })
-    else lines_onto device 1 empty_script (lines_of text)
+    if nat_lt TEXT_BYTES (length text) then Err (record { line = 0; kind = Long })
+    else collected device empty_script 1 (lines_read device (lines_of text))

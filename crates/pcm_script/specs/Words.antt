@@ -1,5 +1,6 @@
 -- A text is lines, and a line is words.
-use Rattle.std.specs.Prelude.{ℕ, Bool, true, false, not, ◌==◌, ◌||◌, if◌then◌else◌, List, [], ◌∷◌, filter, take_while, reverse}
+use Rattle.std.specs.Prelude.{ℕ, Bool, true, false, not, ◌==◌, ◌||◌, if◌then◌else◌, List, [], ◌∷◌, map, filter, take_while, reverse}
+use Rattle.std.specs.Borrow.{Bor}
 use Rattle.std.specs.List.{slice_split}
 
 -- a text is cut at each line feed
@@ -27,6 +28,10 @@ is_word (byte ∷ bytes) = true
 abbrev pub begins_comment : List ℕ → Bool
 begins_comment [] = false
 begins_comment (byte ∷ bytes) = byte == 35
+
+-- words that are lent
+abbrev pub lent : List (Bor (List ℕ)) → List (List ℕ)
+lent words = map (λ word. word.now) words
 
 -- the words of a line, up to its comment
 abbrev pub words_of : List ℕ → List (List ℕ)

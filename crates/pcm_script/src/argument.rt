@@ -1,7 +1,6 @@
 //! The words that follow a command.
 
-ghost use Rattle.std.specs.Prelude.{◌≡◌, ◌≤◌, IfOk, vec_len};
-ghost use Rattle.pcm_desk.specs.Events.{write_limit};
+ghost use Rattle.std.specs.Prelude.{◌≡◌};
 ghost use Rattle.pcm_script.specs.Answers.{Gives};
 ghost use Rattle.pcm_script.specs.Commands.{bytes_in, descriptor_in, format_in, layout_in, plays_in, rate_in};
 
@@ -9,16 +8,15 @@ use crate::ScriptKind;
 use crate::fault::LineFault;
 use crate::number::{number_in, number_within};
 use hex::FromHexError;
-use pcm_format::{Format, Layout};
+use pcm_desk::{DESCRIPTORS, WRITE_BYTES};
+use pcm_format::{Format, Layout, RATE_LEAST, RATE_MOST};
 use std::alloc::Global;
-
-const WRITE_LIMIT: usize = 4096;
 
 // A descriptor.
 pub(crate) fn descriptor_in(word: &[u8]) -> Result<u8, ScriptKind>
     ensures { result ≡ descriptor_in word.now }
 {
-    Ok(number_within(0, 63, word)? as u8)
+    Ok(number_within(0, DESCRIPTORS as u32 - 1, word)? as u8)
 }
 
 // Whether sound goes to the device.
@@ -56,19 +54,18 @@ pub(crate) fn layout_in(word: &[u8]) -> Result<Layout, ScriptKind>
 pub(crate) fn rate_in(word: &[u8]) -> Result<u32, ScriptKind>
     ensures { result ≡ rate_in word.now }
 {
-    number_within(4000, 192000, word)
+    number_within(RATE_LEAST, RATE_MOST, word)
 }
 
 // The bytes of a write.
 pub(crate) fn bytes_in(alloc: Global, word: &[u8]) -> Result<Vec<u8>, LineFault>
-    ensures value { Gives (λ bytes. bytes.items) result (bytes_in word.now) }
-    ensures room { IfOk result (λ bytes. vec_len bytes ≤ write_limit) }
+    ensures { Gives (λ bytes. bytes.items) result (bytes_in word.now) }
 {
     if word == b"-".as_slice() {
         return Ok(Vec::new(alloc));
     }
     match hex::decode(alloc, word) {
-        Ok(bytes) if bytes.len() <= WRITE_LIMIT => Ok(bytes),
+        Ok(bytes) if bytes.len() <= WRITE_BYTES => Ok(bytes),
         Err(FromHexError::OutOfMemory) => Err(LineFault::Memory),
         _ => Err(LineFault::Refused(ScriptKind::Hex)),
     }

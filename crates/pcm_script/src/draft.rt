@@ -1,22 +1,19 @@
 //! A script that grows line by line.
 
-ghost use Rattle.std.specs.Prelude.{◌≡◌, ◌*◌, ◌≤◌, length};
-ghost use Rattle.pcm_format.specs.declared.event.Event.TheVariants.{Write};
-ghost use Rattle.pcm_desk.specs.Events.{write_limit};
+ghost use Rattle.std.specs.Prelude.{◌≡◌, ◌≤◌, length};
+ghost use Rattle.pcm_desk.specs.declared.limits.TheConstants.{WRITE_BYTES};
+ghost use Rattle.pcm_desk.specs.Device.{seen};
 ghost use Rattle.pcm_script.specs.Answers.{Gives};
-ghost use Rattle.pcm_script.specs.Commands.{adding};
+ghost use Rattle.pcm_script.specs.Collecting.{has_room, own_bytes, with_event};
 ghost use Rattle.pcm_script.specs.Lines.{empty_script};
 
 use crate::fault::LineFault;
+use crate::line_event::LineEvent;
 use crate::{Events, Script, ScriptKind};
-use pcm_desk::Device;
+use pcm_desk::{DEVICE_BYTES, Device, EVENTS};
 use pcm_format::{Bytes, Event};
 use std::alloc::Global;
 use std::marker::Model;
-
-const EVENT_LIMIT: usize = 1048576;
-
-const DEVICE_LIMIT: u64 = 268435456;
 
 // What the lines so far gave. In a clause it is a script.
 #[derive(Drop)]
@@ -28,14 +25,18 @@ pub(crate) struct Draft {
 
 impl Model for Draft {
     ghost use Rattle.std.specs.Prelude.{◌*◌, ◌≤◌, length};
-    ghost use Rattle.pcm_desk.specs.Events.{write_limit};
+    ghost use Rattle.pcm_desk.specs.declared.limits.TheConstants.{WRITE_BYTES};
     ghost use Rattle.pcm_script.specs.declared.script.Script.{Script as Read};
 
     ghost Value = { Read };
 
-    ghost view = { λ d. record { events = d.events.items; inline_bytes = d.inline_bytes.items; device_frames = d.device_frames } };
+    ghost view = { λ d. record {
+      events = d.events.items;
+      inline_bytes = d.inline_bytes.items;
+      device_frames = d.device_frames;
+    } };
 
-    ghost invariant = { λ d. length d.inline_bytes.items ≤ write_limit * length d.events.items };
+    ghost invariant = { λ d. length d.inline_bytes.items ≤ WRITE_BYTES * length d.events.items };
 }
 
 impl Draft {
@@ -59,45 +60,30 @@ impl Draft {
         }
     }
 
-    // Adds an event with its bytes and its frames, where the limits allow it.
-    pub(crate) fn add(
-        &mut self,
-        device: &Device,
-        event: Event,
-        bytes: &[u8],
-        frames: u32,
-    ) -> Result<(), LineFault>
-        requires { length bytes.now ≤ write_limit }
-        ensures { Gives (λ _. self.new) result (adding device.now self.old event bytes.now frames) }
+    // Adds the event of a line, where the limits allow it and it is built.
+    pub(crate) fn add(&mut self, device: &Device, line: &LineEvent) -> Result<(), LineFault>
+        requires { length (own_bytes line.now) ≤ WRITE_BYTES }
+        ensures { Gives (λ _. self.new) result (with_event (seen device.now) self.old line.now) }
     {
-        if self.events.len() >= EVENT_LIMIT {
+        if !self.has_room(device, line.frames()) {
             return Err(LineFault::Refused(ScriptKind::Long));
         }
-        let frames = u64::from(self.device_frames) + u64::from(frames);
-        if frames * device.settings.frame_bytes() as u64 > DEVICE_LIMIT {
-            return Err(LineFault::Refused(ScriptKind::Long));
+        // Judged after all else.
+        if !line.is_built(device) {
+            return Err(LineFault::Refused(ScriptKind::Unbuilt));
         }
-        self.events.push(event)?;
-        self.inline_bytes.extend_from_slice(bytes)?;
-        self.device_frames = frames as u32;
+        let place = self.inline_bytes.len() as u32;
+        self.events.push(line.event_at(place))?;
+        self.inline_bytes.extend_from_slice(line.bytes())?;
+        self.device_frames += line.frames();
         Ok(())
     }
 
-    // Adds a write of these bytes, which come behind the bytes of the writes before it.
-    pub(crate) fn add_write(
-        &mut self,
-        device: &Device,
-        fd: u8,
-        bytes: &[u8],
-    ) -> Result<(), LineFault>
-        requires { length bytes.now ≤ write_limit }
-        ensures { Gives (λ _. self.new) result (adding device.now self.old (Write fd (length self.old.inline_bytes) (length bytes.now)) bytes.now 0) }
+    // Whether there is room for one event more, which takes so many frames.
+    fn has_room(&self, device: &Device, frames: u32) -> bool
+        ensures { result ≡ has_room (seen device.now) self.now frames }
     {
-        // Only a full script has so many bytes.
-        let Ok(at) = u32::try_from(self.inline_bytes.len()) else {
-            return Err(LineFault::Refused(ScriptKind::Long));
-        };
-        let len = bytes.len() as u32;
-        self.add(device, Event::Write { fd, at, len }, bytes, 0)
+        let frames = u64::from(self.device_frames) + u64::from(frames);
+        self.events.len() < EVENTS && frames * device.settings.frame_bytes() as u64 <= DEVICE_BYTES
     }
 }

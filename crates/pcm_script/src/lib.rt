@@ -6,11 +6,14 @@ mod argument;
 mod command;
 mod draft;
 mod fault;
+mod limits;
+mod line_event;
 mod number;
 mod reader;
 mod script;
 mod words;
 
 pub use fault::{Refusal, ScriptFault, ScriptKind};
+pub use limits::TEXT_BYTES;
 pub use reader::script_of;
 pub use script::{Events, Script};

@@ -1,23 +1,22 @@
 //! The walk over a script's lines.
 
-ghost use Rattle.std.specs.Prelude.{◌≡◌, ◌<◌, ◌≤◌, ◌*◌, length, All, IfOk};
-ghost use Rattle.pcm_format.specs.Frames.{frame_bytes};
-ghost use Rattle.pcm_desk.specs.Events.{Fits, event_limit};
+ghost use Rattle.std.specs.Prelude.{◌≡◌, ◌<◌, ◌≤◌, length, IfOk};
+ghost use Rattle.pcm_desk.specs.declared.limits.TheConstants.{DEVICE_BYTES, EVENTS};
+ghost use Rattle.pcm_desk.specs.Device.{seen};
+ghost use Rattle.pcm_desk.specs.Events.{all_frames_taken};
 ghost use Rattle.pcm_script.specs.Answers.{Gives, Reads};
-ghost use Rattle.pcm_script.specs.Commands.{device_limit, line_onto};
-ghost use Rattle.pcm_script.specs.Interrupts.{interrupt_frames};
-ghost use Rattle.pcm_script.specs.Lines.{script_read};
+ghost use Rattle.pcm_script.specs.Collecting.{with_line};
+ghost use Rattle.pcm_script.specs.Commands.{line_event};
+ghost use Rattle.pcm_script.specs.Lines.{AllFit, bytes_taken, script_read};
 ghost use Rattle.pcm_script.specs.Words.{words_of};
 
-use crate::command::add_line;
+use crate::command::line_event;
 use crate::draft::Draft;
 use crate::fault::LineFault;
 use crate::words::words_of;
-use crate::{Refusal, Script, ScriptFault, ScriptKind};
+use crate::{Refusal, Script, ScriptFault, ScriptKind, TEXT_BYTES};
 use pcm_desk::Device;
 use std::alloc::Global;
-
-const TEXT_LIMIT: usize = 67108864;
 
 /// Reads a script for a device: all its events, or its first line that is refused.
 #[tactic(auto, unfolding(crate::specs::Lines::script_read))]
@@ -26,15 +25,15 @@ pub fn script_of(alloc: Global, bytes: &[u8], device: &Device) -> Result<Script,
     requires ring { device.now.block_frames ≤ device.now.ring_frames }
 
     // Only memory is free: else the answer is the one that the text and the device determine.
-    ensures read { Reads result (script_read device.now bytes.now) }
+    ensures read { Reads result (script_read (seen device.now) bytes.now) }
 
     // What a script keeps.
-    ensures fits { IfOk result (λ script. All (Fits device.now (length script.inline_bytes)) script.events) }
-    ensures counts { IfOk result (λ script. length script.events ≤ event_limit) }
-    ensures frames { IfOk result (λ script. script.device_frames * frame_bytes device.now.settings ≤ device_limit) }
-    ensures sum { IfOk result (λ script. script.device_frames ≡ interrupt_frames script.events) }
+    ensures fits { IfOk result (λ script. AllFit (seen device.now) script) }
+    ensures counts { IfOk result (λ script. length script.events ≤ EVENTS) }
+    ensures frames { IfOk result (λ script. bytes_taken (seen device.now) script ≤ DEVICE_BYTES) }
+    ensures sum { IfOk result (λ script. script.device_frames ≡ all_frames_taken script.events) }
 {
-    if bytes.len() > TEXT_LIMIT {
+    if bytes.len() > TEXT_BYTES {
         let kind = ScriptKind::Long;
         return Err(ScriptFault::Refused(Refusal { line: 0, kind }));
     }
@@ -52,15 +51,19 @@ pub fn script_of(alloc: Global, bytes: &[u8], device: &Device) -> Result<Script,
     Ok(draft.into_script())
 }
 
-// Adds what a line means.
+// Adds what a line asks for.
 fn read_line(
     alloc: Global,
     draft: &mut Draft,
     device: &Device,
     text: &[u8],
 ) -> Result<(), LineFault>
-    ensures { Gives (λ _. draft.new) result (line_onto device.now draft.old (words_of text.now)) }
+    ensures { Gives (λ _. draft.new) result
+        (with_line (seen device.now) draft.old (line_event (seen device.now) (words_of text.now))) }
 {
     let words = words_of(alloc, text)?;
-    add_line(alloc, draft, device, &words)
+    match line_event(alloc, device, &words)? {
+        None => Ok(()),
+        Some(line) => draft.add(device, &line),
+    }
 }

@@ -1,13 +1,13 @@
 //! The words of a line.
 
-ghost use Rattle.std.specs.Prelude.{◌≡◌, map, IfOk};
-ghost use Rattle.pcm_script.specs.Words.{is_blank, without_return, words_of};
+ghost use Rattle.std.specs.Prelude.{◌≡◌, IfOk};
+ghost use Rattle.pcm_script.specs.Words.{is_blank, lent, without_return, words_of};
 
 use std::alloc::{AllocError, Global};
 
 // The words of a line, up to its comment.
 pub(crate) fn words_of<'a>(alloc: Global, line: &'a [u8]) -> Result<Vec<&'a [u8]>, AllocError>
-    ensures { IfOk result (λ words. map (λ word. word.now) words.items ≡ words_of line.now) }
+    ensures { IfOk result (λ words. lent words.items ≡ words_of line.now) }
 {
     without_return(line)
         .split(|byte| is_blank(*byte))

@@ -1,0 +1,70 @@
+-- How the events of lines are collected: where their bytes stand, and what limits a script has.
+use Rattle.std.specs.Prelude.{ℕ, ◌+◌, ◌*◌, Bool, true, not, ◌&&◌, ◌==◌, nat_le, nat_lt, if◌then◌else◌, List, [], ◌∷◌, ◌++◌, length, Option, Some, None, Result, Ok, Err}
+use Rattle.pcm_format.specs.declared.settings.Settings.{Settings}
+use Rattle.pcm_format.specs.declared.event.Event.{Event}
+use Rattle.pcm_format.specs.declared.event.Event.TheVariants as events
+use Rattle.pcm_format.specs.declared.event.Way.TheVariants.{Play}
+use Rattle.pcm_format.specs.Formats.{code_of}
+use Rattle.pcm_format.specs.Layouts.{channels_of}
+use Rattle.pcm_desk.specs.declared.limits.TheConstants.{DEVICE_BYTES, EVENTS}
+use Rattle.pcm_desk.specs.Device.{DeviceSeen, device_frame_bytes, mix_settings}
+use Rattle.pcm_desk.specs.Events.{frames_taken}
+use Rattle.pcm_script.specs.declared.fault.ScriptKind.{ScriptKind}
+use Rattle.pcm_script.specs.declared.fault.ScriptKind.TheVariants.{Long, Unbuilt}
+use Rattle.pcm_script.specs.declared.line_event.LineEvent.{LineEvent}
+use Rattle.pcm_script.specs.declared.line_event.LineEvent.TheVariants.{Open, Write, Close, Intr}
+use Rattle.pcm_script.specs.declared.script.Script.{Script}
+
+-- the bytes that a line names
+abbrev pub own_bytes : LineEvent → List ℕ
+own_bytes (Open fd plays settings) = []
+own_bytes (Write fd bytes) = bytes
+own_bytes (Close fd) = []
+own_bytes (Intr frames) = []
+
+-- the event of a line whose bytes stand at a place
+abbrev pub event_at : ℕ → LineEvent → Event
+event_at place (Open fd plays settings) = events.Open fd Play settings
+event_at place (Write fd bytes) = events.Write fd place (length bytes)
+event_at place (Close fd) = events.Close fd
+event_at place (Intr frames) = events.Intr frames
+
+-- the frames that a line takes out of the device's ring
+abbrev pub frames_asked : LineEvent → ℕ
+frames_asked line = frames_taken (event_at 0 line)
+
+-- whether a script has room for one event more, which takes so many frames
+abbrev pub has_room : DeviceSeen → Script → ℕ → Bool
+has_room device script frames =
+    nat_lt (length script.events) EVENTS && nat_le ((script.device_frames + frames) * device_frame_bytes device) DEVICE_BYTES
+
+abbrev pub same_settings : Settings → Settings → Bool
+same_settings a b = code_of a.format == code_of b.format && channels_of a.layout == channels_of b.layout && a.rate == b.rate
+
+-- Whether what a line asks for is built: so far a client plays with the settings of the mix.
+abbrev pub is_built : DeviceSeen → LineEvent → Bool
+is_built device (Open fd plays settings) = plays && same_settings settings (mix_settings device)
+is_built device (Write fd bytes) = true
+is_built device (Close fd) = true
+is_built device (Intr frames) = true
+
+-- a script with one event more, whose bytes stand behind those of the events before it
+abbrev pub script_with : Script → LineEvent → Script
+script_with script line = record {
+  events = script.events ++ event_at (length script.inline_bytes) line ∷ [];
+  inline_bytes = script.inline_bytes ++ own_bytes line;
+  device_frames = script.device_frames + frames_asked line;
+}
+
+-- The script with the event of a line, if it has room for it. Whether the line is built is judged last.
+abbrev pub with_event : DeviceSeen → Script → LineEvent → Result Script ScriptKind
+with_event device script line =
+    if not (has_room device script (frames_asked line)) then Err Long
+    else if not (is_built device line) then Err Unbuilt
+    else Ok (script_with script line)
+
+-- the script with what a line was judged to ask for
+abbrev pub with_line : DeviceSeen → Script → Result (Option LineEvent) ScriptKind → Result Script ScriptKind
+with_line device script (Ok None) = Ok script
+with_line device script (Ok (Some line)) = with_event device script line
+with_line device script (Err kind) = Err kind

@@ -1,0 +1,87 @@
+//! What a line asks for.
+
+ghost use Rattle.std.specs.Prelude.{◌≡◌, ◌≤◌, length};
+ghost use Rattle.pcm_desk.specs.declared.limits.TheConstants.{WRITE_BYTES};
+ghost use Rattle.pcm_desk.specs.Device.{seen};
+
+use pcm_desk::Device;
+use pcm_format::{Bytes, Event, Settings, Way};
+
+// An event with the bytes that the line names, and not yet a place for them.
+#[derive(Drop)]
+pub(crate) enum LineEvent {
+    Open {
+        fd: u8,
+        plays: bool,
+        settings: Settings,
+    },
+    Write {
+        fd: u8,
+        bytes: Bytes,
+    },
+    Close {
+        fd: u8,
+    },
+    Intr {
+        frames: u32,
+    },
+}
+
+impl LineEvent {
+    ghost use Rattle.pcm_script.specs.Collecting.{event_at, frames_asked, is_built, own_bytes};
+
+    // The bytes that the line names.
+    pub(crate) fn bytes(&self) -> &[u8]
+        ensures { result.now ≡ own_bytes self.now }
+    {
+        match self {
+            LineEvent::Write { bytes, .. } => bytes.as_slice(),
+            _ => &[],
+        }
+    }
+
+    // The frames that the line takes.
+    pub(crate) fn frames(&self) -> u32
+        ensures { result ≡ frames_asked self.now }
+    {
+        match self {
+            LineEvent::Intr { frames } => *frames,
+            _ => 0,
+        }
+    }
+
+    // Whether this program does what the line asks for.
+    pub(crate) fn is_built(&self, device: &Device) -> bool
+        ensures { result ≡ is_built (seen device.now) self.now }
+    {
+        match self {
+            LineEvent::Open {
+                plays,
+                settings,
+                ..
+            } => *plays && *settings == device.settings,
+            _ => true,
+        }
+    }
+
+    // The event, with a place for its bytes.
+    pub(crate) fn event_at(&self, place: u32) -> Event
+        requires { length (own_bytes self.now) ≤ WRITE_BYTES }
+        ensures { result ≡ event_at place self.now }
+    {
+        match self {
+            LineEvent::Open { fd, settings, .. } => Event::Open {
+                fd: *fd,
+                way: Way::Play,
+                settings: *settings,
+            },
+            LineEvent::Write { fd, bytes } => Event::Write {
+                fd: *fd,
+                at: place,
+                len: bytes.as_slice().len() as u32,
+            },
+            LineEvent::Close { fd } => Event::Close { fd: *fd },
+            LineEvent::Intr { frames } => Event::Intr { frames: *frames },
+        }
+    }
+}
