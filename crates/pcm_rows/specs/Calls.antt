@@ -4,28 +4,33 @@ use Rattle.std.specs.Str.{bytes_eq}
 use Rattle.pcm_format.specs.declared.event.Event.{Event}
 use Rattle.pcm_format.specs.declared.event.Event.TheVariants.{Open}
 use Rattle.pcm_format.specs.declared.event.Way.TheVariants.{Play}
-use Rattle.pcm_desk.specs.declared.device.Device.{Device}
 use Rattle.pcm_desk.specs.declared.book.Book.{Book}
 use Rattle.pcm_desk.specs.Desk.{desk_at_start, book_at}
+use Rattle.pcm_desk.specs.Device.{DeviceSeen}
 use Rattle.pcm_desk.specs.Events.{after_all}
 use Rattle.pcm_desk.specs.Usual.{usual_settings}
 use Rattle.pcm_sound.specs.DeviceList.{device_text}
+use Rattle.pcm_sound.specs.Runs.{Piece}
+use Rattle.pcm_sound.specs.Story.{Story, story_of}
+use Rattle.pcm_sound.specs.Gains.{GainSet}
+use Rattle.pcm_feeder.specs.Layouts.{unity}
 use Rattle.pcm_script.specs.declared.script.Script.{Script}
-use Rattle.pcm_verdict.specs.Verdict.{Verdict, verdict}
+use Rattle.pcm_script.specs.Lines.{pool_of}
+use Rattle.pcm_verdict.specs.Verdict.{Verdict, Accept, verdict}
 use Rattle.pcm_verdict.specs.Transcript.{transcript}
 
 -- a ring of four frames, where a row looks at single frames
-abbrev pub small_device : Device
-small_device = record { settings = usual_settings; block_frames = 2; ring_frames = 4; play_slots = 4 }
+abbrev pub small_device : DeviceSeen
+small_device = record { settings = usual_settings; slots = 4; ring = 4; block = 2 }
 
 -- an open with the settings of the device
 abbrev pub opens : ℕ → Event
 opens descriptor = Open descriptor Play usual_settings
 
 -- lines, each with a line feed at its end
-abbrev pub text_of : List (List ℕ) → List ℕ
-text_of [] = []
-text_of (line ∷ lines) = line ++ 10 ∷ text_of lines
+abbrev pub joined : List (List ℕ) → List ℕ
+joined [] = []
+joined (line ∷ lines) = line ++ 10 ∷ joined lines
 
 -- bytes, so many times
 abbrev pub times : ℕ → List ℕ → List ℕ
@@ -41,17 +46,33 @@ abbrev pub run_words : List (List ℕ)
 run_words = codes "run" ∷ codes "s" ∷ codes "o" ∷ []
 
 -- the verdict on these words, where the script has these bytes
-abbrev pub judged : Device → List ℕ → Verdict
+abbrev pub judged : DeviceSeen → List ℕ → Verdict
 judged device bytes = verdict device run_words (only (codes "s") bytes)
 
+-- the verdict that accepts a script, which goes into the file `o`
+abbrev pub accepted : Script → Verdict
+accepted script = Accept (record { out = codes "o"; script = script })
+
 -- the bytes that a script makes
-abbrev pub played : Device → Script → List ℕ
-played device script = device_text device script.inline_bytes script.events
+abbrev pub played : DeviceSeen → Script → List ℕ
+played device script = device_text device (pool_of script) script.events
 
 -- the lines that a script prints
-abbrev pub printed : Device → Script → List ℕ
-printed device script = transcript device script.events
+abbrev pub printed : DeviceSeen → Script → List ℕ
+printed device script = transcript device (pool_of script) script.events
+
+-- what a script comes to
+abbrev pub story_after : DeviceSeen → Script → Story
+story_after device script = story_of device (pool_of script) script.events
+
+-- so many frames of a run from an index on, mixed from a position on, with so many missing
+abbrev pub piece : ℕ → ℕ → ℕ → ℕ → Piece
+piece position index count short = record { position = position; index = index; count = count; short = short }
+
+-- a gain of one on both sides, set at a position
+abbrev pub unity_from : ℕ → GainSet
+unity_from position = record { position = position; gain = unity }
 
 -- the first slot's book after events
-abbrev pub book_after : Device → List Event → Book
+abbrev pub book_after : DeviceSeen → List Event → Book
 book_after device events = book_at device (after_all device (desk_at_start device) events) 0

@@ -1,13 +1,12 @@
 -- Writes of whole fragments to the usual device, and what is counted of them.
-use Rattle.std.specs.Prelude.{ℕ, List, [], ◌∷◌, ◌++◌, codes, map, replicate}
+use Rattle.std.specs.Prelude.{ℕ, List, [], ◌∷◌, ◌++◌, codes, replicate, Some, None, false}
 use Rattle.pcm_format.specs.declared.event.Event.TheVariants.{Write, Intr}
 use Rattle.pcm_desk.specs.declared.book.Book.{Book}
 use Rattle.pcm_desk.specs.declared.book.State.TheVariants.{Running}
-use Rattle.pcm_desk.specs.Usual.{usual_device, usual_settings}
+use Rattle.pcm_desk.specs.Usual.{usual_settings}
 use Rattle.pcm_sound.specs.Runs.{Piece, Run}
-use Rattle.pcm_sound.specs.Story.{story_of}
 use Rattle.pcm_script.specs.declared.script.Script.{Script}
-use Rattle.pcm_rows.specs.Calls.{opens, text_of, times}
+use Rattle.pcm_rows.specs.Calls.{joined, opens, piece, times}
 
 -- a fragment, which is 1024 frames
 abbrev pub fragment_bytes : List ℕ
@@ -19,7 +18,7 @@ late_frame = 5 ∷ 0 ∷ 6 ∷ 0 ∷ []
 
 -- the fragment plays and the stream starves; a frame comes late, and it starves again
 abbrev pub starved_text : List ℕ
-starved_text = text_of (
+starved_text = joined (
     codes "open 0 play s16le 2 48000" ∷
     (codes "write 0 " ++ times 1024 (codes "01000200")) ∷
     codes "intr 1024" ∷
@@ -40,7 +39,7 @@ abbrev pub starved_bytes : List ℕ
 starved_bytes = replicate 4096 0 ++ fragment_bytes ++ replicate 16 0 ++ late_frame ++ replicate 12 0
 
 abbrev pub starved_lines : List ℕ
-starved_lines = text_of (
+starved_lines = joined (
     codes "1: ok 0" ∷ codes "2: ok 4096" ∷ codes "3: ok 1024" ∷ codes "4: ok 4" ∷ codes "5: ok 4" ∷
     codes "6: ok 4" ∷ codes "7: ok 1016" ∷ codes "8: ok 8" ∷ [])
 
@@ -48,16 +47,20 @@ starved_lines = text_of (
 abbrev pub starved_book : Book
 starved_book = record { settings = usual_settings; state = Running; written = 4100; eaten = 1025; given = 1025; underruns = 4 }
 
-abbrev pub piece : ℕ → ℕ → ℕ → ℕ → Piece
-piece position index count short = record { position = position; index = index; count = count; short = short }
-
 -- what the interrupts took of the stream, the newest first: frame 1024 is mixed at 1028
 abbrev pub starved_pieces : List Piece
 starved_pieces = piece 2048 1025 0 8 ∷ piece 1032 1025 0 1016 ∷ piece 1028 1024 1 3 ∷ piece 1024 1024 0 4 ∷ piece 0 0 1024 0 ∷ []
 
--- the pieces of the first slot's runs, the newest first
-abbrev pub pieces_of : Script → List (List Piece)
-pieces_of script = map (λ (run : Run). run.pieces) ((story_of usual_device script.inline_bytes script.events).runs 0)
+-- the one run: its first write started it, and it is neither drained nor dropped
+abbrev pub starved_run : Run
+starved_run = record {
+  settings = usual_settings;
+  bytes = starved_script.inline_bytes;
+  start = Some 0;
+  drained = false;
+  dropped = None;
+  pieces = starved_pieces;
+}
 
 -- five fragments, of which the ring holds four
 abbrev pub full_ring_text : List ℕ
@@ -71,6 +74,6 @@ full_ring_script = record {
 }
 
 abbrev pub full_ring_lines : List ℕ
-full_ring_lines = text_of (
+full_ring_lines = joined (
     codes "1: ok 0" ∷ codes "2: ok 4096" ∷ codes "3: ok 4096" ∷ codes "4: ok 4096" ∷ codes "5: ok 4096" ∷
     codes "6: refused again" ∷ [])

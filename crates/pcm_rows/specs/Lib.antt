@@ -1,4 +1,5 @@
 pub mod Calls
+pub mod Counts
 pub mod Texts
 pub mod Refusals
 pub mod OneClient

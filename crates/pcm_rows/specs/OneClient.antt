@@ -1,18 +1,19 @@
 -- Scripts with one client at most.
-use Rattle.std.specs.Prelude.{ℕ, List, [], ◌∷◌, codes}
+use Rattle.std.specs.Prelude.{ℕ, List, [], ◌∷◌, codes, Some, None, true}
 use Rattle.pcm_format.specs.declared.event.Event.TheVariants.{Write, Close, Intr}
 use Rattle.pcm_desk.specs.declared.book.Book.{Book}
 use Rattle.pcm_desk.specs.declared.book.State.TheVariants.{Free}
 use Rattle.pcm_desk.specs.Usual.{usual_settings}
+use Rattle.pcm_sound.specs.Runs.{Run}
 use Rattle.pcm_script.specs.declared.script.Script.{Script}
-use Rattle.pcm_rows.specs.Calls.{opens, text_of}
+use Rattle.pcm_rows.specs.Calls.{joined, opens, piece}
 
 abbrev pub silent_script : Script
 silent_script = record { events = Intr 1024 ∷ []; inline_bytes = []; device_frames = 1024 }
 
 -- four frames: less than a fragment
 abbrev pub drain_text : List ℕ
-drain_text = text_of (
+drain_text = joined (
     codes "open 0 play s16le 2 48000" ∷
     codes "write 0 01000200030004000500060007000800" ∷
     codes "close 0" ∷
@@ -30,11 +31,11 @@ drain_script = record {
 }
 
 abbrev pub drain_lines : List ℕ
-drain_lines = text_of (codes "1: ok 0" ∷ codes "2: ok 16" ∷ codes "3: ok" ∷ codes "4: ok 1024" ∷ codes "5: ok 4" ∷ [])
+drain_lines = joined (codes "1: ok 0" ∷ codes "2: ok 16" ∷ codes "3: ok" ∷ codes "4: ok 1024" ∷ codes "5: ok 4" ∷ [])
 
 -- the same bytes in three writes, which cut frames
 abbrev pub cut_text : List ℕ
-cut_text = text_of (
+cut_text = joined (
     codes "open 0 play s16le 2 48000" ∷
     codes "write 0 010002" ∷
     codes "write 0 0003000400" ∷
@@ -51,7 +52,7 @@ cut_script = record {
 }
 
 abbrev pub cut_lines : List ℕ
-cut_lines = text_of (
+cut_lines = joined (
     codes "1: ok 0" ∷ codes "2: ok 3" ∷ codes "3: ok 5" ∷ codes "4: ok 8" ∷ codes "5: ok" ∷ codes "6: ok 1024" ∷ codes "7: ok 4" ∷ [])
 
 abbrev pub stray_close_script : Script
@@ -59,7 +60,7 @@ stray_close_script = record { events = Close 5 ∷ []; inline_bytes = []; device
 
 -- two frames, where the first interrupt wants four
 abbrev pub short_drain_text : List ℕ
-short_drain_text = text_of (
+short_drain_text = joined (
     codes "open 0 play s16le 2 48000" ∷
     codes "write 0 0100020003000400" ∷
     codes "close 0" ∷
@@ -75,8 +76,19 @@ short_drain_script = record {
 }
 
 abbrev pub short_drain_lines : List ℕ
-short_drain_lines = text_of (
+short_drain_lines = joined (
     codes "1: ok 0" ∷ codes "2: ok 8" ∷ codes "3: ok" ∷ codes "4: ok 4" ∷ codes "5: ok 2" ∷ codes "6: ok 2" ∷ [])
+
+-- its run, which started at the close and is drained
+abbrev pub short_drain_run : Run
+short_drain_run = record {
+  settings = usual_settings;
+  bytes = short_drain_script.inline_bytes;
+  start = Some 0;
+  drained = true;
+  dropped = None;
+  pieces = piece 0 0 2 0 ∷ [];
+}
 
 -- a slot whose run is over
 abbrev pub over_book : Book
@@ -84,7 +96,7 @@ over_book = record { settings = usual_settings; state = Free; written = 0; eaten
 
 -- three bytes of a frame of four
 abbrev pub part_text : List ℕ
-part_text = text_of (
+part_text = joined (
     codes "open 0 play s16le 2 48000" ∷
     codes "write 0 010002" ∷
     codes "close 0" ∷
@@ -100,5 +112,23 @@ part_script = record {
 }
 
 abbrev pub part_lines : List ℕ
-part_lines = text_of (
+part_lines = joined (
     codes "1: ok 0" ∷ codes "2: ok 3" ∷ codes "3: ok" ∷ codes "4: ok 0" ∷ codes "5: ok 4" ∷ codes "6: ok 1" ∷ [])
+
+-- three frames are mixed before a write and its close, and the slot is opened again after five
+abbrev pub late_script : Script
+late_script = record {
+  events = opens 0 ∷ Intr 3 ∷ Write 0 0 4 ∷ Close 0 ∷ Intr 2 ∷ opens 0 ∷ [];
+  inline_bytes = 1 ∷ 0 ∷ 2 ∷ 0 ∷ [];
+  device_frames = 5;
+}
+
+abbrev pub late_run : Run
+late_run = record {
+  settings = usual_settings;
+  bytes = late_script.inline_bytes;
+  start = Some 3;
+  drained = true;
+  dropped = None;
+  pieces = piece 3 0 1 0 ∷ [];
+}

@@ -1,7 +1,7 @@
 -- Lines that are refused, and a device with a ring as large as all that a device may get.
 use Rattle.std.specs.Prelude.{ℕ, [], ◌∷◌}
 use Rattle.pcm_format.specs.declared.event.Event.TheVariants.{Intr}
-use Rattle.pcm_desk.specs.declared.device.Device.{Device}
+use Rattle.pcm_desk.specs.Device.{DeviceSeen}
 use Rattle.pcm_desk.specs.Usual.{usual_device}
 use Rattle.pcm_script.specs.declared.fault.ScriptKind.{ScriptKind}
 use Rattle.pcm_script.specs.declared.script.Script.{Script}
@@ -12,8 +12,8 @@ abbrev pub refused_at : ℕ → ScriptKind → Verdict
 refused_at line kind = BadScript (record { line = line; kind = kind })
 
 -- a ring of 2 ^ 26 + 1 frames of four bytes; the device gets 2 ^ 28 bytes at most
-abbrev pub large_device : Device
-large_device = record usual_device { ring_frames = 67108865 }
+abbrev pub large_device : DeviceSeen
+large_device = record usual_device { ring = 67108865 }
 
 abbrev pub largest_script : Script
 largest_script = record { events = Intr 67108864 ∷ []; inline_bytes = []; device_frames = 67108864 }

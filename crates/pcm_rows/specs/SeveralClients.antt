@@ -2,14 +2,14 @@
 use Rattle.std.specs.Prelude.{ℕ, List, [], ◌∷◌, ◌++◌, codes}
 use Rattle.pcm_format.specs.declared.event.Event.{Event}
 use Rattle.pcm_format.specs.declared.event.Event.TheVariants.{Write, Close, Intr}
-use Rattle.pcm_desk.specs.declared.device.Device.{Device}
+use Rattle.pcm_desk.specs.Device.{DeviceSeen}
 use Rattle.pcm_script.specs.declared.script.Script.{Script}
 use Rattle.pcm_desk.specs.Usual.{usual_device}
-use Rattle.pcm_rows.specs.Calls.{opens, text_of}
+use Rattle.pcm_rows.specs.Calls.{opens, joined}
 
 -- three clients with a frame each
 abbrev pub three_text : List ℕ → List ℕ → List ℕ → List ℕ
-three_text first second third = text_of (
+three_text first second third = joined (
     codes "open 0 play s16le 2 48000" ∷
     codes "open 1 play s16le 2 48000" ∷
     codes "open 2 play s16le 2 48000" ∷
@@ -30,7 +30,7 @@ three_script first second third = record {
 }
 
 abbrev pub three_lines : List ℕ
-three_lines = text_of (
+three_lines = joined (
     codes "1: ok 0" ∷ codes "2: ok 1" ∷ codes "3: ok 2" ∷
     codes "4: ok 4" ∷ codes "5: ok" ∷ codes "6: ok 4" ∷ codes "7: ok" ∷ codes "8: ok 4" ∷ codes "9: ok" ∷
     codes "10: ok 1024" ∷ codes "11: ok 1" ∷ [])
@@ -47,7 +47,7 @@ negative_frame = 0xf0 ∷ 0xd8 ∷ 0xf0 ∷ 0xd8 ∷ []
 
 -- more opens than the device has slots
 abbrev pub opens_text : List ℕ
-opens_text = text_of (
+opens_text = joined (
     codes "open 0 play s16le 2 48000" ∷
     codes "open 0 play s16le 2 48000" ∷
     codes "open 1 play s16le 2 48000" ∷
@@ -63,19 +63,19 @@ opens_script = record {
 }
 
 abbrev pub opens_lines : List ℕ
-opens_lines = text_of (
+opens_lines = joined (
     codes "1: ok 0" ∷ codes "2: refused exist" ∷ codes "3: ok 1" ∷ codes "4: ok 2" ∷ codes "5: ok 3" ∷
     codes "6: refused busy" ∷ [])
 
 -- a device that one client can play on
-abbrev pub single_device : Device
-single_device = record usual_device { play_slots = 1 }
+abbrev pub single_device : DeviceSeen
+single_device = record usual_device { slots = 1 }
 
 -- an open while the slot's client plays, one while its drain lasts, and one after it
 abbrev pub queue_events : List Event
 queue_events = opens 0 ∷ opens 1 ∷ Write 0 0 4 ∷ Close 0 ∷ opens 1 ∷ Intr 1 ∷ opens 1 ∷ []
 
 abbrev pub queue_lines : List ℕ
-queue_lines = text_of (
+queue_lines = joined (
     codes "1: ok 0" ∷ codes "2: refused busy" ∷ codes "3: ok 4" ∷ codes "4: ok" ∷ codes "5: refused busy" ∷
     codes "6: ok 1" ∷ codes "7: ok 0" ∷ [])

@@ -2,7 +2,7 @@
 use Rattle.std.specs.Prelude.{ℕ, List, [], ◌∷◌, ◌++◌, codes}
 use Rattle.pcm_format.specs.declared.event.Event.TheVariants.{Write, Close, Intr}
 use Rattle.pcm_script.specs.declared.script.Script.{Script}
-use Rattle.pcm_rows.specs.Calls.{opens, text_of}
+use Rattle.pcm_rows.specs.Calls.{opens, joined}
 
 -- comments, empty lines, blanks and carriage returns around one open
 abbrev pub decorated_text : List ℕ
@@ -16,7 +16,7 @@ decorated_script = record { events = opens 0 ∷ []; inline_bytes = []; device_f
 
 -- hexadecimal digits of either case, in numbers and in bytes
 abbrev pub hex_text : List ℕ
-hex_text = text_of (codes "open 0x1f play s16le 0x2 0xBB80" ∷ codes "write 0x1F aBCdEf01" ∷ codes "close 31" ∷ [])
+hex_text = joined (codes "open 0x1f play s16le 0x2 0xBB80" ∷ codes "write 0x1F aBCdEf01" ∷ codes "close 31" ∷ [])
 
 abbrev pub hex_script : Script
 hex_script = record {

@@ -2,6 +2,7 @@
 //! Each is a function that does nothing, whose contract says that the definitions give the values that a hand worked out.
 #![tactic(auto)]
 
+mod counts;
 mod fragments;
 mod one_client;
 mod refusals;
@@ -11,10 +12,12 @@ mod stages;
 mod texts;
 mod verdicts;
 
+pub use counts::nothing_is_eaten_early;
 pub use fragments::{fifth_write_again, full_fragment_starts, shortage_sets_back};
 pub use one_client::{
     close_of_a_closed_descriptor, cut_into_three_writes, drain_below_a_fragment,
-    drain_counts_no_shortage, empty_script, one_silent_block, part_of_a_frame_is_dropped,
+    drain_counts_no_shortage, empty_script, late_close_starts_late, one_silent_block,
+    part_of_a_frame_is_dropped,
 };
 pub use refusals::{
     device_bytes_at_the_limit, each_kind_of_fault, interrupt_above_the_ring, other_settings_unbuilt,

@@ -1,59 +1,68 @@
 //! One client's frames, from its writes to the device.
 #![tactic(auto, unfolding(crate::proofs::Computing::row))]
 
-ghost use Rattle.std.specs.Prelude.{◌≡◌, ◌++◌, [], codes, replicate};
+ghost use Rattle.std.specs.Prelude.{◌≡◌, ◌∷◌, ◌++◌, [], codes, replicate};
 ghost use Rattle.pcm_desk.specs.Usual.{usual_device};
 ghost use Rattle.pcm_script.specs.Lines.{empty_script};
-ghost use Rattle.pcm_verdict.specs.Verdict.{Accept};
-ghost use Rattle.pcm_rows.specs.Calls.{small_device, judged, played, printed, book_after};
-ghost use Rattle.pcm_rows.specs.OneClient.{silent_script, drain_text, drain_bytes, drain_script, drain_lines, cut_text, cut_script, cut_lines, stray_close_script, short_drain_text, short_drain_script, short_drain_lines, over_book, part_text, part_script, part_lines};
+ghost use Rattle.pcm_rows.specs.Calls.{small_device, accepted, judged, played, printed, book_after, story_after, unity_from};
+ghost use Rattle.pcm_rows.specs.OneClient.{silent_script, drain_text, drain_bytes, drain_script, drain_lines, cut_text, cut_script, cut_lines, stray_close_script, short_drain_text, short_drain_script, short_drain_lines, short_drain_run, over_book, late_script, late_run, part_text, part_script, part_lines};
 
 /// A script without events makes an empty file and prints nothing.
 pub fn empty_script()
-    ensures verdict { judged usual_device [] ≡ Accept (codes "o") empty_script }
+    ensures verdict { judged usual_device [] ≡ accepted empty_script }
     ensures device { played usual_device empty_script ≡ [] }
     ensures lines { printed usual_device empty_script ≡ [] }
 {}
 
 /// The ring begins as silence.
 pub fn one_silent_block()
-    ensures verdict { judged usual_device (codes "intr 1024\n") ≡ Accept (codes "o") silent_script }
+    ensures verdict { judged usual_device (codes "intr 1024\n") ≡ accepted silent_script }
     ensures device { played usual_device silent_script ≡ replicate 4096 0 }
     ensures lines { printed usual_device silent_script ≡ codes "1: ok 1024\n" }
 {}
 
 /// A close starts what is less than a fragment, and all of it is heard behind the silent ring.
 pub fn drain_below_a_fragment()
-    ensures verdict { judged usual_device drain_text ≡ Accept (codes "o") drain_script }
+    ensures verdict { judged usual_device drain_text ≡ accepted drain_script }
     ensures device { played usual_device drain_script ≡ replicate 4096 0 ++ drain_bytes }
     ensures lines { printed usual_device drain_script ≡ drain_lines }
 {}
 
 /// How writes cut the frames isn't heard.
 pub fn cut_into_three_writes()
-    ensures verdict { judged usual_device cut_text ≡ Accept (codes "o") cut_script }
+    ensures verdict { judged usual_device cut_text ≡ accepted cut_script }
     ensures device { played usual_device cut_script ≡ played usual_device drain_script }
     ensures lines { printed usual_device cut_script ≡ cut_lines }
 {}
 
 /// A close of a descriptor that nobody opened is refused, and the run goes on.
 pub fn close_of_a_closed_descriptor()
-    ensures verdict { judged usual_device (codes "close 5\n") ≡ Accept (codes "o") stray_close_script }
+    ensures verdict { judged usual_device (codes "close 5\n") ≡ accepted stray_close_script }
     ensures device { played usual_device stray_close_script ≡ [] }
     ensures lines { printed usual_device stray_close_script ≡ codes "1: refused badf\n" }
 {}
 
 /// The end of a drain is no shortage.
 pub fn drain_counts_no_shortage()
-    ensures verdict { judged small_device short_drain_text ≡ Accept (codes "o") short_drain_script }
-    ensures device { played small_device short_drain_script ≡ replicate 16 0 ++ short_drain_script.inline_bytes ++ replicate 8 0 }
+    ensures verdict { judged small_device short_drain_text ≡ accepted short_drain_script }
+    ensures device { played small_device short_drain_script
+        ≡ replicate 16 0 ++ short_drain_script.inline_bytes ++ replicate 8 0 }
     ensures lines { printed small_device short_drain_script ≡ short_drain_lines }
     ensures over { book_after small_device short_drain_script.events ≡ over_book }
+    ensures runs { (story_after small_device short_drain_script).runs 0 ≡ short_drain_run ∷ [] }
+    ensures gains { (story_after small_device short_drain_script).gains 0 ≡ unity_from 0 ∷ [] }
 {}
 
 /// A part of a frame alone starts nothing, and its slot is free after the close.
 pub fn part_of_a_frame_is_dropped()
-    ensures verdict { judged small_device part_text ≡ Accept (codes "o") part_script }
+    ensures verdict { judged small_device part_text ≡ accepted part_script }
     ensures device { played small_device part_script ≡ replicate 20 0 }
     ensures lines { printed small_device part_script ≡ part_lines }
+{}
+
+/// A run starts at its close, behind the frames mixed before, and each opening of a slot sets its gain.
+pub fn late_close_starts_late()
+    ensures runs { (story_after small_device late_script).runs 0 ≡ late_run ∷ [] }
+    ensures gains { (story_after small_device late_script).gains 0
+        ≡ unity_from 5 ∷ unity_from 0 ∷ [] }
 {}

@@ -4,27 +4,28 @@
 ghost use Rattle.std.specs.Prelude.{◌≡◌, codes};
 ghost use Rattle.pcm_desk.specs.Usual.{usual_device};
 ghost use Rattle.pcm_script.specs.declared.fault.ScriptKind.TheVariants.{Word, Count, Number, Name, Hex, Range, Long, Unbuilt};
-ghost use Rattle.pcm_verdict.specs.Verdict.{Accept};
 ghost use Rattle.pcm_verdict.specs.Faults.{fault_line, status_of};
-ghost use Rattle.pcm_rows.specs.Calls.{judged};
+ghost use Rattle.pcm_rows.specs.Calls.{accepted, judged};
 ghost use Rattle.pcm_rows.specs.Refusals.{refused_at, large_device, largest_script};
 
 /// An interrupt can't take more than the ring holds.
 pub fn interrupt_above_the_ring()
     ensures verdict { judged usual_device (codes "intr 1025\n") ≡ refused_at 1 Range }
-    ensures printed { fault_line (judged usual_device (codes "intr 1025\n")) ≡ codes "dsp_replay: bad script: line 1: range\n" }
+    ensures printed { fault_line (judged usual_device (codes "intr 1025\n"))
+        ≡ codes "dsp_replay: bad script: line 1: range\n" }
     ensures status { status_of (judged usual_device (codes "intr 1025\n")) ≡ 5 }
 {}
 
 /// Settings other than the device's aren't built.
 pub fn other_settings_unbuilt()
     ensures verdict { judged usual_device (codes "open 0 play u8 1 8000\n") ≡ refused_at 1 Unbuilt }
-    ensures printed { fault_line (judged usual_device (codes "open 0 play u8 1 8000\n")) ≡ codes "dsp_replay: bad script: line 1: unbuilt\n" }
+    ensures printed { fault_line (judged usual_device (codes "open 0 play u8 1 8000\n"))
+        ≡ codes "dsp_replay: bad script: line 1: unbuilt\n" }
 {}
 
 /// The device gets 2 ^ 28 bytes at most: one frame more is refused, in one interrupt or in two.
 pub fn device_bytes_at_the_limit()
-    ensures most { judged large_device (codes "intr 67108864") ≡ Accept (codes "o") largest_script }
+    ensures most { judged large_device (codes "intr 67108864") ≡ accepted largest_script }
     ensures one { judged large_device (codes "intr 67108865") ≡ refused_at 1 Long }
     ensures two { judged large_device (codes "intr 67108864\nintr 1") ≡ refused_at 2 Long }
 {}

@@ -30,18 +30,24 @@ pub fn edges_of_24_bits()
 
 /// Four bytes, in either order.
 pub fn edges_of_32_bits()
-    ensures s32le { edges_in S32Le ≡ codes "0000008001000080ffffffff0000000001000000feffff7fffffff7f" }
-    ensures s32be { edges_in S32Be ≡ codes "8000000080000001ffffffff00000000000000017ffffffe7fffffff" }
-    ensures u32le { edges_in U32Le ≡ codes "0000000001000000ffffff7f0000008001000080feffffffffffffff" }
-    ensures u32be { edges_in U32Be ≡ codes "00000000000000017fffffff8000000080000001fffffffeffffffff" }
+    ensures s32le { edges_in S32Le
+        ≡ codes "0000008001000080ffffffff0000000001000000feffff7fffffff7f" }
+    ensures s32be { edges_in S32Be
+        ≡ codes "8000000080000001ffffffff00000000000000017ffffffe7fffffff" }
+    ensures u32le { edges_in U32Le
+        ≡ codes "0000000001000000ffffff7f0000008001000080feffffffffffffff" }
+    ensures u32be { edges_in U32Be
+        ≡ codes "00000000000000017fffffff8000000080000001fffffffeffffffff" }
 {}
 
 /// From 24 bits, big-endian, to 16: 384 of the first are one step, and -129 are rounded down to -1.
 pub fn fewer_bits_round_down()
-    ensures { carried S24Be S16Le (0x00 ∷ 0x01 ∷ 0x80 ∷ 0xff ∷ 0xff ∷ 0x7f ∷ []) ≡ 0x01 ∷ 0x00 ∷ 0xff ∷ 0xff ∷ [] }
+    ensures { carried S24Be S16Le (0x00 ∷ 0x01 ∷ 0x80 ∷ 0xff ∷ 0xff ∷ 0x7f ∷ [])
+        ≡ 0x01 ∷ 0x00 ∷ 0xff ∷ 0xff ∷ [] }
 {}
 
 /// The midpoint of an unsigned format is silence.
 pub fn midpoint_is_silence()
-    ensures { carried U16Le S16Le (0x00 ∷ 0x80 ∷ 0xff ∷ 0xff ∷ []) ≡ 0x00 ∷ 0x00 ∷ 0xff ∷ 0x7f ∷ [] }
+    ensures { carried U16Le S16Le (0x00 ∷ 0x80 ∷ 0xff ∷ 0xff ∷ [])
+        ≡ 0x00 ∷ 0x00 ∷ 0xff ∷ 0x7f ∷ [] }
 {}

@@ -2,34 +2,42 @@
 #![tactic(auto, unfolding(crate::proofs::Computing::row))]
 
 ghost use Rattle.std.specs.Prelude.{◌≡◌, ◌∷◌, ◌++◌, [], codes, replicate};
+ghost use Rattle.pcm_format.specs.declared.pool.Pool.{Pool};
 ghost use Rattle.pcm_desk.specs.Usual.{usual_device};
-ghost use Rattle.pcm_verdict.specs.Verdict.{Accept};
 ghost use Rattle.pcm_verdict.specs.Transcript.{transcript};
-ghost use Rattle.pcm_rows.specs.Calls.{judged, played, printed};
+ghost use Rattle.pcm_rows.specs.Calls.{accepted, judged, played, printed};
 ghost use Rattle.pcm_rows.specs.SeveralClients.{three_text, three_script, three_lines, loud_frame, soft_frame, negative_frame, opens_text, opens_script, opens_lines, single_device, queue_events, queue_lines};
 
 /// The mix is limited after each addition: 30000 and 10000 stop at 32767, and 10000 less is 22767.
 pub fn three_clients_saturate()
-    ensures verdict { judged usual_device (three_text (codes "30753075") (codes "10271027") (codes "f0d8f0d8")) ≡ Accept (codes "o") (three_script loud_frame soft_frame negative_frame) }
-    ensures device { played usual_device (three_script loud_frame soft_frame negative_frame) ≡ replicate 4096 0 ++ 0xef ∷ 0x58 ∷ 0xef ∷ 0x58 ∷ [] }
-    ensures lines { printed usual_device (three_script loud_frame soft_frame negative_frame) ≡ three_lines }
+    ensures verdict { judged usual_device
+        (three_text (codes "30753075") (codes "10271027") (codes "f0d8f0d8"))
+        ≡ accepted (three_script loud_frame soft_frame negative_frame) }
+    ensures device { played usual_device (three_script loud_frame soft_frame negative_frame)
+        ≡ replicate 4096 0 ++ 0xef ∷ 0x58 ∷ 0xef ∷ 0x58 ∷ [] }
+    ensures lines { printed usual_device (three_script loud_frame soft_frame negative_frame)
+        ≡ three_lines }
 {}
 
 /// The same frames in other slots pass no limit: -10000, 20000, 30000.
 pub fn three_clients_other_order()
-    ensures verdict { judged usual_device (three_text (codes "f0d8f0d8") (codes "30753075") (codes "10271027")) ≡ Accept (codes "o") (three_script negative_frame loud_frame soft_frame) }
-    ensures device { played usual_device (three_script negative_frame loud_frame soft_frame) ≡ replicate 4096 0 ++ loud_frame }
-    ensures lines { printed usual_device (three_script negative_frame loud_frame soft_frame) ≡ three_lines }
+    ensures verdict { judged usual_device
+        (three_text (codes "f0d8f0d8") (codes "30753075") (codes "10271027"))
+        ≡ accepted (three_script negative_frame loud_frame soft_frame) }
+    ensures device { played usual_device (three_script negative_frame loud_frame soft_frame)
+        ≡ replicate 4096 0 ++ loud_frame }
+    ensures lines { printed usual_device (three_script negative_frame loud_frame soft_frame)
+        ≡ three_lines }
 {}
 
 /// An open descriptor isn't opened again, and four clients play at once.
 pub fn fifth_open_busy()
-    ensures verdict { judged usual_device opens_text ≡ Accept (codes "o") opens_script }
+    ensures verdict { judged usual_device opens_text ≡ accepted opens_script }
     ensures device { played usual_device opens_script ≡ [] }
     ensures lines { printed usual_device opens_script ≡ opens_lines }
 {}
 
 /// A slot is free once its drain is over, and not before.
 pub fn one_slot_free_after_drain()
-    ensures lines { transcript single_device queue_events ≡ queue_lines }
+    ensures lines { (pool : Pool) → transcript single_device pool queue_events ≡ queue_lines }
 {}

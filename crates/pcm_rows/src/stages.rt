@@ -5,45 +5,60 @@ ghost use Rattle.std.specs.Prelude.{◌≡◌, ℤ, pos, negsuc, [], ◌∷◌};
 ghost use Rattle.pcm_format.specs.declared.layout.Layout.TheVariants as layouts;
 ghost use Rattle.pcm_feeder.specs.declared.stage.Spec.TheVariants as specs;
 ghost use Rattle.pcm_feeder.specs.Layouts.{unity};
-ghost use Rattle.pcm_feeder.specs.Rates.{rate_of, need, can, len};
+ghost use Rattle.pcm_rate.specs.Rates.{need, can, len};
+ghost use Rattle.pcm_feeder.specs.Stages.{rate_of};
 ghost use Rattle.pcm_rows.specs.Stages.{mono, half_right, no_filters, two_taps, first_outputs, first_feed};
 
 /// Twice the rate by linear interpolation: between 0, 100 and the silence after them.
 pub fn linear_doubles()
-    ensures frames { first_outputs (specs.Linear 24000 48000 1) no_filters unity (mono (pos 0 ∷ pos 100 ∷ [])) 4 ≡ mono (pos 0 ∷ pos 50 ∷ pos 100 ∷ pos 50 ∷ []) }
+    ensures frames { first_outputs (specs.Linear 24000 48000 1) no_filters unity
+        (mono (pos 0 ∷ pos 100 ∷ [])) 4
+        ≡ mono (pos 0 ∷ pos 50 ∷ pos 100 ∷ pos 50 ∷ []) }
     ensures len { len (rate_of (specs.Linear 24000 48000 1)) 2 ≡ 4 }
 {}
 
 /// Twice the rate by a hold: each frame twice.
 pub fn hold_doubles()
-    ensures frames { (a b : ℤ) → first_outputs (specs.Hold 24000 48000 1) no_filters unity (mono (a ∷ b ∷ [])) 4 ≡ mono (a ∷ a ∷ b ∷ b ∷ []) }
+    ensures frames { (a b : ℤ)
+        → first_outputs (specs.Hold 24000 48000 1) no_filters unity (mono (a ∷ b ∷ [])) 4
+        ≡ mono (a ∷ a ∷ b ∷ b ∷ []) }
 {}
 
 /// Twice the rate by a filter of two taps: the rows are one, and the mean of two frames, rounded to the nearest.
 pub fn two_taps_double()
-    ensures frames { first_outputs (specs.Poly 24000 48000 1 0 2) two_taps unity (mono (negsuc 2 ∷ pos 4 ∷ [])) 4 ≡ mono (negsuc 2 ∷ pos 1 ∷ pos 4 ∷ pos 2 ∷ []) }
+    ensures frames { first_outputs (specs.Poly 24000 48000 1 0 2) two_taps unity
+        (mono (negsuc 2 ∷ pos 4 ∷ [])) 4
+        ≡ mono (negsuc 2 ∷ pos 1 ∷ pos 4 ∷ pos 2 ∷ []) }
 {}
 
 /// A line needs the frame ahead: two input frames allow two outputs of the four that they last for.
 pub fn a_line_waits_for_its_end()
     ensures can { can (rate_of (specs.Linear 24000 48000 1)) 2 ≡ 2 }
     ensures need { need (rate_of (specs.Linear 24000 48000 1)) 3 ≡ 3 }
-    ensures given { (first_feed (specs.Linear 24000 48000 1) (mono (pos 0 ∷ pos 100 ∷ [])) 4).given ≡ 2 }
-    ensures frames { (first_feed (specs.Linear 24000 48000 1) (mono (pos 0 ∷ pos 100 ∷ [])) 4).frames ≡ mono (pos 0 ∷ pos 50 ∷ []) }
+    ensures given { (first_feed (specs.Linear 24000 48000 1) (mono (pos 0 ∷ pos 100 ∷ [])) 4).given
+        ≡ 2 }
+    ensures frames { (first_feed (specs.Linear 24000 48000 1) (mono (pos 0 ∷ pos 100 ∷ [])) 4).frames
+        ≡ mono (pos 0 ∷ pos 50 ∷ []) }
     ensures alone { (first_feed (specs.Linear 24000 48000 1) (mono (pos 100 ∷ [])) 4).given ≡ 0 }
 {}
 
 /// Depth rounds down, also below zero: 65535 and -65536 are 0 and -1 at 16 bits, and -1 is -1.
 pub fn depth_rounds_down()
-    ensures frames { first_outputs (specs.Depth 16 1) no_filters unity (mono (pos 65535 ∷ negsuc 65535 ∷ negsuc 0 ∷ [])) 3 ≡ mono (pos 0 ∷ negsuc 0 ∷ negsuc 0 ∷ []) }
+    ensures frames { first_outputs (specs.Depth 16 1) no_filters unity
+        (mono (pos 65535 ∷ negsuc 65535 ∷ negsuc 0 ∷ [])) 3
+        ≡ mono (pos 0 ∷ negsuc 0 ∷ negsuc 0 ∷ []) }
 {}
 
 /// The right side at half the gain, rounded down.
 pub fn volume_halves_the_right_side()
-    ensures frames { first_outputs (specs.Volume layouts.Two) no_filters half_right ((pos 100 ∷ negsuc 2 ∷ []) ∷ []) 1 ≡ (pos 100 ∷ negsuc 1 ∷ []) ∷ [] }
+    ensures frames { first_outputs (specs.Volume layouts.Two) no_filters half_right
+        ((pos 100 ∷ negsuc 2 ∷ []) ∷ []) 1
+        ≡ (pos 100 ∷ negsuc 1 ∷ []) ∷ [] }
 {}
 
 /// Six channels in two: the centre and the back go in with their weights, the low frequency effects don't.
 pub fn six_channels_fold_to_two()
-    ensures frames { first_outputs (specs.Matrix layouts.Six layouts.Two) no_filters unity ((pos 6553600 ∷ pos 13107200 ∷ pos 19660800 ∷ pos 26214400 ∷ pos 65536 ∷ pos 0 ∷ []) ∷ []) 1 ≡ (pos 20502241 ∷ pos 27009500 ∷ []) ∷ [] }
+    ensures frames { first_outputs (specs.Matrix layouts.Six layouts.Two) no_filters unity
+        ((pos 6553600 ∷ pos 13107200 ∷ pos 19660800 ∷ pos 26214400 ∷ pos 65536 ∷ pos 0 ∷ []) ∷ []) 1
+        ≡ (pos 20502241 ∷ pos 27009500 ∷ []) ∷ [] }
 {}

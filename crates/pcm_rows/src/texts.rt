@@ -1,23 +1,22 @@
 //! How a script's text is read.
 #![tactic(auto, unfolding(crate::proofs::Computing::row))]
 
-ghost use Rattle.std.specs.Prelude.{◌≡◌, codes};
-ghost use Rattle.pcm_verdict.specs.Verdict.{Accept};
+ghost use Rattle.std.specs.Prelude.{◌≡◌};
 ghost use Rattle.pcm_desk.specs.Usual.{usual_device};
-ghost use Rattle.pcm_rows.specs.Calls.{judged};
+ghost use Rattle.pcm_rows.specs.Calls.{accepted, judged};
 ghost use Rattle.pcm_rows.specs.Texts.{decorated_text, decorated_script, hex_text, hex_script, interrupts_text, interrupts_script};
 
 /// Comments, empty lines, blanks and a carriage return at a line's end say nothing.
 pub fn comments_and_empty_lines()
-    ensures verdict { judged usual_device decorated_text ≡ Accept (codes "o") decorated_script }
+    ensures verdict { judged usual_device decorated_text ≡ accepted decorated_script }
 {}
 
 /// Hexadecimal digits of either case stand for the same, in numbers and in bytes.
 pub fn hex_of_either_case()
-    ensures verdict { judged usual_device hex_text ≡ Accept (codes "o") hex_script }
+    ensures verdict { judged usual_device hex_text ≡ accepted hex_script }
 {}
 
 /// An interrupt without a number takes a block.
 pub fn interrupt_without_a_number()
-    ensures verdict { judged usual_device interrupts_text ≡ Accept (codes "o") interrupts_script }
+    ensures verdict { judged usual_device interrupts_text ≡ accepted interrupts_script }
 {}

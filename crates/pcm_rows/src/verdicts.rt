@@ -7,10 +7,12 @@ ghost use Rattle.pcm_verdict.specs.Verdict.{verdict, Usage, Missing};
 ghost use Rattle.pcm_verdict.specs.Faults.{fault_line, status_of};
 ghost use Rattle.pcm_rows.specs.Calls.{run_words, only};
 
-/// Two words are of no form, whatever the files hold.
+/// Two words match no form, whatever the files hold.
 pub fn words_of_no_form()
-    ensures verdict { (content : List ℕ → Option (List ℕ)) → verdict usual_device (codes "run" ∷ codes "s" ∷ []) content ≡ Usage }
-    ensures printed { fault_line Usage ≡ codes "dsp_replay: usage: run SCRIPT OUT [CONFIG] | check SCRIPT [CONFIG] | convert IN OUT RATE FORMAT CHANNELS | soak N\n" }
+    ensures verdict { (content : List ℕ → Option (List ℕ))
+        → verdict usual_device (codes "run" ∷ codes "s" ∷ []) content ≡ Usage }
+    ensures printed { fault_line Usage
+        ≡ codes "dsp_replay: usage: run SCRIPT OUT [CONFIG] | check SCRIPT [CONFIG] | convert IN OUT RATE FORMAT CHANNELS | soak N\n" }
     ensures status { status_of Usage ≡ 2 }
 {}
 

@@ -5,7 +5,7 @@ use Rattle.pcm_script.specs.declared.fault.Refusal.{Refusal}
 use Rattle.pcm_script.specs.Kinds.{kind_word}
 use Rattle.pcm_verdict.specs.Verdict.{Verdict, Usage, Missing, BadScript, Accept}
 
--- the words are of no form: all forms, also those that aren't built yet
+-- the words match no form: all forms, also those that aren't built yet
 abbrev pub usage_line : List ℕ
 usage_line = codes "dsp_replay: usage: run SCRIPT OUT [CONFIG] | check SCRIPT [CONFIG] | convert IN OUT RATE FORMAT CHANNELS | soak N\n"
 
@@ -23,11 +23,11 @@ abbrev pub fault_line : Verdict → List ℕ
 fault_line Usage = usage_line
 fault_line (Missing name) = cannot_read_line name
 fault_line (BadScript refusal) = bad_script_line refusal
-fault_line (Accept out script) = []
+fault_line (Accept accepted) = []
 
 -- the status of a verdict
 abbrev pub status_of : Verdict → ℕ
 status_of Usage = 2
 status_of (Missing name) = 3
 status_of (BadScript refusal) = 5
-status_of (Accept out script) = 0
+status_of (Accept accepted) = 0
