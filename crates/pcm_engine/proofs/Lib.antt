@@ -1,6 +1,6 @@
-pub mod Lists
 pub mod Books
-pub mod Desks
+pub mod Lists
+pub mod Channels
 pub mod Waiting
 pub mod Blocks
 pub mod Standing

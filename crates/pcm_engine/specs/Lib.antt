@@ -1,6 +1,6 @@
-pub mod Limits
+pub mod Holds
 pub mod Channels
-pub mod Clients
 pub mod Steps
+pub mod Parents
 pub mod Stands
 pub mod Engines

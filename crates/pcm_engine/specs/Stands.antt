@@ -1,24 +1,19 @@
--- What an engine stands for: the story of a list of events.
-use Rattle.std.specs.Prelude.{◌≡◌, ℕ, ◌*◌, List, take, drop}
-use Rattle.pcm_format.specs.Frames.{frame_bytes}
-use Rattle.pcm_desk.specs.declared.book.Book.{Book}
-use Rattle.pcm_desk.specs.declared.device.Device.{Device}
+-- What an engine's parts stand for: the story of a list of events.
+use Rattle.std.specs.Prelude.{◌≡◌, ℕ, ◌*◌, ◌<◌, List, length, drop, slice_index_or}
+use Rattle.pcm_desk.specs.Device.{DeviceSeen, device_frame_bytes}
 use Rattle.pcm_desk.specs.Desk.{Desk, book_at}
-use Rattle.pcm_sound.specs.Runs.{Run, newest_bytes}
+use Rattle.pcm_sound.specs.Runs.{newest_bytes}
 use Rattle.pcm_sound.specs.Story.{Story}
 use Rattle.pcm_sound.specs.DeviceList.{device_bytes}
 use Rattle.pcm_sound.specs.Valid.{StoryIsValid}
 use Rattle.pcm_engine.specs.declared.channel.Channel.{Channel}
-use Rattle.pcm_engine.specs.Channels.{waiting_at}
+use Rattle.pcm_engine.specs.Channels.{ChannelStands}
 
--- the bytes of a run that were accepted and not yet eaten
-abbrev pub waiting_of : Book → List Run → List ℕ
-waiting_of book runs = drop (book.eaten * frame_bytes book.settings) (take book.written (newest_bytes runs))
-
--- A desk, channels and a device's ring stand for a story: the desk is the story's, the rings hold what waits, and the
--- device's ring holds what was mixed and not handed over.
-pub record StandsFor (device : Device) (desk : Desk) (channels : List Channel) (ring : List ℕ) (story : Story) : Type 0 where
+-- A desk, channels and a device's ring stand for a story: the desk is the story's, each channel stands for its slot's book
+-- and the bytes of its newest run, and the device's ring holds what was not handed over.
+pub record PartsStand (device : DeviceSeen) (desk : Desk) (channels : List Channel) (ring : List ℕ) (story : Story) : Type 0 where
   pub desk_is : desk ≡ story.desk
-  pub waiting : (slot : ℕ) → waiting_at channels slot ≡ waiting_of (book_at device story.desk slot) (story.runs slot)
-  pub ring_is : ring ≡ drop (story.desk.handed * frame_bytes device.settings) (device_bytes device story)
+  pub slots : (slot : ℕ) (other : Channel) → slot < length channels
+      → ChannelStands (slice_index_or channels slot other) (book_at device story.desk slot) (newest_bytes (story.runs slot))
+  pub ring_is : ring ≡ drop (story.desk.handed * device_frame_bytes device) (device_bytes device story)
   pub valid : StoryIsValid device story

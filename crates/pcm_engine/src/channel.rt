@@ -5,43 +5,50 @@ ghost use Rattle.pcm_format.specs.Formats.{bits_of};
 ghost use Rattle.pcm_format.specs.Layouts.{channels_of};
 ghost use Rattle.pcm_format.specs.Frames.{frame_bytes};
 ghost use Rattle.pcm_num.specs.Limit.{FitsBits};
-ghost use Rattle.pcm_desk.specs.Books.{is_free, fill_of, ring_bytes, giving, begun, write_turn, close_turn, refilled};
-ghost use Rattle.pcm_desk.specs.Events.{write_limit};
+ghost use Rattle.pcm_desk.specs.declared.limits.TheConstants.{WRITE_BYTES};
+ghost use Rattle.pcm_desk.specs.Device.{seen};
+ghost use Rattle.pcm_rate.specs.Rates.{len};
+ghost use Rattle.pcm_desk.specs.Books.{is_free, fill_of, frames_written, ring_bytes, giving, begun, write_turn};
+ghost use Rattle.pcm_desk.specs.Safe.{BookIsSafe};
+ghost use Rattle.pcm_desk.proofs.Props.{book_props};
+ghost use Rattle.pcm_desk.specs.Desk.{closing, mixing, rate_at, unopened};
 ghost use Rattle.pcm_sound.specs.Blocks.{turned};
 
 use crate::fetch::fetch;
-use pcm_desk::{Book, FRAGMENT_BYTES, FRAGMENTS, State};
-use pcm_format::{Answer, Errno, Settings};
+use pcm_desk::{Book, Device, FRAGMENT_BYTES, FRAGMENTS, State};
+use pcm_format::{Answer, Errno};
 use pcm_mix::mix_into;
+use pcm_rate::UNCHANGED;
 use pcm_ring::ByteRing;
 use std::alloc::{AllocError, Global};
 
 /// A channel of the device that plays.
 #[derive(Drop)]
 pub struct Channel {
-    pub device: Settings,
+    pub device: Device,
     pub book: Book,
     pub ring: ByteRing,
-    ghost own: { book.settings ≡ device },
+    ghost own: { book.settings ≡ device.settings },
     ghost size: { ring.size ≡ ring_bytes book },
     ghost fill: { length ring.bytes ≡ fill_of book },
-    ghost eaten: { book.eaten ≡ book.given },
     ghost within: { book.eaten * frame_bytes book.settings ≤ book.written },
+    ghost lasts: { book.given ≤ len (rate_at (seen device) book) (frames_written book) },
+    ghost safe: { BookIsSafe (rate_at (seen device) book) book } by { Prim.hlevel book_props },
 }
 
 impl Channel {
     ghost use Rattle.pcm_engine.specs.Channels.{Settles};
 
-    /// A free channel of a device with these settings.
-    pub fn new(alloc: Global, device: Settings) -> Result<Channel, AllocError>
-        ensures book { IfOk result (λ made. made.book ≡ record (begun device) { state = State.Free }) }
+    /// A channel of a device that nobody has opened.
+    pub fn new(alloc: Global, device: Device) -> Result<Channel, AllocError>
+        ensures book { IfOk result (λ made. made.book ≡ unopened (seen device)) }
         ensures device { IfOk result (λ made. made.device ≡ device) }
         ensures ring { IfOk result (λ made. made.ring.bytes ≡ []) }
     {
         let ring = ByteRing::new(alloc, (FRAGMENTS * FRAGMENT_BYTES) as usize)?;
         let book = Book {
             state: State::Free,
-            ..Book::begun(device)
+            ..Book::begun(device.settings)
         };
         Ok(Channel { device, book, ring })
     }
@@ -50,32 +57,33 @@ impl Channel {
     pub fn is_free(&self) -> bool
         ensures { result ≡ is_free self.now.book.state }
     {
-        matches!(self.book.state, State::Free)
+        self.book.is_free()
     }
 
     /// A new opening begins.
     pub fn begin(&mut self)
-        ensures book { self.new.book ≡ begun self.old.device }
+        ensures book { self.new.book ≡ begun self.old.device.settings }
         ensures device { self.new.device ≡ self.old.device }
         ensures ring { self.new.ring.bytes ≡ [] }
     {
         self.ring.clear();
-        self.book = Book::begun(self.device);
+        self.book = Book::begun(self.device.settings);
     }
 
     /// Takes the front of `bytes`, as much as fits.
     pub fn write(&mut self, bytes: &[u8]) -> Result<Answer, Errno>
-        requires length { length bytes.now ≤ write_limit }
-        requires count { self.old.book.written + write_limit < 2 ^ 64 }
+        requires length { length bytes.now ≤ WRITE_BYTES }
+        requires count { self.old.book.written + WRITE_BYTES < 2 ^ 64 }
         ensures book { self.new.book ≡ (write_turn (length bytes.now) self.old.book).book }
         ensures reply { result ≡ (write_turn (length bytes.now) self.old.book).reply }
         ensures device { self.new.device ≡ self.old.device }
         ensures refused { OnErr result (self.new ≡ self.old) }
         ensures more { self.new.book.written ≤ self.old.book.written + length bytes.now }
         ensures ring { self.new.ring.bytes
-            ≡ self.old.ring.bytes ++ take (self.new.book.written - self.old.book.written) bytes.now }
+            ≡ self.old.ring.bytes
+            ++ take (self.new.book.written - self.old.book.written) bytes.now }
     {
-        if matches!(self.book.state, State::Draining { .. }) {
+        if self.book.is_draining() {
             return Err(Errno::Busy);
         }
         if !bytes.is_empty() && self.ring.free() == 0 {
@@ -88,44 +96,43 @@ impl Channel {
 
     /// No descriptor has the channel any more: what was written plays to its end.
     pub fn close(&mut self)
-        ensures book { self.new.book ≡ close_turn self.old.book }
+        ensures book { self.new.book ≡ closing (seen self.old.device) self.old.book }
         ensures device { self.new.device ≡ self.old.device }
         ensures settles { Settles self.old self.new }
     {
-        self.book = self.book.closed();
+        self.book = self.book.closed(UNCHANGED);
         if self.book.written == 0 {
             self.ring.clear();
         }
     }
 
-    /// Gives frames to the front of a block of the mix, as many as an interrupt of `n` frames gets.
+    /// Gives frames to the front of a block of the mix, as many as an interrupt that mixes `n` frames gets.
     pub fn refill(&mut self, n: usize, bytes: &mut [u8], frames: &mut [i32], sum: &mut [i32])
-        requires bytes { length bytes.old ≡ n * frame_bytes self.old.device }
-        requires frames { length frames.old ≡ n * channels_of self.old.device.layout }
-        requires sum { length sum.old ≡ n * channels_of self.old.device.layout }
-        requires fits { All (FitsBits (bits_of self.old.device.format)) sum.old }
+        requires some { 0 < n }
+        requires bytes { length bytes.old ≡ n * frame_bytes self.old.device.settings }
+        requires frames { length frames.old ≡ n * channels_of self.old.device.settings.layout }
+        requires sum { length sum.old ≡ n * channels_of self.old.device.settings.layout }
+        requires fits { All (FitsBits (bits_of self.old.device.settings.format)) sum.old }
         requires count { self.old.book.given + n < 2 ^ 64 }
-        ensures book { self.new.book ≡ refilled n self.old.book }
+        ensures book { self.new.book ≡ mixing (seen self.old.device) n self.old.book }
         ensures device { self.new.device ≡ self.old.device }
         ensures ring { 0 < self.new.book.written → self.new.ring.bytes
-            ≡ drop (giving n self.old.book * frame_bytes self.old.device) self.old.ring.bytes }
-        ensures sum { sum.new ≡ turned self.old.device n self.old.book self.old.ring.bytes sum.old }
-        ensures fits { All (FitsBits (bits_of self.old.device.format)) sum.new }
+            ≡ drop (giving (rate_at (seen self.old.device) self.old.book) n self.old.book
+            * frame_bytes self.old.book.settings) self.old.ring.bytes }
+        ensures sum { sum.new
+            ≡ turned (seen self.old.device) n self.old.book self.old.ring.bytes sum.old }
+        ensures fits { All (FitsBits (bits_of self.old.device.settings.format)) sum.new }
     {
-        let count = self.book.giving(n as u64) as usize;
-        let size = count * self.device.frame_bytes();
-        let samples = count * self.device.layout.channels();
-        let bits = self.device.format.bits();
+        let settings = self.device.settings;
+        let count = self.book.giving(UNCHANGED, n as u64) as usize;
+        let size = count * settings.frame_bytes();
+        let samples = count * settings.layout.channels();
+        let bits = settings.format.bits();
         let given = &mut frames[..samples];
-        fetch(
-            &mut self.ring,
-            self.device.format,
-            bits,
-            &mut bytes[..size],
-            given,
-        );
+        let taken = &mut bytes[..size];
+        fetch(&mut self.ring, settings.format, bits, taken, given);
         mix_into(&mut sum[..samples], given, bits);
-        self.book = self.book.refilled(n as u64);
+        self.book = self.book.refilled(UNCHANGED, n as u64);
         if self.book.written == 0 {
             self.ring.clear();
         }

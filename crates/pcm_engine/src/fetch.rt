@@ -5,8 +5,7 @@ ghost use Rattle.pcm_format.specs.Formats.{bytes_of};
 ghost use Rattle.pcm_format.specs.Samples.{at_depth, samples};
 ghost use Rattle.std.specs.Prelude.{map};
 
-use crate::depth::bring_to_depth;
-use pcm_format::{Format, load_frames};
+use pcm_format::{Format, bring_to_depth, load_frames};
 use pcm_ring::ByteRing;
 
 /// Moves as many of the ring's oldest bytes as `bytes` has places, and loads their samples at so many bits.

@@ -4,10 +4,9 @@
 
 mod channel;
 mod clients;
-mod depth;
 mod engine;
 mod fetch;
 mod mixer;
-mod output;
+mod parent;
 
 pub use engine::Engine;

@@ -3,8 +3,9 @@ use Rattle.std.proofs.lemmas.List.{take_more}
 use Rattle.std.proofs.lemmas.List.Sums.{fold-append}
 use Rattle.std.proofs.lemmas.Bool.{cases_lt}
 use Rattle.pcm_engine.specs.declared.channel.Channel.{Channel}
-use Rattle.pcm_engine.specs.Channels.{Refills, turn_of}
-use Rattle.pcm_engine.proofs.Desks.{some_channel}
+use Rattle.pcm_desk.specs.Device.{seen}
+use Rattle.pcm_engine.specs.Channels.{Refills, with_channel}
+use Rattle.pcm_engine.proofs.Channels.{some_channel}
 use Rattle.pcm_engine.proofs.mixer.mix_channels.Goals as goal
 
 pub loop-slot-preserved : goal.loop-slot-preserved
@@ -24,8 +25,8 @@ loop-slot-preserved c =
             (subst (λ (channel : Channel). Refills n channel (get_or c.mix_slot.new.channels i other)) (c.loop-slot.invariant.rest i other (omega arith)) (c.mix_slot.ensures.own other)))
       ];
       rest = λ at other h. c.mix_slot.ensures.others at other (omega arith) ∙ c.loop-slot.invariant.rest at other (omega arith);
-      sum = c.mix_slot.ensures.sum first ∙ ap (λ (s : List ℤ). turn_of c.args.settings n s (get_or c.loop-slot.channels i first)) c.loop-slot.invariant.sum
-          ∙ ap (turn_of c.args.settings n (fold (turn_of c.args.settings n) c.args.sum.now (take i before))) same
-          ∙ sym (ap (fold (turn_of c.args.settings n) c.args.sum.now) (take_more before i first there) ∙ fold-append (turn_of c.args.settings n) c.args.sum.now (take i before) (get_or before i first ∷ []));
+      sum = c.mix_slot.ensures.sum first ∙ ap (λ (s : List ℤ). with_channel (seen c.args.device) n s (get_or c.loop-slot.channels i first)) c.loop-slot.invariant.sum
+          ∙ ap (with_channel (seen c.args.device) n (fold (with_channel (seen c.args.device) n) c.args.sum.now (take i before))) same
+          ∙ sym (ap (fold (with_channel (seen c.args.device) n) c.args.sum.now) (take_more before i first there) ∙ fold-append (with_channel (seen c.args.device) n) c.args.sum.now (take i before) (get_or before i first ∷ []));
       fits = c.mix_slot.ensures.fits;
     }

@@ -2,7 +2,7 @@ use Rattle.std.proofs.Common.{◌≡◌, ◌*◌, length, sym, ap, ◌∙◌}
 use Rattle.std.proofs.Math.Nat.{mul_assoc}
 use Rattle.pcm_format.specs.Layouts.{channels_of}
 use Rattle.pcm_format.specs.Formats.{bytes_of}
-use Rattle.pcm_engine.proofs.output.Output.new.Goals as goal
+use Rattle.pcm_engine.proofs.parent.Parent.new.Goals as goal
 
 pub spell_frames-requires-clause-lengths : goal.spell_frames-requires-clause-lengths
 spell_frames-requires-clause-lengths c =

@@ -1,0 +1,41 @@
+-- What a parent is to a desk.
+use Rattle.std.specs.Prelude.{◌≡◌, ℕ, List, Option, Some, None, Result, Ok, Err, slice_set}
+use Rattle.pcm_format.specs.declared.settings.Settings.{Settings}
+use Rattle.pcm_format.specs.declared.reply.Errno.{Errno}
+use Rattle.pcm_format.specs.declared.reply.Errno.TheVariants.{Busy}
+use Rattle.pcm_desk.specs.declared.book.Book.{Book}
+use Rattle.pcm_desk.specs.declared.device.Held.{Held}
+use Rattle.pcm_desk.specs.Books.{begun}
+use Rattle.pcm_desk.specs.Desk.{Desk}
+use Rattle.pcm_engine.specs.declared.parent.Parent.{Parent}
+use Rattle.pcm_engine.specs.Channels.{books_of}
+
+-- the books of a parent, by slot
+abbrev pub parent_books : Parent → List Book
+parent_books parent = books_of parent.channels.items
+
+-- the desk of a parent and descriptors
+abbrev pub desk_with : Parent → List (Option Held) → Desk
+desk_with parent descriptors = record {
+  play = parent_books parent;
+  descriptors = descriptors;
+  handed = parent.handed;
+  mixed = parent.mixed;
+}
+
+-- the slot that an open takes, where one is free
+abbrev pub slot_or_busy : Option ℕ → Result ℕ Errno
+slot_or_busy None = Err Busy
+slot_or_busy (Some slot) = Ok slot
+
+-- the books once an opening began in that slot
+abbrev pub books_begun : Option ℕ → Settings → List Book → List Book
+books_begun None settings books = books
+books_begun (Some slot) settings books = slice_set books slot (begun settings)
+
+-- all but the channels is as before: the device, its ring and its counts
+pub record KeepsOutput (old new : Parent) : Type 0 where
+  pub device_same : new.device ≡ old.device
+  pub ring_same : new.ring.bytes ≡ old.ring.bytes
+  pub handed_same : new.handed ≡ old.handed
+  pub mixed_same : new.mixed ≡ old.mixed
