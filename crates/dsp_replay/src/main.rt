@@ -19,7 +19,7 @@ fn main(rt: HostRuntime) -> ExitCode {
             explain(&rt, 8, &[], false);
             8
         }
-        // A word that isn't UTF-8 is of no form, as no words are.
+        // Words that aren't UTF-8 match no form, as an empty list matches none.
         Err(_) => run(&rt, &[]),
     };
     ExitCode::from(status)

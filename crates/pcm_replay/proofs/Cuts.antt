@@ -1,9 +1,10 @@
 -- What is left of a device file.
 use Rattle.std.proofs.Common.{◌≡◌, ℕ, List, [], Option, ◌∙◌, ap, subst}
 use Rattle.pcm_outside.specs.Counts.{Rose}
-use Rattle.pcm_outside.specs.Files.{FilesSeen, Creates, FailsToCreate, Grows, IsLeft, OnlyReads, OnlyWrites}
+use Rattle.pcm_outside.specs.Files.{FilesSeen, Creates, FailsToCreate, Grows, IsLeft, NoReadFails, OnlyReads, OnlyWrites}
 use Rattle.pcm_outside.specs.Sink.{SinkSeen, FailsToPut, Puts}
-use Rattle.pcm_replay.specs.Runs.{AtAppend, AtCreate, AtPut, CutsRun, HasWritten, WritesRun}
+use Rattle.pcm_replay.specs.Outside.{Outside}
+use Rattle.pcm_replay.specs.Runs.{AtAppend, AtCreate, AtPut, CutsRun, HasWritten, Output, WritesFile, WritesRun}
 
 -- a file that was created, and that a piece was appended to
 pub has_written : (name piece : List ℕ) (old made new : FilesSeen) → OnlyWrites old made → Creates old made name → Grows made new piece → HasWritten name piece old new
@@ -16,25 +17,41 @@ has_written name piece old made new only creates grows = record {
 pub rose_later : (a b c : ℕ) → b ≡ a → Rose b c → Rose a c
 rose_later a b c same rose = subst (λ n. Rose n c) same rose
 
--- a cut, by other terms for the text and the lines
-pub cut_as : (name text lines text_as lines_as : List ℕ) (old new : FilesSeen) (before after : SinkSeen) → text ≡ text_as → lines ≡ lines_as
-    → CutsRun name text lines old new before after → CutsRun name text_as lines_as old new before after
-cut_as name text lines text_as lines_as old new before after same_text same_lines cut =
-    subst (λ (t : List ℕ). CutsRun name t lines_as old new before after) same_text
-    (subst (λ (l : List ℕ). CutsRun name text l old new before after) same_lines cut)
+-- what holds of an output, by other terms for its bytes and lines
+output_as : (P : Output → Type 0) (name bytes lines bytes_as lines_as : List ℕ) → bytes ≡ bytes_as → lines ≡ lines_as
+    → P (record { name = name; bytes = bytes; lines = lines }) → P (record { name = name; bytes = bytes_as; lines = lines_as })
+output_as P name bytes lines bytes_as lines_as same_bytes same_lines holds =
+    subst (λ (b : List ℕ). P (record { name = name; bytes = b; lines = lines_as })) same_bytes
+    (subst (λ (l : List ℕ). P (record { name = name; bytes = bytes; lines = l })) same_lines holds)
 
--- what was written, by other terms for the text and the lines
-pub written_as : (name text lines text_as lines_as : List ℕ) (old new : FilesSeen) (before after : SinkSeen) → text ≡ text_as → lines ≡ lines_as
-    → WritesRun name text lines old new before after → WritesRun name text_as lines_as old new before after
-written_as name text lines text_as lines_as old new before after same_text same_lines written =
-    subst (λ (t : List ℕ). WritesRun name t lines_as old new before after) same_text
-    (subst (λ (l : List ℕ). WritesRun name text l old new before after) same_lines written)
+pub cut_as : (name bytes lines bytes_as lines_as : List ℕ) (before after : Outside) → bytes ≡ bytes_as → lines ≡ lines_as
+    → CutsRun (record { name = name; bytes = bytes; lines = lines }) before after
+    → CutsRun (record { name = name; bytes = bytes_as; lines = lines_as }) before after
+cut_as name bytes lines bytes_as lines_as before after = output_as (λ output. CutsRun output before after) name bytes lines bytes_as lines_as
+
+pub written_as : (name bytes lines bytes_as lines_as : List ℕ) (before after : Outside) → bytes ≡ bytes_as → lines ≡ lines_as
+    → WritesRun (record { name = name; bytes = bytes; lines = lines }) before after
+    → WritesRun (record { name = name; bytes = bytes_as; lines = lines_as }) before after
+written_as name bytes lines bytes_as lines_as before after = output_as (λ output. WritesRun output before after) name bytes lines bytes_as lines_as
+
+-- files that were read, with nothing else done before a run
+pub record OnlyHasRead (before between : Outside) : Type 0 where
+  pub files : OnlyReads before.files between.files
+  pub kept : NoReadFails before.files between.files
+  pub sink : between.sink ≡ before.sink
 
 -- what a read leaves alone, and then a write changes
 pub has_written_later : (name bytes : List ℕ) (old read new : FilesSeen) → OnlyReads old read → HasWritten name bytes read new → HasWritten name bytes old new
 has_written_later name bytes old read new only written = record {
   file = λ told. written.file (only.tells ∙ told);
   others = λ told other ne. written.others (only.tells ∙ told) other ne ∙ ap (λ (content : List ℕ → Option (List ℕ)). content other) only.content;
+}
+
+pub writes_file_later : (output : Output) (before between : Outside) (new : FilesSeen) → OnlyHasRead before between → WritesFile output between.files new → WritesFile output before.files new
+writes_file_later output before between new only written = record {
+  file = has_written_later output.name output.bytes before.files between.files new only.files written.file;
+  read_faults = written.read_faults ∙ only.kept.read_faults;
+  write_faults = written.write_faults ∙ only.files.write_faults;
 }
 
 pub fails_to_create_later : (name : List ℕ) (old read new : FilesSeen) → OnlyReads old read → FailsToCreate read new name → FailsToCreate old new name
@@ -48,29 +65,25 @@ fails_to_create_later name old read new only failed =
       others = λ other ne. failed.others other ne ∙ ap (λ (content : List ℕ → Option (List ℕ)). content other) only.content;
     }
 
-pub written_later : (name text lines : List ℕ) (old read new : FilesSeen) (before between after : SinkSeen) → OnlyReads old read → between ≡ before
-    → WritesRun name text lines read new between after → WritesRun name text lines old new before after
-written_later name text lines old read new before between after only same written = record {
-  file = has_written_later name text old read new only written.file;
-  write_faults = written.write_faults ∙ only.write_faults;
-  put = subst (λ (sink : SinkSeen). Puts sink after lines) same written.put;
+pub written_later : (output : Output) (before between after : Outside) → OnlyHasRead before between → WritesRun output between after → WritesRun output before after
+written_later output before between after only run = record {
+  written = writes_file_later output before between after.files only run.written;
+  put = subst (λ (sink : SinkSeen). Puts sink after.sink output.lines) only.sink run.put;
 }
 
-pub cut_later : (name text lines : List ℕ) (old read new : FilesSeen) (before between after : SinkSeen) → OnlyReads old read → between ≡ before
-    → CutsRun name text lines read new between after → CutsRun name text lines old new before after
-cut_later name text lines old read new before between after only same (AtCreate cut) = AtCreate (record {
-  file = fails_to_create_later name old read new only cut.file;
-  sink = cut.sink ∙ same;
+pub cut_later : (output : Output) (before between after : Outside) → OnlyHasRead before between → CutsRun output between after → CutsRun output before after
+cut_later output before between after only (AtCreate cut) = AtCreate (record {
+  file = fails_to_create_later output.name before.files between.files after.files only.files cut.file;
+  sink = cut.sink ∙ only.sink;
 })
-cut_later name text lines old read new before between after only same (AtAppend cut) = AtAppend (record {
-  rose = rose_later _ _ _ only.write_faults cut.rose;
+cut_later output before between after only (AtAppend cut) = AtAppend (record {
+  rose = rose_later _ _ _ only.files.write_faults cut.rose;
   part = cut.part;
   front = cut.front;
-  file = has_written_later name cut.part old read new only cut.file;
-  sink = cut.sink ∙ same;
+  file = has_written_later output.name cut.part before.files between.files after.files only.files cut.file;
+  sink = cut.sink ∙ only.sink;
 })
-cut_later name text lines old read new before between after only same (AtPut cut) = AtPut (record {
-  file = has_written_later name text old read new only cut.file;
-  write_faults = cut.write_faults ∙ only.write_faults;
-  put = subst (λ (sink : SinkSeen). FailsToPut sink after lines) same cut.put;
+cut_later output before between after only (AtPut cut) = AtPut (record {
+  written = writes_file_later output before between after.files only cut.written;
+  put = subst (λ (sink : SinkSeen). FailsToPut sink after.sink output.lines) only.sink cut.put;
 })

@@ -1,68 +1,69 @@
 -- How a call ends whose script was read.
-use Rattle.std.proofs.Common.{◌≡◌, ℕ, List, Result, Ok, Err, IfErr, IfOk, IsTrue, OnOk, ◌∙◌, subst, sym}
-use Rattle.pcm_outside.specs.Files.{FilesSeen, OnlyReads}
-use Rattle.pcm_outside.specs.Sink.{SinkSeen}
+use Rattle.std.proofs.Common.{◌≡◌, ℕ, List, Some, Result, Ok, Err, IfErr, IfOk, IsTrue, OnOk, ◌∙◌, ap, refl, subst, sym}
+use Rattle.pcm_outside.specs.Files.{OnlyReads}
 use Rattle.pcm_engine.specs.declared.engine.Engine.{Engine}
-use Rattle.pcm_script.specs.declared.script.Script.{Script}
-use Rattle.pcm_verdict.specs.Verdict.{Accept, Verdict}
+use Rattle.pcm_script.specs.Lines.{pool_of}
+use Rattle.pcm_verdict.specs.Verdict.{Accept, Accepted, RunScript, Verdict, command_of}
 use Rattle.pcm_replay.specs.declared.ending.Ending.{Ending}
 use Rattle.pcm_replay.specs.declared.ending.Ending.TheVariants.{Usage, CannotRead, BadScript, CannotWrite, NoMemory}
 use Rattle.pcm_replay.specs.Endings.{CutsShort, Ends, Finishes}
-use Rattle.pcm_replay.specs.Outcomes.{InScript, NamesRun, judged}
+use Rattle.pcm_replay.specs.Outcomes.{InScript, IsNamed, verdict_on}
+use Rattle.pcm_replay.specs.Outside.{Outside}
 use Rattle.pcm_replay.specs.Playing.{RanThrough}
-use Rattle.pcm_replay.specs.Runs.{WritesRun, lines_of, text_of}
-use Rattle.pcm_replay.proofs.Cuts.{cut_later, written_later}
+use Rattle.pcm_replay.specs.Runs.{WritesRun, output_of}
+use Rattle.pcm_replay.proofs.Cuts.{OnlyHasRead, cut_later, written_later}
 
--- a script of these words was read, with nothing written and nothing put
-pub record HasRead (words : List (List ℕ)) (name : List ℕ) (script : Script) (old read : FilesSeen) (before between : SinkSeen) : Type 0 where
-  pub named : NamesRun words
-  pub cause : IsTrue old.tells → judged words old ≡ Accept name script
-  pub files : OnlyReads old read
-  pub sink : between ≡ before
+-- a script that these words name was read, with nothing written and nothing put
+pub record IsRead (words : List (List ℕ)) (accepted : Accepted) (before between : Outside) : Type 0 where
+  pub is_named : IsNamed words before.files accepted
+  pub only : OnlyHasRead before between
 
-pub finishes : (words : List (List ℕ)) (name : List ℕ) (script : Script) (old read new : FilesSeen) (before between after : SinkSeen) (r : Result Engine Ending)
-    → HasRead words name script old read before between
-    → IfOk r (λ engine. RanThrough engine script.inline_bytes script.events)
-    → OnOk r (WritesRun name (text_of script) (lines_of script) read new between after)
-    → IfOk r (λ engine. Finishes engine words old new before after)
-finishes words name script old read new before between after (Ok engine) h ran writes = record {
-  named = h.named;
-  name = name;
-  script = script;
-  cause = h.cause;
+pub read_of : (words : List (List ℕ)) (name : List ℕ) (accepted : Accepted) (before between : Outside)
+    → Some (RunScript name accepted.out) ≡ command_of words → (IsTrue before.files.tells → verdict_on words before.files ≡ Accept accepted)
+    → OnlyHasRead before between → IsRead words accepted before between
+read_of words name accepted before between command cause only = record {
+  is_named = record { named = record { script = name; out = accepted.out; command = sym command }; out = refl; cause = cause };
+  only = only;
+}
+
+pub finishes : (words : List (List ℕ)) (accepted : Accepted) (before between after : Outside) (r : Result Engine Ending)
+    → IsRead words accepted before between
+    → IfOk r (λ engine. RanThrough engine (pool_of accepted.script) accepted.script.events)
+    → OnOk r (WritesRun (output_of accepted) between after)
+    → IfOk r (λ engine. Finishes engine words before after)
+finishes words accepted before between after (Ok engine) read ran writes = record {
+  accepted = accepted;
+  is_named = read.is_named;
   ran = ran;
-  writes = written_later name (text_of script) (lines_of script) old read new before between after h.files h.sink writes;
+  writes = written_later (output_of accepted) before between after read.only writes;
 }
-finishes words name script old read new before between after (Err ending) h ran writes = ran
+finishes words accepted before between after (Err ending) read ran writes = ran
 
-ends_as : (words : List (List ℕ)) (name : List ℕ) (script : Script) (old read new : FilesSeen) (before between after : SinkSeen) (ending : Ending)
-    → HasRead words name script old read before between → CutsShort ending name script read new between after → Ends ending words old new before after
-ends_as words name script old read new before between after Usage h cut = absurd cut
-ends_as words name script old read new before between after CannotRead h cut = absurd cut
-ends_as words name script old read new before between after BadScript h cut = absurd cut
-ends_as words name script old read new before between after CannotWrite h cut = InScript (record {
-  named = h.named;
-  name = name;
-  script = script;
-  cause = h.cause;
-  cut = cut_later name (text_of script) (lines_of script) old read new before between after h.files h.sink cut;
+ends_as : (words : List (List ℕ)) (accepted : Accepted) (before between after : Outside) (ending : Ending)
+    → IsRead words accepted before between → CutsShort ending accepted between after → Ends ending words before after
+ends_as words accepted before between after Usage read cut = absurd cut
+ends_as words accepted before between after CannotRead read cut = absurd cut
+ends_as words accepted before between after BadScript read cut = absurd cut
+ends_as words accepted before between after CannotWrite read cut = InScript (record {
+  accepted = accepted;
+  is_named = read.is_named;
+  cut = cut_later (output_of accepted) before between after read.only cut;
 })
-ends_as words name script old read new before between after NoMemory h cut = record {
-  named = h.named;
-  files = subst (OnlyReads old) (sym cut.0) h.files;
-  sink = cut.1 ∙ h.sink;
+ends_as words accepted before between after NoMemory read same = record {
+  named = read.is_named.named;
+  files = subst (λ (outside : Outside). OnlyReads before.files outside.files) (sym same) read.only.files;
+  sink = ap (λ (outside : Outside). outside.sink) same ∙ read.only.sink;
 }
 
-pub ends : (words : List (List ℕ)) (name : List ℕ) (script : Script) (old read new : FilesSeen) (before between after : SinkSeen) (r : Result Engine Ending)
-    → HasRead words name script old read before between
-    → IfErr r (λ ending. CutsShort ending name script read new between after)
-    → IfErr r (λ ending. Ends ending words old new before after)
-ends words name script old read new before between after (Ok engine) h cut = cut
-ends words name script old read new before between after (Err ending) h cut = ends_as words name script old read new before between after ending h cut
+pub ends : (words : List (List ℕ)) (accepted : Accepted) (before between after : Outside) (r : Result Engine Ending)
+    → IsRead words accepted before between
+    → IfErr r (λ ending. CutsShort ending accepted between after)
+    → IfErr r (λ ending. Ends ending words before after)
+ends words accepted before between after (Ok engine) read cut = cut
+ends words accepted before between after (Err ending) read cut = ends_as words accepted before between after ending read cut
 
--- what was written is the accepted script's
-pub writes_accepted : (v : Verdict) (name to : List ℕ) (script accepted : Script) (P : List ℕ → Script → Type 0) → v ≡ Accept name script → v ≡ Accept to accepted → P name script → P to accepted
-writes_accepted v name to script accepted P one other holds =
-    let same_name : name ≡ to = cc in
-    let same_script : script ≡ accepted = cc in
-    subst (λ (n : List ℕ). P n accepted) same_name (subst (P name) same_script holds)
+-- what holds of the script that was run holds of the accepted one
+pub of_accepted : (v : Verdict) (run accepted : Accepted) (P : Accepted → Type 0) → v ≡ Accept run → v ≡ Accept accepted → P run → P accepted
+of_accepted v run accepted P one other holds =
+    let same : run ≡ accepted = cc in
+    subst P same holds

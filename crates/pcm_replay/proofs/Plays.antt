@@ -1,15 +1,16 @@
 -- A run by one event more.
-use Rattle.std.proofs.Common.{◌≡◌, ℕ, suc, ◌+◌, List, [], ◌∷◌, ◌++◌, ◌≤◌, Result, length, take, refl, sym, ◌∙◌, ap, subst, string_bytes, vec_len, arith, append_assoc, append-nil, length-append}
+use Rattle.std.proofs.Common.{◌≡◌, ℕ, suc, ◌+◌, List, [], ◌∷◌, ◌++◌, ◌≤◌, length, take, refl, sym, ◌∙◌, ap, subst, string_bytes, vec_len, arith, append_assoc, append-nil, length-append}
 use Rattle.std.proofs.lemmas.List.{take-append-le, take_all}
 use Rattle.pcm_format.specs.declared.event.Event.{Event}
-use Rattle.pcm_format.specs.declared.reply.Answer.{Answer}
-use Rattle.pcm_format.specs.declared.reply.Errno.{Errno}
-use Rattle.pcm_desk.specs.declared.device.Device.{Device}
-use Rattle.pcm_desk.specs.Desk.{Desk, after, desk_at_start}
-use Rattle.pcm_desk.specs.Events.{after_all, replies}
+use Rattle.pcm_format.specs.declared.event.Event.TheVariants.{Write}
+use Rattle.pcm_format.specs.declared.pool.Pool.{Pool}
+use Rattle.pcm_format.specs.Replies.{Reply}
+use Rattle.pcm_desk.specs.Device.{DeviceSeen}
 use Rattle.pcm_desk.specs.Usual.{usual_device}
 use Rattle.pcm_sound.specs.DeviceList.{device_text}
-use Rattle.pcm_engine.specs.Engines.{Stands}
+use Rattle.pcm_sound.specs.Replies.{replies, reply_to}
+use Rattle.pcm_sound.specs.Story.{Story, story_at_start, story_of, told, told_all}
+use Rattle.pcm_engine.specs.Engines.{Stands, device_of}
 use Rattle.pcm_verdict.specs.Transcript.{lines_from, reply_line, transcript}
 use Rattle.pcm_replay.specs.declared.replay.Replay.{Replay}
 use Rattle.pcm_replay.specs.Playing.{HasPlayed}
@@ -18,60 +19,62 @@ length-push : (events : List Event) (event : Event) → length events + 1 ≡ le
 length-push events event = omega (arith, length-append events (event ∷ []))
 
 -- the replies to one event more
-pub replies-more : (device : Device) (desk : Desk) (events : List Event) (event : Event)
-    → replies device desk (events ++ event ∷ []) ≡ replies device desk events ++ (after device (after_all device desk events) event).reply ∷ []
-replies-more device desk [] event = refl
-replies-more device desk (first ∷ events) event =
-    ap (λ (rest : List (Result Answer Errno)). (after device desk first).reply ∷ rest) (replies-more device (after device desk first).desk events event)
+pub replies-more : (device : DeviceSeen) (pool : Pool) (story : Story) (events : List Event) (event : Event)
+    → replies device pool story (events ++ event ∷ []) ≡ replies device pool story events ++ reply_to device (told_all device pool story events) event ∷ []
+replies-more device pool story [] event = refl
+replies-more device pool story (first ∷ events) event =
+    ap (λ (rest : List Reply). reply_to device story first ∷ rest) (replies-more device pool (told device pool story first) events event)
 
-pub length-replies : (device : Device) (desk : Desk) (events : List Event) → length (replies device desk events) ≡ length events
-length-replies device desk [] = refl
-length-replies device desk (first ∷ events) = ap (λ n. suc n) (length-replies device (after device desk first).desk events)
+pub length-replies : (device : DeviceSeen) (pool : Pool) (story : Story) (events : List Event) → length (replies device pool story events) ≡ length events
+length-replies device pool story [] = refl
+length-replies device pool story (first ∷ events) = ap (λ n. suc n) (length-replies device pool (told device pool story first) events)
 
 -- the lines of one reply more
-pub lines_from-more : (number : ℕ) (answers : List (Result Answer Errno)) (answer : Result Answer Errno)
-    → lines_from number (answers ++ answer ∷ []) ≡ lines_from number answers ++ reply_line (number + length answers) answer
-lines_from-more number [] answer =
-    append-nil (reply_line number answer) ∙ ap (λ n. reply_line n answer) (let e : number ≡ number + 0 = omega arith in e)
-lines_from-more number (first ∷ answers) answer =
+pub lines_from-more : (number : ℕ) (said : List Reply) (reply : Reply)
+    → lines_from number (said ++ reply ∷ []) ≡ lines_from number said ++ reply_line (number + length said) reply
+lines_from-more number [] reply =
+    append-nil (reply_line number reply) ∙ ap (λ n. reply_line n reply) (let e : number ≡ number + 0 = omega arith in e)
+lines_from-more number (first ∷ said) reply =
     let line : List ℕ = reply_line number first in
-    let next : number + 1 + length answers ≡ number + suc (length answers) = omega arith in
-    ap (λ (rest : List ℕ). line ++ rest) (lines_from-more (number + 1) answers answer)
-    ∙ sym (append_assoc line (lines_from (number + 1) answers) (reply_line (number + 1 + length answers) answer))
-    ∙ ap (λ n. line ++ lines_from (number + 1) answers ++ reply_line n answer) next
+    let next : number + 1 + length said ≡ number + suc (length said) = omega arith in
+    ap (λ (rest : List ℕ). line ++ rest) (lines_from-more (number + 1) said reply)
+    ∙ sym (append_assoc line (lines_from (number + 1) said) (reply_line (number + 1 + length said) reply))
+    ∙ ap (λ n. line ++ lines_from (number + 1) said ++ reply_line n reply) next
 
 -- what is printed of one event more
-pub transcript-more : (device : Device) (events : List Event) (event : Event)
-    → transcript device (events ++ event ∷ []) ≡ transcript device events ++ reply_line (length events + 1) (after device (after_all device (desk_at_start device) events) event).reply
-transcript-more device events event =
-    let desk : Desk = desk_at_start device in
-    let answer : Result Answer Errno = (after device (after_all device desk events) event).reply in
-    let number : 1 + length (replies device desk events) ≡ length events + 1 = omega (arith, length-replies device desk events) in
-    ap (lines_from 1) (replies-more device desk events event)
-    ∙ lines_from-more 1 (replies device desk events) answer
-    ∙ ap (λ n. lines_from 1 (replies device desk events) ++ reply_line n answer) number
+pub transcript-more : (device : DeviceSeen) (pool : Pool) (events : List Event) (event : Event)
+    → transcript device pool (events ++ event ∷ []) ≡ transcript device pool events ++ reply_line (length events + 1) (reply_to device (story_of device pool events) event)
+transcript-more device pool events event =
+    let story : Story = story_at_start device in
+    let reply : Reply = reply_to device (story_of device pool events) event in
+    let number : 1 + length (replies device pool story events) ≡ length events + 1 = omega (arith, length-replies device pool story events) in
+    ap (lines_from 1) (replies-more device pool story events event)
+    ∙ lines_from-more 1 (replies device pool story events) reply
+    ∙ ap (λ n. lines_from 1 (replies device pool story events) ++ reply_line n reply) number
 
 -- what an engine's step gave, and what was kept of it
-pub record Steps (old new : Replay) (inline : List ℕ) (events : List Event) (event : Event) (piece : List ℕ) (number : ℕ) (answer : Result Answer Errno) : Type 0 where
-  pub device : new.engine.device ≡ old.engine.device
-  pub stands : Stands old.engine inline events → Stands new.engine inline (events ++ event ∷ [])
+pub record Steps (old new : Replay) (pool : Pool) (events : List Event) (event : Event) (piece : List ℕ) (number : ℕ) (reply : Reply) : Type 0 where
+  pub device : device_of new.engine ≡ device_of old.engine
+  pub stands : Stands old.engine pool events → Stands new.engine pool (events ++ event ∷ [])
   pub steps : new.engine.steps ≡ old.engine.steps + 1
-  pub bytes : Stands old.engine inline events → device_text old.engine.device inline (events ++ event ∷ []) ≡ device_text old.engine.device inline events ++ piece
-  pub reply : Stands old.engine inline events → answer ≡ (after old.engine.device (after_all old.engine.device (desk_at_start old.engine.device) events) event).reply
+  pub bytes : Stands old.engine pool events
+      → device_text (device_of old.engine) pool (events ++ event ∷ []) ≡ device_text (device_of old.engine) pool events ++ piece
+  pub replied : Stands old.engine pool events
+      → reply ≡ reply_to (device_of old.engine) (story_of (device_of old.engine) pool events) event
   pub text : new.text.items ≡ old.text.items ++ piece
   pub counted : number ≡ length events + 1
-  pub lines : string_bytes new.lines ≡ string_bytes old.lines ++ reply_line number answer
+  pub lines : string_bytes new.lines ≡ string_bytes old.lines ++ reply_line number reply
   pub room : vec_len new.block ≡ vec_len old.block
 
 -- one event more was run
-pub played : (old new : Replay) (inline : List ℕ) (events : List Event) (event : Event) (piece : List ℕ) (number : ℕ) (answer : Result Answer Errno)
-    → Steps old new inline events event piece number answer → HasPlayed old inline events → HasPlayed new inline (events ++ event ∷ [])
-played old new inline events event piece number answer s h =
-    let was : old.engine.device ≡ usual_device = h.engine.device in
-    let bytes : device_text usual_device inline (events ++ event ∷ []) ≡ device_text usual_device inline events ++ piece =
-    subst (λ (device : Device). device_text device inline (events ++ event ∷ []) ≡ device_text device inline events ++ piece) was (s.bytes h.engine.stands) in
-    let reply : answer ≡ (after usual_device (after_all usual_device (desk_at_start usual_device) events) event).reply =
-    subst (λ (device : Device). answer ≡ (after device (after_all device (desk_at_start device) events) event).reply) was (s.reply h.engine.stands) in
+pub played : (old new : Replay) (pool : Pool) (events : List Event) (event : Event) (piece : List ℕ) (number : ℕ) (reply : Reply)
+    → Steps old new pool events event piece number reply → HasPlayed old pool events → HasPlayed new pool (events ++ event ∷ [])
+played old new pool events event piece number reply s h =
+    let was : device_of old.engine ≡ usual_device = h.engine.device in
+    let bytes : device_text usual_device pool (events ++ event ∷ []) ≡ device_text usual_device pool events ++ piece =
+    subst (λ (device : DeviceSeen). device_text device pool (events ++ event ∷ []) ≡ device_text device pool events ++ piece) was (s.bytes h.engine.stands) in
+    let replied : reply ≡ reply_to usual_device (story_of usual_device pool events) event =
+    subst (λ (device : DeviceSeen). reply ≡ reply_to device (story_of device pool events) event) was (s.replied h.engine.stands) in
     record {
       engine = record {
         device = s.device ∙ was;
@@ -79,10 +82,10 @@ played old new inline events event piece number answer s h =
         steps = s.steps ∙ ap (λ n. n + 1) h.engine.steps ∙ length-push events event;
       };
       text = s.text ∙ ap (λ (text : List ℕ). text ++ piece) h.text ∙ sym bytes;
-      lines = s.lines ∙ ap (λ (lines : List ℕ). lines ++ reply_line number answer) h.lines
-          ∙ ap (λ n. transcript usual_device events ++ reply_line n answer) s.counted
-          ∙ ap (λ (reply : Result Answer Errno). transcript usual_device events ++ reply_line (length events + 1) reply) reply
-          ∙ sym (transcript-more usual_device events event);
+      lines = s.lines ∙ ap (λ (lines : List ℕ). lines ++ reply_line number reply) h.lines
+          ∙ ap (λ n. transcript usual_device pool events ++ reply_line n reply) s.counted
+          ∙ ap (λ (reply : Reply). transcript usual_device pool events ++ reply_line (length events + 1) reply) replied
+          ∙ sym (transcript-more usual_device pool events event);
       room = s.room ∙ h.room;
     }
 

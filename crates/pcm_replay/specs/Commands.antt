@@ -4,4 +4,4 @@ use Rattle.pcm_replay.specs.declared.words.Command.{Command}
 
 -- the names that a command has
 abbrev pub command_seen : Command → verdicts.Command
-command_seen command = verdicts.Run command.script.now command.out.now
+command_seen command = verdicts.RunScript command.script.now command.out.now

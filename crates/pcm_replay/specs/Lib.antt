@@ -1,4 +1,5 @@
 pub mod Commands
+pub mod Outside
 pub mod Runs
 pub mod Outcomes
 pub mod Endings

@@ -3,7 +3,7 @@
 /// What ended a call early.
 #[derive(Clone, Copy, Debug, PartialEq, Eq)]
 pub enum Ending {
-    /// The words are of no form.
+    /// The words match no form.
     Usage,
     /// The script can't be read.
     CannotRead,

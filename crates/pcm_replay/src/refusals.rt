@@ -3,9 +3,10 @@
 ghost use Rattle.std.specs.Prelude.{◌≡◌, ℕ, List, Some, None, IsTrue};
 ghost use Rattle.pcm_outside.specs.Files.{FilesSeen, FailsToRead, OnlyReads};
 ghost use Rattle.pcm_script.specs.declared.fault.Refusal.{Refusal};
-ghost use Rattle.pcm_verdict.specs.Verdict.{BadScript, Run, command_of};
+ghost use Rattle.pcm_verdict.specs.Verdict.{BadScript, RunScript, command_of};
 ghost use Rattle.pcm_replay.specs.Endings.{Ends};
-ghost use Rattle.pcm_replay.specs.Outcomes.{NamesRun, judged};
+ghost use Rattle.pcm_replay.specs.Outcomes.{NamesRun, verdict_on};
+ghost use Rattle.pcm_replay.specs.Outside.{both};
 
 use crate::ending::Ending;
 use crate::fault_lines::{bad_script_line, cannot_read_line, usage_line};
@@ -13,10 +14,10 @@ use pcm_outside::{Sink, WriteFault};
 use pcm_script::Refusal;
 use std::alloc::Global;
 
-/// Words of no form.
+/// Refuses words that match no form.
 pub fn refuse_words<K: Sink>(out: &mut K) -> Ending
     ensures { (words : List (List ℕ)) (files : FilesSeen) → command_of words ≡ None
-        → Ends result words files files (K.seen out.old) (K.seen out.new) }
+        → Ends result words (both files (K.seen out.old)) (both files (K.seen out.new)) }
 {
     match out.put(usage_line().as_bytes()) {
         Ok(()) => Ending::Usage,
@@ -27,8 +28,9 @@ pub fn refuse_words<K: Sink>(out: &mut K) -> Ending
 /// A script whose read failed.
 pub fn refuse_read<K: Sink>(alloc: Global, name: &str, out: &mut K) -> Ending
     ensures { (words : List (List ℕ)) (to : List ℕ) (old new : FilesSeen)
-        → command_of words ≡ Some (Run name.now to) → OnlyReads old new → FailsToRead old new name.now
-        → Ends result words old new (K.seen out.old) (K.seen out.new) }
+        → command_of words ≡ Some (RunScript name.now to)
+        → OnlyReads old new → FailsToRead old new name.now
+        → Ends result words (both old (K.seen out.old)) (both new (K.seen out.new)) }
 {
     let Ok(line) = cannot_read_line(alloc, name) else {
         return Ending::NoMemory;
@@ -42,8 +44,8 @@ pub fn refuse_read<K: Sink>(alloc: Global, name: &str, out: &mut K) -> Ending
 /// A script that is refused.
 pub fn refuse_script<K: Sink>(alloc: Global, refusal: Refusal, out: &mut K) -> Ending
     ensures { (words : List (List ℕ)) (old new : FilesSeen) → NamesRun words → OnlyReads old new
-        → (IsTrue old.tells → judged words old ≡ BadScript refusal)
-        → Ends result words old new (K.seen out.old) (K.seen out.new) }
+        → (IsTrue old.tells → verdict_on words old ≡ BadScript refusal)
+        → Ends result words (both old (K.seen out.old)) (both new (K.seen out.new)) }
 {
     let Ok(line) = bad_script_line(alloc, refusal) else {
         return Ending::NoMemory;

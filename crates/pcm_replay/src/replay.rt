@@ -1,23 +1,25 @@
 //! The run of a script, which is kept whole until it is written.
 
-ghost use Rattle.std.specs.Prelude.{◌+◌, ◌<◌, ◌≤◌, [], ℕ, List, All, IfErr, IfOk, OnOk, length, take};
-ghost use Rattle.pcm_desk.specs.Events.{Fits, event_limit};
+ghost use Rattle.std.specs.Prelude.{◌+◌, ◌<◌, ◌≤◌, [], All, IfErr, IfOk, OnOk, length, take};
+ghost use Rattle.pcm_format.specs.declared.pool.Pool.{Pool};
+ghost use Rattle.pcm_desk.specs.declared.limits.TheConstants.{EVENTS};
+ghost use Rattle.pcm_desk.specs.Events.{Fits};
 ghost use Rattle.pcm_desk.specs.Usual.{usual_device};
+ghost use Rattle.pcm_script.specs.Lines.{AllFit, pool_of};
 ghost use Rattle.pcm_replay.specs.Endings.{CutsShort};
+ghost use Rattle.pcm_replay.specs.Outside.{both};
 ghost use Rattle.pcm_replay.specs.Playing.{HasPlayed, RanThrough};
-ghost use Rattle.pcm_replay.specs.Runs.{WritesRun, lines_of, text_of};
+ghost use Rattle.pcm_replay.specs.Runs.{WritesRun, output_of};
 
 use crate::ending::Ending;
 use crate::reply_lines::reply_line;
 use crate::writing::write_run;
+use pcm_desk::Device;
 use pcm_engine::Engine;
 use pcm_format::{Event, Pool, ReplyBuf};
 use pcm_outside::{Files, Sink};
 use pcm_script::Script;
 use std::alloc::{AllocError, Global};
-
-// The bytes of the greatest interrupt: the device's whole ring.
-const BLOCK_BYTES: usize = 4096;
 
 /// The engine of a run, with the device's bytes and the lines of the events so far.
 #[derive(Drop)]
@@ -32,12 +34,15 @@ pub struct Replay {
 impl Replay {
     // Takes the engine's memory, before the first event.
     fn new(alloc: Global) -> Result<Replay, AllocError>
-        ensures { IfOk result (λ replay. (inline : List ℕ) → HasPlayed replay inline []) }
+        ensures { IfOk result (λ replay. (pool : Pool) → HasPlayed replay pool []) }
     {
+        let device = Device::usual();
+        // The greatest interrupt takes the device's whole ring.
+        let room = device.ring_frames as usize * device.settings.frame_bytes();
         Ok(Replay {
             engine: Engine::new(alloc)?,
-            reply: ReplyBuf::new(),
-            block: vec![in alloc; 0; BLOCK_BYTES]?,
+            reply: ReplyBuf::new(alloc)?,
+            block: vec![in alloc; 0; room]?,
             text: Vec::new(alloc),
             lines: String::new(alloc),
         })
@@ -52,16 +57,16 @@ impl Replay {
         at: usize,
     ) -> Result<(), AllocError>
         requires there { at < length events.now }
-        requires fits { All (Fits usual_device (length pool.now.inline_bytes)) events.now }
-        requires count { length events.now ≤ event_limit }
-        requires played { HasPlayed self.old pool.now.inline_bytes (take at events.now) }
-        ensures { OnOk result (HasPlayed self.new pool.now.inline_bytes (take (at + 1) events.now)) }
+        requires fits { All (Fits usual_device pool.now) events.now }
+        requires count { length events.now ≤ EVENTS }
+        requires played { HasPlayed self.old pool.now (take at events.now) }
+        ensures { OnOk result (HasPlayed self.new pool.now (take (at + 1) events.now)) }
     {
         let count = self
             .engine
             .step(&events[at], pool, &mut self.block, &mut self.reply);
         self.text.extend_from_slice(&self.block[..count])?;
-        let line = reply_line(alloc, at + 1, self.reply.result())?;
+        let line = reply_line(alloc, at + 1, &self.reply)?;
         self.lines.push_str(line.as_str())?;
         Ok(())
     }
@@ -69,9 +74,9 @@ impl Replay {
 
 /// Runs all events of a script.
 pub fn play(alloc: Global, events: &[Event], pool: &Pool) -> Result<Replay, AllocError>
-    requires fits { All (Fits usual_device (length pool.now.inline_bytes)) events.now }
-    requires count { length events.now ≤ event_limit }
-    ensures { IfOk result (λ replay. HasPlayed replay pool.now.inline_bytes events.now) }
+    requires fits { All (Fits usual_device pool.now) events.now }
+    requires count { length events.now ≤ EVENTS }
+    ensures { IfOk result (λ replay. HasPlayed replay pool.now events.now) }
 {
     let mut replay = Replay::new(alloc)?;
     for at in 0..events.len() {
@@ -88,13 +93,14 @@ pub fn run_script<F: Files, K: Sink>(
     out: &mut K,
     name: &str,
 ) -> Result<Engine, Ending>
-    requires fits { All (Fits usual_device (length script.inline_bytes)) script.events }
-    requires count { length script.events ≤ event_limit }
-    ensures ran { IfOk result (λ engine. RanThrough engine script.inline_bytes script.events) }
-    ensures ok { OnOk result (WritesRun name.now (text_of script) (lines_of script)
-        (F.seen files.old) (F.seen files.new) (K.seen out.old) (K.seen out.new)) }
-    ensures err { IfErr result (λ ending. CutsShort ending name.now script
-        (F.seen files.old) (F.seen files.new) (K.seen out.old) (K.seen out.new)) }
+    requires fits { AllFit usual_device script }
+    requires count { length script.events ≤ EVENTS }
+    ensures ran { IfOk result (λ engine. RanThrough engine (pool_of script) script.events) }
+    ensures ok { OnOk result (WritesRun (output_of (record { out = name.now; script = script }))
+        (both (F.seen files.old) (K.seen out.old)) (both (F.seen files.new) (K.seen out.new))) }
+    ensures err { IfErr result (λ ending. CutsShort ending
+        (record { out = name.now; script = script })
+        (both (F.seen files.old) (K.seen out.old)) (both (F.seen files.new) (K.seen out.new))) }
 {
     let Script {
         events,

@@ -3,25 +3,21 @@
 ghost use Rattle.std.specs.Prelude.{◌≡◌, IfOk, string_bytes};
 ghost use Rattle.pcm_verdict.specs.Transcript.{errno_word, reply_line, reply_text};
 
-use pcm_format::{Answer, Errno};
+use pcm_format::{Answer, Errno, ReplyBuf};
 use std::alloc::{AllocError, Global};
 
 /// The line of the event of a number, which are counted from 1.
-pub fn reply_line(
-    alloc: Global,
-    number: usize,
-    reply: Result<Answer, Errno>,
-) -> Result<String, AllocError>
-    ensures { IfOk result (λ line. string_bytes line ≡ reply_line number reply) }
+pub fn reply_line(alloc: Global, number: usize, reply: &ReplyBuf) -> Result<String, AllocError>
+    ensures { IfOk result (λ line. string_bytes line ≡ reply_line number reply.now) }
 {
     let text = reply_text(alloc, reply)?;
     format!(in alloc; "{number}: {text}\n")
 }
 
-fn reply_text(alloc: Global, reply: Result<Answer, Errno>) -> Result<String, AllocError>
-    ensures { IfOk result (λ text. string_bytes text ≡ reply_text reply) }
+fn reply_text(alloc: Global, reply: &ReplyBuf) -> Result<String, AllocError>
+    ensures { IfOk result (λ text. string_bytes text ≡ reply_text reply.now) }
 {
-    match reply {
+    match reply.result() {
         Ok(Answer::Done) => String::from_str(alloc, "ok"),
         Ok(Answer::Number(number)) => format!(in alloc; "ok {number}"),
         Err(errno) => {

@@ -1,15 +1,16 @@
 //! The top call: words, files and a sink go in, and a status comes out.
 
-ghost use Rattle.std.specs.Prelude.{◌≡◌, ◌≢◌, ℕ, List, None, IfErr, IfOk, IsSomeAnd, IsTrue, map, string_bytes};
+ghost use Rattle.std.specs.Prelude.{◌≡◌, ◌≢◌, ◌⊎◌, None, IfErr, IfOk, IsSomeAnd, IsTrue, map, string_bytes};
 ghost use Rattle.pcm_outside.specs.Counts.{Rose};
-ghost use Rattle.pcm_script.specs.declared.script.Script.{Script};
+ghost use Rattle.pcm_script.specs.Lines.{pool_of};
 ghost use Rattle.pcm_verdict.specs.Faults.{status_of};
-ghost use Rattle.pcm_verdict.specs.Verdict.{command_of};
+ghost use Rattle.pcm_verdict.specs.Verdict.{Accepted, command_of};
 ghost use Rattle.pcm_replay.specs.Endings.{Ends, Finishes};
 ghost use Rattle.pcm_replay.specs.Outcomes.{FailsToReadScript, IsAccepted, IsCut, IsStatus, LacksMemory};
-ghost use Rattle.pcm_replay.specs.Outcomes.{MayEnd, NoneRose, OneRose, RefusesScript, RefusesWords, judged};
+ghost use Rattle.pcm_replay.specs.Outcomes.{MayEnd, RefusesScript, RefusesWords, verdict_on};
+ghost use Rattle.pcm_replay.specs.Outside.{NoneRose, OneRose, WriteRose, both};
 ghost use Rattle.pcm_replay.specs.Playing.{RanThrough};
-ghost use Rattle.pcm_replay.specs.Runs.{WritesRun, lines_of, text_of};
+ghost use Rattle.pcm_replay.specs.Runs.{WritesRun, output_of};
 
 use crate::ending::Ending;
 use crate::reading::read_script;
@@ -20,7 +21,7 @@ use pcm_engine::Engine;
 use pcm_outside::{Files, Sink};
 use std::alloc::Global;
 
-/// Does what the words ask for, and answers the status that the program ends with: 0, or what stopped it.
+/// Does what the words ask for. The status that the program ends with is 0, or says what stopped it.
 pub fn dsp_main<F: Files, K: Sink>(
     alloc: Global,
     words: &[String],
@@ -30,44 +31,53 @@ pub fn dsp_main<F: Files, K: Sink>(
 ) -> u8
     ensures statuses { IsStatus result }
     ensures completeness { IsTrue (F.seen files.old).tells
-        → MayEnd (judged (map string_bytes words.now) (F.seen files.old)) result }
+        → MayEnd (verdict_on (map string_bytes words.now) (F.seen files.old)) result }
+    ensures unfailing { IsTrue (F.seen files.old).tells
+        → status_of (verdict_on (map string_bytes words.now) (F.seen files.old)) ≡ 0
+        → (OneRose
+        (both (F.seen files.old) (K.seen out.old)) (both (F.seen files.new) (K.seen out.new)) → ⊥)
+        → (result ≡ 0) ⊎ (result ≡ 8) }
 
     // 0: the device file has exactly its bytes, and exactly the replies were put.
     ensures accepted { result ≡ 0 → IsTrue (F.seen files.old).tells
-        → status_of (judged (map string_bytes words.now) (F.seen files.old)) ≡ 0 }
-    ensures headline { (name : List ℕ) (script : Script) → result ≡ 0
-        → IsAccepted (map string_bytes words.now) (F.seen files.old) name script
-        → WritesRun name (text_of script) (lines_of script)
-        (F.seen files.old) (F.seen files.new) (K.seen out.old) (K.seen out.new) }
-    ensures engine { (name : List ℕ) (script : Script) → result ≡ 0
-        → IsAccepted (map string_bytes words.now) (F.seen files.old) name script
-        → IsSomeAnd ran.new (λ engine. RanThrough engine script.inline_bytes script.events) }
-    ensures no_rise { result ≡ 0
-        → NoneRose (F.seen files.old) (F.seen files.new) (K.seen out.old) (K.seen out.new) }
+        → status_of (verdict_on (map string_bytes words.now) (F.seen files.old)) ≡ 0 }
+    ensures headline { (accepted : Accepted) → result ≡ 0
+        → IsAccepted (map string_bytes words.now) (F.seen files.old) accepted
+        → WritesRun (output_of accepted)
+        (both (F.seen files.old) (K.seen out.old)) (both (F.seen files.new) (K.seen out.new)) }
+    ensures engine { (accepted : Accepted) → result ≡ 0
+        → IsAccepted (map string_bytes words.now) (F.seen files.old) accepted
+        → IsSomeAnd ran.new
+        (λ engine. RanThrough engine (pool_of accepted.script) accepted.script.events) }
+    ensures finished { result ≡ 0
+        → IsSomeAnd ran.new (λ engine. Finishes engine (map string_bytes words.now)
+        (both (F.seen files.old) (K.seen out.old)) (both (F.seen files.new) (K.seen out.new))) }
+    ensures no_rise { result ≡ 0 → NoneRose
+        (both (F.seen files.old) (K.seen out.old)) (both (F.seen files.new) (K.seen out.new)) }
     ensures stays { result ≢ 0 → ran.new ≡ ran.old }
 
     // 2, 3, 5: nothing was written, and exactly the line of the fault was put.
     ensures usage { result ≡ 2 → RefusesWords (map string_bytes words.now)
-        (F.seen files.old) (F.seen files.new) (K.seen out.old) (K.seen out.new) }
+        (both (F.seen files.old) (K.seen out.old)) (both (F.seen files.new) (K.seen out.new)) }
     ensures only_usage { command_of (map string_bytes words.now) ≡ None → result ≢ 2
         → (result ≡ 7) × (Rose (K.seen out.old).faults (K.seen out.new).faults) }
     ensures read_cause { result ≡ 3 → FailsToReadScript (map string_bytes words.now)
-        (F.seen files.old) (F.seen files.new) (K.seen out.old) (K.seen out.new) }
+        (both (F.seen files.old) (K.seen out.old)) (both (F.seen files.new) (K.seen out.new)) }
     ensures bad_script { result ≡ 5 → RefusesScript (map string_bytes words.now)
-        (F.seen files.old) (F.seen files.new) (K.seen out.old) (K.seen out.new) }
+        (both (F.seen files.old) (K.seen out.old)) (both (F.seen files.new) (K.seen out.new)) }
 
-    // 7: a write failed, and what is left is a front of what was to be written.
-    ensures write_cause { result ≡ 7
-        → OneRose (F.seen files.old) (F.seen files.new) (K.seen out.old) (K.seen out.new) }
+    // 7: a write failed, and what is left is a prefix of what was to be written.
+    ensures write_cause { result ≡ 7 → WriteRose
+        (both (F.seen files.old) (K.seen out.old)) (both (F.seen files.new) (K.seen out.new)) }
     ensures line_cause { result ≡ 7 → IsTrue (F.seen files.old).tells
-        → status_of (judged (map string_bytes words.now) (F.seen files.old)) ≢ 0
+        → status_of (verdict_on (map string_bytes words.now) (F.seen files.old)) ≢ 0
         → Rose (K.seen out.old).faults (K.seen out.new).faults }
     ensures cut { result ≡ 7 → IsCut (map string_bytes words.now)
-        (F.seen files.old) (F.seen files.new) (K.seen out.old) (K.seen out.new) }
+        (both (F.seen files.old) (K.seen out.old)) (both (F.seen files.new) (K.seen out.new)) }
 
     // 8: nothing was written or put.
     ensures memory { result ≡ 8 → LacksMemory (map string_bytes words.now)
-        (F.seen files.old) (F.seen files.new) (K.seen out.old) (K.seen out.new) }
+        (both (F.seen files.old) (K.seen out.old)) (both (F.seen files.new) (K.seen out.new)) }
 {
     match replay(alloc, words, files, out) {
         Ok(engine) => {
@@ -90,9 +100,9 @@ fn replay<F: Files, K: Sink>(
     out: &mut K,
 ) -> Result<Engine, Ending>
     ensures ok { IfOk result (λ engine. Finishes engine (map string_bytes words.now)
-        (F.seen files.old) (F.seen files.new) (K.seen out.old) (K.seen out.new)) }
+        (both (F.seen files.old) (K.seen out.old)) (both (F.seen files.new) (K.seen out.new))) }
     ensures err { IfErr result (λ ending. Ends ending (map string_bytes words.now)
-        (F.seen files.old) (F.seen files.new) (K.seen out.old) (K.seen out.new)) }
+        (both (F.seen files.old) (K.seen out.old)) (both (F.seen files.new) (K.seen out.new))) }
 {
     let Some(command) = command_in(words) else {
         return Err(refuse_words(out));

@@ -7,4 +7,4 @@ use Rattle.pcm_replay.proofs.replay.play.Goals as goal
 pub returns : goal.returns
 returns c =
     let past : length c.args.events.now ≤ c.loop-at.at = omega arith in
-    subst (HasPlayed c.loop-at.replay c.args.pool.now.inline_bytes) (take_all c.loop-at.at c.args.events.now past) c.loop-at.invariant
+    subst (HasPlayed c.loop-at.replay c.args.pool.now) (take_all c.loop-at.at c.args.events.now past) c.loop-at.invariant

@@ -4,4 +4,4 @@ use Rattle.pcm_replay.proofs.replay.play.Given as goal
 
 -- the events so far were run
 abbrev pub invariant-loop-at : goal.invariant-loop-at
-invariant-loop-at l = HasPlayed l.replay l.pool.inline_bytes (take l.at l.events)
+invariant-loop-at l = HasPlayed l.replay l.pool (take l.at l.events)

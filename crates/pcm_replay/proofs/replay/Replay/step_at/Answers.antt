@@ -8,7 +8,7 @@ use Rattle.pcm_replay.proofs.replay.Replay.step_at.Goals as goal
 pub returns : goal.returns
 returns c =
     let replay = c.args.self.now in
-    let inline = c.args.pool.now.inline_bytes in
+    let pool = c.args.pool.now in
     let xs = c.args.events.now in
     let events = take c.args.at xs in
     let within : c.args.at ≤ length xs = omega (arith, c.requires.there) in
@@ -19,14 +19,14 @@ returns c =
     let text : c.extend_from_slice.new.self.items ≡ replay.text.items ++ piece =
     c.in_ok-extend_from_slice.ensures.items ∙ ap (λ (bytes : List ℕ). replay.text.items ++ take c.step-count.result bytes) block in
     let line = c.as_str.ensures.value ∙ c.in_ok-line.ensures in
-    subst (HasPlayed _ inline) (sym (take_more xs c.args.at _ c.requires.there))
-    (played replay _ inline events _ piece (c.args.at + 1) c.result.result
+    subst (HasPlayed _ pool) (sym (take_more xs c.args.at _ c.requires.there))
+    (played replay _ pool events _ piece (c.args.at + 1) c.step-count.new.reply
     (record {
       device = step.device;
       stands = step.stands events;
       steps = step.steps;
       bytes = step.bytes events;
-      reply = λ stood. c.result.ensures ∙ step.reply events stood;
+      replied = step.reply events;
       text = text;
       counted = ap (λ n. n + 1) (sym (length-take-le c.args.at xs within));
       lines = c.in_ok-push_str.ensures.bytes ∙ ap (λ (more : List ℕ). string_bytes replay.lines ++ more) line;
