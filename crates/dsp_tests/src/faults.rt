@@ -3,20 +3,32 @@
 use crate::calls::{
     Expected, FOUR_FRAMES, FOUR_FRAMES_HEARD, FOUR_FRAMES_PRINTED, ROOM, comes_to, folder,
 };
-use pcm_outside::MemSink;
+use pcm_outside::{MemFiles, MemSink};
 use std::alloc::{AllocError, Global};
 use std::test::Fail;
 
 // The rooms of the files and of the sink, and the call of each that is to fail, with 0 for none.
 type Fault = (usize, usize, u32, u32);
 
+// A folder with the script of four frames, whose listed call fails.
+fn failing_folder(alloc: Global, room: usize, call: u32) -> Result<MemFiles, AllocError> {
+    let mut files = folder(alloc, room, FOUR_FRAMES)?;
+    files.fail_at(call)?;
+    Ok(files)
+}
+
+// A sink whose listed put fails.
+fn failing_sink(alloc: Global, room: usize, put: u32) -> Result<MemSink, AllocError> {
+    let mut out = MemSink::new(alloc, room)?;
+    out.fail_at(put)?;
+    Ok(out)
+}
+
 // Whether a run of the four frames comes to that.
 fn run_comes_to(alloc: Global, fault: Fault, expected: Expected) -> Result<bool, AllocError> {
     let (files_room, sink_room, call, put) = fault;
-    let mut files = folder(alloc, files_room, FOUR_FRAMES)?;
-    files.fail_at(call)?;
-    let mut out = MemSink::new(alloc, sink_room)?;
-    out.fail_at(put)?;
+    let mut files = failing_folder(alloc, files_room, call)?;
+    let mut out = failing_sink(alloc, sink_room, put)?;
     comes_to(alloc, &["run", "s", "o"], &mut files, &mut out, expected)
 }
 

@@ -1,4 +1,4 @@
-//! Words of no form, and a script that isn't there.
+//! Words that match no form, and a script that isn't there.
 
 use crate::calls::{ROOM, comes_to};
 use pcm_outside::{MemFiles, MemSink};

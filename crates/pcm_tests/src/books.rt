@@ -3,6 +3,7 @@ ghost use Rattle.std.specs.Prelude.{◌*◌, ◌≤◌, ◌<◌, ◌^◌};
 ghost use Rattle.pcm_format.specs.Frames.{frame_bytes};
 
 use pcm_desk::{Book, Device, State};
+use pcm_rate::UNCHANGED;
 
 // A book of the usual device's settings with frames of four bytes that were played, and bytes that wait.
 fn book(state: State, played: u16, waiting: u16, underruns: u32) -> Book
@@ -59,7 +60,7 @@ fn closes(rt: HostRuntime) {
         ((OPEN, 1, 8), (CLOSED, 1, 8)),
     ];
     for ((state, played, waiting), (after, kept, left)) in rows {
-        let got = book(state, played, waiting, 7).closed();
+        let got = book(state, played, waiting, 7).closed(UNCHANGED);
         assert_eq!(rt;
             got,
             book(after, kept, left, 7),
@@ -88,7 +89,7 @@ fn interrupts(rt: HostRuntime) {
         ((OPEN, 1, 4, 1), (State::Setup, 0, 0, 0)),
     ];
     for ((state, played, waiting, n), (after, kept, left, short)) in rows {
-        let got = book(state, played, waiting, 0).refilled(u64::from(n));
+        let got = book(state, played, waiting, 0).refilled(UNCHANGED, u64::from(n));
         assert_eq!(rt;
             got,
             book(after, kept, left, short),
@@ -100,5 +101,5 @@ fn interrupts(rt: HostRuntime) {
 #[test]
 fn the_count_of_shortages_stands_still_at_its_end(rt: HostRuntime) {
     let starved = book(State::Running, 1024, 0, u32::MAX);
-    assert_eq!(rt; starved.refilled(1), starved);
+    assert_eq!(rt; starved.refilled(UNCHANGED, 1), starved);
 }

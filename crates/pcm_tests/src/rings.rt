@@ -1,25 +1,34 @@
 //! What a ring takes and gives.
 
 use pcm_ring::ByteRing;
+use std::alloc::{AllocError, Global};
 use std::test::Fail;
+
+// What is put into a ring of four bytes that holds "xy" already, how much of it is accepted, and what waits then.
+type Row = (&'static [u8], usize, &'static [u8]);
+
+const ROWS: [Row; 4] = [
+    (b"", 0, b"xy"),
+    (b"a", 1, b"xya"),
+    (b"ab", 2, b"xyab"),
+    (b"abcdef", 2, b"xyab"),
+];
+
+// Whether a ring does what a row says.
+fn is_right(alloc: Global, row: &Row) -> Result<bool, AllocError> {
+    let (bytes, accepted, waits) = row;
+    let mut ring = ByteRing::new(alloc, 4)?;
+    ring.put(b"xy");
+    let is_accepted = ring.put(bytes) == *accepted && ring.fill() + ring.free() == 4;
+    let mut out = [0; 8];
+    let count = ring.take(&mut out);
+    Ok(is_accepted && &out[..count] == *waits)
+}
 
 #[test]
 fn a_ring_takes_what_fits(rt: HostRuntime) -> Result<(), Fail> {
-    // What is put into a ring of four bytes that holds "xy" already, how much of it is accepted, and what waits then.
-    let rows: [(&[u8], usize, &[u8]); 4] = [
-        (b"", 0, b"xy"),
-        (b"a", 1, b"xya"),
-        (b"ab", 2, b"xyab"),
-        (b"abcdef", 2, b"xyab"),
-    ];
-    for (bytes, accepted, waits) in rows {
-        let mut ring = ByteRing::new(rt.alloc(), 4)?;
-        ring.put(b"xy");
-        assert_eq!(rt; ring.put(bytes), accepted, "{bytes:?}");
-        assert_eq!(rt; ring.fill() + ring.free(), 4, "{bytes:?}");
-        let mut out = [0; 8];
-        let count = ring.take(&mut out);
-        assert_eq!(rt; &out[..count], waits, "{bytes:?}");
+    for row in &ROWS {
+        assert!(rt; is_right(rt.alloc(), row)?, "{:?}", row.0);
     }
     Ok(())
 }
