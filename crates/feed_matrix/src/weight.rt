@@ -1,0 +1,114 @@
+//! The weights between two layouts.
+
+ghost use Rattle.std.specs.Prelude.{◌≡◌, ◌≤◌, take, All};
+ghost use Rattle.pcm_format.specs.Layouts.{channels_of};
+ghost use Rattle.pcm_format.specs.declared.layout.Layout.TheVariants as layouts;
+ghost use Rattle.pcm_feeder.specs.Layouts.{weight};
+ghost use Rattle.feed_matrix.specs.Weights.{row_of, AreWeights};
+
+use pcm_format::{Layout, Position};
+
+// The weights of each position of a layout, in rows: one number for each position of the source.
+pub(crate) fn weights(from: Layout, to: Layout) -> [[u32; 8]; 8]
+    ensures { AreWeights from to result }
+{
+    let mut rows = [[0; 8]; 8];
+    for at in 0..to.channels() {
+        rows[at] = row(from, to, to.position(at));
+    }
+    rows
+}
+
+// The weights of one position of a layout.
+fn row(from: Layout, to: Layout, target: Position) -> [u32; 8]
+    ensures row { take (channels_of from) result ≡ row_of from to target }
+    ensures limits { All (λ weight. weight ≤ 65536) result }
+{
+    let mut row = [0; 8];
+    for at in 0..from.channels() {
+        row[at] = weight(to, target, from.position(at));
+    }
+    row
+}
+
+// The weight with which sound goes to a position of a layout, where 65536 is one.
+fn weight(to: Layout, target: Position, source: Position) -> u32
+    ensures value { result ≡ weight to target source }
+    ensures limit { result ≤ 65536 }
+{
+    match to {
+        Layout::One => to_one(target, source),
+        Layout::Two => to_two(target, source),
+        Layout::Four => to_four(target, source),
+        Layout::Six => to_six(target, source),
+        Layout::Eight => to_eight(target, source),
+    }
+}
+
+fn to_one(target: Position, source: Position) -> u32
+    ensures value { result ≡ weight layouts.One target source }
+    ensures limit { result ≤ 65536 }
+{
+    match (target, source) {
+        (Position::M, Position::M) => 65536,
+        (Position::M, Position::FL | Position::FR) => 32768,
+        (Position::M, Position::FC) => 46341,
+        (Position::M, Position::BL | Position::BR | Position::SL | Position::SR) => 23170,
+        _ => 0,
+    }
+}
+
+fn to_two(target: Position, source: Position) -> u32
+    ensures value { result ≡ weight layouts.Two target source }
+    ensures limit { result ≤ 65536 }
+{
+    match (target, source) {
+        (Position::FL, Position::M | Position::FL) => 65536,
+        (Position::FR, Position::M | Position::FR) => 65536,
+        (Position::FL, Position::FC | Position::BL | Position::SL) => 46341,
+        (Position::FR, Position::FC | Position::BR | Position::SR) => 46341,
+        _ => 0,
+    }
+}
+
+fn to_four(target: Position, source: Position) -> u32
+    ensures value { result ≡ weight layouts.Four target source }
+    ensures limit { result ≤ 65536 }
+{
+    match (target, source) {
+        (Position::FL, Position::M | Position::FL) => 65536,
+        (Position::FR, Position::M | Position::FR) => 65536,
+        (Position::FL | Position::FR, Position::FC) => 46341,
+        (Position::BL, Position::BL) | (Position::BR, Position::BR) => 65536,
+        (Position::BL, Position::SL) | (Position::BR, Position::SR) => 46341,
+        _ => 0,
+    }
+}
+
+fn to_six(target: Position, source: Position) -> u32
+    ensures value { result ≡ weight layouts.Six target source }
+    ensures limit { result ≤ 65536 }
+{
+    match (target, source) {
+        (Position::FL, Position::M | Position::FL) => 65536,
+        (Position::FR, Position::M | Position::FR) => 65536,
+        (Position::FC, Position::FC) | (Position::LFE, Position::LFE) => 65536,
+        (Position::BL, Position::BL) | (Position::BR, Position::BR) => 65536,
+        (Position::BL, Position::SL) | (Position::BR, Position::SR) => 46341,
+        _ => 0,
+    }
+}
+
+fn to_eight(target: Position, source: Position) -> u32
+    ensures value { result ≡ weight layouts.Eight target source }
+    ensures limit { result ≤ 65536 }
+{
+    match (target, source) {
+        (Position::FL, Position::M | Position::FL) => 65536,
+        (Position::FR, Position::M | Position::FR) => 65536,
+        (Position::FC, Position::FC) | (Position::LFE, Position::LFE) => 65536,
+        (Position::BL, Position::BL) | (Position::BR, Position::BR) => 65536,
+        (Position::SL, Position::SL) | (Position::SR, Position::SR) => 65536,
+        _ => 0,
+    }
+}
