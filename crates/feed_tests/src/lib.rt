@@ -5,6 +5,10 @@
 #[cfg(test)]
 mod depth;
 #[cfg(test)]
+mod matrix;
+#[cfg(test)]
 mod racks;
 #[cfg(test)]
 mod tables;
+#[cfg(test)]
+mod volume;

@@ -15,7 +15,10 @@ pub record Place (B : Type 0) : Type 0 where
 
 -- the places of a rack, in their order
 abbrev pub places_of : {B : Type 0} → SixOf B → List (Place B)
-places_of six = record { asks = kinds.Depth; box = six.depth } ∷ []
+places_of six =
+    record { asks = kinds.Matrix; box = six.matrix }
+    ∷ record { asks = kinds.Volume; box = six.volume }
+    ∷ record { asks = kinds.Depth; box = six.depth } ∷ []
 
 -- a place's box is of another kind
 abbrev pub IsWrongAt : {B : Type 0} → (B → Kind) → Place B → WrongKind → Type 0
@@ -30,6 +33,8 @@ IsFirstWrong kind (place ∷ rest) wrong =
 
 -- each box is of the kind that its place asks for
 pub record HaveKinds {B : Type 0} (kind : B → Kind) (six : SixOf B) : Type 0 where
+  pub matrix : kind six.matrix ≡ kinds.Matrix
+  pub volume : kind six.volume ≡ kinds.Volume
   pub depth : kind six.depth ≡ kinds.Depth
 
 -- the boxes of a rack

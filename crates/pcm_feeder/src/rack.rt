@@ -11,6 +11,8 @@ pub const RACKS: usize = 32;
 /// The boxes of a rack, one for each kind of stage.
 #[derive(Drop)]
 pub struct SixOf<B> {
+    pub matrix: B,
+    pub volume: B,
     pub depth: B,
 }
 
@@ -36,6 +38,8 @@ impl<B: Feeder> RackOf<B> {
         ensures kinds { IfOk result (IsRack B.kind) }
         ensures wrong { IfErr result (IsFirstWrong B.kind (places_of six)) }
     {
+        is_of_kind(&six.matrix, Kind::Matrix)?;
+        is_of_kind(&six.volume, Kind::Volume)?;
         is_of_kind(&six.depth, Kind::Depth)?;
         Ok(RackOf { boxes: six })
     }
