@@ -22,12 +22,22 @@ pub bytes_of-above : (format : Format) → 0 < bytes_of format
 bytes_of-above U8 = omega arith
 bytes_of-above _ = omega arith
 
+-- and at most four
+bytes_of-most : (format : Format) → bytes_of format ≤ 4
+bytes_of-most U8 = omega arith
+bytes_of-most _ = omega arith
+
 -- a layout has channels
 pub channels_of-above : (layout : Layout) → 0 < channels_of layout
 channels_of-above One = omega arith
 channels_of-above _ = omega arith
 
--- and a position for each of them
+-- and at most eight
+pub channels_of-most : (layout : Layout) → channels_of layout ≤ 8
+channels_of-most One = omega arith
+channels_of-most _ = omega arith
+
+-- a layout has a position for each of its channels
 pub length-positions : (layout : Layout) → length (positions_of layout) ≡ channels_of layout
 length-positions One = refl
 length-positions _ = refl
@@ -113,3 +123,10 @@ get_or-frames settings bytes k d below = get_or-map-range_with_len (frame_at set
 -- a frame has bytes
 pub frame_bytes-above : (settings : Settings) → 0 < frame_bytes settings
 frame_bytes-above settings = mul-pos (channels_of-above settings.layout) (bytes_of-above settings.format)
+
+-- and at most eight times four
+pub frame_bytes-most : (settings : Settings) → frame_bytes settings ≤ 32
+frame_bytes-most settings =
+    let channels = mul-le-mul_right (bytes_of settings.format) (channels_of-most settings.layout) in
+    let bytes = bytes_of-most settings.format in
+    omega arith

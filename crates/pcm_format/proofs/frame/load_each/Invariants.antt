@@ -1,7 +1,7 @@
 use Rattle.std.proofs.Common.{◌≡◌, take, map}
 use Rattle.std.specs.List.{range_with_len}
 use Rattle.pcm_format.specs.Samples.{sample_at}
-use Rattle.pcm_format.proofs.frame.load_frames.Given as goal
+use Rattle.pcm_format.proofs.frame.load_each.Given as goal
 
 -- the first samples are loaded
 abbrev pub invariant-loop-i : goal.invariant-loop-i

@@ -6,7 +6,7 @@ use Rattle.std.proofs.lemmas.List.FromFn.{map-range_with_len_more}
 use Rattle.pcm_format.specs.declared.format.Format.{Format}
 use Rattle.pcm_format.specs.Formats.{bytes_of}
 use Rattle.pcm_format.specs.Samples.{loaded, sample_at}
-use Rattle.pcm_format.proofs.frame.load_frames.Goals as goal
+use Rattle.pcm_format.proofs.frame.load_each.Goals as goal
 
 -- the bytes from sample i on are its own
 at_place : (f : Format) (bytes : List ℕ) (i width : ℕ) → width ≡ bytes_of f → loaded f (slice_range bytes (i * width) (i * width + width)) ≡ sample_at f bytes i

@@ -9,7 +9,7 @@ use Rattle.pcm_format.specs.declared.format.Format.{Format}
 use Rattle.pcm_format.specs.Formats.{bytes_of}
 use Rattle.pcm_format.specs.Samples.{spelled}
 use Rattle.pcm_format.proofs.Spelling.{length-spelled}
-use Rattle.pcm_format.proofs.frame.spell_frames.Goals as goal
+use Rattle.pcm_format.proofs.frame.spell_each.Goals as goal
 
 -- one more value
 spell_more : (f : Format) (values : List ℤ) (out piece : List ℕ) (i width : ℕ) → i < length values → length out ≡ length values * bytes_of f → width ≡ bytes_of f
