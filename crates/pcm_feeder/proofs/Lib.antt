@@ -1,5 +1,6 @@
 pub mod Phases
 pub mod Frames
+pub mod Mapped
 pub mod Streams
 pub mod Past
 pub mod Outputs

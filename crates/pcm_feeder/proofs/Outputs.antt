@@ -15,7 +15,7 @@ use Rattle.pcm_feeder.specs.Layouts.{in_layout, at_gain, sum_of}
 use Rattle.pcm_feeder.specs.Limits.{IsSpec, AreTaps}
 use Rattle.pcm_rate.specs.declared.rate.Rate.{Rate}
 use Rattle.pcm_rate.specs.Rates.{need}
-use Rattle.pcm_feeder.specs.Stages.{rate_of, at_bits, blended, table_at, coef, scaled_down, filtered, Converter, held, on_line, through, converted, conv, outputs}
+use Rattle.pcm_feeder.specs.Stages.{rate_of, at_bits, blended, table_at, coef, scaled_down, filtered, Converter, held, on_line, filtered_frame, converted, conv, outputs}
 use Rattle.pcm_feeder.specs.Streams.{Stream}
 
 -- ---- limits
@@ -61,7 +61,7 @@ filtered-same table taps row x y channel same =
     (λ j. coef table row j *ℤ get_or (y (pos (j + 1) -ℤ pos (taps / 2))) channel (pos 0)) taps
     (λ j below. ap (λ frame. coef table row j *ℤ get_or frame channel (pos 0)) (same j below)))
 
-pub filter-uses : (table : Table) (taps channels dst : ℕ) → AreTaps taps → Uses (through table taps channels dst) (pos 1 -ℤ pos (taps / 2)) (taps / 2)
+pub filter-uses : (table : Table) (taps channels dst : ℕ) → AreTaps taps → Uses (filtered_frame table taps channels dst) (pos 1 -ℤ pos (taps / 2)) (taps / 2)
 filter-uses table taps channels dst are f x y same =
     let row = f * table.phases / dst in
     map-range-same (filtered table taps row x) (filtered table taps row y) channels
@@ -87,7 +87,7 @@ conv-local (Matrix from to) tables gain x y k is same = ap (in_layout from to) (
 conv-local (Hold src dst channels) tables gain x y k is same = converted-local held (pos 0) (rate_of (Hold src dst channels)) x y k hold-uses same
 conv-local (Linear src dst channels) tables gain x y k is same = converted-local (on_line dst) (pos 0) (rate_of (Linear src dst channels)) x y k (line-uses dst) same
 conv-local (Poly src dst channels table taps) tables gain x y k is same =
-    converted-local (through (table_at tables table) taps channels dst) (pos 1 -ℤ pos (taps / 2)) (rate_of (Poly src dst channels table taps)) x y k
+    converted-local (filtered_frame (table_at tables table) taps channels dst) (pos 1 -ℤ pos (taps / 2)) (rate_of (Poly src dst channels table taps)) x y k
     (filter-uses (table_at tables table) taps channels dst is.row) same
 conv-local (Volume layout) tables gain x y k is same = ap (at_gain layout gain) (same (pos k) (omega (arith, ints, need-unchanged (k + 1))))
 conv-local (Depth bits channels) tables gain x y k is same = ap (at_bits bits) (same (pos k) (omega (arith, ints, need-unchanged (k + 1))))

@@ -24,7 +24,7 @@ use Rattle.pcm_feeder.specs.Limits.{IsSpec}
 use Rattle.pcm_rate.specs.declared.rate.Rate.{Rate}
 use Rattle.pcm_rate.specs.Rates.{need, can, unchanged}
 use Rattle.pcm_feeder.specs.Streams.{frames_of, Stream, silence, stream_of, HaveChannels}
-use Rattle.pcm_feeder.specs.Stages.{rate_of, channels_in, channels_out, history, at_bits, Converter, held, on_line, through, converted, conv, outputs, filtered, table_at}
+use Rattle.pcm_feeder.specs.Stages.{rate_of, channels_in, channels_out, history, at_bits, Converter, held, on_line, filtered_frame, converted, conv, outputs, filtered, table_at}
 use Rattle.pcm_feeder.specs.Kept.{Kept, last_frames, past, past_after, StandsFor}
 use Rattle.pcm_feeder.specs.Turns.{step_of, phase_of, reach, allowed, eaten_by, given_by, around, next_outputs, frames_by, kept_after, turn_of, turn_at, turn, frames_for, fed, Continues}
 use Rattle.pcm_rate.proofs.Counts.{same-bound, can-greatest, need_grows, need-unchanged}
@@ -316,7 +316,7 @@ frames-are (Linear src dst channels) tables gain kept x input given eaten count 
     (record { uses = line-uses dst; reaches = omega (arith, ints); keeps = refl }) (λ s k. refl) enough
 frames-are (Poly src dst channels table taps) tables gain kept x input given eaten count is h offered enough =
     let found = table_at tables table in
-    converter-gives (through found taps channels dst) (Poly src dst channels table taps) tables gain kept x input given eaten count (pos 1 -ℤ pos (taps / 2)) is h
+    converter-gives (filtered_frame found taps channels dst) (Poly src dst channels table taps) tables gain kept x input given eaten count (pos 1 -ℤ pos (taps / 2)) is h
     (record { uses = filter-uses found taps channels dst is.row; reaches = omega (arith, ints, is.row.even); keeps = refl }) (λ s k. refl) enough
 frames-are (Volume layout) tables gain kept x input given eaten count is h offered enough =
     let level = given-unchanged (Volume layout) tables kept x given refl h in

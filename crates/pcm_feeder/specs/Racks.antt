@@ -1,12 +1,16 @@
 -- The boxes of a rack, and whether each is of its place's kind.
-use Rattle.std.specs.Prelude.{◌≡◌, ◌≢◌, ◌⊎◌, ℕ, List, [], ◌∷◌, All}
+use Rattle.std.specs.Prelude.{◌≡◌, ◌≢◌, ◌⊎◌, ℕ, List, [], ◌∷◌, ◌++◌, length, All}
 use Rattle.pcm_feeder.specs.declared.kind.Kind.{Kind}
 use Rattle.pcm_feeder.specs.declared.kind.Kind.TheVariants as kinds
 use Rattle.pcm_feeder.specs.declared.rack.SixOf.{SixOf}
 use Rattle.pcm_feeder.specs.declared.rack.RackOf.{RackOf}
 use Rattle.pcm_feeder.specs.declared.rack.RacksOf.{RacksOf}
 use Rattle.pcm_feeder.specs.declared.rack.WrongKind.{WrongKind}
+use Rattle.pcm_feeder.specs.declared.rack.RackFault.{RackFault}
+use Rattle.pcm_feeder.specs.declared.rack.RackFault.TheVariants.{WrongBox, Count, Memory}
 use Rattle.pcm_feeder.specs.declared.rack.TheConstants.{RACKS}
+use Rattle.pcm_feeder.specs.declared.stage.Spec.{Spec}
+use Rattle.pcm_feeder.specs.declared.stage.Spec.TheVariants.{Matrix, Hold, Linear, Poly, Volume, Depth}
 
 -- a place of a rack: the kind that it asks for, and its box
 pub record Place (B : Type 0) : Type 0 where
@@ -56,3 +60,28 @@ list_of racks = racks.list.items
 -- how many racks a run has: one for each play slot and each record slot
 abbrev pub rack_count : ℕ
 rack_count = RACKS
+
+-- the first six boxes that make no rack, and what is wrong with them
+pub record IsFirstFault {B : Type 0} (kind : B → Kind) (boxes : List (SixOf B)) (found : WrongKind)
+    : Type 0 where
+  pub before : List (SixOf B)
+  pub six : SixOf B
+  pub after : List (SixOf B)
+  pub split : boxes ≡ before ++ six ∷ after
+  pub right : All (HaveKinds kind) before
+  pub wrong : IsFirstWrong kind (places_of six) found
+
+-- why boxes don't make the racks of a run
+abbrev pub IsRackFault : {B : Type 0} → (B → Kind) → List (SixOf B) → RackFault → Type 0
+IsRackFault kind boxes (WrongBox found) = IsFirstFault kind boxes found
+IsRackFault kind boxes (Count found) = (found.found ≡ length boxes) × (length boxes ≢ rack_count)
+IsRackFault kind boxes Memory = Unit {0}
+
+-- A rack has a box for a stage. So far it has one for each stage that keeps the rate.
+abbrev pub HasBox : Spec → Type 0
+HasBox (Matrix from to) = Unit {0}
+HasBox (Hold src dst channels) = ⊥
+HasBox (Linear src dst channels) = ⊥
+HasBox (Poly src dst channels table taps) = ⊥
+HasBox (Volume layout) = Unit {0}
+HasBox (Depth bits channels) = Unit {0}

@@ -96,8 +96,8 @@ abbrev pub on_line : ℕ → Converter
 on_line dst f around = blended dst f (around (pos 0)) (around (pos 1))
 
 -- a filter: each channel through the row for f
-abbrev pub through : Table → ℕ → ℕ → ℕ → Converter
-through table taps channels dst f around =
+abbrev pub filtered_frame : Table → ℕ → ℕ → ℕ → Converter
+filtered_frame table taps channels dst f around =
     map (filtered table taps (f * table.phases / dst) around) (range_with_len 0 channels)
 
 -- output k of a converter over a whole stream
@@ -112,7 +112,7 @@ conv (Hold src dst channels) tables gain x k = converted held (rate_of (Hold src
 conv (Linear src dst channels) tables gain x k =
     converted (on_line dst) (rate_of (Linear src dst channels)) x k
 conv (Poly src dst channels table taps) tables gain x k =
-    converted (through (table_at tables table) taps channels dst)
+    converted (filtered_frame (table_at tables table) taps channels dst)
     (rate_of (Poly src dst channels table taps)) x k
 conv (Volume layout) tables gain x k = at_gain layout gain (x (pos k))
 conv (Depth bits channels) tables gain x k = at_bits bits (x (pos k))

@@ -11,7 +11,7 @@ use Rattle.pcm_rate.specs.declared.rate.Rate.{Rate}
 use Rattle.pcm_rate.specs.Rates.{need, can, div_up}
 use Rattle.pcm_feeder.specs.Streams.{Stream, stream_of, frames_of, HaveChannels}
 use Rattle.pcm_feeder.specs.Layouts.{in_layout, at_gain}
-use Rattle.pcm_feeder.specs.Stages.{rate_of, channels_in, channels_out, history, at_bits, table_at, Converter, held, on_line, through, outputs}
+use Rattle.pcm_feeder.specs.Stages.{rate_of, channels_in, channels_out, history, at_bits, table_at, Converter, held, on_line, filtered_frame, outputs}
 use Rattle.pcm_feeder.specs.Limits.{IsGain, HasTable}
 use Rattle.pcm_feeder.specs.Kept.{Kept, fresh, past_after, StandsFor}
 
@@ -70,7 +70,7 @@ frames_by (Hold src dst channels) kept tables gain input given =
 frames_by (Linear src dst channels) kept tables gain input given =
     next_outputs (on_line dst) (Linear src dst channels) kept input given
 frames_by (Poly src dst channels table taps) kept tables gain input given =
-    next_outputs (through (table_at tables table) taps channels dst)
+    next_outputs (filtered_frame (table_at tables table) taps channels dst)
     (Poly src dst channels table taps) kept input given
 frames_by (Volume layout) kept tables gain input given =
     map (at_gain layout gain) (take given input)

@@ -4,6 +4,7 @@ ghost use Rattle.std.specs.Prelude.{◌≡◌, ◌≢◌, IfOk, IfErr, vec_len};
 ghost use Rattle.pcm_feeder.specs.declared.rack.TheConstants.{RACKS};
 
 use crate::{Feeder, Kind};
+use std::alloc::{AllocError, AllocFailed, Global};
 
 /// How many racks a run has: one for each play slot and each record slot.
 pub const RACKS: usize = 32;
@@ -30,7 +31,9 @@ pub struct RackOf<B> {
 }
 
 impl<B: Feeder> RackOf<B> {
-    ghost use Rattle.pcm_feeder.specs.Racks.{HaveKinds, IsRack, IsFirstWrong, places_of, boxes_of};
+    ghost use Rattle.std.specs.Prelude.{map};
+    ghost use Rattle.pcm_feeder.specs.Racks.{HaveKinds, IsRack, AreRacks, boxes_of};
+    ghost use Rattle.pcm_feeder.specs.Racks.{IsFirstWrong, IsRackFault, places_of};
 
     /// Tries the boxes in the order of their places. They are dropped where one is refused.
     pub fn new(six: SixOf<B>) -> Result<RackOf<B>, WrongKind>
@@ -50,6 +53,22 @@ impl<B: Feeder> RackOf<B> {
         ensures kinds { IsRack B.kind self → HaveKinds B.kind result }
     {
         self.boxes
+    }
+
+    // A rack of each six boxes, in their order.
+    fn of_each(alloc: Global, boxes: Vec<SixOf<B>>) -> Result<Vec<RackOf<B>>, RackFault>
+        ensures kinds { IfOk result (λ racks. AreRacks B.kind racks.items) }
+        ensures same { IfOk result (λ racks. map boxes_of racks.items ≡ boxes.items) }
+        ensures fault { IfErr result (IsRackFault B.kind boxes.items) }
+    {
+        let mut racks = Vec::new(alloc);
+        for six in boxes {
+            match RackOf::new(six) {
+                Ok(rack) => racks.push(rack)?,
+                Err(wrong) => return Err(RackFault::WrongBox(wrong)),
+            }
+        }
+        Ok(racks)
     }
 }
 
@@ -74,6 +93,37 @@ pub struct WrongCount {
     pub found: usize,
 }
 
+/// Why boxes don't make the racks of a run.
+#[derive(Clone, Copy, Debug, PartialEq, Eq)]
+pub enum RackFault {
+    /// A box is of another kind than its place asks for.
+    WrongBox(WrongKind),
+    /// There are more or fewer racks.
+    Count(WrongCount),
+    /// Memory ran out.
+    Memory,
+}
+
+impl From<AllocError> for RackFault {
+    ghost use Rattle.pcm_feeder.specs.declared.rack.RackFault.TheVariants.{Memory};
+
+    ghost from_gives = { λ _ fault. fault ≡ Memory };
+
+    fn from(_: AllocError) -> RackFault {
+        RackFault::Memory
+    }
+}
+
+impl<T: Drop> From<AllocFailed<T>> for RackFault {
+    ghost use Rattle.pcm_feeder.specs.declared.rack.RackFault.TheVariants.{Memory};
+
+    ghost from_gives = { λ _ fault. fault ≡ Memory };
+
+    fn from(_: AllocFailed<T>) -> RackFault {
+        RackFault::Memory
+    }
+}
+
 /// The racks of a run: 0 to 15 serve the play slots and 16 to 31 the record slots.
 #[derive(Drop)]
 pub struct RacksOf<B> {
@@ -82,7 +132,8 @@ pub struct RacksOf<B> {
 }
 
 impl<B: Feeder> RacksOf<B> {
-    ghost use Rattle.pcm_feeder.specs.Racks.{AreRacks, list_of, rack_count};
+    ghost use Rattle.std.specs.Prelude.{map};
+    ghost use Rattle.pcm_feeder.specs.Racks.{AreRacks, IsRackFault, list_of, rack_count, boxes_of};
 
     /// Takes the racks of a run over. They are dropped where there are more or fewer.
     pub fn new(racks: Vec<RackOf<B>>) -> Result<RacksOf<B>, WrongCount>
@@ -98,6 +149,19 @@ impl<B: Feeder> RacksOf<B> {
             Ok(RacksOf { list: racks })
         } else {
             Err(WrongCount { found })
+        }
+    }
+
+    /// Makes a rack of each six boxes, in their order. All boxes are dropped where one is refused.
+    pub fn of_boxes(alloc: Global, boxes: Vec<SixOf<B>>) -> Result<RacksOf<B>, RackFault>
+        ensures kinds { IfOk result (λ made. AreRacks B.kind (list_of made)) }
+        ensures same { IfOk result (λ made. map boxes_of (list_of made) ≡ boxes.items) }
+        ensures fault { IfErr result (IsRackFault B.kind boxes.items) }
+    {
+        let racks = RackOf::of_each(alloc, boxes)?;
+        match RacksOf::new(racks) {
+            Ok(racks) => Ok(racks),
+            Err(wrong) => Err(RackFault::Count(wrong)),
         }
     }
 

@@ -62,6 +62,12 @@ pub struct Gain {
     pub right: u32,
 }
 
+/// A gain of one on both sides.
+pub const UNITY: Gain = Gain {
+    left: 65536,
+    right: 65536,
+};
+
 /// How many frames a feed took from its input, and how many it gave.
 #[derive(Clone, Copy, Debug, PartialEq, Eq)]
 pub struct Moved {
