@@ -1,0 +1,378 @@
+-- What the stages of a plan are: they fit each other, and their filters are there.
+use Rattle.std.specs.List.{position_or_len}
+use Rattle.std.proofs.Common.{subst, nat_lt, Bool, ◌≡◌, ◌≢◌, ◌≤◌, ◌<◌, ◌+◌, ◌/◌, ◌==◌, ℕ, nat_le, Option, Some, None, List, [], ◌∷◌, ◌++◌, length, refl, sym, ap, ◌∙◌, arith, cond}
+use Rattle.std.specs.Prelude.{IfSome, All, position}
+use Rattle.std.proofs.lemmas.Bool.{cond_both, eqb-true, eqb-false, ltb-true}
+use Rattle.std.proofs.lemmas.List.{length-append}
+use Rattle.std.proofs.lemmas.List.Elements.{All-nil, All-cons, All-head, All-tail, All-append, All-weaker}
+use Rattle.std.proofs.lemmas.Option.{slice_get-get_or}
+use Rattle.pcm_format.specs.declared.format.Format.{Format}
+use Rattle.pcm_format.specs.declared.format.Format.TheVariants.{U8}
+use Rattle.pcm_format.specs.declared.layout.Layout.{Layout}
+use Rattle.pcm_format.specs.declared.layout.Layout.TheVariants.{One}
+use Rattle.pcm_format.specs.declared.settings.Settings.{Settings}
+use Rattle.pcm_format.specs.Formats.{bits_of}
+use Rattle.pcm_format.specs.Layouts.{channels_of}
+use Rattle.pcm_rate.specs.Rates.{unchanged, IsRatio}
+use Rattle.pcm_feeder.specs.declared.kind.Kind.{Kind}
+use Rattle.pcm_feeder.specs.declared.kind.Kind.TheVariants as kinds
+use Rattle.pcm_feeder.specs.declared.stage.Spec.{Spec}
+use Rattle.pcm_feeder.specs.declared.stage.Spec.TheVariants.{Matrix, Hold, Linear, Poly, Volume, Depth}
+use Rattle.pcm_feeder.specs.declared.table.Table.{Table}
+use Rattle.pcm_feeder.specs.Filters.{Filters}
+use Rattle.pcm_feeder.specs.Kinds.{kind_of}
+use Rattle.pcm_feeder.specs.Limits.{IsRate, AreTaps, AreFilters, AreChannels, IsChange, IsSpec, HasTable}
+use Rattle.pcm_feeder.specs.Racks.{HasBox}
+use Rattle.pcm_feeder.specs.Stages.{rate_of, channels_in, channels_out, table_at}
+use Rattle.pcm_feeder.proofs.Outputs.{src-above, dst-above}
+use Rattle.pcm_plan.specs.Plans.{PlanSeen, matrix_stages, is_for, or_else, filter_for, filter_or_line, converter_of, rate_stages, depth_stages, converting, plan_play, rate_among, rate_in_plan}
+use Rattle.pcm_plan.specs.Fits.{Follow, AreDistinct, IsUnrated, HaveOneRate, IsPlan, HaveTables}
+
+-- ---- the rate of stages
+
+-- both rates of each stage are above 0
+abbrev HaveRatios : List Spec → Type 0
+HaveRatios specs = All (λ spec. IsRatio (rate_of spec)) specs
+
+rate-ratio : (specs : List Spec) → HaveRatios specs → IsRatio (rate_among specs)
+rate-ratio [] have = record { src = omega arith; dst = omega arith }
+rate-ratio (Matrix from to ∷ specs) have = rate-ratio specs (All-tail (λ spec. IsRatio (rate_of spec)) (Matrix from to) specs have)
+rate-ratio (Hold src dst channels ∷ specs) have = All-head (λ spec. IsRatio (rate_of spec)) (Hold src dst channels) specs have
+rate-ratio (Linear src dst channels ∷ specs) have = All-head (λ spec. IsRatio (rate_of spec)) (Linear src dst channels) specs have
+rate-ratio (Poly src dst channels table taps ∷ specs) have = All-head (λ spec. IsRatio (rate_of spec)) (Poly src dst channels table taps) specs have
+rate-ratio (Volume layout ∷ specs) have = rate-ratio specs (All-tail (λ spec. IsRatio (rate_of spec)) (Volume layout) specs have)
+rate-ratio (Depth bits channels ∷ specs) have = rate-ratio specs (All-tail (λ spec. IsRatio (rate_of spec)) (Depth bits channels) specs have)
+
+-- both rates of a plan are above 0
+pub ratio-in : (plan : PlanSeen) → IsPlan plan → IsRatio (rate_in_plan plan)
+ratio-in plan is =
+    rate-ratio plan.stages (All-weaker IsSpec (λ spec. IsRatio (rate_of spec)) (λ spec limits. record { src = src-above spec limits; dst = dst-above spec limits }) plan.stages is.specs)
+
+-- where each stage has a box, the rate is unchanged
+pub rate-boxes : (specs : List Spec) → All HasBox specs → rate_among specs ≡ unchanged
+rate-boxes [] have = refl
+rate-boxes (Matrix from to ∷ specs) have = rate-boxes specs (All-tail HasBox (Matrix from to) specs have)
+rate-boxes (Hold src dst channels ∷ specs) have = absurd (All-head HasBox (Hold src dst channels) specs have)
+rate-boxes (Linear src dst channels ∷ specs) have = absurd (All-head HasBox (Linear src dst channels) specs have)
+rate-boxes (Poly src dst channels table taps ∷ specs) have = absurd (All-head HasBox (Poly src dst channels table taps) specs have)
+rate-boxes (Volume layout ∷ specs) have = rate-boxes specs (All-tail HasBox (Volume layout) specs have)
+rate-boxes (Depth bits channels ∷ specs) have = rate-boxes specs (All-tail HasBox (Depth bits channels) specs have)
+
+-- ---- stages in two parts
+
+follow-append : (a : ℕ) (before after : List Spec) (b c : ℕ) → Follow a before b → Follow b after c → Follow a (before ++ after) c
+follow-append a [] after b c first second = subst (λ (n : ℕ). Follow n after c) (sym first) second
+follow-append a (spec ∷ before) after b c first second = (first.0, follow-append (channels_out spec) before after b c first.1 second)
+
+-- no stage of the one list is of the kind of a stage of the other
+abbrev Differ : List Spec → List Spec → Type 0
+Differ before after = All (λ spec. All (λ other. kind_of spec ≢ kind_of other) after) before
+
+distinct-append : (before after : List Spec) → AreDistinct before → AreDistinct after → Differ before after → AreDistinct (before ++ after)
+distinct-append [] after first second differ = second
+distinct-append (spec ∷ before) after first second differ =
+    let Others : List Spec → Spec → Type 0 = λ (l : List Spec) (s : Spec). All (λ other. kind_of s ≢ kind_of other) l in
+    let Other : Spec → Type 0 = λ (other : Spec). kind_of spec ≢ kind_of other in (
+      All-append Other before after first.0 (All-head (Others after) spec before differ),
+      distinct-append before after first.1 second (All-tail (Others after) spec before differ),
+    )
+
+-- 0 for a matrix, 1 for a converter, 2 for the others
+abbrev rank_of : Kind → ℕ
+rank_of kinds.Matrix = 0
+rank_of kinds.Hold = 1
+rank_of kinds.Linear = 1
+rank_of kinds.Poly = 1
+rank_of kinds.Volume = 2
+rank_of kinds.Depth = 2
+
+abbrev HaveRank : ℕ → List Spec → Type 0
+HaveRank n specs = All (λ spec. rank_of (kind_of spec) ≡ n) specs
+
+differ : (n m : ℕ) (before after : List Spec) → n ≢ m → HaveRank n before → HaveRank m after → Differ before after
+differ n m before after other first second k d within i e below same =
+    other (sym (first k d within) ∙ ap rank_of same ∙ second i e below)
+
+-- one stage at most changes the rate, where none behind it does
+one-rate-unrated : (specs : List Spec) → All IsUnrated specs → HaveOneRate specs
+one-rate-unrated [] all = tt
+one-rate-unrated (Matrix from to ∷ specs) all = one-rate-unrated specs (All-tail IsUnrated (Matrix from to) specs all)
+one-rate-unrated (Hold src dst channels ∷ specs) all = All-tail IsUnrated (Hold src dst channels) specs all
+one-rate-unrated (Linear src dst channels ∷ specs) all = All-tail IsUnrated (Linear src dst channels) specs all
+one-rate-unrated (Poly src dst channels table taps ∷ specs) all = All-tail IsUnrated (Poly src dst channels table taps) specs all
+one-rate-unrated (Volume layout ∷ specs) all = one-rate-unrated specs (All-tail IsUnrated (Volume layout) specs all)
+one-rate-unrated (Depth bits channels ∷ specs) all = one-rate-unrated specs (All-tail IsUnrated (Depth bits channels) specs all)
+
+one-rate-append : (before after : List Spec) → HaveOneRate before → All IsUnrated after → HaveOneRate (before ++ after)
+one-rate-append [] after one all = one-rate-unrated after all
+one-rate-append (Matrix from to ∷ before) after one all = one-rate-append before after one all
+one-rate-append (Hold src dst channels ∷ before) after one all = All-append IsUnrated before after one all
+one-rate-append (Linear src dst channels ∷ before) after one all = All-append IsUnrated before after one all
+one-rate-append (Poly src dst channels table taps ∷ before) after one all = All-append IsUnrated before after one all
+one-rate-append (Volume layout ∷ before) after one all = one-rate-append before after one all
+one-rate-append (Depth bits channels ∷ before) after one all = one-rate-append before after one all
+
+one-rate-single : (spec : Spec) → HaveOneRate (spec ∷ [])
+one-rate-single (Matrix from to) = tt
+one-rate-single (Hold src dst channels) = All-nil IsUnrated
+one-rate-single (Linear src dst channels) = All-nil IsUnrated
+one-rate-single (Poly src dst channels table taps) = All-nil IsUnrated
+one-rate-single (Volume layout) = tt
+one-rate-single (Depth bits channels) = tt
+
+-- ---- each stage of a plan
+
+-- the place of a filter that is there, if there is one
+abbrev IsPlace : Filters → Option ℕ → Type 0
+IsPlace tables place = IfSome place (λ at. at < length tables.list)
+
+-- a fact of each converter, of a filter that is there too
+each-converter : (P : Spec → Type 0) (tables : Filters) (quality src dst channels : ℕ) → P (Hold src dst channels) → P (Linear src dst channels)
+    → ((place : ℕ) → place < length tables.list → P (Poly src dst channels place (table_at tables place).taps))
+    → P (converter_of tables quality src dst channels)
+each-converter P tables quality src dst channels hold line filter =
+    let other = filter_or_line tables src dst channels (filter_for tables src dst) in
+    cond_both (quality == 0) (Hold src dst channels) (cond (quality == 1) (Linear src dst channels) other) P (λ first. hold)
+    (λ next. cond_both (quality == 1) (Linear src dst channels) other P (λ second. line)
+    (λ last. found (filter_for tables src dst) (either (position (is_for src dst) tables.list) (position (is_for 0 0) tables.list) (within (is_for src dst)) (within (is_for 0 0)))))
+  where
+    within : (p : Table → Bool) → IsPlace tables (position p tables.list)
+    within p =
+        let first = position_or_len p tables.list in
+        cond_both (nat_lt first (length tables.list)) (Some first) None (IsPlace tables) (λ below. ltb-true first (length tables.list) below) (λ past. tt)
+
+    either : (first second : Option ℕ) → IsPlace tables first → IsPlace tables second → IsPlace tables (or_else first second)
+    either None second a b = b
+    either (Some place) second a b = a
+
+    found : (place : Option ℕ) → IsPlace tables place → P (filter_or_line tables src dst channels place)
+    found None below = line
+    found (Some place) below = filter place below
+
+-- a fact of each stage that a plan may have
+each-stage : (P : Spec → Type 0) (tables : Filters) (quality : ℕ) (client device : Settings) → P (Matrix client.layout device.layout)
+    → ((layout : Layout) → client.rate ≢ device.rate → P (converter_of tables quality client.rate device.rate (channels_of layout)))
+    → P (Volume device.layout) → P (Depth (bits_of device.format) (channels_of device.layout))
+    → All P (plan_play tables quality client device).stages
+each-stage P tables quality client device matrix converter volume depth =
+    let up = rate_stages tables quality client.rate device.rate (channels_of client.layout) in
+    let down = rate_stages tables quality client.rate device.rate (channels_of device.layout) in
+    let moved = matrix_stages client.layout device.layout in
+    All-append P (converting tables quality client device) (Volume device.layout ∷ depth_stages (bits_of device.format) (channels_of device.layout))
+    (cond_both (nat_le (channels_of device.layout) (channels_of client.layout)) (moved ++ down) (up ++ moved) (All P)
+    (λ fewer. All-append P moved down first (second device.layout)) (λ more. All-append P up moved (second client.layout) first))
+    (All-cons P (Volume device.layout) (depth_stages (bits_of device.format) (channels_of device.layout)) volume last)
+  where
+    one : (spec : Spec) → P spec → All P (spec ∷ [])
+    one spec has = All-cons P spec [] has (All-nil P)
+
+    first : All P (matrix_stages client.layout device.layout)
+    first =
+        cond_both (channels_of client.layout == channels_of device.layout) [] (Matrix client.layout device.layout ∷ []) (All P)
+        (λ same. All-nil P) (λ other. one (Matrix client.layout device.layout) matrix)
+
+    second : (layout : Layout) → All P (rate_stages tables quality client.rate device.rate (channels_of layout))
+    second layout =
+        let spec = converter_of tables quality client.rate device.rate (channels_of layout) in
+        cond_both (client.rate == device.rate) [] (spec ∷ []) (All P)
+        (λ same. All-nil P) (λ other. one spec (converter layout (λ same. eqb-false client.rate device.rate other same)))
+
+    last : All P (depth_stages (bits_of device.format) (channels_of device.layout))
+    last =
+        let spec = Depth (bits_of device.format) (channels_of device.layout) in
+        cond_both (bits_of device.format == 32) [] (spec ∷ []) (All P) (λ whole. All-nil P) (λ fewer. one spec depth)
+
+-- ---- the limits of each stage
+
+-- the channels of a layout
+channels-within : (layout : Layout) → AreChannels (channels_of layout)
+channels-within One = record { least = omega arith; most = omega arith }
+channels-within _ = record { least = omega arith; most = omega arith }
+
+-- the bits of a format
+bits-within : (format : Format) → (1 ≤ bits_of format) × (bits_of format ≤ 32)
+bits-within U8 = (omega arith, omega arith)
+bits-within _ = (omega arith, omega arith)
+
+-- the taps of a filter that is there
+taps-within : (tables : Filters) (place : ℕ) → AreFilters tables.list → place < length tables.list → AreTaps (table_at tables place).taps
+taps-within tables place are below = (are.each place (record { src = 0; dst = 0; phases = 1; taps = 2; shift = 1; coefs = [] }) below).taps
+
+has-table : (tables : Filters) (src dst channels place : ℕ) → place < length tables.list → HasTable (Poly src dst channels place (table_at tables place).taps) tables
+has-table tables src dst channels place below =
+    rw (slice_get-get_or tables.list place (record { src = 0; dst = 0; phases = 1; taps = 2; shift = 1; coefs = [] }) below) refl
+
+play-specs : (tables : Filters) (quality : ℕ) (client device : Settings) → AreFilters tables.list → IsRate client.rate → IsRate device.rate
+    → All IsSpec (plan_play tables quality client device).stages
+play-specs tables quality client device are from to =
+    each-stage IsSpec tables quality client device tt (λ layout differs. converter layout) tt
+    (record { least = (bits-within device.format).0; most = (bits-within device.format).1; within = channels-within device.layout })
+  where
+    change : (layout : Layout) → IsChange client.rate device.rate (channels_of layout)
+    change layout = record { source = from; target = to; within = channels-within layout }
+
+    converter : (layout : Layout) → IsSpec (converter_of tables quality client.rate device.rate (channels_of layout))
+    converter layout =
+        each-converter IsSpec tables quality client.rate device.rate (channels_of layout) (change layout) (change layout)
+        (λ place below. record { change = change layout; row = taps-within tables place are below })
+
+-- the tables have the filter of a client's plan
+pub play-tables : (tables : Filters) (quality : ℕ) (client device : Settings) → AreFilters tables.list → IsRate client.rate → IsRate device.rate
+    → HaveTables (plan_play tables quality client device).stages tables
+play-tables tables quality client device are from to =
+    each-stage (λ spec. HasTable spec tables) tables quality client device tt
+    (λ layout differs. each-converter (λ spec. HasTable spec tables) tables quality client.rate device.rate (channels_of layout) tt tt
+    (λ place below. has-table tables client.rate device.rate (channels_of layout) place below)) tt tt
+
+-- between equal rates each stage has a box
+pub play-boxes : (tables : Filters) (quality : ℕ) (client device : Settings) → client.rate ≡ device.rate → All HasBox (plan_play tables quality client device).stages
+play-boxes tables quality client device same = each-stage HasBox tables quality client device tt (λ layout differs. absurd (differs same)) tt tt
+
+-- both rates of its converter are above 0
+pub play-ratio : (tables : Filters) (quality : ℕ) (client device : Settings) → IsRate client.rate → IsRate device.rate → IsRatio (rate_in_plan (plan_play tables quality client device))
+play-ratio tables quality client device from to =
+    rate-ratio (plan_play tables quality client device).stages
+    (each-stage (λ spec. IsRatio (rate_of spec)) tables quality client device level
+    (λ layout differs. each-converter (λ spec. IsRatio (rate_of spec)) tables quality client.rate device.rate (channels_of layout) (above 0) (above 1)
+    (λ place below. above ((table_at tables place).taps / 2))) level level)
+  where
+    level : IsRatio unchanged
+    level = record { src = omega arith; dst = omega arith }
+
+    above : (lookahead : ℕ) → IsRatio (record { src = client.rate; dst = device.rate; lookahead = lookahead })
+    above lookahead = record { src = omega (arith, from.least); dst = omega (arith, to.least) }
+
+-- ---- the order of the stages
+
+-- stages that lead from channels to channels, at most so many
+record IsRow (from to most : ℕ) (row : List Spec) : Type 0 where
+  follow : Follow from row to
+  distinct : AreDistinct row
+  one_rate : HaveOneRate row
+  count : length row ≤ most
+
+row-none : (from to : ℕ) → from ≡ to → IsRow from to 1 []
+row-none from to same = record { follow = same; distinct = tt; one_rate = tt; count = omega arith }
+
+row-one : (spec : Spec) → IsRow (channels_in spec) (channels_out spec) 1 (spec ∷ [])
+row-one spec = record {
+  follow = (refl, refl);
+  distinct = (All-nil (λ other. kind_of spec ≢ kind_of other), tt);
+  one_rate = one-rate-single spec;
+  count = omega arith;
+}
+
+row-append : (from middle to n m : ℕ) (before after : List Spec) → IsRow from middle n before → IsRow middle to m after → Differ before after → HaveOneRate (before ++ after)
+    → IsRow from to (n + m) (before ++ after)
+row-append from middle to n m before after first second other one = record {
+  follow = follow-append from before after middle to first.follow second.follow;
+  distinct = distinct-append before after first.distinct second.distinct other;
+  one_rate = one;
+  count = omega (arith, length-append before after, first.count, second.count);
+}
+
+-- a part of a plan: a row whose stages have one rank
+record IsPart (from to most rank : ℕ) (specs : List Spec) : Type 0 where
+  row : IsRow from to most specs
+  ranks : HaveRank rank specs
+
+part-none : (from to rank : ℕ) → from ≡ to → IsPart from to 1 rank []
+part-none from to rank same = record { row = row-none from to same; ranks = All-nil (λ spec. rank_of (kind_of spec) ≡ rank) }
+
+part-one : (rank : ℕ) (spec : Spec) → rank_of (kind_of spec) ≡ rank → IsPart (channels_in spec) (channels_out spec) 1 rank (spec ∷ [])
+part-one rank spec ranked = record {
+  row = row-one spec;
+  ranks = All-cons (λ s. rank_of (kind_of s) ≡ rank) spec [] ranked (All-nil (λ s. rank_of (kind_of s) ≡ rank));
+}
+
+-- the matrix
+matrix-part : (from to : Layout) → IsPart (channels_of from) (channels_of to) 1 0 (matrix_stages from to)
+matrix-part from to =
+    cond_both (channels_of from == channels_of to) [] (Matrix from to ∷ []) (IsPart (channels_of from) (channels_of to) 1 0)
+    (λ same. part-none (channels_of from) (channels_of to) 0 (eqb-true (channels_of from) (channels_of to) same)) (λ other. part-one 0 (Matrix from to) refl)
+
+matrix-unrated : (from to : Layout) → All IsUnrated (matrix_stages from to)
+matrix-unrated from to =
+    cond_both (channels_of from == channels_of to) [] (Matrix from to ∷ []) (All IsUnrated)
+    (λ same. All-nil IsUnrated) (λ other. All-cons IsUnrated (Matrix from to) [] refl (All-nil IsUnrated))
+
+one-rate-matrix : (from to : Layout) (rest : List Spec) → HaveOneRate rest → HaveOneRate (matrix_stages from to ++ rest)
+one-rate-matrix from to rest one =
+    cond_both (channels_of from == channels_of to) [] (Matrix from to ∷ []) (λ row. HaveOneRate (row ++ rest)) (λ same. one) (λ other. one)
+
+-- the converter
+rate-part : (tables : Filters) (quality src dst channels : ℕ) → IsPart channels channels 1 1 (rate_stages tables quality src dst channels)
+rate-part tables quality src dst channels =
+    cond_both (src == dst) [] (converter_of tables quality src dst channels ∷ []) (IsPart channels channels 1 1)
+    (λ same. part-none channels channels 1 refl)
+    (λ other. each-converter (λ spec. IsPart channels channels 1 1 (spec ∷ [])) tables quality src dst channels (part-one 1 (Hold src dst channels) refl) (part-one 1 (Linear src dst channels) refl)
+    (λ place below. part-one 1 (Poly src dst channels place (table_at tables place).taps) refl))
+
+-- both, in either order
+record IsWay (from to : ℕ) (way : List Spec) : Type 0 where
+  row : IsRow from to 2 way
+  other : (after : List Spec) → HaveRank 2 after → Differ way after
+
+way-append : (from middle to n m : ℕ) (before after : List Spec) → n ≢ m → n < 2 → m < 2 → IsPart from middle 1 n before → IsPart middle to 1 m after → HaveOneRate (before ++ after)
+    → IsWay from to (before ++ after)
+way-append from middle to n m before after other n_low m_low first second one = record {
+  row = row-append from middle to 1 1 before after first.row second.row (differ n m before after other first.ranks second.ranks) one;
+  other = λ behind last.
+      All-append (λ (spec : Spec). All (λ s. kind_of spec ≢ kind_of s) behind) before after
+      (differ n 2 before behind (omega arith) first.ranks last) (differ m 2 after behind (omega arith) second.ranks last);
+}
+
+converting-way : (tables : Filters) (quality : ℕ) (source target : Settings) → IsWay (channels_of source.layout) (channels_of target.layout) (converting tables quality source target)
+converting-way tables quality source target =
+    let c = channels_of source.layout in
+    let d = channels_of target.layout in
+    let up = rate_stages tables quality source.rate target.rate c in
+    let down = rate_stages tables quality source.rate target.rate d in
+    let moved = matrix_stages source.layout target.layout in
+    let matrix = matrix-part source.layout target.layout in
+    let before = rate-part tables quality source.rate target.rate c in
+    let behind = rate-part tables quality source.rate target.rate d in
+    cond_both (nat_le d c) (moved ++ down) (up ++ moved) (IsWay c d)
+    (λ fewer. way-append c d d 0 1 moved down (omega arith) (omega arith) (omega arith) matrix behind (one-rate-matrix source.layout target.layout down behind.row.one_rate))
+    (λ more. way-append c c d 1 0 up moved (omega arith) (omega arith) (omega arith) before matrix
+    (one-rate-append up moved before.row.one_rate (matrix-unrated source.layout target.layout)))
+
+-- the volume, and the depth behind it
+record IsEnd (channels : ℕ) (row : List Spec) : Type 0 where
+  part : IsPart channels channels 2 2 row
+  unrated : All IsUnrated row
+
+end-append : (layout : Layout) (rest : List Spec) → IsPart (channels_of layout) (channels_of layout) 1 2 rest → All (λ spec. kinds.Volume ≢ kind_of spec) rest → All IsUnrated rest
+    → IsEnd (channels_of layout) (Volume layout ∷ rest)
+end-append layout rest part other unrated =
+    let c = channels_of layout in
+    let Others : Spec → Type 0 = λ (spec : Spec). All (λ s. kind_of spec ≢ kind_of s) rest in
+    record {
+      part = record {
+        row = row-append c c c 1 1 (Volume layout ∷ []) rest (row-one (Volume layout)) part.row (All-cons Others (Volume layout) [] other (All-nil Others)) (one-rate-unrated rest unrated);
+        ranks = All-cons (λ spec. rank_of (kind_of spec) ≡ 2) (Volume layout) rest refl part.ranks;
+      };
+      unrated = All-cons IsUnrated (Volume layout) rest refl unrated;
+    }
+
+volume-end : (layout : Layout) (bits : ℕ) → IsEnd (channels_of layout) (Volume layout ∷ depth_stages bits (channels_of layout))
+volume-end layout bits =
+    let c = channels_of layout in
+    let other : kinds.Volume ≢ kinds.Depth = λ (same : kinds.Volume ≡ kinds.Depth). cc in
+    let Other : Spec → Type 0 = λ (spec : Spec). kinds.Volume ≢ kind_of spec in
+    cond_both (bits == 32) [] (Depth bits c ∷ []) (λ rest. IsEnd c (Volume layout ∷ rest))
+    (λ whole. end-append layout [] (part-none c c 2 refl) (All-nil Other) (All-nil IsUnrated))
+    (λ fewer. end-append layout (Depth bits c ∷ []) (part-one 2 (Depth bits c) refl) (All-cons Other (Depth bits c) [] other (All-nil Other)) (All-cons IsUnrated (Depth bits c) [] refl (All-nil IsUnrated)))
+
+-- the stages of a client's plan fit each other
+pub play-fits : (tables : Filters) (quality : ℕ) (client device : Settings) → AreFilters tables.list → IsRate client.rate → IsRate device.rate
+    → IsPlan (plan_play tables quality client device)
+play-fits tables quality client device are from to =
+    let c = channels_of client.layout in
+    let d = channels_of device.layout in
+    let way = converting tables quality client device in
+    let behind = Volume device.layout ∷ depth_stages (bits_of device.format) d in
+    let first = converting-way tables quality client device in
+    let last = volume-end device.layout (bits_of device.format) in
+    let row = row-append c d d 2 2 way behind first.row last.part.row (first.other behind last.part.ranks) (one-rate-append way behind first.row.one_rate last.unrated) in
+    record { follow = row.follow; specs = play-specs tables quality client device are from to; distinct = row.distinct; one_rate = row.one_rate; count = row.count }

@@ -1,0 +1,8 @@
+use Rattle.pcm_plan.proofs.Through.{out-append, outs-append}
+use Rattle.pcm_plan.proofs.laws.more_frames_change_no_output.Goals as goal
+
+pub returns-clause-one : goal.returns-clause-one
+returns-clause-one c = out-append
+
+pub returns-clause-several : goal.returns-clause-several
+returns-clause-several c = outs-append

@@ -1,0 +1,47 @@
+-- What holds of every plan: its stages fit each other.
+use Rattle.std.specs.Prelude.{◌≡◌, ◌≢◌, ◌≤◌, ℕ, List, [], ◌∷◌, length, All}
+use Rattle.pcm_format.specs.Layouts.{channels_of}
+use Rattle.pcm_rate.specs.Rates.{unchanged}
+use Rattle.pcm_feeder.specs.declared.stage.Spec.{Spec}
+use Rattle.pcm_feeder.specs.declared.stage.Spec.TheVariants.{Matrix, Hold, Linear, Poly, Volume, Depth}
+use Rattle.pcm_feeder.specs.Filters.{Filters}
+use Rattle.pcm_feeder.specs.Kinds.{kind_of}
+use Rattle.pcm_feeder.specs.Limits.{IsSpec, HasTable}
+use Rattle.pcm_feeder.specs.Stages.{rate_of, channels_in, channels_out}
+use Rattle.pcm_plan.specs.Plans.{PlanSeen}
+
+-- each stage takes the channels that the one before it gives, from the first count to the last
+abbrev pub Follow : ℕ → List Spec → ℕ → Type 0
+Follow from [] to = from ≡ to
+Follow from (spec ∷ specs) to = (channels_in spec ≡ from) × Follow (channels_out spec) specs to
+
+-- no two stages are of one kind
+abbrev pub AreDistinct : List Spec → Type 0
+AreDistinct [] = Unit {0}
+AreDistinct (spec ∷ specs) = All (λ other. kind_of spec ≢ kind_of other) specs × AreDistinct specs
+
+-- a stage gives a frame for each frame
+abbrev pub IsUnrated : Spec → Type 0
+IsUnrated spec = rate_of spec ≡ unchanged
+
+-- one stage at most changes the rate
+abbrev pub HaveOneRate : List Spec → Type 0
+HaveOneRate [] = Unit {0}
+HaveOneRate (Matrix from to ∷ specs) = HaveOneRate specs
+HaveOneRate (Hold src dst channels ∷ specs) = All IsUnrated specs
+HaveOneRate (Linear src dst channels ∷ specs) = All IsUnrated specs
+HaveOneRate (Poly src dst channels table taps ∷ specs) = All IsUnrated specs
+HaveOneRate (Volume layout ∷ specs) = HaveOneRate specs
+HaveOneRate (Depth bits channels ∷ specs) = HaveOneRate specs
+
+-- the stages of a plan fit each other and its ends, and are within their limits
+pub record IsPlan (plan : PlanSeen) : Type 0 where
+  pub follow : Follow (channels_of plan.source) plan.stages (channels_of plan.target)
+  pub specs : All IsSpec plan.stages
+  pub distinct : AreDistinct plan.stages
+  pub one_rate : HaveOneRate plan.stages
+  pub count : length plan.stages ≤ 4
+
+-- the tables have the filter of each stage
+abbrev pub HaveTables : List Spec → Filters → Type 0
+HaveTables specs tables = All (λ spec. HasTable spec tables) specs

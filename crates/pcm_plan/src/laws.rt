@@ -1,0 +1,68 @@
+//! What holds of all plans: each function here has no work, and its contract is a law.
+
+ghost use Rattle.std.specs.Prelude.{◌≡◌, ◌<◌, ◌≤◌, ◌+◌, ℕ, ℤ, List, ◌++◌, All, length, map};
+ghost use Rattle.pcm_format.specs.declared.settings.Settings.{Settings};
+ghost use Rattle.pcm_format.specs.Frames.{Frame};
+ghost use Rattle.pcm_format.specs.Layouts.{channels_of};
+ghost use Rattle.pcm_rate.specs.Rates.{can, unchanged, IsRatio};
+ghost use Rattle.pcm_feeder.specs.declared.stage.Gain.{Gain};
+ghost use Rattle.pcm_feeder.specs.declared.stage.Spec.{Spec};
+ghost use Rattle.pcm_feeder.specs.Filters.{Filters};
+ghost use Rattle.pcm_feeder.specs.Limits.{IsRate, AreFilters};
+ghost use Rattle.pcm_feeder.specs.Racks.{HasBox};
+ghost use Rattle.pcm_feeder.specs.Streams.{stream_of, HaveChannels};
+ghost use Rattle.pcm_plan.specs.Plans.{PlanSeen, plan_play, rate_among, rate_in_plan};
+ghost use Rattle.pcm_plan.specs.Fits.{Follow, IsPlan, HaveTables};
+ghost use Rattle.pcm_plan.specs.Through.{through, out, outs, frame_through};
+
+/// The stages of a client's plan fit each other, and the tables have its filter. Between equal
+/// rates a rack has a box for each of them.
+pub fn plans_fit()
+    ensures fits { (tables : Filters) (quality : ℕ) (client device : Settings)
+        → AreFilters tables.list → IsRate client.rate → IsRate device.rate
+        → IsPlan (plan_play tables quality client device) }
+    ensures tables { (tables : Filters) (quality : ℕ) (client device : Settings)
+        → AreFilters tables.list → IsRate client.rate → IsRate device.rate
+        → HaveTables (plan_play tables quality client device).stages tables }
+    ensures boxes { (tables : Filters) (quality : ℕ) (client device : Settings)
+        → client.rate ≡ device.rate → All HasBox (plan_play tables quality client device).stages }
+    ensures ratio { (plan : PlanSeen) → IsPlan plan → IsRatio (rate_in_plan plan) }
+{}
+
+/// A frame that a plan gives for some frames stays the same when more follow them.
+pub fn more_frames_change_no_output()
+    ensures one { (plan : PlanSeen) (tables : Filters) (frames more : List Frame) (k : ℕ)
+        (gain : Gain) → IsPlan plan → k < can (rate_in_plan plan) (length frames)
+        → out plan tables (frames ++ more) k gain ≡ out plan tables frames k gain }
+    ensures several { (plan : PlanSeen) (tables : Filters) (gain : Gain)
+        (frames more : List Frame) (from count : ℕ)
+        → IsPlan plan → from + count ≤ can (rate_in_plan plan) (length frames)
+        → outs plan tables gain (frames ++ more) from count
+        ≡ outs plan tables gain frames from count }
+{}
+
+/// A plan gives as many frames as it is asked for, with the channels of its target, and in parts
+/// the same as at once.
+pub fn outputs_have_the_channels_of_the_target()
+    ensures count { (plan : PlanSeen) (tables : Filters) (gain : Gain) (frames : List Frame)
+        (from count : ℕ) → length (outs plan tables gain frames from count) ≡ count }
+    ensures channels { (plan : PlanSeen) (tables : Filters) (gain : Gain) (frames : List Frame)
+        (from count : ℕ) → IsPlan plan → HaveChannels (channels_of plan.source) frames
+        → HaveChannels (channels_of plan.target) (outs plan tables gain frames from count) }
+    ensures parts { (plan : PlanSeen) (tables : Filters) (gain : Gain) (frames : List Frame)
+        (from n m : ℕ) → outs plan tables gain frames from (n + m)
+        ≡ outs plan tables gain frames from n ++ outs plan tables gain frames (from + n) m }
+{}
+
+/// Stages for which a rack has boxes keep the rate and turn each frame by itself.
+pub fn boxes_turn_each_frame()
+    ensures rate { (specs : List Spec) → All HasBox specs → rate_among specs ≡ unchanged }
+    ensures stream { (tables : Filters) (gain : Gain) (specs : List Spec) (c d : ℕ)
+        (list : List Frame) → All HasBox specs → Follow c specs d
+        → (place : ℤ) → through tables gain specs (stream_of c list) place
+        ≡ stream_of d (map (frame_through gain specs) list) place }
+    ensures frames { (plan : PlanSeen) (tables : Filters) (gain : Gain) (frames : List Frame)
+        → IsPlan plan → All HasBox plan.stages
+        → outs plan tables gain frames 0 (length frames)
+        ≡ map (frame_through gain plan.stages) frames }
+{}

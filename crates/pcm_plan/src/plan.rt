@@ -1,0 +1,168 @@
+//! The stages between two layouts, in their order.
+
+ghost use Rattle.std.specs.Prelude.{◌≡◌, List, [], ◌∷◌, All, unwrap_or};
+ghost use Rattle.pcm_feeder.specs.declared.stage.Spec.{Spec};
+ghost use Rattle.pcm_feeder.specs.Limits.{IsSpec};
+ghost use Rattle.pcm_plan.specs.Plans.{rate_among};
+
+use arrayvec::ArrayVec;
+use pcm_feeder::Spec;
+use pcm_format::Layout;
+use pcm_rate::{Rate, UNCHANGED};
+use std::marker::Model;
+
+/// At most four stages that fit each other, and the layouts before the first and behind the last.
+#[derive(Drop)]
+pub struct Plan {
+    source: Layout,
+    target: Layout,
+    stages: ArrayVec<Spec, 4>,
+}
+
+impl Model for Plan {
+    ghost use Rattle.pcm_plan.specs.Plans.{PlanSeen};
+    ghost use Rattle.pcm_plan.specs.Fits.{IsPlan};
+
+    ghost Value = { PlanSeen };
+
+    ghost view = { λ plan. record {
+      source = plan.source;
+      target = plan.target;
+      stages = plan.stages.items;
+    } };
+
+    ghost invariant = { λ plan. IsPlan (record {
+      source = plan.source;
+      target = plan.target;
+      stages = plan.stages.items;
+    }) };
+}
+
+impl Plan {
+    ghost use Rattle.pcm_rate.specs.Rates.{IsRatio, need, can, len};
+    ghost use Rattle.pcm_plan.specs.Plans.{rate_in_plan};
+    ghost use Rattle.pcm_plan.specs.Fits.{IsPlan};
+
+    // The plan of stages.
+    pub(crate) fn of(source: Layout, target: Layout, stages: ArrayVec<Spec, 4>) -> Plan
+        requires { IsPlan (record { source = source; target = target; stages = stages.items }) }
+        ensures { result ≡ record { source = source; target = target; stages = stages.items } }
+    {
+        Plan {
+            source,
+            target,
+            stages,
+        }
+    }
+
+    /// The plan without a stage.
+    pub fn straight(layout: Layout) -> Plan
+        ensures { result ≡ record { source = layout; target = layout; stages = [] } }
+    {
+        Plan {
+            source: layout,
+            target: layout,
+            stages: ArrayVec::new(),
+        }
+    }
+
+    /// The same plan once more.
+    pub fn copy(&self) -> Plan
+        ensures { result ≡ self.now }
+    {
+        let mut stages = ArrayVec::new();
+        for spec in self.stages() {
+            stages.push(*spec);
+        }
+        Plan::of(self.source, self.target, stages)
+    }
+
+    /// The layout before the first stage.
+    pub fn source(&self) -> Layout
+        ensures { result ≡ self.now.source }
+    {
+        self.source
+    }
+
+    /// The layout behind the last stage.
+    pub fn target(&self) -> Layout
+        ensures { result ≡ self.now.target }
+    {
+        self.target
+    }
+
+    /// Lends the stages, the first one first.
+    pub fn stages(&self) -> &[Spec]
+        ensures value { result.now ≡ self.now.stages }
+        ensures fits { IsPlan self.now }
+    {
+        self.stages.as_slice()
+    }
+
+    /// The rate of the stage that changes it.
+    pub fn rate(&self) -> Rate
+        ensures value { result ≡ rate_in_plan self.now }
+        ensures ratio { IsRatio result }
+    {
+        rate_among(self.stages())
+    }
+
+    /// How many frames of the input the first `outputs` outputs use.
+    pub fn need(&self, outputs: u64) -> u128
+        ensures { result ≡ need (rate_in_plan self.now) outputs }
+    {
+        self.rate().need(outputs)
+    }
+
+    /// How many outputs so many frames of the input allow while more may come.
+    pub fn can(&self, frames: u64) -> u128
+        ensures { result ≡ can (rate_in_plan self.now) frames }
+    {
+        self.rate().can(frames)
+    }
+
+    /// How many outputs last as long as so many frames of the input.
+    pub fn len(&self, frames: u64) -> u128
+        ensures { result ≡ len (rate_in_plan self.now) frames }
+    {
+        self.rate().len(frames)
+    }
+}
+
+// The rate of stages: that of the one that changes it.
+fn rate_among(stages: &[Spec]) -> Rate
+    requires { All IsSpec stages.now }
+    ensures { result ≡ rate_among stages.now }
+{
+    for spec in stages {
+        if let Some(rate) = rate_of(*spec) {
+            return rate;
+        }
+    }
+    UNCHANGED
+}
+
+// The rate of a stage that changes it.
+fn rate_of(spec: Spec) -> Option<Rate>
+    requires { IsSpec spec }
+    ensures { (rest : List Spec) → rate_among (spec ∷ rest) ≡ unwrap_or result (rate_among rest) }
+{
+    match spec {
+        Spec::Matrix { .. } | Spec::Volume { .. } | Spec::Depth { .. } => None,
+        Spec::Hold { src, dst, .. } => Some(Rate {
+            src,
+            dst,
+            lookahead: 0,
+        }),
+        Spec::Linear { src, dst, .. } => Some(Rate {
+            src,
+            dst,
+            lookahead: 1,
+        }),
+        Spec::Poly { src, dst, taps, .. } => Some(Rate {
+            src,
+            dst,
+            lookahead: (taps / 2) as u32,
+        }),
+    }
+}
