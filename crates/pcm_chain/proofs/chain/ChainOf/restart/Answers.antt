@@ -1,0 +1,17 @@
+use Rattle.std.proofs.Common.{◌≡◌, length}
+use Rattle.std.proofs.lemmas.List.Elements.{All-nil}
+use Rattle.pcm_format.specs.Frames.{Frame}
+use Rattle.pcm_format.specs.Layouts.{channels_of}
+use Rattle.pcm_chain.specs.Boxes.{kept_in}
+use Rattle.pcm_chain.proofs.Standing.{fresh-stages}
+use Rattle.pcm_chain.proofs.chain.ChainOf.restart.Goals as goal
+
+pub returns-clause-begins : goal.returns-clause-begins
+returns-clause-begins g c tables =
+    let plan = c.args.self.now.plan in
+    let keeps = kept_in g.B.Feeder.kept c.fit_stages.new.boxes in
+    record {
+      fits = c.stages.ensures.fits;
+      frames = All-nil (λ (frame : Frame). length frame ≡ channels_of plan.source);
+      stages = fresh-stages keeps tables plan.stages (rw c.stages.ensures.value at c.fit_stages.ensures.fresh) c.stages.ensures.fits.specs;
+    }

@@ -1,0 +1,51 @@
+-- What a chain stands for: the frames that went into it, and what each of its stages made of them.
+use Rattle.std.specs.Prelude.{◌≡◌, ◌<◌, ℕ, List, [], ◌∷◌, ◌++◌, length, replicate, slice_index_or}
+use Rattle.pcm_format.specs.Frames.{Frame}
+use Rattle.pcm_format.specs.Layouts.{channels_of}
+use Rattle.pcm_feeder.specs.declared.rack.SixOf.{SixOf}
+use Rattle.pcm_feeder.specs.declared.stage.Gain.{Gain}
+use Rattle.pcm_feeder.specs.declared.stage.Spec.{Spec}
+use Rattle.pcm_feeder.specs.Filters.{Filters}
+use Rattle.pcm_feeder.specs.Kept.{Kept, StandsFor}
+use Rattle.pcm_feeder.specs.Stages.{channels_in, channels_out, conv}
+use Rattle.pcm_feeder.specs.Streams.{Stream, silence, stream_of, HaveChannels}
+use Rattle.pcm_plan.specs.Plans.{PlanSeen}
+use Rattle.pcm_plan.specs.Fits.{IsPlan}
+use Rattle.pcm_chain.specs.Boxes.{kept_in, HaveFitted}
+use Rattle.pcm_chain.specs.declared.chain.ChainOf.{ChainOf}
+
+-- the boxes of a chain
+abbrev pub boxes_in : {B : Type 0} → ChainOf B → SixOf B
+boxes_in chain = chain.boxes
+
+-- the plan of a chain
+abbrev pub plan_in : {B : Type 0} → ChainOf B → PlanSeen
+plan_in chain = chain.plan
+
+-- each stage of a chain's plan has its box fitted to it
+abbrev pub AreFitted : {B : Type 0} → (B → Kept) → ChainOf B → Type 0
+AreFitted kept chain = HaveFitted kept (boxes_in chain) (plan_in chain).stages
+
+-- a frame is output k of a stage over a stream, at some gain
+abbrev pub IsOutput : Spec → Filters → Stream → ℕ → Frame → Type 0
+IsOutput spec tables x k frame = (gain : Gain) × (frame ≡ conv spec tables gain x k)
+
+-- what a stage has given of the frames x: each is its output, at the gain that held then
+pub record HasGiven (spec : Spec) (tables : Filters) (x given : List Frame) : Type 0 where
+  pub channels : HaveChannels (channels_out spec) given
+  pub frames : (k : ℕ) (other : Frame) → k < length given
+      → IsOutput spec tables (stream_of (channels_in spec) x) k (slice_index_or given k other)
+
+-- stages that stand for the frames x: each has eaten what the one before it has given, and the last has given so many
+abbrev pub StagesStand : (Spec → Kept) → Filters → List Spec → List Frame → ℕ → Type 0
+StagesStand keeps tables [] x given = length x ≡ given
+StagesStand keeps tables (spec ∷ specs) x given =
+    (middle : List Frame) × StandsFor spec tables (keeps spec) x (length middle) × HasGiven spec tables x middle × StagesStand keeps tables specs middle given
+
+-- a chain that has eaten the frames x and so many frames of silence behind them, and has given so many frames
+pub record ChainStands {B : Type 0} (kept : B → Kept) (tables : Filters) (chain : ChainOf B)
+    (x : List Frame) (zeros given : ℕ) : Type 0 where
+  pub fits : IsPlan (plan_in chain)
+  pub frames : HaveChannels (channels_of (plan_in chain).source) x
+  pub stages : StagesStand (kept_in kept (boxes_in chain)) tables (plan_in chain).stages
+      (x ++ replicate zeros (silence (channels_of (plan_in chain).source))) given

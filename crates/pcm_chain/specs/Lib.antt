@@ -1,0 +1,4 @@
+pub mod Boxes
+pub mod Chains
+pub mod Pulls
+pub mod Props

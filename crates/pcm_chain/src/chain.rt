@@ -1,0 +1,188 @@
+//! A chain of stages between a client's ring and the frames of a device.
+
+ghost use Rattle.std.specs.Prelude.{◌≡◌, ◌≤◌, ◌*◌, All};
+ghost use Rattle.pcm_feeder.specs.Racks.{HasBox};
+ghost use Rattle.pcm_chain.specs.Props.{box_props};
+
+use crate::stages::{feed_stages, fit_stages};
+use crate::staging::{BLOCK_FRAMES, Staging};
+use pcm_feeder::{Feeder, Gain, RackOf, SixOf, Tables};
+use pcm_format::{Format, Layout};
+use pcm_plan::Plan;
+use pcm_ring::ByteRing;
+use std::alloc::{AllocError, Global};
+
+/// The boxes of a rack, and the plan that says which of them a stream goes through, and in what order.
+#[derive(Drop)]
+pub struct ChainOf<B> {
+    boxes: SixOf<B>,
+    plan: Plan,
+    staging: Staging,
+    ghost has_boxes: { All HasBox plan.stages } by { Prim.hlevel box_props },
+}
+
+/// How many frames a pull gave, and how many of the waiting ones it ate.
+#[derive(Clone, Copy, Debug, PartialEq, Eq)]
+pub struct Pulled {
+    pub given: usize,
+    pub eaten: usize,
+}
+
+impl<B: Feeder> ChainOf<B> {
+    ghost use Rattle.std.specs.Prelude.{ℕ, List, [], length, map, take, drop, IfOk};
+    ghost use Rattle.pcm_format.specs.Formats.{bytes_of};
+    ghost use Rattle.pcm_format.specs.Frames.{Frame};
+    ghost use Rattle.pcm_format.specs.Layouts.{channels_of};
+    ghost use Rattle.pcm_rate.specs.Rates.{unchanged};
+    ghost use Rattle.pcm_feeder.specs.Filters.{Filters};
+    ghost use Rattle.pcm_feeder.specs.Limits.{IsGain};
+    ghost use Rattle.pcm_feeder.specs.Racks.{HaveKinds, IsRack, boxes_of};
+    ghost use Rattle.pcm_feeder.specs.Streams.{interleaved};
+    ghost use Rattle.pcm_plan.specs.Plans.{rate_in_plan};
+    ghost use Rattle.pcm_plan.specs.Fits.{HaveTables};
+    ghost use Rattle.pcm_plan.specs.Through.{frame_through};
+    ghost use Rattle.pcm_chain.specs.Boxes.{KeepTheSame};
+    ghost use Rattle.pcm_chain.specs.Chains.{boxes_in, plan_in, AreFitted, ChainStands};
+    ghost use Rattle.pcm_chain.specs.Pulls.{waiting_frames, IsPastTheEnd, PullsEach, Pulls};
+    ghost use Rattle.pcm_chain.specs.declared.staging.TheConstants.{BLOCK_FRAMES};
+
+    /// A chain with the boxes of a rack and no stage. All memory of the chain is taken here.
+    pub fn new(alloc: Global, rack: RackOf<B>) -> Result<ChainOf<B>, AllocError>
+        ensures boxes { IfOk result (λ made. boxes_in made ≡ boxes_of rack) }
+        ensures kinds { IsRack B.kind rack → IfOk result (λ made. HaveKinds B.kind (boxes_in made)) }
+        ensures plan { IfOk result (λ made. (plan_in made).stages ≡ []) }
+    {
+        let staging = Staging::new(alloc)?;
+        Ok(ChainOf {
+            boxes: rack.into_boxes(),
+            plan: Plan::straight(Layout::One),
+            staging,
+        })
+    }
+
+    /// Lends the plan.
+    pub fn plan(&self) -> &Plan
+        ensures { result.now ≡ plan_in self.now }
+    {
+        &self.plan
+    }
+
+    /// An empty stream by a plan begins. Takes no memory.
+    pub fn reset(&mut self, plan: &Plan)
+        requires kinds { HaveKinds B.kind (boxes_in self.old) }
+        requires boxes { All HasBox plan.now.stages }
+        ensures plan { plan_in self.new ≡ plan.now }
+        ensures kinds { HaveKinds B.kind (boxes_in self.new) }
+        ensures fitted { AreFitted B.kept self.new }
+        ensures begins { (tables : Filters) → ChainStands B.kept tables self.new [] 0 0 }
+    {
+        self.plan = plan.copy();
+        self.restart();
+    }
+
+    /// An empty stream by the same plan begins. Takes no memory.
+    pub fn restart(&mut self)
+        requires { HaveKinds B.kind (boxes_in self.old) }
+        ensures plan { plan_in self.new ≡ plan_in self.old }
+        ensures kinds { HaveKinds B.kind (boxes_in self.new) }
+        ensures fitted { AreFitted B.kept self.new }
+        ensures begins { (tables : Filters) → ChainStands B.kept tables self.new [] 0 0 }
+    {
+        fit_stages(&mut self.boxes, self.plan.stages());
+    }
+
+    /// Takes frames out of a ring, and gives at most `want` frames at the front of `out`. Where the stream
+    /// has ended, the last frames are heard to their end. Takes no memory.
+    pub fn pull(
+        &mut self,
+        tables: &Tables,
+        gain: Gain,
+        ring: &mut ByteRing,
+        format: Format,
+        ended: bool,
+        want: usize,
+        out: &mut [i32],
+    ) -> Pulled
+        requires fitted { AreFitted B.kept self.old }
+        requires gain { IsGain gain }
+        requires tables { HaveTables (plan_in self.old).stages tables.now }
+        requires room { want * channels_of (plan_in self.old).target ≤ length out.old }
+        ensures plan { plan_in self.new ≡ plan_in self.old }
+        ensures kinds { HaveKinds B.kind (boxes_in self.old) → HaveKinds B.kind (boxes_in self.new) }
+        ensures fitted { AreFitted B.kept self.new }
+        ensures most { result.given ≤ want }
+        ensures ring { ring.new ≡ record ring.old {
+          bytes = drop (result.eaten
+              * (channels_of (plan_in self.old).source * bytes_of format)) ring.old.bytes;
+        } }
+        ensures level { rate_in_plan (plan_in self.old) ≡ unchanged
+            → PullsEach want
+            (length (waiting_frames (plan_in self.old) format ring.old.bytes)) result }
+        ensures pulls { (x : List Frame) (zeros before : ℕ)
+            → ChainStands B.kept tables.now self.old x zeros before
+            → IsPastTheEnd ended zeros (waiting_frames (plan_in self.old) format ring.old.bytes)
+            → Pulls B.kept tables.now gain ended want
+            (waiting_frames (plan_in self.old) format ring.old.bytes)
+            self.old self.new x before result out.old out.new }
+    {
+        // No stage changes the rate: each frame that is eaten gives one, also where the stream has ended.
+        let channels = self.plan.target().channels();
+        let frames = want.min(ring.fill() / (self.plan.source().channels() * format.bytes()));
+        let mut done = 0;
+        while done < frames {
+            let block = BLOCK_FRAMES.min(frames - done);
+            let at = done * channels;
+            let piece = &mut out[at..at + block * channels];
+            self.pull_block(tables, gain, ring, format, block, piece);
+            done += block;
+        }
+        Pulled {
+            given: frames,
+            eaten: frames,
+        }
+    }
+
+    // Takes so many frames out of a ring and puts them through the stages.
+    fn pull_block(
+        &mut self,
+        tables: &Tables,
+        gain: Gain,
+        ring: &mut ByteRing,
+        format: Format,
+        frames: usize,
+        out: &mut [i32],
+    )
+        requires fitted { AreFitted B.kept self.old }
+        requires gain { IsGain gain }
+        requires tables { HaveTables (plan_in self.old).stages tables.now }
+        requires block { frames ≤ BLOCK_FRAMES }
+        requires waiting { frames * (channels_of (plan_in self.old).source * bytes_of format)
+            ≤ length ring.old.bytes }
+        requires room { length out.old ≡ frames * channels_of (plan_in self.old).target }
+        ensures plan { plan_in self.new ≡ plan_in self.old }
+        ensures kinds { HaveKinds B.kind (boxes_in self.old) → HaveKinds B.kind (boxes_in self.new) }
+        ensures kept { KeepTheSame B.kept (boxes_in self.old) (boxes_in self.new) }
+        ensures ring { ring.new ≡ record ring.old {
+          bytes = drop (frames
+              * (channels_of (plan_in self.old).source * bytes_of format)) ring.old.bytes;
+        } }
+        ensures out { out.new ≡ interleaved (map (frame_through gain (plan_in self.old).stages)
+            (waiting_frames (plan_in self.old) format (take (frames
+            * (channels_of (plan_in self.old).source * bytes_of format)) ring.old.bytes))) }
+    {
+        let samples = frames * self.plan.source().channels();
+        self.staging.load(ring, format, samples);
+        feed_stages(
+            &mut self.boxes,
+            &self.plan,
+            tables,
+            gain,
+            frames,
+            &mut self.staging,
+            out,
+        );
+    }
+}
+
+/// A chain of a run.
+pub type Chain = ChainOf<Box<dyn Feeder>>;
