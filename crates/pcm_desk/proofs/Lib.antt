@@ -1,2 +1,3 @@
 pub mod Safe
 pub mod Props
+pub mod Ratios

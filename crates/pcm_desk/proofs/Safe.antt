@@ -1,6 +1,6 @@
 -- The counts of a book stay in order through every event, for every rate between the client and the mix.
-use Rattle.std.proofs.Common.{◌≡◌, ℕ, suc, zero, ◌+◌, ◌-◌, ◌*◌, ◌<◌, ◌≤◌, Bool, true, false, cond, eqb, min, max, Ok, Err, inl, inr, refl, ap, arith}
-use Rattle.std.proofs.Math.Nat.{mul-le-mul_right}
+use Rattle.std.proofs.Common.{◌≡◌, ℕ, suc, zero, ◌+◌, ◌-◌, ◌*◌, ◌<◌, ◌≤◌, Bool, true, false, cond, eqb, min, max, Ok, Err, inl, inr, refl, ap, ◌∙◌, arith}
+use Rattle.std.proofs.Math.Nat.{mul-le-mul_right, zero-div, zero-mul}
 use Rattle.std.specs.Prelude.{nat_lt, nat_le, ◌&&◌}
 use Rattle.std.proofs.lemmas.Bool.{cases_lt}
 use Rattle.std.proofs.lemmas.Bool.Decides.{nat_tests}
@@ -11,7 +11,7 @@ use Rattle.pcm_format.specs.Frames.{frame_bytes, whole_frames}
 use Rattle.pcm_format.proofs.Whole.{whole_frames-mono}
 use Rattle.pcm_rate.specs.declared.rate.Rate.{Rate}
 use Rattle.pcm_rate.specs.Rates.{IsRatio, need, can, len}
-use Rattle.pcm_rate.proofs.Counts.{can-greatest, can-le-len, need_grows, len_above, need-can, need-past}
+use Rattle.pcm_rate.proofs.Counts.{below_div_up, can-greatest, can-le-len, need_grows, len_above, need-can, need-past}
 use Rattle.pcm_desk.specs.declared.book.Book.{Book}
 use Rattle.pcm_desk.specs.declared.book.State.{State}
 use Rattle.pcm_desk.specs.declared.book.State.TheVariants.{Free, Setup, Primed, Running, Draining}
@@ -19,6 +19,10 @@ use Rattle.pcm_desk.specs.Books.{BookTurn, is_draining, is_started, allowed_in, 
 use Rattle.pcm_desk.specs.Safe.{EatsInTime, IsRunning, IsDraining, IsUnstarted, IsInOrder, BookIsSafe}
 
 -- ---- counts alone
+
+-- nothing is eaten and given before the first frame
+pub unstarted : IsUnstarted 0 0
+unstarted = record { eaten_none = refl; given_none = refl }
 
 -- with nothing eaten and given a run may start
 unstarted_running : (rate : Rate) (frames eaten given : ℕ) → IsUnstarted eaten given → IsRunning rate frames eaten given
@@ -147,7 +151,7 @@ safe_setup false rate accepted old e u fill room = record { order = (grind (arit
 
 safe_accepting_at : (state : State) (rate : Rate) (accepted : ℕ) (book : Book) → IsRatio rate → is_draining state ≡ false → accepted ≤ free_of (record book { state = state })
     → BookIsSafe rate (record book { state = state }) → BookIsSafe rate (accepting accepted (record book { state = state }))
-safe_accepting_at Free rate accepted book r more room s = record { order = tt; fill = grown_fill accepted Free (record book { state = Free }) s.fill room }
+safe_accepting_at Free rate accepted book r more room s = record { order = s.order; fill = grown_fill accepted Free (record book { state = Free }) s.fill room }
 safe_accepting_at Setup rate accepted book r more room s = let o = s.order in safe_setup (nat_lt 0 (book.written + accepted)) rate accepted (record book { state = Setup }) refl o.1 s.fill room
 safe_accepting_at Primed rate accepted book r more room s =
     let o = s.order in
@@ -185,24 +189,24 @@ safe-write rate length book r s = at (is_draining book.state) refl
 
 -- an opening
 pub safe-begun : (rate : Rate) (settings : Settings) → BookIsSafe rate (begun settings)
-safe-begun rate settings = record { order = (refl, record { eaten_none = refl; given_none = refl }); fill = omega arith }
+safe-begun rate settings = record { order = (refl, unstarted); fill = omega arith }
 
 safe_emptied : (rate : Rate) (state : State) (book : Book) → IsInOrder rate state (emptied state book) → BookIsSafe rate (emptied state book)
 safe_emptied rate state book order = record { order = order; fill = omega arith }
 
 safe_close_running : (b : Bool) (rate : Rate) (book : Book) → IsRatio rate → eqb book.given (len rate (frames_written book)) ≡ b → BookIsSafe rate (record book { state = Running })
     → BookIsSafe rate (let drained : Book = cond b (emptied Setup (record book { state = Draining false })) (record book { state = Draining false }) in closed_in drained.state drained)
-safe_close_running true rate book r e s = safe_emptied rate Free book tt
+safe_close_running true rate book r e s = safe_emptied rate Free book unstarted
 safe_close_running false rate book r e s = record { order = running-drains rate (frames_written book) book.eaten book.given r (λ all. grind (arith, nat_tests)) s.order; fill = s.fill }
 
 safe_close_primed : (b : Bool) (rate : Rate) (book : Book) → IsRatio rate → nat_lt 0 (frames_written book) ≡ b → BookIsSafe rate (record book { state = Primed })
     → BookIsSafe rate (let drained : Book = cond b (record book { state = Draining false }) (emptied Setup book) in closed_in drained.state drained)
 safe_close_primed true rate book r e s = record { order = unstarted_draining rate (frames_written book) book.eaten book.given r (grind (arith, nat_tests)) (let o = s.order in o.1); fill = s.fill }
-safe_close_primed false rate book r e s = safe_emptied rate Free book tt
+safe_close_primed false rate book r e s = safe_emptied rate Free book unstarted
 
 safe_close_at : (state : State) (rate : Rate) (book : Book) → IsRatio rate → BookIsSafe rate (record book { state = state }) → BookIsSafe rate (close_turn rate (record book { state = state }))
 safe_close_at Free rate book r s = s
-safe_close_at Setup rate book r s = record { order = tt; fill = s.fill }
+safe_close_at Setup rate book r s = let o = s.order in record { order = o.1; fill = s.fill }
 safe_close_at Primed rate book r s = safe_close_primed (nat_lt 0 (frames_written (record book { state = Primed }))) rate book r refl s
 safe_close_at Running rate book r s = safe_close_running (eqb book.given (len rate (frames_written book))) rate book r refl s
 safe_close_at (Draining closed) rate book r s = record { order = s.order; fill = s.fill }
@@ -218,8 +222,8 @@ gives_fill rate n book fill =
 
 safe_settled : (b closed : Bool) (rate : Rate) (n : ℕ) (book : Book) → IsRatio rate → eqb (book.given + giving rate n (record book { state = Draining closed })) (len rate (frames_written book)) ≡ b → BookIsSafe rate (record book { state = Draining closed })
     → BookIsSafe rate (let given : Book = gives rate n (record book { state = Draining closed }) in cond b (emptied (cond closed Free Setup) given) given)
-safe_settled true true rate n book r e s = safe_emptied rate Free (gives rate n (record book { state = Draining true })) tt
-safe_settled true false rate n book r e s = safe_emptied rate Setup (gives rate n (record book { state = Draining false })) (refl, record { eaten_none = refl; given_none = refl })
+safe_settled true true rate n book r e s = safe_emptied rate Free (gives rate n (record book { state = Draining true })) unstarted
+safe_settled true false rate n book r e s = safe_emptied rate Setup (gives rate n (record book { state = Draining false })) (refl, unstarted)
 safe_settled false closed rate n book r e s = record {
   order = draining-gives rate (frames_written book) book.eaten book.given n r s.order (λ all. grind (arith, nat_tests));
   fill = gives_fill rate n (record book { state = Draining closed }) s.fill;
@@ -255,6 +259,33 @@ allowed-lasts Primed rate book r = omega arith
 allowed-lasts Running rate book r = can-le-len rate (frames_written book) r.src
 allowed-lasts (Draining closed) rate book r = omega arith
 
+-- a book with nothing written counts nothing
+pub none-written : (rate : Rate) (book : Book) → IsRatio rate → book.written ≡ 0 → BookIsSafe rate book → IsUnstarted book.eaten book.given
+none-written rate book r none s = at book.state s.order
+  where
+    frames : frames_written book ≡ 0
+    frames = ap (whole_frames book.settings) none ∙ zero-div (frame_bytes book.settings)
+
+    lasts : len rate (frames_written book) ≡ 0
+    lasts =
+        let up = below_div_up 0 (frames_written book * rate.dst) rate.src r.src in
+        let product : frames_written book * rate.dst ≡ 0 = ap (λ n. n * rate.dst) frames ∙ zero-mul rate.dst in
+        elim (cases_lt 0 (len rate (frames_written book))) [
+          | inl some ↦ absurd (omega (arith, up.0 some))
+          | inr over ↦ omega arith
+        ]
+
+    at : (state : State) → IsInOrder rate state book → IsUnstarted book.eaten book.given
+    at Free o = o
+    at Setup o = o.1
+    at Primed o = o.1
+    at Running o =
+        let written = o.eats.written in
+        let allowed = o.allowed in
+        let within = can-le-len rate (frames_written book) r.src in
+        record { eaten_none = omega (arith, frames); given_none = omega (arith, lasts) }
+    at (Draining closed) o = let left = o.left in absurd (omega (arith, lasts))
+
 -- only a started book allows any
 pub allowed-started : (state : State) (rate : Rate) (book : Book) → 0 < allowed_in rate state book → is_started state ≡ true
 allowed-started Free rate book h = absurd (omega arith)
@@ -262,3 +293,42 @@ allowed-started Setup rate book h = absurd (omega arith)
 allowed-started Primed rate book h = absurd (omega arith)
 allowed-started Running rate book h = refl
 allowed-started (Draining closed) rate book h = refl
+
+-- ---- the settings of a book
+
+settings_close_primed : (b : Bool) (book : Book) → (let drained : Book = cond b (record book { state = Draining false }) (emptied Setup book) in closed_in drained.state drained).settings ≡ book.settings
+settings_close_primed true book = refl
+settings_close_primed false book = refl
+
+settings_close_running : (b : Bool) (book : Book)
+    → (let drained : Book = cond b (emptied Setup (record book { state = Draining false })) (record book { state = Draining false }) in closed_in drained.state drained).settings ≡ book.settings
+settings_close_running true book = refl
+settings_close_running false book = refl
+
+settings_close_at : (state : State) (rate : Rate) (book : Book) → (close_turn rate (record book { state = state })).settings ≡ book.settings
+settings_close_at Free rate book = refl
+settings_close_at Setup rate book = refl
+settings_close_at Primed rate book = settings_close_primed (nat_lt 0 (frames_written book)) book
+settings_close_at Running rate book = settings_close_running (eqb book.given (len rate (frames_written book))) book
+settings_close_at (Draining closed) rate book = refl
+
+-- a close leaves them
+pub settings-close : (rate : Rate) (book : Book) → (close_turn rate book).settings ≡ book.settings
+settings-close rate book = settings_close_at book.state rate book
+
+settings_settled : (b closed : Bool) (given : Book) → (cond {A = Book} b (emptied (cond closed Free Setup) given) given).settings ≡ given.settings
+settings_settled true closed given = refl
+settings_settled false closed given = refl
+
+settings_refilled_at : (state : State) (rate : Rate) (n : ℕ) (book : Book) → (refilled rate n (record book { state = state })).settings ≡ book.settings
+settings_refilled_at Free rate n book = refl
+settings_refilled_at Setup rate n book = refl
+settings_refilled_at Primed rate n book = refl
+settings_refilled_at Running rate n book = refl
+settings_refilled_at (Draining closed) rate n book =
+    let given : Book = gives rate n (record book { state = Draining closed }) in
+    settings_settled (eqb given.given (len rate (frames_written book))) closed given
+
+-- and so does an interrupt
+pub settings-refilled : (rate : Rate) (n : ℕ) (book : Book) → (refilled rate n book).settings ≡ book.settings
+settings-refilled rate n book = settings_refilled_at book.state rate n book

@@ -1,10 +1,13 @@
 -- What the rules read of a device. Whatever a device has beside it is read by one more word here.
-use Rattle.std.specs.Prelude.{ℕ}
+use Rattle.std.specs.Prelude.{◌≡◌, ℕ, []}
 use Rattle.pcm_format.specs.declared.settings.Settings.{Settings}
 use Rattle.pcm_format.specs.Frames.{frame_bytes}
 use Rattle.pcm_rate.specs.declared.rate.Rate.{Rate}
-use Rattle.pcm_rate.specs.Rates.{unchanged}
+use Rattle.pcm_feeder.specs.Filters.{Filters}
+use Rattle.pcm_feeder.specs.Limits.{IsRate}
+use Rattle.pcm_plan.specs.Plans.{PlanSeen, plan_play, rate_in_plan}
 use Rattle.pcm_desk.specs.declared.device.Device.{Device}
+use Rattle.pcm_desk.specs.declared.device.TheConstants.{QUALITY}
 
 pub record DeviceSeen : Type 0 where
   pub settings : Settings
@@ -45,6 +48,26 @@ block_frames device = device.block
 abbrev pub device_frame_bytes : DeviceSeen → ℕ
 device_frame_bytes device = frame_bytes (device_settings device)
 
--- The change of rate from a client with these settings to the mix. Every client has the rate of the mix so far.
+-- the quality of the device's converters, which is the usual one so far
+abbrev pub quality_of : DeviceSeen → ℕ
+quality_of device = QUALITY
+
+-- the filters that the device's converters may use: none so far
+abbrev pub filters_of : DeviceSeen → Filters
+filters_of device = record { list = [] }
+
+-- the plan from a client with these settings to the mix
+abbrev pub plan_between : DeviceSeen → Settings → PlanSeen
+plan_between device settings = plan_play (filters_of device) (quality_of device) settings (mix_settings device)
+
+-- the change of rate from a client with these settings to the mix
 abbrev pub rate_between : DeviceSeen → Settings → Rate
-rate_between device settings = unchanged
+rate_between device settings = rate_in_plan (plan_between device settings)
+
+-- a device whose mix has a rate within the limits
+abbrev pub IsDevice : DeviceSeen → Type 0
+IsDevice device = IsRate (mix_settings device).rate
+
+-- the device plays clients with these settings: so far those with the rate of the mix, in every format and layout
+abbrev pub Plays : DeviceSeen → Settings → Type 0
+Plays device settings = settings.rate ≡ (mix_settings device).rate

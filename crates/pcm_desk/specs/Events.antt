@@ -1,16 +1,17 @@
 -- Lists of events: which fit, how many frames they take, and the desk after them.
-use Rattle.std.specs.Prelude.{◌≡◌, ℕ, ◌+◌, ◌*◌, ◌<◌, ◌≤◌, List, [], ◌∷◌, length}
+use Rattle.std.specs.Prelude.{ℕ, ◌+◌, ◌*◌, ◌<◌, ◌≤◌, List, [], ◌∷◌, length}
 use Rattle.std.specs.List.{sum_by}
 use Rattle.pcm_format.specs.declared.event.Event.{Event}
 use Rattle.pcm_format.specs.declared.event.Event.TheVariants.{Open, Write, Close, Intr}
 use Rattle.pcm_format.specs.declared.pool.Pool.{Pool}
+use Rattle.pcm_feeder.specs.Limits.{IsRate}
 use Rattle.pcm_desk.specs.declared.limits.TheConstants.{DESCRIPTORS, WRITE_BYTES}
-use Rattle.pcm_desk.specs.Device.{DeviceSeen, device_frame_bytes, mix_settings, ring_frames}
+use Rattle.pcm_desk.specs.Device.{DeviceSeen, Plays, device_frame_bytes, ring_frames}
 use Rattle.pcm_desk.specs.Desk.{Desk, after}
 
 -- the event keeps the limits of a device, and names bytes that are there
 abbrev pub Fits : DeviceSeen → Pool → Event → Type 0
-Fits device pool (Open fd way settings) = (fd < DESCRIPTORS) × (settings ≡ mix_settings device)
+Fits device pool (Open fd way settings) = (fd < DESCRIPTORS) × IsRate settings.rate × Plays device settings
 Fits device pool (Write fd at count) =
     (fd < DESCRIPTORS) × (count ≤ WRITE_BYTES) × (at + count ≤ length pool.inline_bytes)
 Fits device pool (Close fd) = fd < DESCRIPTORS

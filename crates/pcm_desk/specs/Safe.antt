@@ -33,7 +33,7 @@ pub record IsUnstarted (eaten given : ℕ) : Type 0 where
 
 -- the counts of a book in each state
 abbrev pub IsInOrder : Rate → State → Book → Type 0
-IsInOrder rate Free book = Unit {0}
+IsInOrder rate Free book = IsUnstarted book.eaten book.given
 IsInOrder rate Setup book = (book.written ≡ 0) × IsUnstarted book.eaten book.given
 IsInOrder rate Primed book = (0 < book.written) × IsUnstarted book.eaten book.given
 IsInOrder rate Running book = IsRunning rate (frames_written book) book.eaten book.given

@@ -11,6 +11,9 @@ pub const OPENING: Settings = Settings {
     rate: 8000,
 };
 
+/// The quality of the converters between the rates of clients and mix: they draw lines.
+pub const QUALITY: u32 = 1;
+
 /// What is settled of a device before the first event.
 #[derive(Clone, Copy, Debug, PartialEq, Eq)]
 pub struct Device {
@@ -24,13 +27,14 @@ pub struct Device {
 }
 
 impl Device {
-    ghost use Rattle.pcm_desk.specs.Device.{seen};
+    ghost use Rattle.pcm_desk.specs.Device.{IsDevice, seen};
     ghost use Rattle.pcm_desk.specs.Usual.{usual_device};
 
     /// The device of a run without a configuration: 16 bits, stereo, 48 kHz, a ring of four blocks of 256 frames,
     /// four channels that play.
     pub fn usual() -> Device
-        ensures { seen result ≡ usual_device }
+        ensures value { seen result ≡ usual_device }
+        ensures limits { IsDevice (seen result) }
     {
         Device {
             settings: Settings {

@@ -9,6 +9,6 @@ mod limits;
 mod turns;
 
 pub use book::{Book, FRAGMENT_BYTES, FRAGMENTS, State};
-pub use device::{Device, Held, OPENING};
+pub use device::{Device, Held, OPENING, QUALITY};
 pub use laws::books_stay_in_order;
 pub use limits::{DESCRIPTORS, DEVICE_BYTES, EVENTS, RING_FRAMES, SLOTS, WRITE_BYTES};

@@ -3,7 +3,7 @@
 ghost use Rattle.std.specs.Prelude.{◌≡◌, ◌+◌, ◌*◌, ◌^◌, ◌<◌, ◌≤◌};
 ghost use Rattle.pcm_format.specs.Frames.{frame_bytes};
 ghost use Rattle.pcm_rate.specs.Rates.{IsRatio};
-ghost use Rattle.pcm_desk.specs.Books.{is_free, is_draining, frames_written, fill_of, giving, begun, accepting, close_turn, emptied, refilled, primed_in, started_in, settled_in, drained_in, gives, underruns_after};
+ghost use Rattle.pcm_desk.specs.Books.{is_free, is_draining, is_started, frames_written, fill_of, giving, begun, accepting, close_turn, emptied, refilled, primed_in, started_in, settled_in, drained_in, gives, underruns_after};
 
 use crate::{Book, FRAGMENT_BYTES, State};
 use pcm_format::Settings;
@@ -36,6 +36,13 @@ impl Book {
         ensures { result ≡ is_draining self.now.state }
     {
         matches!(self.state, State::Draining { .. })
+    }
+
+    /// Whether interrupts take frames of the run.
+    pub fn is_started(&self) -> bool
+        ensures { result ≡ is_started self.now.state }
+    {
+        matches!(self.state, State::Running | State::Draining { .. })
     }
 
     /// The whole frames accepted in this run.
