@@ -1,13 +1,12 @@
 -- The device's frames, while the story goes on.
-use Rattle.std.proofs.Common.{◌≡◌, ℕ, suc, zero, ◌+◌, ◌-◌, ◌*◌, ◌<◌, List, [], ◌∷◌, ◌++◌, length, get_or, map, take, replicate, Option, Some, None, inl, inr, ℤ, pos, refl, sym, ap, ◌∙◌, arith, All, length-append, append_assoc, zero-add, fold}
+use Rattle.std.proofs.Common.{◌≡◌, ℕ, suc, zero, ◌+◌, ◌-◌, ◌*◌, ◌<◌, List, [], ◌∷◌, ◌++◌, length, get_or, map, take, replicate, Option, Some, None, ℤ, pos, refl, sym, ap, ◌∙◌, arith, All, length-append, append_assoc, zero-add, fold}
 use Rattle.std.specs.Prelude.{IfSome, find}
 use Rattle.std.proofs.Math.Seq.{take-append-add}
 use Rattle.std.specs.List.{range_with_len, flat_map}
-use Rattle.std.proofs.lemmas.List.{take_all, map-append, length-map, length-replicate, get_or_past}
+use Rattle.std.proofs.lemmas.List.{take_all, map-append, length-map, length-replicate}
 use Rattle.std.proofs.lemmas.List.Concat.{flat_map-append}
 use Rattle.std.proofs.lemmas.List.Sums.{fold-append}
 use Rattle.std.proofs.lemmas.List.FromFn.{length-range_with_len}
-use Rattle.std.proofs.lemmas.Bool.{cases_lt}
 use Rattle.std.proofs.lemmas.List.Elements.{All-head, All-tail, All-append, All-replicate, All-map}
 use Rattle.pcm_format.specs.declared.settings.Settings.{Settings}
 use Rattle.pcm_format.specs.declared.format.Format.{Format}
@@ -16,22 +15,25 @@ use Rattle.pcm_format.specs.declared.event.Event.TheVariants.{Intr}
 use Rattle.pcm_format.specs.declared.pool.Pool.{Pool}
 use Rattle.pcm_format.specs.Formats.{bits_of, bytes_of}
 use Rattle.pcm_format.specs.Layouts.{channels_of}
-use Rattle.pcm_format.specs.Samples.{at_depth, spelled}
-use Rattle.pcm_format.specs.Frames.{Frame, frames, whole_frames}
+use Rattle.pcm_format.specs.Samples.{spelled}
+use Rattle.pcm_format.specs.Frames.{Frame, frame_at, frames, whole_frames}
 use Rattle.pcm_format.proofs.Ranges.{map-range-same, range-add}
-use Rattle.pcm_format.proofs.Streams.{get_or-frames, length-frame_at, length-frames}
+use Rattle.pcm_format.proofs.Streams.{length-frame_at}
 use Rattle.pcm_format.proofs.Spelling.{length-flat_map-spelled}
 use Rattle.pcm_feeder.specs.declared.stage.Gain.{Gain}
-use Rattle.pcm_feeder.specs.Streams.{stream_of}
+use Rattle.pcm_feeder.specs.Streams.{HaveChannels}
+use Rattle.pcm_feeder.specs.Limits.{IsRate}
 use Rattle.pcm_mix.proofs.Blocks.{length-mixed}
-use Rattle.pcm_desk.specs.Device.{DeviceSeen, mix_settings, play_slots, ring_frames, device_frame_bytes}
+use Rattle.pcm_desk.specs.Device.{DeviceSeen, IsDevice, device_frame_bytes, filters_of, mix_settings, plan_between, play_slots, ring_frames}
+use Rattle.pcm_plan.proofs.Through.{length-out}
+use Rattle.pcm_desk.proofs.Ratios.{plan-between-fits}
 use Rattle.pcm_sound.specs.Plans.{given_frame}
 use Rattle.pcm_sound.specs.Gains.{last_gain}
 use Rattle.pcm_sound.specs.Runs.{Run, Piece, covers, run_frames, piece_frame, first_of, sounding}
 use Rattle.pcm_sound.specs.Story.{Story, told}
 use Rattle.pcm_sound.specs.Mix.{Table, adding, mix_of}
 use Rattle.pcm_sound.specs.DeviceList.{table_of, silence_in, mix_at, device_frame, device_list, spelled_frame, spelled_frames, device_bytes, device_body}
-use Rattle.pcm_sound.specs.Valid.{StoryIsValid}
+use Rattle.pcm_sound.specs.Valid.{HasRate, StoryIsValid}
 use Rattle.pcm_sound.proofs.Stories.{table_of-told}
 
 fold-same : {A B : Type 0} (f g : B → A → B) (start : B) (xs : List A) → ((b : B) (x : A) → f b x ≡ g b x) → fold f start xs ≡ fold g start xs
@@ -66,40 +68,38 @@ device_list-more device table count n =
 length-silence : (settings : Settings) → length (silence_in settings) ≡ channels_of settings.layout
 length-silence settings = length-replicate (channels_of settings.layout) (pos 0)
 
--- frame k of a stream has the stream's channels
-pub length-stream_of : (settings : Settings) (bytes : List ℕ) (k : ℕ) → length (stream_of (channels_of settings.layout) (frames settings bytes) (pos k)) ≡ channels_of settings.layout
-length-stream_of settings bytes k =
-    elim (cases_lt k (whole_frames settings (length bytes))) [
-      | inl here ↦ ap length (get_or-frames settings bytes k (silence_in settings) here) ∙ length-frame_at settings bytes k
-      | inr past ↦ ap length (get_or_past (frames settings bytes) k (silence_in settings) (omega (arith, length-frames settings bytes))) ∙ length-silence settings
-    ]
-
--- what a client's frames give has its channels
-pub length-given_frame : (device : DeviceSeen) (settings : Settings) (bytes : List ℕ) (k : ℕ) (gain : Gain) → length (given_frame device settings (frames settings bytes) k gain) ≡ channels_of settings.layout
-length-given_frame device settings bytes k gain =
-    length-map (stream_of (channels_of settings.layout) (frames settings bytes) (pos k)) (at_depth (bits_of (mix_settings device).format)) ∙ length-stream_of settings bytes k
+-- each whole frame of a client's bytes has the client's channels
+pub frames-channels : (settings : Settings) (bytes : List ℕ) → HaveChannels (channels_of settings.layout) (frames settings bytes)
+frames-channels settings bytes =
+    let count : ℕ = whole_frames settings (length bytes) in
+    All-map (λ (frame : Frame). length frame ≡ channels_of settings.layout) (frame_at settings bytes) (range_with_len 0 count)
+    (λ k d l. length-frame_at settings bytes (get_or (range_with_len 0 count) k d))
 
 -- a frame has the device's channels
 abbrev pub IsDeviceFrame : DeviceSeen → Frame → Type 0
 IsDeviceFrame device frame = length frame ≡ channels_of (mix_settings device).layout
 
-piece_frame-frame : (device : DeviceSeen) (gain : Gain) (settings : Settings) (bytes : List ℕ) (position : ℕ) (found : Option Piece) → settings ≡ mix_settings device
+-- what a client's frames give is a frame of the device
+pub length-given_frame : (device : DeviceSeen) (settings : Settings) (bytes : List ℕ) (k : ℕ) (gain : Gain) → IsDevice device → IsRate settings.rate → IsDeviceFrame device (given_frame device settings (frames settings bytes) k gain)
+length-given_frame device settings bytes k gain d s =
+    length-out (plan_between device settings) (filters_of device) (frames settings bytes) k gain (plan-between-fits device settings d s) (frames-channels settings bytes)
+
+piece_frame-frame : (device : DeviceSeen) (gain : Gain) (settings : Settings) (bytes : List ℕ) (position : ℕ) (found : Option Piece) → IsDevice device → IsRate settings.rate
     → IfSome (piece_frame device gain settings (frames settings bytes) position found) (IsDeviceFrame device)
-piece_frame-frame device gain settings bytes position None e = tt
-piece_frame-frame device gain settings bytes position (Some piece) e =
-    length-given_frame device settings bytes (piece.index + (position - piece.position)) gain ∙ ap (λ (s : Settings). channels_of s.layout) e
+piece_frame-frame device gain settings bytes position None d s = tt
+piece_frame-frame device gain settings bytes position (Some piece) d s = length-given_frame device settings bytes (piece.index + (position - piece.position)) gain d s
 
 first_of-either : (P : Frame → Type 0) (a b : Option Frame) → IfSome a P → IfSome b P → IfSome (first_of a b) P
 first_of-either P None b p q = q
 first_of-either P (Some frame) b p q = p
 
 -- what a slot gives is a frame of the device
-pub sounding-frame : (device : DeviceSeen) (gain : Gain) (runs : List Run) (position : ℕ) → All (λ (run : Run). run.settings ≡ mix_settings device) runs → IfSome (sounding device gain runs position) (IsDeviceFrame device)
-sounding-frame device gain [] position own = tt
-sounding-frame device gain (run ∷ runs) position own =
+pub sounding-frame : (device : DeviceSeen) (gain : Gain) (runs : List Run) (position : ℕ) → IsDevice device → All HasRate runs → IfSome (sounding device gain runs position) (IsDeviceFrame device)
+sounding-frame device gain [] position d own = tt
+sounding-frame device gain (run ∷ runs) position d own =
     first_of-either (IsDeviceFrame device) (piece_frame device gain run.settings (run_frames run) position (find (covers position) run.pieces)) (sounding device gain runs position)
-    (piece_frame-frame device gain run.settings run.bytes position (find (covers position) run.pieces) (All-head (λ (r : Run). r.settings ≡ mix_settings device) run runs own))
-    (sounding-frame device gain runs position (All-tail (λ (r : Run). r.settings ≡ mix_settings device) run runs own))
+    (piece_frame-frame device gain run.settings run.bytes position (find (covers position) run.pieces) d (All-head HasRate run runs own))
+    (sounding-frame device gain runs position d (All-tail HasRate run runs own))
 
 adding-frame : (device : DeviceSeen) (bits : ℕ) (sum : Frame) (given : Option Frame) → IsDeviceFrame device sum → IfSome given (IsDeviceFrame device) → IsDeviceFrame device (adding bits sum given)
 adding-frame device bits sum None s g = s
@@ -152,7 +152,7 @@ spelled_frames-map format f (position ∷ positions) =
     ∙ sym (flat_map-append (spelled format) (f position) (flat_map f positions))
 
 table-frames : (device : DeviceSeen) (story : Story) → StoryIsValid device story → (slot position : ℕ) → IfSome (table_of device story slot position) (IsDeviceFrame device)
-table-frames device story v slot position = sounding-frame device (last_gain (story.gains slot) position) (story.runs slot) position (v.slots slot).own
+table-frames device story v slot position = sounding-frame device (last_gain (story.gains slot) position) (story.runs slot) position v.limits (v.slots slot).own
 
 -- how long they are
 pub length-device_bytes : (device : DeviceSeen) (story : Story) → StoryIsValid device story → length (device_bytes device story) ≡ ((ring_frames device) + story.desk.handed) * device_frame_bytes device

@@ -1,27 +1,53 @@
 -- A slot's book and runs stay valid through every event.
-use Rattle.std.proofs.Common.{◌≡◌, ℕ, suc, zero, ◌+◌, ◌<◌, ◌≤◌, Bool, true, false, cond, eqb, List, [], ◌∷◌, ◌++◌, length, min, Ok, Err, refl, sym, ap, ◌∙◌, arith, All, length-append}
-use Rattle.std.specs.Prelude.{nat_lt, nat_le, ◌&&◌}
+use Rattle.std.proofs.Common.{◌≡◌, ℕ, suc, zero, ◌+◌, ◌-◌, ◌<◌, ◌≤◌, Bool, true, false, cond, eqb, List, [], ◌∷◌, ◌++◌, length, min, Ok, Err, refl, sym, ap, ◌∙◌, subst, arith, All, length-append}
+use Rattle.std.specs.Prelude.{nat_lt, nat_le, ◌&&◌, ◌||◌, not}
 use Rattle.std.proofs.lemmas.List.Elements.{All-head, All-tail, All-cons, All-nil, All-weaker}
 use Rattle.std.proofs.lemmas.Bool.{and_parts}
 use Rattle.std.proofs.lemmas.Bool.Decides.{nat_tests}
+use Rattle.pcm_format.specs.declared.settings.Settings.{Settings}
 use Rattle.pcm_format.specs.declared.event.Event.{Event}
 use Rattle.pcm_format.specs.declared.reply.Answer.TheVariants.{Number}
 use Rattle.pcm_format.specs.declared.reply.Errno.TheVariants.{Again, Busy}
 use Rattle.pcm_format.specs.Frames.{whole_frames}
 use Rattle.pcm_format.proofs.Whole.{whole_frames-mono, bytes_above}
 use Rattle.pcm_rate.specs.declared.rate.Rate.{Rate}
-use Rattle.pcm_rate.specs.Rates.{IsRatio, len}
-use Rattle.pcm_rate.proofs.Counts.{len_grows}
+use Rattle.pcm_rate.specs.Rates.{IsRatio, can, len}
+use Rattle.pcm_rate.proofs.Counts.{can-le-len, len_grows}
+use Rattle.pcm_feeder.specs.Limits.{IsRate}
 use Rattle.pcm_desk.specs.declared.book.Book.{Book}
 use Rattle.pcm_desk.specs.declared.book.State.{State}
 use Rattle.pcm_desk.specs.declared.book.State.TheVariants.{Free, Setup, Primed, Running, Draining}
-use Rattle.pcm_desk.specs.Device.{DeviceSeen, mix_settings, rate_between}
-use Rattle.pcm_desk.specs.Books.{BookTurn, is_draining, is_started, free_of, frames_written, fill_of, gives, emptied, accepting, started_in, write_turn, closed_in, refilled}
+use Rattle.pcm_desk.specs.Device.{DeviceSeen, IsDevice, rate_between}
+use Rattle.pcm_desk.specs.Books.{BookTurn, is_draining, is_started, allowed_in, free_of, frames_written, fill_of, giving, gives, emptied, accepting, started_in, write_turn, closed_in, refilled}
 use Rattle.pcm_desk.specs.Safe.{BookIsSafe}
 use Rattle.pcm_desk.specs.Desk.{closing, mixing, rate_at}
-use Rattle.pcm_desk.proofs.Safe.{grown, given-allowed, allowed-lasts, safe-refilled}
-use Rattle.pcm_sound.specs.Runs.{Run, begun_run, piece_of, taking, playing, marked, marking, newest_bytes}
-use Rattle.pcm_sound.specs.Valid.{PieceIsValid, RunIsValid, IsNewest, SlotIsValid}
+use Rattle.pcm_desk.proofs.Safe.{grown, given-allowed}
+use Rattle.pcm_desk.proofs.Ratios.{ratio-between}
+use Rattle.pcm_sound.specs.Runs.{Piece, Run, begun_run, piece_of, taking, playing, drops, ends, marked, marking, newest_bytes}
+use Rattle.pcm_sound.specs.Valid.{PieceIsValid, RunIsValid, HasRate, IsNewest, SlotIsValid, frames_given, given_in}
+
+-- ---- what events do to a book that has something written
+
+-- once started a book stays so, and so it does once draining
+pub record GoesOn (old new : Book) : Type 0 where
+  pub plays : is_started old.state ≡ true → is_started new.state ≡ true
+  pub drains : is_draining old.state ≡ true → is_draining new.state ≡ true
+
+goes_on_same : (old new : Book) → new.state ≡ old.state → GoesOn old new
+goes_on_same old new e = record { plays = λ h. ap is_started e ∙ h; drains = λ h. ap is_draining e ∙ h }
+
+draining_started : (state : State) → is_draining state ≡ true → is_started state ≡ true
+draining_started Free e = cc
+draining_started Setup e = cc
+draining_started Primed e = cc
+draining_started Running e = refl
+draining_started (Draining closed) e = refl
+
+goes_on_unstarted : (old new : Book) → is_started old.state ≡ false → GoesOn old new
+goes_on_unstarted old new e = record {
+  plays = λ h. absurd (let not_so : true ≡ false = sym h ∙ e in cc);
+  drains = λ h. absurd (let not_so : true ≡ false = sym (draining_started old.state h) ∙ e in cc);
+}
 
 -- what a write leaves of a book: `accepted` more bytes
 pub record Accepts (accepted : ℕ) (old new : Book) : Type 0 where
@@ -31,28 +57,35 @@ pub record Accepts (accepted : ℕ) (old new : Book) : Type 0 where
   pub given_same : old.given ≤ new.given
   pub written : new.written ≡ old.written + accepted
   pub started : (is_started old.state ≡ true → 0 < old.written) → is_started new.state ≡ true → 0 < new.written
+  pub goes_on : GoesOn old new
 
-accepts_grown : (accepted : ℕ) (state : State) (old : Book) → ((is_started old.state ≡ true → 0 < old.written) → is_started state ≡ true → 0 < old.written + accepted) → Accepts accepted old (grown accepted state old)
-accepts_grown accepted state old h = record { settings = refl; eaten = refl; given = omega arith; given_same = omega arith; written = refl; started = h }
+accepts_grown : (accepted : ℕ) (state : State) (old : Book) → ((is_started old.state ≡ true → 0 < old.written) → is_started state ≡ true → 0 < old.written + accepted) → GoesOn old (grown accepted state old)
+    → Accepts accepted old (grown accepted state old)
+accepts_grown accepted state old h on = record { settings = refl; eaten = refl; given = omega arith; given_same = omega arith; written = refl; started = h; goes_on = on }
 
 filled : (book : Book) → nat_le 4096 (fill_of book) ≡ true → 0 < book.written
 filled book e = grind (arith, nat_tests)
 
-accepts_primed : (b : Bool) (accepted : ℕ) (old : Book) → nat_le 4096 (fill_of (grown accepted Primed old)) ≡ b
+accepts_primed : (b : Bool) (accepted : ℕ) (old : Book) → is_started old.state ≡ false → nat_le 4096 (fill_of (grown accepted Primed old)) ≡ b
     → Accepts accepted old (cond b (grown accepted Running old) (grown accepted Primed old))
-accepts_primed true accepted old e = accepts_grown accepted Running old (λ h s. filled (grown accepted Primed old) e)
-accepts_primed false accepted old e = accepts_grown accepted Primed old (λ h s. cc)
+accepts_primed true accepted old stopped e = accepts_grown accepted Running old (λ h s. filled (grown accepted Primed old) e) (goes_on_unstarted old (grown accepted Running old) stopped)
+accepts_primed false accepted old stopped e = accepts_grown accepted Primed old (λ h s. cc) (goes_on_unstarted old (grown accepted Primed old) stopped)
 
-accepts_setup : (b : Bool) (accepted : ℕ) (old : Book) → Accepts accepted old (let primed : Book = cond b (grown accepted Primed old) (grown accepted Setup old) in started_in primed.state primed)
-accepts_setup true accepted old = accepts_primed (nat_le 4096 (fill_of (grown accepted Primed old))) accepted old refl
-accepts_setup false accepted old = accepts_grown accepted Setup old (λ h s. cc)
+accepts_setup : (b : Bool) (accepted : ℕ) (old : Book) → is_started old.state ≡ false
+    → Accepts accepted old (let primed : Book = cond b (grown accepted Primed old) (grown accepted Setup old) in started_in primed.state primed)
+accepts_setup true accepted old stopped = accepts_primed (nat_le 4096 (fill_of (grown accepted Primed old))) accepted old stopped refl
+accepts_setup false accepted old stopped = accepts_grown accepted Setup old (λ h s. cc) (goes_on_unstarted old (grown accepted Setup old) stopped)
 
 accepts_at : (accepted : ℕ) (state : State) (book : Book) → Accepts accepted (record book { state = state }) (accepting accepted (record book { state = state }))
-accepts_at accepted Free book = accepts_grown accepted Free (record book { state = Free }) (λ h s. cc)
-accepts_at accepted Setup book = accepts_setup (nat_lt 0 (book.written + accepted)) accepted (record book { state = Setup })
-accepts_at accepted Primed book = accepts_primed (nat_le 4096 (fill_of (grown accepted Primed (record book { state = Primed })))) accepted (record book { state = Primed }) refl
-accepts_at accepted Running book = accepts_grown accepted Running (record book { state = Running }) (λ h s. let p = h refl in omega arith)
-accepts_at accepted (Draining closed) book = accepts_grown accepted (Draining closed) (record book { state = Draining closed }) (λ h s. let p = h refl in omega arith)
+accepts_at accepted Free book = let old : Book = record book { state = Free } in accepts_grown accepted Free old (λ h s. cc) (goes_on_same old (grown accepted Free old) refl)
+accepts_at accepted Setup book = accepts_setup (nat_lt 0 (book.written + accepted)) accepted (record book { state = Setup }) refl
+accepts_at accepted Primed book = accepts_primed (nat_le 4096 (fill_of (grown accepted Primed (record book { state = Primed })))) accepted (record book { state = Primed }) refl refl
+accepts_at accepted Running book =
+    let old : Book = record book { state = Running } in
+    accepts_grown accepted Running old (λ h s. let p = h refl in omega arith) (goes_on_same old (grown accepted Running old) refl)
+accepts_at accepted (Draining closed) book =
+    let old : Book = record book { state = Draining closed } in
+    accepts_grown accepted (Draining closed) old (λ h s. let p = h refl in omega arith) (goes_on_same old (grown accepted (Draining closed) old) refl)
 
 -- an accepted write adds its bytes
 pub accepts : (accepted : ℕ) (book : Book) → Accepts accepted book (accepting accepted book)
@@ -60,48 +93,178 @@ accepts accepted book = accepts_at accepted book.state book
 
 -- nothing accepted leaves the book
 pub accepts_none : (book : Book) → Accepts 0 book book
-accepts_none book = record { settings = refl; eaten = refl; given = omega arith; given_same = omega arith; written = omega arith; started = λ h s. h s }
+accepts_none book = record { settings = refl; eaten = refl; given = omega arith; given_same = omega arith; written = omega arith; started = λ h s. h s; goes_on = goes_on_same book book refl }
 
--- a write adds what it accepts, which is no more than it has
+-- a write adds what it accepts, which is no more than it has, and nothing while the book drains
 pub record WritesSome (length : ℕ) (old new : Book) : Type 0 where
   pub accepted : ℕ
   pub within : accepted ≤ length
+  pub undrained : 0 < accepted → is_draining old.state ≡ false
   pub accepts : Accepts accepted old new
 
-pub write_turn-writes : (length : ℕ) (book : Book) → WritesSome length book (write_turn length book).book
-write_turn-writes length book =
-    elim (is_draining book.state) as (λ (busy : Bool). WritesSome length book (cond {A = BookTurn} busy (record { book = book; reply = Err Busy }) (cond {A = BookTurn} (nat_lt 0 length && eqb (free_of book) 0) (record { book = book; reply = Err Again }) (record { book = accepting (min length (free_of book)) book; reply = Ok (Number (min length (free_of book))) }))).book) [
-      | true ↦ record { accepted = 0; within = omega arith; accepts = accepts_none book }
-      | false ↦ elim (nat_lt 0 length && eqb (free_of book) 0) as (λ (full : Bool). WritesSome length book (cond {A = BookTurn} full (record { book = book; reply = Err Again }) (record { book = accepting (min length (free_of book)) book; reply = Ok (Number (min length (free_of book))) })).book) [
-        | true ↦ record { accepted = 0; within = omega arith; accepts = accepts_none book }
-        | false ↦ record { accepted = min length (free_of book); within = omega arith; accepts = accepts (min length (free_of book)) book }
-      ]
-    ]
+pub writes-nothing : (length : ℕ) (book : Book) → WritesSome length book book
+writes-nothing length book = record { accepted = 0; within = omega arith; undrained = λ h. absurd (omega arith); accepts = accepts_none book }
 
-longer : (device : DeviceSeen) (mixed : ℕ) (run : Run) (more : List ℕ) → RunIsValid device mixed run → RunIsValid device mixed (record run { bytes = run.bytes ++ more })
-longer device mixed run more v =
-    All-weaker (PieceIsValid device mixed run.settings run.bytes) (PieceIsValid device mixed run.settings (run.bytes ++ more))
-    (λ piece h. record {
-      past = h.past;
-      inside = (
-          let inside = h.inside in
-          let grew = whole_frames-mono run.settings (length run.bytes) (length (run.bytes ++ more)) (omega (arith, length-append run.bytes more)) in
-          let lasts = len_grows (rate_between device run.settings) (whole_frames run.settings (length run.bytes)) (whole_frames run.settings (length (run.bytes ++ more))) (omega arith) grew in
-          omega arith);
-    })
-    run.pieces v
+-- a write to a book that doesn't drain
+write_undrained : (full : Bool) (length : ℕ) (book : Book) → is_draining book.state ≡ false
+    → WritesSome length book (cond {A = BookTurn} full (record { book = book; reply = Err Again }) (record { book = accepting (min length (free_of book)) book; reply = Ok (Number (min length (free_of book))) })).book
+write_undrained true length book more = writes-nothing length book
+write_undrained false length book more = record { accepted = min length (free_of book); within = omega arith; undrained = λ h. more; accepts = accepts (min length (free_of book)) book }
+
+write_turn-writes_at : (busy : Bool) (length : ℕ) (book : Book) → is_draining book.state ≡ busy
+    → WritesSome length book (cond {A = BookTurn} busy (record { book = book; reply = Err Busy }) (cond {A = BookTurn} (nat_lt 0 length && eqb (free_of book) 0) (record { book = book; reply = Err Again }) (record { book = accepting (min length (free_of book)) book; reply = Ok (Number (min length (free_of book))) }))).book
+write_turn-writes_at true length book e = writes-nothing length book
+write_turn-writes_at false length book e = write_undrained (nat_lt 0 length && eqb (free_of book) 0) length book e
+
+pub write_turn-writes : (length : ℕ) (book : Book) → WritesSome length book (write_turn length book).book
+write_turn-writes length book = write_turn-writes_at (is_draining book.state) length book refl
+
+-- ---- how many frames a run gives
+
+can_grows : (rate : Rate) (n m : ℕ) → 0 < rate.src → n ≤ m → can rate n ≤ can rate m
+can_grows rate n m src h = len_grows rate (n - rate.lookahead) (m - rate.lookahead) src (omega arith)
+
+-- more frames give no fewer
+pub frames_given-grows : (rate : Rate) (drained : Bool) (n m : ℕ) → IsRatio rate → n ≤ m → frames_given rate drained n ≤ frames_given rate drained m
+frames_given-grows rate true n m r h = len_grows rate n m r.src h
+frames_given-grows rate false n m r h = can_grows rate n m r.src h
+
+-- nor do they once no more comes
+pub frames_given-drained : (rate : Rate) (drained now : Bool) (n : ℕ) → IsRatio rate → (drained ≡ true → now ≡ true) → frames_given rate drained n ≤ frames_given rate now n
+frames_given-drained rate true true n r h = omega arith
+frames_given-drained rate true false n r h = absurd (let not_so : false ≡ true = h refl in cc)
+frames_given-drained rate false true n r h = can-le-len rate n r.src
+frames_given-drained rate false false n r h = omega arith
+
+-- what a started book allows is what its run gives
+frames_given-allowed : (state : State) (rate : Rate) (book : Book) → is_started state ≡ true → allowed_in rate state book ≡ frames_given rate (is_draining state) (frames_written book)
+frames_given-allowed Free rate book e = cc
+frames_given-allowed Setup rate book e = cc
+frames_given-allowed Primed rate book e = cc
+frames_given-allowed Running rate book e = refl
+frames_given-allowed (Draining closed) rate book e = refl
+
+later_piece : (mixed later most more : ℕ) (piece : Piece) → mixed ≤ later → most ≤ more → PieceIsValid mixed most piece → PieceIsValid later more piece
+later_piece mixed later most more piece h g v =
+    let past = v.past in
+    let inside = v.inside in
+    record { past = omega arith; inside = omega arith }
+
+-- pieces stay valid at a later position and among more frames
+later_pieces : (mixed later most more : ℕ) (pieces : List Piece) → mixed ≤ later → most ≤ more → All (PieceIsValid mixed most) pieces → All (PieceIsValid later more) pieces
+later_pieces mixed later most more pieces h g v = All-weaker (PieceIsValid mixed most) (PieceIsValid later more) (λ piece p. later_piece mixed later most more piece h g p) pieces v
+
+-- ---- the runs of a slot, before an event is told of them
+
+-- the newest run has the bytes that a book counts, and is marked as drained or not
+abbrev pub IsCarried : Bool → Book → List Run → Type 0
+IsCarried drained book [] = ⊥
+IsCarried drained book (run ∷ runs) = (run.settings ≡ book.settings) × (length run.bytes ≡ book.written) × (run.drained ≡ drained)
+
+-- A slot's book after an event, and its runs before the event is told of them: the newest is marked as the old book was.
+pub record IsUntold (device : DeviceSeen) (mixed : ℕ) (old new : Book) (runs : List Run) : Type 0 where
+  pub settings : IsRate new.settings.rate
+  pub started : is_started new.state ≡ true → 0 < new.written
+  pub goes_on : 0 < new.written → GoesOn old new
+  pub newest : 0 < new.written → IsCarried (is_draining old.state) new runs
+  pub pieces : All (RunIsValid device mixed) runs
+  pub own : All HasRate runs
+
+carried_newest : (book : Book) (runs : List Run) → IsNewest book runs → IsCarried (is_draining book.state) book runs
+carried_newest book [] h = h
+carried_newest book (run ∷ runs) h = h
+
+-- an event that leaves the book
+pub untold-same : (device : DeviceSeen) (mixed : ℕ) (book : Book) (runs : List Run) → SlotIsValid device mixed book runs → IsUntold device mixed book book runs
+untold-same device mixed book runs v = record {
+  settings = v.settings;
+  started = v.started;
+  goes_on = λ h. goes_on_same book book refl;
+  newest = λ h. carried_newest book runs (v.newest h);
+  pieces = v.pieces;
+  own = v.own;
+}
+
+-- a book with nothing written is valid over any runs of the past
+pub untold-empty : (device : DeviceSeen) (mixed : ℕ) (old new : Book) (runs : List Run) → new.written ≡ 0 → is_started new.state ≡ false → IsRate new.settings.rate → All (RunIsValid device mixed) runs → All HasRate runs
+    → IsUntold device mixed old new runs
+untold-empty device mixed old new runs none stopped settings pieces own = record {
+  settings = settings;
+  started = λ e. absurd (let not_so : true ≡ false = sym e ∙ stopped in cc);
+  goes_on = λ h. absurd (omega arith);
+  newest = λ h. absurd (omega arith);
+  pieces = pieces;
+  own = own;
+}
+
+-- ---- what an event tells of them
+
+-- a run is marked as drained exactly where its book drains, since a book that goes on ends nothing
+marked_drained : (drained now before after keeps : Bool) → (drained ≡ true → now ≡ true) → (before ≡ true → after ≡ true) → (drained || now || (before && not after) && keeps) ≡ now
+marked_drained true true before after keeps drains plays = refl
+marked_drained true false before after keeps drains plays = sym (drains refl)
+marked_drained false true before after keeps drains plays = refl
+marked_drained false false true true keeps drains plays = refl
+marked_drained false false true false keeps drains plays = absurd (let not_so : false ≡ true = plays refl in cc)
+marked_drained false false false after keeps drains plays = refl
+
+still_drained : (drained a b : Bool) → drained ≡ true → (drained || a || b) ≡ true
+still_drained true a b e = refl
+still_drained false a b e = cc
+
+marked_pieces : (device : DeviceSeen) (mixed position : ℕ) (event : Event) (old new : Book) (run : Run) → IsDevice device → HasRate run → RunIsValid device mixed run → RunIsValid device mixed (marked position event old new run)
+marked_pieces device mixed position event old new run d s v =
+    later_pieces mixed mixed (given_in device run) (given_in device (marked position event old new run)) run.pieces (omega arith)
+    (frames_given-drained (rate_between device run.settings) run.drained (marked position event old new run).drained (whole_frames run.settings (length run.bytes)) (ratio-between device run.settings d s)
+    (still_drained run.drained (is_draining new.state) (ends old new && not (drops event)))) v
+
+marked_newest : (position : ℕ) (event : Event) (old new : Book) (run : Run) (runs : List Run) → GoesOn old new → IsCarried (is_draining old.state) new (run ∷ runs) → IsNewest new (marked position event old new run ∷ runs)
+marked_newest position event old new run runs on c =
+    (c.0, c.1, marked_drained run.drained (is_draining new.state) (is_started old.state) (is_started new.state) (not (drops event)) (λ e. on.drains (sym c.2 ∙ e)) on.plays)
+
+-- a slot is valid once the event was told of its newest run
+pub valid-marking : (device : DeviceSeen) (mixed position : ℕ) (event : Event) (old new : Book) (runs : List Run) → IsDevice device → IsUntold device mixed old new runs → SlotIsValid device mixed new (marking position event old new runs)
+valid-marking device mixed position event old new [] d u = record {
+  settings = u.settings;
+  started = u.started;
+  newest = λ h. absurd (u.newest h);
+  pieces = u.pieces;
+  own = u.own;
+}
+valid-marking device mixed position event old new (run ∷ runs) d u =
+    let s = All-head HasRate run runs u.own in
+    record {
+      settings = u.settings;
+      started = u.started;
+      newest = λ h. marked_newest position event old new run runs (u.goes_on h) (u.newest h);
+      pieces = All-cons (RunIsValid device mixed) (marked position event old new run) runs
+          (marked_pieces device mixed position event old new run d s (All-head (RunIsValid device mixed) run runs u.pieces)) (All-tail (RunIsValid device mixed) run runs u.pieces);
+      own = All-cons HasRate (marked position event old new run) runs s (All-tail HasRate run runs u.own);
+    }
+
+-- ---- a write
+
+given_in-longer : (device : DeviceSeen) (run : Run) (more : List ℕ) → IsDevice device → HasRate run → given_in device run ≤ given_in device (record run { bytes = run.bytes ++ more })
+given_in-longer device run more d s =
+    frames_given-grows (rate_between device run.settings) run.drained (whole_frames run.settings (length run.bytes)) (whole_frames run.settings (length (run.bytes ++ more))) (ratio-between device run.settings d s)
+    (whole_frames-mono run.settings (length run.bytes) (length (run.bytes ++ more)) (omega (arith, length-append run.bytes more)))
+
+longer : (device : DeviceSeen) (mixed : ℕ) (run : Run) (more : List ℕ) → IsDevice device → HasRate run → RunIsValid device mixed run → RunIsValid device mixed (record run { bytes = run.bytes ++ more })
+longer device mixed run more d s v =
+    later_pieces mixed mixed (given_in device run) (given_in device (record run { bytes = run.bytes ++ more })) run.pieces (omega arith) (given_in-longer device run more d s) v
 
 no_pieces : (device : DeviceSeen) (mixed : ℕ) (book : Book) (bytes : List ℕ) → RunIsValid device mixed (begun_run book bytes)
-no_pieces device mixed book bytes = All-nil (PieceIsValid device mixed book.settings bytes)
+no_pieces device mixed book bytes = All-nil (PieceIsValid mixed (given_in device (begun_run book bytes)))
 
 -- the pieces of a slot stay valid once more bytes came
-pub taking-pieces : (device : DeviceSeen) (mixed : ℕ) (bytes : List ℕ) (book : Book) (runs : List Run) → All (RunIsValid device mixed) runs → All (RunIsValid device mixed) (taking bytes book runs)
-taking-pieces device mixed [] book runs v = v
-taking-pieces device mixed (byte ∷ bytes) book [] v = All-cons (RunIsValid device mixed) _ [] (no_pieces device mixed book (byte ∷ bytes)) v
-taking-pieces device mixed (byte ∷ bytes) book (run ∷ runs) v =
+pub taking-pieces : (device : DeviceSeen) (mixed : ℕ) (bytes : List ℕ) (book : Book) (runs : List Run) → IsDevice device → All HasRate runs → All (RunIsValid device mixed) runs → All (RunIsValid device mixed) (taking bytes book runs)
+taking-pieces device mixed [] book runs d s v = v
+taking-pieces device mixed (byte ∷ bytes) book [] d s v = All-cons (RunIsValid device mixed) _ [] (no_pieces device mixed book (byte ∷ bytes)) v
+taking-pieces device mixed (byte ∷ bytes) book (run ∷ runs) d s v =
     elim (eqb book.written 0) as (λ (b : Bool). All (RunIsValid device mixed) (cond b (begun_run book (byte ∷ bytes) ∷ run ∷ runs) (record run { bytes = run.bytes ++ byte ∷ bytes } ∷ runs))) [
       | true ↦ All-cons (RunIsValid device mixed) (begun_run book (byte ∷ bytes)) (run ∷ runs) (no_pieces device mixed book (byte ∷ bytes)) v
-      | false ↦ All-cons (RunIsValid device mixed) (record run { bytes = run.bytes ++ byte ∷ bytes }) runs (longer device mixed run (byte ∷ bytes) (All-head (RunIsValid device mixed) run runs v)) (All-tail (RunIsValid device mixed) run runs v)
+      | false ↦ All-cons (RunIsValid device mixed) (record run { bytes = run.bytes ++ byte ∷ bytes }) runs
+          (longer device mixed run (byte ∷ bytes) d (All-head HasRate run runs s) (All-head (RunIsValid device mixed) run runs v)) (All-tail (RunIsValid device mixed) run runs v)
     ]
 
 -- what is not above 0 is 0
@@ -109,196 +272,222 @@ pub none_above : (n : ℕ) → (0 < n → ⊥) → n ≡ 0
 none_above zero h = refl
 none_above (suc n) h = absurd (h (omega arith))
 
-newest_at : (b : Bool) (byte : ℕ) (bytes : List ℕ) (old new : Book) (run : Run) (runs : List Run) → eqb old.written 0 ≡ b → Accepts (length (byte ∷ bytes)) old new → (0 < old.written → IsNewest old (run ∷ runs))
-    → IsNewest new (cond b (begun_run old (byte ∷ bytes) ∷ run ∷ runs) (record run { bytes = run.bytes ++ byte ∷ bytes } ∷ runs))
-newest_at true byte bytes old new run runs e a newest = let w = a.written in (sym a.settings, grind (arith, nat_tests))
-newest_at false byte bytes old new run runs e a newest =
+newest_at : (b : Bool) (byte : ℕ) (bytes : List ℕ) (old new : Book) (run : Run) (runs : List Run) → eqb old.written 0 ≡ b → Accepts (length (byte ∷ bytes)) old new → is_draining old.state ≡ false
+    → (0 < old.written → IsNewest old (run ∷ runs))
+    → IsCarried (is_draining old.state) new (cond b (begun_run old (byte ∷ bytes) ∷ run ∷ runs) (record run { bytes = run.bytes ++ byte ∷ bytes } ∷ runs))
+newest_at true byte bytes old new run runs e a more newest = let w = a.written in (sym a.settings, grind (arith, nat_tests), sym more)
+newest_at false byte bytes old new run runs e a more newest =
     let w = a.written in
     let above : 0 < old.written = grind (arith, nat_tests) in
     let n = newest above in
-    (n.0 ∙ sym a.settings, omega (arith, n.1, length-append run.bytes (byte ∷ bytes)))
+    (n.0 ∙ sym a.settings, omega (arith, n.1, length-append run.bytes (byte ∷ bytes)), n.2)
 
 -- the newest run has the bytes that were written
-pub taking-newest : (bytes : List ℕ) (old new : Book) (runs : List Run) → Accepts (length bytes) old new → (0 < old.written → IsNewest old runs) → 0 < new.written → IsNewest new (taking bytes old runs)
-taking-newest [] old new [] a newest h = let w = a.written in newest (omega arith)
-taking-newest [] old new (run ∷ runs) a newest h =
+pub taking-newest : (bytes : List ℕ) (old new : Book) (runs : List Run) → Accepts (length bytes) old new → (0 < length bytes → is_draining old.state ≡ false) → (0 < old.written → IsNewest old runs) → 0 < new.written
+    → IsCarried (is_draining old.state) new (taking bytes old runs)
+taking-newest [] old new [] a more newest h = let w = a.written in newest (omega arith)
+taking-newest [] old new (run ∷ runs) a more newest h =
     let w = a.written in
     let n = newest (omega arith) in
-    (n.0 ∙ sym a.settings, omega (arith, n.1))
-taking-newest (byte ∷ bytes) old new [] a newest h =
+    (n.0 ∙ sym a.settings, omega (arith, n.1), n.2)
+taking-newest (byte ∷ bytes) old new [] a more newest h =
     let w = a.written in
     let none = none_above old.written newest in
-    (sym a.settings, omega arith)
-taking-newest (byte ∷ bytes) old new (run ∷ runs) a newest h = newest_at (eqb old.written 0) byte bytes old new run runs refl a newest
+    (sym a.settings, omega arith, sym (more (omega arith)))
+taking-newest (byte ∷ bytes) old new (run ∷ runs) a more newest h = newest_at (eqb old.written 0) byte bytes old new run runs refl a (more (omega arith)) newest
 
--- the runs of a slot keep their settings
-pub taking-own : (device : DeviceSeen) (bytes : List ℕ) (book : Book) (runs : List Run) → book.settings ≡ mix_settings device → All (λ (run : Run). run.settings ≡ mix_settings device) runs → All (λ (run : Run). run.settings ≡ mix_settings device) (taking bytes book runs)
-taking-own device [] book runs e v = v
-taking-own device (byte ∷ bytes) book [] e v = All-cons (λ (run : Run). run.settings ≡ mix_settings device) (begun_run book (byte ∷ bytes)) [] e v
-taking-own device (byte ∷ bytes) book (run ∷ runs) e v =
-    elim (eqb book.written 0) as (λ (b : Bool). All (λ (run : Run). run.settings ≡ mix_settings device) (cond b (begun_run book (byte ∷ bytes) ∷ run ∷ runs) (record run { bytes = run.bytes ++ byte ∷ bytes } ∷ runs))) [
-      | true ↦ All-cons (λ (run : Run). run.settings ≡ mix_settings device) (begun_run book (byte ∷ bytes)) (run ∷ runs) e v
-      | false ↦ All-cons (λ (run : Run). run.settings ≡ mix_settings device) (record run { bytes = run.bytes ++ byte ∷ bytes }) runs (All-head (λ (run : Run). run.settings ≡ mix_settings device) run runs v) (All-tail (λ (run : Run). run.settings ≡ mix_settings device) run runs v)
-    ]
-
-pub playing-own : (device : DeviceSeen) (mixed n : ℕ) (book : Book) (runs : List Run) → All (λ (run : Run). run.settings ≡ mix_settings device) runs → All (λ (run : Run). run.settings ≡ mix_settings device) (playing device mixed n book runs)
-playing-own device mixed n book [] v = v
-playing-own device mixed n book (run ∷ runs) v =
-    elim (is_started book.state && nat_lt 0 n) as (λ (b : Bool). All (λ (run : Run). run.settings ≡ mix_settings device) (cond b (record run { pieces = piece_of device mixed n book ∷ run.pieces } ∷ runs) (run ∷ runs))) [
-      | true ↦ All-cons (λ (run : Run). run.settings ≡ mix_settings device) (record run { pieces = piece_of device mixed n book ∷ run.pieces }) runs (All-head (λ (run : Run). run.settings ≡ mix_settings device) run runs v) (All-tail (λ (run : Run). run.settings ≡ mix_settings device) run runs v)
-      | false ↦ v
+-- the runs of a slot keep their rates
+pub taking-own : (bytes : List ℕ) (book : Book) (runs : List Run) → IsRate book.settings.rate → All HasRate runs → All HasRate (taking bytes book runs)
+taking-own [] book runs s v = v
+taking-own (byte ∷ bytes) book [] s v = All-cons HasRate (begun_run book (byte ∷ bytes)) [] s v
+taking-own (byte ∷ bytes) book (run ∷ runs) s v =
+    elim (eqb book.written 0) as (λ (b : Bool). All HasRate (cond b (begun_run book (byte ∷ bytes) ∷ run ∷ runs) (record run { bytes = run.bytes ++ byte ∷ bytes } ∷ runs))) [
+      | true ↦ All-cons HasRate (begun_run book (byte ∷ bytes)) (run ∷ runs) s v
+      | false ↦ All-cons HasRate (record run { bytes = run.bytes ++ byte ∷ bytes }) runs (All-head HasRate run runs v) (All-tail HasRate run runs v)
     ]
 
 -- a slot stays valid when its book accepts bytes
-pub valid-taking : (device : DeviceSeen) (mixed : ℕ) (bytes : List ℕ) (old new : Book) (runs : List Run) → Accepts (length bytes) old new → SlotIsValid device mixed old runs → SlotIsValid device mixed new (taking bytes old runs)
-valid-taking device mixed bytes old new runs a v = record {
-  settings = a.settings ∙ v.settings;
+pub untold-taking : (device : DeviceSeen) (mixed : ℕ) (bytes : List ℕ) (old new : Book) (runs : List Run) → IsDevice device → Accepts (length bytes) old new → (0 < length bytes → is_draining old.state ≡ false)
+    → SlotIsValid device mixed old runs → IsUntold device mixed old new (taking bytes old runs)
+untold-taking device mixed bytes old new runs d a more v = record {
+  settings = subst (λ (settings : Settings). IsRate settings.rate) (sym a.settings) v.settings;
   started = a.started v.started;
-  newest = taking-newest bytes old new runs a v.newest;
-  pieces = taking-pieces device mixed bytes old runs v.pieces;
-  own = taking-own device bytes old runs v.settings v.own;
+  goes_on = λ h. a.goes_on;
+  newest = taking-newest bytes old new runs a more v.newest;
+  pieces = taking-pieces device mixed bytes old runs d v.own v.pieces;
+  own = taking-own bytes old runs v.settings v.own;
 }
 
--- a book with nothing written is valid over any runs of the past
-pub valid-empty : (device : DeviceSeen) (mixed : ℕ) (state : State) (book : Book) (runs : List Run) → book.settings ≡ mix_settings device → is_started state ≡ false → All (RunIsValid device mixed) runs → All (λ (run : Run). run.settings ≡ mix_settings device) runs → SlotIsValid device mixed (emptied state book) runs
-valid-empty device mixed state book runs settings stopped pieces own = record {
-  settings = settings;
-  started = λ e. cc;
-  newest = λ h. absurd (omega arith);
-  pieces = pieces;
-  own = own;
-}
+-- ---- a close
 
 -- a change of the state alone
-pub valid-state : (device : DeviceSeen) (mixed : ℕ) (state : State) (book : Book) (runs : List Run) → (is_started state ≡ true → 0 < book.written) → SlotIsValid device mixed book runs → SlotIsValid device mixed (record book { state = state }) runs
-valid-state device mixed state book runs started v = record {
+untold_state : (device : DeviceSeen) (mixed : ℕ) (state : State) (book : Book) (runs : List Run) → (is_started state ≡ true → 0 < book.written) → GoesOn book (record book { state = state }) → SlotIsValid device mixed book runs
+    → IsUntold device mixed book (record book { state = state }) runs
+untold_state device mixed state book runs started on v = record {
   settings = v.settings;
   started = started;
-  newest = v.newest;
+  goes_on = λ h. on;
+  newest = λ h. carried_newest book runs (v.newest h);
   pieces = v.pieces;
   own = v.own;
 }
 
-valid-close_running : (b : Bool) (device : DeviceSeen) (mixed : ℕ) (book : Book) (runs : List Run) → (0 < book.written) → SlotIsValid device mixed book runs
-    → SlotIsValid device mixed (let drained : Book = cond b (emptied Setup (record book { state = Draining false })) (record book { state = Draining false }) in closed_in drained.state drained) runs
-valid-close_running true device mixed book runs h v = valid-empty device mixed Free book runs v.settings refl v.pieces v.own
-valid-close_running false device mixed book runs h v = valid-state device mixed (Draining true) book runs (λ e. h) v
+untold_close_running : (b : Bool) (device : DeviceSeen) (mixed : ℕ) (book : Book) (runs : List Run) → SlotIsValid device mixed (record book { state = Running }) runs
+    → IsUntold device mixed (record book { state = Running }) (let drained : Book = cond b (emptied Setup (record book { state = Draining false })) (record book { state = Draining false }) in closed_in drained.state drained) runs
+untold_close_running true device mixed book runs v = untold-empty device mixed (record book { state = Running }) (emptied Free book) runs refl refl v.settings v.pieces v.own
+untold_close_running false device mixed book runs v =
+    untold_state device mixed (Draining true) (record book { state = Running }) runs (λ e. v.started refl) (record { plays = λ e. refl; drains = λ e. refl }) v
 
-valid-close_primed : (b : Bool) (device : DeviceSeen) (mixed : ℕ) (book : Book) (runs : List Run) → nat_lt 0 (frames_written book) ≡ b → SlotIsValid device mixed book runs
-    → SlotIsValid device mixed (let drained : Book = cond b (record book { state = Draining false }) (emptied Setup book) in closed_in drained.state drained) runs
-valid-close_primed true device mixed book runs e v = valid-state device mixed (Draining true) book runs (λ s. bytes_above book.settings book.written (grind (arith, nat_tests))) v
-valid-close_primed false device mixed book runs e v = valid-empty device mixed Free book runs v.settings refl v.pieces v.own
+untold_close_primed : (b : Bool) (device : DeviceSeen) (mixed : ℕ) (book : Book) (runs : List Run) → nat_lt 0 (frames_written book) ≡ b → SlotIsValid device mixed (record book { state = Primed }) runs
+    → IsUntold device mixed (record book { state = Primed }) (let drained : Book = cond b (record book { state = Draining false }) (emptied Setup book) in closed_in drained.state drained) runs
+untold_close_primed true device mixed book runs e v =
+    untold_state device mixed (Draining true) (record book { state = Primed }) runs (λ s. bytes_above book.settings book.written (grind (arith, nat_tests)))
+    (goes_on_unstarted (record book { state = Primed }) (record book { state = Draining true }) refl) v
+untold_close_primed false device mixed book runs e v = untold-empty device mixed (record book { state = Primed }) (emptied Free book) runs refl refl v.settings v.pieces v.own
 
-valid-close_at : (state : State) (device : DeviceSeen) (mixed : ℕ) (book : Book) (runs : List Run) → SlotIsValid device mixed (record book { state = state }) runs
-    → SlotIsValid device mixed (closing device (record book { state = state })) runs
-valid-close_at Free device mixed book runs v = v
-valid-close_at Setup device mixed book runs v = valid-state device mixed Free (record book { state = Setup }) runs (λ e. cc) v
-valid-close_at Primed device mixed book runs v = valid-close_primed (nat_lt 0 (frames_written (record book { state = Primed }))) device mixed (record book { state = Primed }) runs refl v
-valid-close_at Running device mixed book runs v = valid-close_running (eqb book.given (len (rate_at device book) (frames_written book))) device mixed (record book { state = Running }) runs (v.started refl) v
-valid-close_at (Draining closed) device mixed book runs v = valid-state device mixed (Draining true) (record book { state = Draining closed }) runs (λ e. v.started refl) v
+untold_close_at : (state : State) (device : DeviceSeen) (mixed : ℕ) (book : Book) (runs : List Run) → SlotIsValid device mixed (record book { state = state }) runs
+    → IsUntold device mixed (record book { state = state }) (closing device (record book { state = state })) runs
+untold_close_at Free device mixed book runs v = untold-same device mixed (record book { state = Free }) runs v
+untold_close_at Setup device mixed book runs v =
+    untold_state device mixed Free (record book { state = Setup }) runs (λ e. cc) (goes_on_unstarted (record book { state = Setup }) (record book { state = Free }) refl) v
+untold_close_at Primed device mixed book runs v = untold_close_primed (nat_lt 0 (frames_written (record book { state = Primed }))) device mixed book runs refl v
+untold_close_at Running device mixed book runs v = untold_close_running (eqb book.given (len (rate_at device book) (frames_written book))) device mixed book runs v
+untold_close_at (Draining closed) device mixed book runs v =
+    untold_state device mixed (Draining true) (record book { state = Draining closed }) runs (λ e. v.started refl) (record { plays = λ e. refl; drains = λ e. refl }) v
 
 -- a slot stays valid through a close
-pub valid-close : (device : DeviceSeen) (mixed : ℕ) (book : Book) (runs : List Run) → SlotIsValid device mixed book runs → SlotIsValid device mixed (closing device book) runs
-valid-close device mixed book runs v = valid-close_at book.state device mixed book runs v
+pub untold-close : (device : DeviceSeen) (mixed : ℕ) (book : Book) (runs : List Run) → SlotIsValid device mixed book runs → IsUntold device mixed book (closing device book) runs
+untold-close device mixed book runs v = untold_close_at book.state device mixed book runs v
 
-piece-valid : (device : DeviceSeen) (mixed n : ℕ) (book : Book) (run : Run) (runs : List Run) → is_started book.state ≡ true → BookIsSafe (rate_at device book) book → SlotIsValid device mixed book (run ∷ runs)
-    → PieceIsValid device (mixed + n) run.settings run.bytes (piece_of device mixed n book)
-piece-valid device mixed n book run runs e safe v =
-    let newest = v.newest (v.started e) in
-    let same : whole_frames run.settings (length run.bytes) ≡ frames_written book = ap (λ settings. whole_frames settings (length run.bytes)) newest.0 ∙ ap (λ bytes. whole_frames book.settings bytes) newest.1 in
+-- ---- an interrupt
+
+-- the newest run gives what its book allows
+given_in-newest : (device : DeviceSeen) (book : Book) (run : Run) (runs : List Run) → IsNewest book (run ∷ runs) → given_in device run ≡ frames_given (rate_at device book) (is_draining book.state) (frames_written book)
+given_in-newest device book run runs newest =
+    ap (λ (settings : Settings). frames_given (rate_between device settings) run.drained (whole_frames settings (length run.bytes))) newest.0
+    ∙ ap (λ bytes. frames_given (rate_at device book) run.drained (whole_frames book.settings bytes)) newest.1
+    ∙ ap (λ (drained : Bool). frames_given (rate_at device book) drained (frames_written book)) newest.2
+
+given_within : (given n most : ℕ) → given ≤ most → given + min n (most - given) ≤ most
+given_within given n most h = omega arith
+
+piece-valid : (device : DeviceSeen) (mixed n : ℕ) (book : Book) (run : Run) (runs : List Run) → IsDevice device → is_started book.state ≡ true → BookIsSafe (rate_at device book) book → SlotIsValid device mixed book (run ∷ runs)
+    → PieceIsValid (mixed + n) (given_in device run) (piece_of device mixed n book)
+piece-valid device mixed n book run runs d e safe v =
     let rate : Rate = rate_at device book in
-    let ratio : IsRatio rate = record { src = omega arith; dst = omega arith } in
-    let given = given-allowed book.state rate book ratio e safe.order in
-    let allowed = allowed-lasts book.state rate book ratio in
-    let lasts : len rate (whole_frames run.settings (length run.bytes)) ≡ len rate (frames_written book) = ap (len rate) same in
-    record { past = omega arith; inside = omega arith }
-
-later_piece : (device : DeviceSeen) (mixed n : ℕ) (run : Run) → RunIsValid device mixed run → RunIsValid device (mixed + n) run
-later_piece device mixed n run v =
-    All-weaker (PieceIsValid device mixed run.settings run.bytes) (PieceIsValid device (mixed + n) run.settings run.bytes) (λ piece p. record { past = (let past = p.past in omega arith); inside = p.inside }) run.pieces v
+    let count : ℕ = giving rate n book in
+    let same : given_in device run ≡ allowed_in rate book.state book =
+    given_in-newest device book run runs (v.newest (v.started e)) ∙ sym (frames_given-allowed book.state rate book e) in
+    let gave = given-allowed book.state rate book (ratio-between device book.settings d v.settings) e safe.order in
+    record {
+      past = omega arith;
+      inside = subst (λ most. book.given + count ≤ most) (sym same) (given_within book.given n (allowed_in rate book.state book) gave);
+    }
 
 later_runs : (device : DeviceSeen) (mixed n : ℕ) (runs : List Run) → All (RunIsValid device mixed) runs → All (RunIsValid device (mixed + n)) runs
-later_runs device mixed n runs v = All-weaker (RunIsValid device mixed) (RunIsValid device (mixed + n)) (later_piece device mixed n) runs v
+later_runs device mixed n runs v =
+    All-weaker (RunIsValid device mixed) (RunIsValid device (mixed + n)) (λ run r. later_pieces mixed (mixed + n) (given_in device run) (given_in device run) run.pieces (omega arith) (omega arith) r) runs v
 
-playing-pieces_at : (b : Bool) (device : DeviceSeen) (mixed n : ℕ) (book : Book) (run : Run) (runs : List Run) → (b ≡ true → is_started book.state ≡ true) → BookIsSafe (rate_at device book) book → SlotIsValid device mixed book (run ∷ runs)
+playing-pieces_at : (b : Bool) (device : DeviceSeen) (mixed n : ℕ) (book : Book) (run : Run) (runs : List Run) → IsDevice device → (b ≡ true → is_started book.state ≡ true) → BookIsSafe (rate_at device book) book → SlotIsValid device mixed book (run ∷ runs)
     → All (RunIsValid device (mixed + n)) (cond b (record run { pieces = piece_of device mixed n book ∷ run.pieces } ∷ runs) (run ∷ runs))
-playing-pieces_at true device mixed n book run runs e safe v =
+playing-pieces_at true device mixed n book run runs d e safe v =
+    let later = later_runs device mixed n (run ∷ runs) v.pieces in
     All-cons (RunIsValid device (mixed + n)) (record run { pieces = piece_of device mixed n book ∷ run.pieces }) runs
-    (All-cons (PieceIsValid device (mixed + n) run.settings run.bytes) (piece_of device mixed n book) run.pieces (piece-valid device mixed n book run runs (e refl) safe v) (later_piece device mixed n run (All-head (RunIsValid device mixed) run runs v.pieces)))
-    (later_runs device mixed n runs (All-tail (RunIsValid device mixed) run runs v.pieces))
-playing-pieces_at false device mixed n book run runs e safe v = later_runs device mixed n (run ∷ runs) v.pieces
+    (All-cons (PieceIsValid (mixed + n) (given_in device run)) (piece_of device mixed n book) run.pieces (piece-valid device mixed n book run runs d (e refl) safe v) (All-head (RunIsValid device (mixed + n)) run runs later))
+    (All-tail (RunIsValid device (mixed + n)) run runs later)
+playing-pieces_at false device mixed n book run runs d e safe v = later_runs device mixed n (run ∷ runs) v.pieces
 
 -- the pieces of a slot stay valid through an interrupt
-pub playing-pieces : (device : DeviceSeen) (mixed n : ℕ) (book : Book) (runs : List Run) → BookIsSafe (rate_at device book) book → SlotIsValid device mixed book runs → All (RunIsValid device (mixed + n)) (playing device mixed n book runs)
-playing-pieces device mixed n book [] safe v = All-nil (RunIsValid device (mixed + n))
-playing-pieces device mixed n book (run ∷ runs) safe v = playing-pieces_at (is_started book.state && nat_lt 0 n) device mixed n book run runs (λ e. (and_parts (is_started book.state) (nat_lt 0 n) e).0) safe v
+pub playing-pieces : (device : DeviceSeen) (mixed n : ℕ) (book : Book) (runs : List Run) → IsDevice device → BookIsSafe (rate_at device book) book → SlotIsValid device mixed book runs
+    → All (RunIsValid device (mixed + n)) (playing device mixed n book runs)
+playing-pieces device mixed n book [] d safe v = All-nil (RunIsValid device (mixed + n))
+playing-pieces device mixed n book (run ∷ runs) d safe v =
+    playing-pieces_at (is_started book.state && nat_lt 0 n) device mixed n book run runs d (λ e. (and_parts (is_started book.state) (nat_lt 0 n) e).0) safe v
 
--- the newest run keeps its bytes through an interrupt
-pub playing-newest : (device : DeviceSeen) (mixed n : ℕ) (old new : Book) (runs : List Run) → new.settings ≡ old.settings → new.written ≡ old.written → IsNewest old runs → IsNewest new (playing device mixed n old runs)
+-- the runs of a slot keep their rates through an interrupt
+pub playing-own : (device : DeviceSeen) (mixed n : ℕ) (book : Book) (runs : List Run) → All HasRate runs → All HasRate (playing device mixed n book runs)
+playing-own device mixed n book [] v = v
+playing-own device mixed n book (run ∷ runs) v =
+    elim (is_started book.state && nat_lt 0 n) as (λ (b : Bool). All HasRate (cond b (record run { pieces = piece_of device mixed n book ∷ run.pieces } ∷ runs) (run ∷ runs))) [
+      | true ↦ All-cons HasRate (record run { pieces = piece_of device mixed n book ∷ run.pieces }) runs (All-head HasRate run runs v) (All-tail HasRate run runs v)
+      | false ↦ v
+    ]
+
+-- the newest run keeps its bytes and marks through an interrupt
+pub playing-newest : (device : DeviceSeen) (mixed n : ℕ) (old new : Book) (runs : List Run) → new.settings ≡ old.settings → new.written ≡ old.written → IsNewest old runs
+    → IsCarried (is_draining old.state) new (playing device mixed n old runs)
 playing-newest device mixed n old new [] s w h = h
 playing-newest device mixed n old new (run ∷ runs) s w h =
-    elim (is_started old.state && nat_lt 0 n) as (λ (b : Bool). IsNewest new (cond b (record run { pieces = piece_of device mixed n old ∷ run.pieces } ∷ runs) (run ∷ runs))) [
-      | true ↦ (h.0 ∙ sym s, h.1 ∙ sym w)
-      | false ↦ (h.0 ∙ sym s, h.1 ∙ sym w)
+    elim (is_started old.state && nat_lt 0 n) as (λ (b : Bool). IsCarried (is_draining old.state) new (cond b (record run { pieces = piece_of device mixed n old ∷ run.pieces } ∷ runs) (run ∷ runs))) [
+      | true ↦ (h.0 ∙ sym s, h.1 ∙ sym w, h.2)
+      | false ↦ (h.0 ∙ sym s, h.1 ∙ sym w, h.2)
     ]
 
 -- a book with other counts is valid over the runs of an interrupt
-valid-played : (device : DeviceSeen) (mixed n : ℕ) (old new : Book) (runs : List Run) → BookIsSafe (rate_at device old) old → SlotIsValid device mixed old runs
-    → new.settings ≡ old.settings → new.written ≡ old.written → (is_started new.state ≡ true → 0 < new.written) → SlotIsValid device (mixed + n) new (playing device mixed n old runs)
-valid-played device mixed n old new runs safe v settings written started = record {
-  settings = settings ∙ v.settings;
+untold_played : (device : DeviceSeen) (mixed n : ℕ) (old new : Book) (runs : List Run) → IsDevice device → BookIsSafe (rate_at device old) old → SlotIsValid device mixed old runs
+    → new.settings ≡ old.settings → new.written ≡ old.written → (is_started new.state ≡ true → 0 < new.written) → GoesOn old new → IsUntold device (mixed + n) old new (playing device mixed n old runs)
+untold_played device mixed n old new runs d safe v settings written started on = record {
+  settings = subst (λ (s : Settings). IsRate s.rate) (sym settings) v.settings;
   started = started;
+  goes_on = λ h. on;
   newest = λ h. playing-newest device mixed n old new runs settings written (v.newest (omega arith));
-  pieces = playing-pieces device mixed n old runs safe v;
+  pieces = playing-pieces device mixed n old runs d safe v;
   own = playing-own device mixed n old runs v.own;
 }
 
-valid-refilled_draining : (b closed : Bool) (device : DeviceSeen) (mixed n : ℕ) (book : Book) (runs : List Run) → BookIsSafe (rate_at device book) (record book { state = Draining closed }) → SlotIsValid device mixed (record book { state = Draining closed }) runs
-    → (let given : Book = gives (rate_at device book) n (record book { state = Draining closed }) in SlotIsValid device (mixed + n) (cond b (emptied (cond closed Free Setup) given) given) (playing device mixed n (record book { state = Draining closed }) runs))
-valid-refilled_draining true true device mixed n book runs safe v =
-    let old : Book = record book { state = Draining true } in
-    valid-empty device (mixed + n) Free (gives (rate_at device book) n old) (playing device mixed n old runs) v.settings refl (playing-pieces device mixed n old runs safe v) (playing-own device mixed n old runs v.own)
-valid-refilled_draining true false device mixed n book runs safe v =
-    let old : Book = record book { state = Draining false } in
-    valid-empty device (mixed + n) Setup (gives (rate_at device book) n old) (playing device mixed n old runs) v.settings refl (playing-pieces device mixed n old runs safe v) (playing-own device mixed n old runs v.own)
-valid-refilled_draining false closed device mixed n book runs safe v =
-    let old : Book = record book { state = Draining closed } in
-    valid-played device mixed n old (gives (rate_at device book) n old) runs safe v refl refl (λ e. v.started refl)
+-- with nothing written
+untold_ended : (device : DeviceSeen) (mixed n : ℕ) (old new : Book) (runs : List Run) → IsDevice device → BookIsSafe (rate_at device old) old → SlotIsValid device mixed old runs
+    → new.settings ≡ old.settings → new.written ≡ 0 → is_started new.state ≡ false → IsUntold device (mixed + n) old new (playing device mixed n old runs)
+untold_ended device mixed n old new runs d safe v settings none stopped =
+    untold-empty device (mixed + n) old new (playing device mixed n old runs) none stopped (subst (λ (s : Settings). IsRate s.rate) (sym settings) v.settings)
+    (playing-pieces device mixed n old runs d safe v) (playing-own device mixed n old runs v.own)
 
-valid-refilled_at : (state : State) (device : DeviceSeen) (mixed n : ℕ) (book : Book) (runs : List Run) → BookIsSafe (rate_at device book) (record book { state = state }) → SlotIsValid device mixed (record book { state = state }) runs
-    → SlotIsValid device (mixed + n) (refilled (rate_at device book) n (record book { state = state })) (playing device mixed n (record book { state = state }) runs)
-valid-refilled_at Free device mixed n book runs safe v = valid-played device mixed n (record book { state = Free }) (record book { state = Free }) runs safe v refl refl (λ e. cc)
-valid-refilled_at Setup device mixed n book runs safe v = valid-played device mixed n (record book { state = Setup }) (record book { state = Setup }) runs safe v refl refl (λ e. cc)
-valid-refilled_at Primed device mixed n book runs safe v = valid-played device mixed n (record book { state = Primed }) (record book { state = Primed }) runs safe v refl refl (λ e. cc)
-valid-refilled_at Running device mixed n book runs safe v =
+untold_refilled_draining : (b closed : Bool) (device : DeviceSeen) (mixed n : ℕ) (book : Book) (runs : List Run) → IsDevice device → BookIsSafe (rate_at device book) (record book { state = Draining closed })
+    → SlotIsValid device mixed (record book { state = Draining closed }) runs
+    → (let old : Book = record book { state = Draining closed } in let given : Book = gives (rate_at device book) n old in
+    IsUntold device (mixed + n) old (cond b (emptied (cond closed Free Setup) given) given) (playing device mixed n old runs))
+untold_refilled_draining true true device mixed n book runs d safe v =
+    let old : Book = record book { state = Draining true } in
+    untold_ended device mixed n old (emptied Free (gives (rate_at device book) n old)) runs d safe v refl refl refl
+untold_refilled_draining true false device mixed n book runs d safe v =
+    let old : Book = record book { state = Draining false } in
+    untold_ended device mixed n old (emptied Setup (gives (rate_at device book) n old)) runs d safe v refl refl refl
+untold_refilled_draining false closed device mixed n book runs d safe v =
+    let old : Book = record book { state = Draining closed } in
+    let given : Book = gives (rate_at device book) n old in
+    untold_played device mixed n old given runs d safe v refl refl (λ e. v.started refl) (goes_on_same old given refl)
+
+untold_refilled_at : (state : State) (device : DeviceSeen) (mixed n : ℕ) (book : Book) (runs : List Run) → IsDevice device → BookIsSafe (rate_at device book) (record book { state = state }) → SlotIsValid device mixed (record book { state = state }) runs
+    → IsUntold device (mixed + n) (record book { state = state }) (refilled (rate_at device book) n (record book { state = state })) (playing device mixed n (record book { state = state }) runs)
+untold_refilled_at Free device mixed n book runs d safe v =
+    let old : Book = record book { state = Free } in untold_played device mixed n old old runs d safe v refl refl (λ e. cc) (goes_on_same old old refl)
+untold_refilled_at Setup device mixed n book runs d safe v =
+    let old : Book = record book { state = Setup } in untold_played device mixed n old old runs d safe v refl refl (λ e. cc) (goes_on_same old old refl)
+untold_refilled_at Primed device mixed n book runs d safe v =
+    let old : Book = record book { state = Primed } in untold_played device mixed n old old runs d safe v refl refl (λ e. cc) (goes_on_same old old refl)
+untold_refilled_at Running device mixed n book runs d safe v =
     let old : Book = record book { state = Running } in
-    valid-played device mixed n old (refilled (rate_at device book) n old) runs safe v refl refl (λ e. v.started refl)
-valid-refilled_at (Draining closed) device mixed n book runs safe v =
+    let new : Book = refilled (rate_at device book) n old in
+    untold_played device mixed n old new runs d safe v refl refl (λ e. v.started refl) (goes_on_same old new refl)
+untold_refilled_at (Draining closed) device mixed n book runs d safe v =
     let given : Book = gives (rate_at device book) n (record book { state = Draining closed }) in
-    valid-refilled_draining (eqb given.given (len (rate_at device book) (frames_written given))) closed device mixed n book runs safe v
+    untold_refilled_draining (eqb given.given (len (rate_at device book) (frames_written given))) closed device mixed n book runs d safe v
 
 -- a slot stays valid through an interrupt
-pub valid-mixing : (device : DeviceSeen) (mixed n : ℕ) (book : Book) (runs : List Run) → BookIsSafe (rate_at device book) book → SlotIsValid device mixed book runs → SlotIsValid device (mixed + n) (mixing device n book) (playing device mixed n book runs)
-valid-mixing device mixed zero book runs safe v = valid-played device mixed 0 book book runs safe v refl refl v.started
-valid-mixing device mixed (suc n) book runs safe v = valid-refilled_at book.state device mixed (suc n) book runs safe v
+pub untold-mixing : (device : DeviceSeen) (mixed n : ℕ) (book : Book) (runs : List Run) → IsDevice device → BookIsSafe (rate_at device book) book → SlotIsValid device mixed book runs
+    → IsUntold device (mixed + n) book (mixing device n book) (playing device mixed n book runs)
+untold-mixing device mixed zero book runs d safe v = untold_played device mixed 0 book book runs d safe v refl refl v.started (goes_on_same book book refl)
+untold-mixing device mixed (suc n) book runs d safe v = untold_refilled_at book.state device mixed (suc n) book runs d safe v
 
--- and so does a safe book
-pub safe-mixing : (device : DeviceSeen) (n : ℕ) (book : Book) → BookIsSafe (rate_at device book) book → BookIsSafe (rate_at device book) (mixing device n book)
-safe-mixing device zero book safe = safe
-safe-mixing device (suc n) book safe = safe-refilled (rate_at device book) (suc n) book (record { src = omega arith; dst = omega arith }) safe
+-- ---- the bytes of the newest run
 
--- what an event tells of a run beside its bytes and pieces leaves the slot valid
-pub valid-marking : (device : DeviceSeen) (mixed position : ℕ) (event : Event) (old new book : Book) (runs : List Run) → SlotIsValid device mixed book runs → SlotIsValid device mixed book (marking position event old new runs)
-valid-marking device mixed position event old new book [] v = v
-valid-marking device mixed position event old new book (run ∷ runs) v = record {
-  settings = v.settings;
-  started = v.started;
-  newest = v.newest;
-  pieces = All-cons (RunIsValid device mixed) (marked position event old new run) runs (All-head (RunIsValid device mixed) run runs v.pieces) (All-tail (RunIsValid device mixed) run runs v.pieces);
-  own = All-cons (λ (run : Run). run.settings ≡ mix_settings device) (marked position event old new run) runs (All-head (λ (run : Run). run.settings ≡ mix_settings device) run runs v.own) (All-tail (λ (run : Run). run.settings ≡ mix_settings device) run runs v.own);
-}
-
--- marks keep what the runs of a slot have of one
+-- marks keep them
 pub newest_bytes-marking : (position : ℕ) (event : Event) (old new : Book) (runs : List Run) → newest_bytes (marking position event old new runs) ≡ newest_bytes runs
 newest_bytes-marking position event old new [] = refl
 newest_bytes-marking position event old new (run ∷ runs) = refl
+
+-- and so does an interrupt
+pub newest_bytes-playing : (device : DeviceSeen) (position n : ℕ) (book : Book) (runs : List Run) → newest_bytes (playing device position n book runs) ≡ newest_bytes runs
+newest_bytes-playing device position n book [] = refl
+newest_bytes-playing device position n book (run ∷ runs) =
+    elim (is_started book.state && nat_lt 0 n) as (λ (b : Bool). newest_bytes (cond b (record run { pieces = piece_of device position n book ∷ run.pieces } ∷ runs) (run ∷ runs)) ≡ run.bytes) [ true ↦ refl | false ↦ refl ]

@@ -1,96 +1,142 @@
 -- What the runs of a slot give at a position, while the slot's story goes on.
-use Rattle.std.proofs.Common.{◌≡◌, ℕ, ◌+◌, ◌-◌, ◌*◌, ◌<◌, ◌≤◌, Bool, true, false, cond, eqb, List, [], ◌∷◌, ◌++◌, length, Option, Some, None, pos, refl, sym, ap, ◌∙◌, arith, All, length-append}
+use Rattle.std.proofs.Common.{◌≡◌, ℕ, ◌+◌, ◌-◌, ◌<◌, ◌≤◌, Bool, true, false, cond, eqb, List, [], ◌∷◌, ◌++◌, length, map, Option, Some, None, refl, sym, ap, ◌∙◌, subst, arith, All, length-append, zero-add}
 use Rattle.std.specs.Prelude.{find, ◌&&◌, nat_lt, nat_le}
+use Rattle.std.specs.List.{range_with_len}
 use Rattle.std.proofs.lemmas.List.Elements.{All-head, All-tail}
 use Rattle.std.proofs.lemmas.Bool.Decides.{nat_tests}
 use Rattle.pcm_format.specs.declared.settings.Settings.{Settings}
 use Rattle.pcm_format.specs.declared.event.Event.{Event}
 use Rattle.pcm_format.specs.declared.event.Event.TheVariants.{Open, Write, Close, Intr}
-use Rattle.pcm_format.specs.Formats.{bits_of}
-use Rattle.pcm_format.specs.Layouts.{channels_of}
-use Rattle.pcm_format.specs.Frames.{Frame, frames, whole_frames, frame_bytes}
-use Rattle.pcm_format.proofs.Streams.{get_or-frames, frame_at-append}
-use Rattle.pcm_format.proofs.Whole.{frame_fits, frame_whole}
-use Rattle.pcm_rate.proofs.Counts.{len-unchanged}
+use Rattle.pcm_format.specs.Frames.{Frame, frame_at, frames, whole_frames}
+use Rattle.pcm_format.proofs.Ranges.{map-range-same, map-range-add}
+use Rattle.pcm_format.proofs.Streams.{frame_at-append, length-frames}
+use Rattle.pcm_format.proofs.Whole.{frame_fits, whole_frames-mono}
+use Rattle.pcm_rate.specs.Rates.{can}
 use Rattle.pcm_feeder.specs.declared.stage.Gain.{Gain}
 use Rattle.pcm_feeder.specs.Layouts.{unity}
-use Rattle.pcm_feeder.specs.Streams.{silence, stream_of}
-use Rattle.pcm_feeder.specs.Stages.{at_bits}
+use Rattle.pcm_feeder.specs.Limits.{IsRate}
+use Rattle.pcm_plan.proofs.Through.{out-append}
+use Rattle.pcm_desk.proofs.Ratios.{plan-between-fits}
 use Rattle.pcm_desk.specs.declared.book.Book.{Book}
-use Rattle.pcm_desk.specs.Device.{DeviceSeen, mix_settings}
-use Rattle.pcm_desk.specs.Books.{giving, is_started}
+use Rattle.pcm_desk.specs.Device.{DeviceSeen, IsDevice, filters_of, plan_between, rate_between}
+use Rattle.pcm_desk.specs.Books.{giving, is_draining, is_started}
 use Rattle.pcm_desk.specs.Desk.{rate_at}
 use Rattle.pcm_sound.specs.Plans.{given_frame}
 use Rattle.pcm_sound.specs.Gains.{GainSet, begins, gains_after, last_gain}
 use Rattle.pcm_sound.specs.Runs.{Piece, Run, begun_run, piece_of, taking, playing, marking, covers, run_frames, piece_frame, first_of, sounding}
-use Rattle.pcm_sound.specs.Valid.{PieceIsValid, RunIsValid}
+use Rattle.pcm_sound.specs.Valid.{PieceIsValid, RunIsValid, SlotIsValid, HasRate, frames_given, given_in}
 
--- a whole frame is the same frame once more bytes came
-pub stream_of-frames_append : (settings : Settings) (bytes more : List ℕ) (k : ℕ) → k < whole_frames settings (length bytes)
-    → stream_of (channels_of settings.layout) (frames settings (bytes ++ more)) (pos k) ≡ stream_of (channels_of settings.layout) (frames settings bytes) (pos k)
-stream_of-frames_append settings bytes more k h =
-    let silent : Frame = silence (channels_of settings.layout) in
-    let fits = frame_fits settings (length bytes) k h in
-    let longer : (k + 1) * frame_bytes settings ≤ length (bytes ++ more) = omega (arith, length-append bytes more) in
-    get_or-frames settings (bytes ++ more) k silent (frame_whole settings (length (bytes ++ more)) k longer)
-    ∙ frame_at-append settings bytes more k fits
-    ∙ sym (get_or-frames settings bytes k silent h)
+-- a list made from a function, in two parts
+range-split : {X : Type 0} (g : ℕ → X) (n m : ℕ) → n ≤ m → map g (range_with_len 0 m) ≡ map g (range_with_len 0 n) ++ map g (range_with_len n (m - n))
+range-split g n m h =
+    let split : m ≡ n + (m - n) = omega arith in
+    ap (λ k. map g (range_with_len 0 k)) split
+    ∙ map-range-add g 0 n (m - n)
+    ∙ ap (λ start. map g (range_with_len 0 n) ++ map g (range_with_len start (m - n))) (zero-add n)
+
+-- the frames that more bytes complete
+abbrev frames_added : Settings → List ℕ → List ℕ → List Frame
+frames_added settings bytes more =
+    let before : ℕ = whole_frames settings (length bytes) in
+    map (frame_at settings (bytes ++ more)) (range_with_len before (whole_frames settings (length (bytes ++ more)) - before))
+
+-- the whole frames stay once more bytes came
+pub frames-append : (settings : Settings) (bytes more : List ℕ) → frames settings (bytes ++ more) ≡ frames settings bytes ++ frames_added settings bytes more
+frames-append settings bytes more =
+    let before : ℕ = whole_frames settings (length bytes) in
+    range-split (frame_at settings (bytes ++ more)) before (whole_frames settings (length (bytes ++ more)))
+    (whole_frames-mono settings (length bytes) (length (bytes ++ more)) (omega (arith, length-append bytes more)))
+    ∙ ap (λ list. list ++ frames_added settings bytes more)
+    (map-range-same (frame_at settings (bytes ++ more)) (frame_at settings bytes) before
+    (λ k below. frame_at-append settings bytes more k (frame_fits settings (length bytes) k below)))
+
+-- what whole frames gave stays once more bytes came, where it was allowed without these
+pub given_frame-append : (device : DeviceSeen) (gain : Gain) (settings : Settings) (bytes more : List ℕ) (k : ℕ) → IsDevice device → IsRate settings.rate
+    → k < can (rate_between device settings) (whole_frames settings (length bytes))
+    → given_frame device settings (frames settings (bytes ++ more)) k gain ≡ given_frame device settings (frames settings bytes) k gain
+given_frame-append device gain settings bytes more k d s h =
+    ap (λ (list : List Frame). given_frame device settings list k gain) (frames-append settings bytes more)
+    ∙ out-append (plan_between device settings) (filters_of device) (frames settings bytes) (frames_added settings bytes more) k gain (plan-between-fits device settings d s)
+    (subst (λ n. k < can (rate_between device settings) n) (sym (length-frames settings bytes)) h)
 
 -- a piece of the past doesn't cover a position from now on
-pub covers_not-past : (device : DeviceSeen) (mixed p : ℕ) (settings : Settings) (bytes : List ℕ) (piece : Piece) → PieceIsValid device mixed settings bytes piece → mixed ≤ p → covers p piece ≡ false
-covers_not-past device mixed p settings bytes piece v h = let past = v.past in grind (arith, nat_tests)
+pub covers_not-past : (mixed most p : ℕ) (piece : Piece) → PieceIsValid mixed most piece → mixed ≤ p → covers p piece ≡ false
+covers_not-past mixed most p piece v h = let past = v.past in grind (arith, nat_tests)
 
 -- a piece from now on doesn't cover a position of the past
 pub covers_not-ahead : (p : ℕ) (piece : Piece) → p < piece.position → covers p piece ≡ false
 covers_not-ahead p piece h = grind (arith, nat_tests)
 
-pub find-past : (device : DeviceSeen) (mixed p : ℕ) (settings : Settings) (bytes : List ℕ) (pieces : List Piece) → All (PieceIsValid device mixed settings bytes) pieces → mixed ≤ p → find (covers p) pieces ≡ None
-find-past device mixed p settings bytes [] v h = refl
-find-past device mixed p settings bytes (piece ∷ pieces) v h =
-    rw (covers_not-past device mixed p settings bytes piece (All-head (PieceIsValid device mixed settings bytes) piece pieces v) h)
-    (find-past device mixed p settings bytes pieces (All-tail (PieceIsValid device mixed settings bytes) piece pieces v) h)
+pub find-past : (mixed most p : ℕ) (pieces : List Piece) → All (PieceIsValid mixed most) pieces → mixed ≤ p → find (covers p) pieces ≡ None
+find-past mixed most p [] v h = refl
+find-past mixed most p (piece ∷ pieces) v h =
+    rw (covers_not-past mixed most p piece (All-head (PieceIsValid mixed most) piece pieces v) h)
+    (find-past mixed most p pieces (All-tail (PieceIsValid mixed most) piece pieces v) h)
 
 -- all that a slot gave lies in the past
 pub sounding-past : (device : DeviceSeen) (gain : Gain) (mixed p : ℕ) (runs : List Run) → All (RunIsValid device mixed) runs → mixed ≤ p → sounding device gain runs p ≡ None
 sounding-past device gain mixed p [] v h = refl
 sounding-past device gain mixed p (run ∷ runs) v h =
-    rw (find-past device mixed p run.settings run.bytes run.pieces (All-head (RunIsValid device mixed) run runs v) h)
+    rw (find-past mixed (given_in device run) p run.pieces (All-head (RunIsValid device mixed) run runs v) h)
     (sounding-past device gain mixed p runs (All-tail (RunIsValid device mixed) run runs v) h)
 
-covered_index : (p : ℕ) (piece : Piece) → covers p piece ≡ true → piece.index + (p - piece.position) < piece.index + piece.count
-covered_index p piece e = grind (arith, nat_tests)
+-- a covered place is one of a piece's frames
+covered_index : (mixed most p : ℕ) (piece : Piece) → PieceIsValid mixed most piece → covers p piece ≡ true → piece.index + (p - piece.position) < most
+covered_index mixed most p piece v e =
+    let inside = v.inside in
+    let here : piece.index + (p - piece.position) < piece.index + piece.count = grind (arith, nat_tests) in
+    omega arith
+
+-- what a run gives while more may come
+abbrev IsAllowed : DeviceSeen → ℕ → Settings → List ℕ → Piece → Type 0
+IsAllowed device mixed settings bytes = PieceIsValid mixed (can (rate_between device settings) (whole_frames settings (length bytes)))
+
+-- what a run gave at a position stays once more bytes came
+abbrev StaysAt : DeviceSeen → Gain → ℕ → Settings → List ℕ → List ℕ → Option Piece → Type 0
+StaysAt device gain p settings bytes more found =
+    piece_frame device gain settings (frames settings (bytes ++ more)) p found ≡ piece_frame device gain settings (frames settings bytes) p found
 
 piece_frame-append_at : (device : DeviceSeen) (gain : Gain) (mixed p : ℕ) (settings : Settings) (bytes more : List ℕ) (piece : Piece) (found : Option Piece) (b : Bool)
-    → covers p piece ≡ b → PieceIsValid device mixed settings bytes piece
-    → piece_frame device gain settings (frames settings (bytes ++ more)) p found ≡ piece_frame device gain settings (frames settings bytes) p found
-    → piece_frame device gain settings (frames settings (bytes ++ more)) p (cond b (Some piece) found) ≡ piece_frame device gain settings (frames settings bytes) p (cond b (Some piece) found)
-piece_frame-append_at device gain mixed p settings bytes more piece found true e v same =
-    let inside = v.inside in
-    let lasts = len-unchanged (whole_frames settings (length bytes)) in
-    let index = covered_index p piece e in
-    ap (λ (frame : Frame). Some (at_bits (bits_of (mix_settings device).format) frame))
-    (stream_of-frames_append settings bytes more (piece.index + (p - piece.position)) (omega arith))
-piece_frame-append_at device gain mixed p settings bytes more piece found false e v same = same
+    → IsDevice device → IsRate settings.rate → covers p piece ≡ b → IsAllowed device mixed settings bytes piece
+    → StaysAt device gain p settings bytes more found → StaysAt device gain p settings bytes more (cond b (Some piece) found)
+piece_frame-append_at device gain mixed p settings bytes more piece found true d s e v same =
+    ap (λ (frame : Frame). Some frame)
+    (given_frame-append device gain settings bytes more (piece.index + (p - piece.position)) d s
+    (covered_index mixed (can (rate_between device settings) (whole_frames settings (length bytes))) p piece v e))
+piece_frame-append_at device gain mixed p settings bytes more piece found false d s e v same = same
 
--- what a run gave stays once more bytes came
-pub piece_frame-append : (device : DeviceSeen) (gain : Gain) (mixed p : ℕ) (settings : Settings) (bytes more : List ℕ) (pieces : List Piece) → All (PieceIsValid device mixed settings bytes) pieces
-    → piece_frame device gain settings (frames settings (bytes ++ more)) p (find (covers p) pieces) ≡ piece_frame device gain settings (frames settings bytes) p (find (covers p) pieces)
-piece_frame-append device gain mixed p settings bytes more [] v = refl
-piece_frame-append device gain mixed p settings bytes more (piece ∷ pieces) v =
-    piece_frame-append_at device gain mixed p settings bytes more piece (find (covers p) pieces) (covers p piece) refl
-    (All-head (PieceIsValid device mixed settings bytes) piece pieces v)
-    (piece_frame-append device gain mixed p settings bytes more pieces (All-tail (PieceIsValid device mixed settings bytes) piece pieces v))
+pub piece_frame-append : (device : DeviceSeen) (gain : Gain) (mixed p : ℕ) (settings : Settings) (bytes more : List ℕ) (pieces : List Piece)
+    → IsDevice device → IsRate settings.rate → All (IsAllowed device mixed settings bytes) pieces → StaysAt device gain p settings bytes more (find (covers p) pieces)
+piece_frame-append device gain mixed p settings bytes more [] d s v = refl
+piece_frame-append device gain mixed p settings bytes more (piece ∷ pieces) d s v =
+    piece_frame-append_at device gain mixed p settings bytes more piece (find (covers p) pieces) (covers p piece) d s refl
+    (All-head (IsAllowed device mixed settings bytes) piece pieces v)
+    (piece_frame-append device gain mixed p settings bytes more pieces d s (All-tail (IsAllowed device mixed settings bytes) piece pieces v))
 
--- what a slot gave stays once more bytes came
-pub sounding-taking : (device : DeviceSeen) (gain : Gain) (mixed p : ℕ) (bytes : List ℕ) (book : Book) (runs : List Run) → All (RunIsValid device mixed) runs
+-- the pieces of a run that may still grow lie among the frames that its bytes allow
+open_pieces : (device : DeviceSeen) (mixed : ℕ) (run : Run) → run.drained ≡ false → RunIsValid device mixed run → All (IsAllowed device mixed run.settings run.bytes) run.pieces
+open_pieces device mixed run more v =
+    subst (λ (drained : Bool). All (PieceIsValid mixed (frames_given (rate_between device run.settings) drained (whole_frames run.settings (length run.bytes)))) run.pieces) more v
+
+sounding-taking_at : (b : Bool) (device : DeviceSeen) (gain : Gain) (mixed p byte : ℕ) (bytes : List ℕ) (book : Book) (run : Run) (runs : List Run) → eqb book.written 0 ≡ b → IsDevice device
+    → SlotIsValid device mixed book (run ∷ runs) → is_draining book.state ≡ false
+    → sounding device gain (cond b (begun_run book (byte ∷ bytes) ∷ run ∷ runs) (record run { bytes = run.bytes ++ byte ∷ bytes } ∷ runs)) p ≡ sounding device gain (run ∷ runs) p
+sounding-taking_at true device gain mixed p byte bytes book run runs e d v more = refl
+sounding-taking_at false device gain mixed p byte bytes book run runs e d v more =
+    let above : 0 < book.written = grind (arith, nat_tests) in
+    let newest = v.newest above in
+    ap (λ (given : Option Frame). first_of given (sounding device gain runs p))
+    (piece_frame-append device gain mixed p run.settings run.bytes (byte ∷ bytes) run.pieces d (All-head HasRate run runs v.own)
+    (open_pieces device mixed run (newest.2 ∙ more) (All-head (RunIsValid device mixed) run runs v.pieces)))
+
+-- what a slot gave stays once more bytes came, which only come while its book doesn't drain
+pub sounding-taking : (device : DeviceSeen) (gain : Gain) (mixed p : ℕ) (bytes : List ℕ) (book : Book) (runs : List Run) → IsDevice device → SlotIsValid device mixed book runs
+    → (0 < length bytes → is_draining book.state ≡ false)
     → sounding device gain (taking bytes book runs) p ≡ sounding device gain runs p
-sounding-taking device gain mixed p [] book runs v = refl
-sounding-taking device gain mixed p (byte ∷ bytes) book [] v = refl
-sounding-taking device gain mixed p (byte ∷ bytes) book (run ∷ runs) v =
-    elim (eqb book.written 0) as (λ (b : Bool). sounding device gain (cond b (begun_run book (byte ∷ bytes) ∷ run ∷ runs) (record run { bytes = run.bytes ++ byte ∷ bytes } ∷ runs)) p ≡ sounding device gain (run ∷ runs) p) [
-      | true ↦ refl
-      | false ↦ ap (λ (given : Option Frame). first_of given (sounding device gain runs p)) (piece_frame-append device gain mixed p run.settings run.bytes (byte ∷ bytes) run.pieces (All-head (RunIsValid device mixed) run runs v))
-    ]
+sounding-taking device gain mixed p [] book runs d v more = refl
+sounding-taking device gain mixed p (byte ∷ bytes) book [] d v more = refl
+sounding-taking device gain mixed p (byte ∷ bytes) book (run ∷ runs) d v more =
+    sounding-taking_at (eqb book.written 0) device gain mixed p byte bytes book run runs refl d v (more (omega arith))
 
 -- what a slot gave stays at the next interrupt
 pub sounding-playing : (device : DeviceSeen) (gain : Gain) (position n p : ℕ) (book : Book) (runs : List Run) → p < position

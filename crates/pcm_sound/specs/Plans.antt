@@ -1,15 +1,17 @@
--- What a client's stream becomes on its way into the mix.
-use Rattle.std.specs.Prelude.{ℕ, List, pos}
+-- What a client's frames become on their way into the mix.
+use Rattle.std.specs.Prelude.{ℕ, ℤ, List}
 use Rattle.pcm_format.specs.declared.settings.Settings.{Settings}
-use Rattle.pcm_format.specs.Formats.{bits_of}
-use Rattle.pcm_format.specs.Layouts.{channels_of}
-use Rattle.pcm_format.specs.Frames.{Frame}
+use Rattle.pcm_format.specs.Frames.{Frame, frames}
 use Rattle.pcm_feeder.specs.declared.stage.Gain.{Gain}
-use Rattle.pcm_feeder.specs.Streams.{stream_of}
-use Rattle.pcm_feeder.specs.Stages.{at_bits}
-use Rattle.pcm_desk.specs.Device.{DeviceSeen, mix_settings}
+use Rattle.pcm_feeder.specs.Streams.{interleaved}
+use Rattle.pcm_plan.specs.Through.{out, outs}
+use Rattle.pcm_desk.specs.Device.{DeviceSeen, filters_of, plan_between}
 
--- frame k of what a client's frames give to the mix: its depth alone changes, for rates, layouts and gains are those of the mix
+-- frame k that a client's frames give to the mix, at a gain: what its plan makes of them
 abbrev pub given_frame : DeviceSeen → Settings → List Frame → ℕ → Gain → Frame
-given_frame device settings frames k gain =
-    at_bits (bits_of (mix_settings device).format) (stream_of (channels_of settings.layout) frames (pos k))
+given_frame device settings frames k gain = out (plan_between device settings) (filters_of device) frames k gain
+
+-- the samples of so many frames that a client's bytes give to the mix, from frame `from` on, at one gain
+abbrev pub given_samples : DeviceSeen → Gain → Settings → List ℕ → ℕ → ℕ → List ℤ
+given_samples device gain settings bytes from count =
+    interleaved (outs (plan_between device settings) (filters_of device) gain (frames settings bytes) from count)
