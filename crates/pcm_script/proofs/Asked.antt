@@ -6,6 +6,8 @@ use Rattle.hex.specs.Hex.{decode_of}
 use Rattle.hex.specs.declared.error.FromHexError.{FromHexError}
 use Rattle.std.proofs.lemmas.Bool.Decides.{nat_tests}
 use Rattle.std.proofs.lemmas.Result.{IfOk-weaker}
+use Rattle.pcm_format.specs.declared.settings.TheConstants.{RATE_LEAST, RATE_MOST}
+use Rattle.pcm_feeder.specs.Limits.{IsRate}
 use Rattle.pcm_desk.specs.declared.limits.TheConstants.{DESCRIPTORS, WRITE_BYTES}
 use Rattle.pcm_desk.specs.Device.{DeviceSeen, block_frames, ring_frames}
 use Rattle.pcm_script.specs.declared.fault.ScriptKind.{ScriptKind}
@@ -25,7 +27,7 @@ pub record HasBlocks (device : DeviceSeen) : Type 0 where
   pub room : block_frames device ≤ ring_frames device
 
 abbrev pub IsWithin : DeviceSeen → LineEvent → Type 0
-IsWithin device (Open fd plays settings) = fd < DESCRIPTORS
+IsWithin device (Open fd plays settings) = (fd < DESCRIPTORS) × IsRate settings.rate
 IsWithin device (Write fd bytes) = (fd < DESCRIPTORS) × (length bytes ≤ WRITE_BYTES)
 IsWithin device (Close fd) = fd < DESCRIPTORS
 IsWithin device (Intr frames) = HasBlocks device → (0 < frames) × (frames ≤ ring_frames device)
@@ -58,7 +60,7 @@ open_line-within device [] = tt
 open_line-within device (d ∷ []) = tt
 open_line-within device (d ∷ way ∷ []) =
     IfOk-then (descriptor_in d) _ _ (IsWithin device) (descriptor-range d)
-    (λ fd low. IfOk-after (plays_in way) _ (IsWithin device) (λ plays. low))
+    (λ fd low. IfOk-after (plays_in way) _ (IsWithin device) (λ plays. (low, record { least = omega arith; most = omega arith })))
 open_line-within device (d ∷ way ∷ f ∷ []) = tt
 open_line-within device (d ∷ way ∷ f ∷ c ∷ []) = tt
 open_line-within device (d ∷ way ∷ f ∷ c ∷ r ∷ []) =
@@ -66,7 +68,8 @@ open_line-within device (d ∷ way ∷ f ∷ c ∷ r ∷ []) =
     (λ fd low. IfOk-after (plays_in way) _ (IsWithin device)
     (λ plays. IfOk-after (format_in f) _ (IsWithin device)
     (λ format. IfOk-after (layout_in c) _ (IsWithin device)
-    (λ layout. IfOk-after (rate_in r) _ (IsWithin device) (λ rate. low)))))
+    (λ layout. IfOk-then (rate_in r) _ _ (IsWithin device) (number_within-range RATE_LEAST RATE_MOST r)
+    (λ rate range. (low, record { least = range.0; most = range.1 }))))))
 open_line-within device (d ∷ way ∷ f ∷ c ∷ r ∷ x ∷ more) = tt
 
 write_line-within : (device : DeviceSeen) (arguments : List (List ℕ)) → IfOk (write_line arguments) (IsWithin device)

@@ -1,11 +1,11 @@
 -- What holds of each script that is read: its events fit the device, and the limits are kept.
-use Rattle.std.proofs.Common.{◌≡◌, ℕ, ◌+◌, ◌*◌, ◌<◌, ◌≤◌, Bool, true, false, not, ◌&&◌, nat_le, nat_lt, cond, List, [], ◌∷◌, length, Option, Some, None, Result, Ok, Err, refl, ap, ◌∙◌, arith, IfOk}
+use Rattle.std.proofs.Common.{◌≡◌, ℕ, ◌+◌, ◌*◌, ◌<◌, ◌≤◌, Bool, true, false, not, ◌&&◌, ◌==◌, nat_le, nat_lt, cond, List, [], ◌∷◌, length, Option, Some, None, Result, Ok, Err, refl, ap, ◌∙◌, arith, IfOk}
 use Rattle.std.specs.Option.{IfSome}
 use Rattle.std.proofs.lemmas.Bool.Decides.{nat_tests}
 use Rattle.std.proofs.lemmas.List.{length-append}
 use Rattle.std.proofs.lemmas.List.Elements.{All-nil, All-push, All-weaker}
 use Rattle.std.proofs.lemmas.List.Sums.{sum_by-append}
-use Rattle.std.proofs.lemmas.Bool.{and_parts}
+use Rattle.std.proofs.lemmas.Bool.{and_parts, eqb-true}
 use Rattle.pcm_format.specs.declared.pool.Pool.{Pool}
 use Rattle.pcm_format.specs.declared.event.Event.{Event}
 use Rattle.pcm_format.specs.declared.event.Event.TheVariants as events
@@ -20,11 +20,10 @@ use Rattle.pcm_script.specs.declared.line_event.LineEvent.TheVariants.{Open, Wri
 use Rattle.pcm_script.specs.declared.script.Script.{Script}
 use Rattle.pcm_script.specs.Words.{lines_of, words_of}
 use Rattle.pcm_script.specs.Commands.{line_event}
-use Rattle.pcm_script.specs.Collecting.{event_at, frames_asked, has_room, is_built, own_bytes, same_settings, script_with, with_event, with_line}
+use Rattle.pcm_script.specs.Collecting.{event_at, frames_asked, has_room, is_built, own_bytes, script_with, with_event, with_line}
 use Rattle.pcm_script.specs.Lines.{AllFit, at_line, collected, bytes_taken, empty_script, lines_read, pool_of, script_read}
 use Rattle.pcm_script.proofs.Asked.{HasBlocks, IsWithin, line_event-within}
 use Rattle.pcm_script.proofs.Judgements.{IfOk-then, IfOk-either}
-use Rattle.pcm_script.proofs.SameSettings.{settings_same}
 
 pub record IsSound (device : DeviceSeen) (script : Script) : Type 0 where
   pub fits : AllFit device script
@@ -45,7 +44,7 @@ Fits-more device few many (events.Intr frames) more fits = fits
 event_at-fits : (device : DeviceSeen) (script : Script) (line : LineEvent) → HasBlocks device → IsWithin device line → is_built device line ≡ true
     → Fits device (pool_of (script_with script line)) (event_at (length script.inline_bytes) line)
 event_at-fits device script (Open fd plays settings) blocks within built =
-    (within, settings_same settings (mix_settings device) (and_parts plays (same_settings settings (mix_settings device)) built).1)
+    (within.0, within.1, eqb-true settings.rate (mix_settings device).rate (and_parts plays (settings.rate == (mix_settings device).rate) built).1)
 event_at-fits device script (Write fd bytes) blocks within built = (within.0, within.1, omega (arith, length-append script.inline_bytes bytes))
 event_at-fits device script (Close fd) blocks within built = within
 event_at-fits device script (Intr frames) blocks within built = within blocks

@@ -3,6 +3,5 @@ pub mod Numerals
 pub mod Counts
 pub mod Judgements
 pub mod Asked
-pub mod SameSettings
 pub mod Kept
 pub mod Reading

@@ -1,11 +1,8 @@
 -- How the events of lines are collected: where their bytes stand, and what limits a script has.
 use Rattle.std.specs.Prelude.{ℕ, ◌+◌, ◌*◌, Bool, true, not, ◌&&◌, ◌==◌, nat_le, nat_lt, if◌then◌else◌, List, [], ◌∷◌, ◌++◌, length, Option, Some, None, Result, Ok, Err}
-use Rattle.pcm_format.specs.declared.settings.Settings.{Settings}
 use Rattle.pcm_format.specs.declared.event.Event.{Event}
 use Rattle.pcm_format.specs.declared.event.Event.TheVariants as events
 use Rattle.pcm_format.specs.declared.event.Way.TheVariants.{Play}
-use Rattle.pcm_format.specs.Formats.{code_of}
-use Rattle.pcm_format.specs.Layouts.{channels_of}
 use Rattle.pcm_desk.specs.declared.limits.TheConstants.{DEVICE_BYTES, EVENTS}
 use Rattle.pcm_desk.specs.Device.{DeviceSeen, device_frame_bytes, mix_settings}
 use Rattle.pcm_desk.specs.Events.{frames_taken}
@@ -38,12 +35,9 @@ abbrev pub has_room : DeviceSeen → Script → ℕ → Bool
 has_room device script frames =
     nat_lt (length script.events) EVENTS && nat_le ((script.device_frames + frames) * device_frame_bytes device) DEVICE_BYTES
 
-abbrev pub same_settings : Settings → Settings → Bool
-same_settings a b = code_of a.format == code_of b.format && channels_of a.layout == channels_of b.layout && a.rate == b.rate
-
--- Whether what a line asks for is built: so far a client plays with the settings of the mix.
+-- Whether what a line asks for is built: so far a client plays, at the rate of the mix.
 abbrev pub is_built : DeviceSeen → LineEvent → Bool
-is_built device (Open fd plays settings) = plays && same_settings settings (mix_settings device)
+is_built device (Open fd plays settings) = plays && settings.rate == (mix_settings device).rate
 is_built device (Write fd bytes) = true
 is_built device (Close fd) = true
 is_built device (Intr frames) = true

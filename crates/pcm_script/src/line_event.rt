@@ -59,7 +59,7 @@ impl LineEvent {
                 plays,
                 settings,
                 ..
-            } => *plays && *settings == device.settings,
+            } => *plays && settings.rate == device.settings.rate,
             _ => true,
         }
     }
