@@ -5,5 +5,7 @@ pub mod Refusals
 pub mod OneClient
 pub mod Fragments
 pub mod SeveralClients
+pub mod ClientFormats
 pub mod Samples
 pub mod Stages
+pub mod PlanRows

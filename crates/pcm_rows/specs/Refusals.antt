@@ -1,6 +1,9 @@
 -- Lines that are refused, and a device with a ring as large as all that a device may get.
 use Rattle.std.specs.Prelude.{ℕ, [], ◌∷◌}
-use Rattle.pcm_format.specs.declared.event.Event.TheVariants.{Intr}
+use Rattle.pcm_format.specs.declared.event.Event.TheVariants.{Open, Intr}
+use Rattle.pcm_format.specs.declared.event.Way.TheVariants.{Play}
+use Rattle.pcm_format.specs.declared.format.Format.TheVariants.{U32Be}
+use Rattle.pcm_format.specs.declared.layout.Layout.TheVariants.{Eight}
 use Rattle.pcm_desk.specs.Device.{DeviceSeen}
 use Rattle.pcm_desk.specs.Usual.{usual_device}
 use Rattle.pcm_script.specs.declared.fault.ScriptKind.{ScriptKind}
@@ -10,6 +13,14 @@ use Rattle.pcm_verdict.specs.Verdict.{Verdict, BadScript}
 -- the verdict that a line is refused
 abbrev pub refused_at : ℕ → ScriptKind → Verdict
 refused_at line kind = BadScript (record { line = line; kind = kind })
+
+-- an open of eight channels of 32 bits
+abbrev pub eight_open_script : Script
+eight_open_script = record {
+  events = Open 0 Play (record { format = U32Be; layout = Eight; rate = 48000 }) ∷ [];
+  inline_bytes = [];
+  device_frames = 0;
+}
 
 -- a ring of 2 ^ 26 + 1 frames of four bytes; the device gets 2 ^ 28 bytes at most
 abbrev pub large_device : DeviceSeen

@@ -3,8 +3,10 @@
 #![tactic(auto)]
 
 mod counts;
+mod formats;
 mod fragments;
 mod one_client;
+mod plans;
 mod refusals;
 mod samples;
 mod several_clients;
@@ -13,14 +15,22 @@ mod texts;
 mod verdicts;
 
 pub use counts::nothing_is_eaten_early;
+pub use formats::{
+    big_endian_24_bits, eight_channels_to_two, loud_channels_are_limited, mono_bytes_to_stereo,
+    six_channels_to_two, unsigned_16_bits,
+};
 pub use fragments::{fifth_write_again, full_fragment_starts, shortage_sets_back};
 pub use one_client::{
     close_of_a_closed_descriptor, cut_into_three_writes, drain_below_a_fragment,
     drain_counts_no_shortage, empty_script, late_close_starts_late, one_silent_block,
     part_of_a_frame_is_dropped,
 };
+pub use plans::{
+    plan_doubles_the_rate, plans_at_the_rate_of_the_device, quality_chooses_the_converter,
+    rate_is_changed_at_the_fewer_channels,
+};
 pub use refusals::{
-    device_bytes_at_the_limit, each_kind_of_fault, interrupt_above_the_ring, other_settings_unbuilt,
+    device_bytes_at_the_limit, each_kind_of_fault, interrupt_above_the_ring, other_rates_unbuilt,
 };
 pub use samples::{
     edges_of_8_bits, edges_of_16_bits, edges_of_24_bits, edges_of_32_bits, fewer_bits_round_down,

@@ -6,7 +6,7 @@ ghost use Rattle.pcm_desk.specs.Usual.{usual_device};
 ghost use Rattle.pcm_script.specs.declared.fault.ScriptKind.TheVariants.{Word, Count, Number, Name, Hex, Range, Long, Unbuilt};
 ghost use Rattle.pcm_verdict.specs.Faults.{fault_line, status_of};
 ghost use Rattle.pcm_rows.specs.Calls.{accepted, judged};
-ghost use Rattle.pcm_rows.specs.Refusals.{refused_at, large_device, largest_script};
+ghost use Rattle.pcm_rows.specs.Refusals.{refused_at, eight_open_script, large_device, largest_script};
 
 /// An interrupt can't take more than the ring holds.
 pub fn interrupt_above_the_ring()
@@ -16,11 +16,16 @@ pub fn interrupt_above_the_ring()
     ensures status { status_of (judged usual_device (codes "intr 1025\n")) ≡ 5 }
 {}
 
-/// Settings other than the device's aren't built.
-pub fn other_settings_unbuilt()
+/// A recording and a rate other than the device's aren't built. Any format and layout at that rate is.
+pub fn other_rates_unbuilt()
     ensures verdict { judged usual_device (codes "open 0 play u8 1 8000\n") ≡ refused_at 1 Unbuilt }
     ensures printed { fault_line (judged usual_device (codes "open 0 play u8 1 8000\n"))
         ≡ codes "dsp_replay: bad script: line 1: unbuilt\n" }
+    ensures opening { judged usual_device (codes "open 0 play") ≡ refused_at 1 Unbuilt }
+    ensures recording { judged usual_device (codes "open 0 rec s16le 2 48000")
+        ≡ refused_at 1 Unbuilt }
+    ensures built { judged usual_device (codes "open 0 play u32be 8 48000")
+        ≡ accepted eight_open_script }
 {}
 
 /// The device gets 2 ^ 28 bytes at most: one frame more is refused, in one interrupt or in two.
