@@ -1,7 +1,11 @@
-pub mod Books
-pub mod Lists
+pub mod Frames
 pub mod Channels
-pub mod Waiting
+pub mod Counted
+pub mod Refills
+pub mod Stands
 pub mod Blocks
+pub mod Closes
+pub mod Moving
+pub mod Refilling
 pub mod Standing
 pub mod Starting

@@ -1,56 +1,65 @@
--- The channels of a device, and what events change of them.
-use Rattle.std.specs.Prelude.{◌≡◌, ℕ, ◌+◌, ◌-◌, ◌*◌, ◌<◌, ◌≤◌, List, [], ◌++◌, length, map, take, drop, slice_index_or, ℤ}
-use Rattle.pcm_format.specs.Frames.{frame_bytes}
+-- The channels of a device: what one stands for, and what events change of them.
+use Rattle.std.specs.Prelude.{◌≡◌, ℕ, ◌+◌, ◌*◌, ◌<◌, ◌≤◌, true, List, [], ◌++◌, length, map, take, drop, slice_index_or}
+use Rattle.pcm_format.specs.Frames.{frame_bytes, frames}
+use Rattle.pcm_feeder.specs.declared.kind.Kind.{Kind}
+use Rattle.pcm_feeder.specs.Kept.{Kept}
+use Rattle.pcm_feeder.specs.Racks.{HaveKinds}
+use Rattle.pcm_chain.specs.Chains.{boxes_in, ChainStands}
 use Rattle.pcm_desk.specs.declared.book.Book.{Book}
+use Rattle.pcm_desk.specs.Device.{filters_of, seen}
 use Rattle.pcm_desk.specs.declared.device.Device.{Device}
-use Rattle.pcm_desk.specs.Device.{DeviceSeen, seen}
-use Rattle.pcm_desk.specs.Books.{giving}
-use Rattle.pcm_desk.specs.Desk.{mixing, rate_at, unopened}
-use Rattle.pcm_sound.specs.Blocks.{turned}
-use Rattle.pcm_engine.specs.declared.channel.Channel.{Channel}
+use Rattle.pcm_desk.specs.Books.{frames_written, is_draining}
+use Rattle.pcm_desk.specs.Desk.{unopened}
+use Rattle.pcm_engine.specs.declared.channel.ChannelOf.{ChannelOf}
 
 -- the bytes of a run that were accepted and not yet eaten
 abbrev pub waiting_of : Book → List ℕ → List ℕ
-waiting_of book bytes = drop (book.eaten * frame_bytes book.settings) (take book.written bytes)
+waiting_of book bytes = drop (book.eaten * frame_bytes book.settings) bytes
 
--- a channel stands for a book and the bytes of its run
-pub record ChannelStands (channel : Channel) (book : Book) (bytes : List ℕ) : Type 0 where
+-- A channel stands for a book and all bytes that were accepted in its run: those that were not eaten wait in the ring, and
+-- the chain has eaten the others. It is fed silence once no more comes, behind the last frame.
+pub record ChannelStands {B : Type 0} (kept : B → Kept) (channel : ChannelOf B) (book : Book) (bytes : List ℕ) : Type 0 where
   pub book_is : channel.book ≡ book
+  pub count : length bytes ≡ book.written
   pub ring_is : channel.ring.bytes ≡ waiting_of book bytes
+  pub zeros : ℕ
+  pub chain_is : ChainStands kept (filters_of (seen channel.device)) channel.chain (take book.eaten (frames book.settings bytes)) zeros book.given
+  pub ended : 0 < zeros → (is_draining book.state ≡ true) × (book.eaten ≡ frames_written book)
 
--- the books of channels, by slot
-abbrev pub books_of : List Channel → List Book
-books_of channels = map (λ channel. channel.book) channels
+-- a channel stands for its book and some bytes
+pub record StandsForSome {B : Type 0} (kept : B → Kept) (channel : ChannelOf B) : Type 0 where
+  pub bytes : List ℕ
+  pub stands : ChannelStands kept channel channel.book bytes
 
--- nobody has opened the channel yet
-pub record IsUnopened (device : Device) (channel : Channel) : Type 0 where
+-- each box of a channel is of its place's kind, and the channel stands for some bytes
+pub record IsReady {B : Type 0} (kind : B → Kind) (kept : B → Kept) (channel : ChannelOf B) : Type 0 where
+  pub kinds : HaveKinds kind (boxes_in channel.chain)
+  pub stands : StandsForSome kept channel
+
+-- nobody has opened the channel yet: it stands for no bytes, and its boxes are of the right kinds
+pub record IsUnopened {B : Type 0} (kind : B → Kind) (kept : B → Kept) (device : Device) (channel : ChannelOf B) : Type 0 where
   pub device_is : channel.device ≡ device
   pub book : channel.book ≡ unopened (seen device)
-  pub ring : channel.ring.bytes ≡ []
+  pub kinds : HaveKinds kind (boxes_in channel.chain)
+  pub stands : ChannelStands kept channel channel.book []
 
--- an interrupt that mixes n frames left the channel with its next book, and without the bytes that were given
-pub record Refills (n : ℕ) (old new : Channel) : Type 0 where
-  pub device : new.device ≡ old.device
-  pub book : new.book ≡ mixing (seen old.device) n old.book
-  pub ring : 0 < new.book.written
-      → new.ring.bytes ≡ drop (giving (rate_at (seen old.device) old.book) n old.book * frame_bytes old.book.settings) old.ring.bytes
+-- What an event leaves of a channel, which may take bytes from the front of `more` and give so many frames: whatever bytes
+-- it stood for, it stands for these and what it took, or for none where its run is over.
+pub record Moves {B : Type 0} (kind : B → Kind) (kept : B → Kept) (more : List ℕ) (frames : ℕ) (old new : ChannelOf B) : Type 0 where
+  pub kinds : HaveKinds kind (boxes_in old.chain) → HaveKinds kind (boxes_in new.chain)
+  pub stands : (bytes : List ℕ) → ChannelStands kept old old.book bytes → ChannelStands kept new new.book (take new.book.written (bytes ++ more))
+  pub written : new.book.written ≤ old.book.written + length more
+  pub given : new.book.given ≤ old.book.given + frames
 
--- a block of the mix once a channel gave its frames
-abbrev pub with_channel : DeviceSeen → ℕ → List ℤ → Channel → List ℤ
-with_channel device n sum channel = turned device n channel.book channel.ring.bytes sum
-
--- a channel was opened or closed: its bytes wait as before, or nothing of them is left
-pub record Settles (old new : Channel) : Type 0 where
-  pub less : new.book.written ≤ old.book.written
-  pub waiting : 0 < new.book.written → new.ring.bytes ≡ old.ring.bytes
-  pub written : 0 < new.book.written → new.book.written ≡ old.book.written
-  pub eaten : 0 < new.book.written → new.book.eaten ≡ old.book.eaten
-
--- a channel took bytes from the front of a list
-pub record Takes (bytes : List ℕ) (old new : Channel) : Type 0 where
-  pub more : new.book.written ≤ old.book.written + length bytes
-  pub waiting : new.ring.bytes ≡ old.ring.bytes ++ take (new.book.written - old.book.written) bytes
+-- the books of channels, by slot
+abbrev pub books_of : {B : Type 0} → List (ChannelOf B) → List Book
+books_of channels = map (λ channel. channel.book) channels
 
 -- what holds of each channel, before and after
-abbrev pub Each : (Channel → Channel → Type 0) → List Channel → List Channel → Type 0
-Each how old new = (slot : ℕ) (other : Channel) → slot < length old → how (slice_index_or old slot other) (slice_index_or new slot other)
+abbrev pub Each : {B : Type 0} → (ChannelOf B → ChannelOf B → Type 0) → List (ChannelOf B) → List (ChannelOf B) → Type 0
+Each how old new = (slot : ℕ) (other : ChannelOf _) → slot < length old → how (slice_index_or old slot other) (slice_index_or new slot other)
+
+-- each channel stands for its book and the bytes of its slot
+abbrev pub AllStand : {B : Type 0} → (B → Kept) → List (ChannelOf B) → (ℕ → List ℕ) → Type 0
+AllStand kept channels streams = (slot : ℕ) (other : ChannelOf _) → slot < length channels
+    → ChannelStands kept (slice_index_or channels slot other) (slice_index_or channels slot other).book (streams slot)

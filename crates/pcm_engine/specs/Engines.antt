@@ -1,28 +1,36 @@
 -- What an engine stands for.
-use Rattle.std.specs.Prelude.{◌≡◌, List}
+use Rattle.std.specs.Prelude.{◌≡◌, List, All}
 use Rattle.pcm_format.specs.declared.event.Event.{Event}
 use Rattle.pcm_format.specs.declared.pool.Pool.{Pool}
+use Rattle.pcm_feeder.specs.declared.kind.Kind.{Kind}
+use Rattle.pcm_feeder.specs.Kept.{Kept}
 use Rattle.pcm_desk.specs.Device.{DeviceSeen, seen}
 use Rattle.pcm_desk.specs.Desk.{Desk}
 use Rattle.pcm_sound.specs.Story.{story_of}
-use Rattle.pcm_engine.specs.declared.engine.Engine.{Engine}
+use Rattle.pcm_engine.specs.declared.engine.EngineOf.{EngineOf}
+use Rattle.pcm_engine.specs.Channels.{IsReady}
 use Rattle.pcm_engine.specs.Parents.{desk_with}
 use Rattle.pcm_engine.specs.Stands.{PartsStand}
 
 -- the engine's device
-abbrev pub device_of : Engine → DeviceSeen
+abbrev pub device_of : {B : Type 0} → EngineOf B → DeviceSeen
 device_of engine = seen engine.parent.device
 
 -- the engine's books, descriptors and counts
-abbrev pub desk_of : Engine → Desk
+abbrev pub desk_of : {B : Type 0} → EngineOf B → Desk
 desk_of engine = desk_with engine.parent engine.descriptors
 
 -- the engine stands for a list of events, whose bytes are found in a pool
-abbrev pub Stands : Engine → Pool → List Event → Type 0
-Stands engine pool events =
-    PartsStand (device_of engine) (desk_of engine) engine.parent.channels.items engine.parent.ring.bytes (story_of (device_of engine) pool events)
+abbrev pub Stands : {B : Type 0} → (B → Kept) → EngineOf B → Pool → List Event → Type 0
+Stands kept engine pool events =
+    PartsStand kept (device_of engine) (desk_of engine) engine.parent.channels.items engine.parent.ring.bytes (story_of (device_of engine) pool events)
 
--- all but the count of steps is as before: channels with their books and rings, descriptors, the device's ring and counts
-pub record IsUnchanged (old new : Engine) : Type 0 where
+-- Each box of the engine is of its place's kind, and each channel stands for its book. Every engine is so, from its first
+-- moment on; no type can say it of boxes.
+abbrev pub AreReady : {B : Type 0} → (B → Kind) → (B → Kept) → EngineOf B → Type 0
+AreReady kind kept engine = All (IsReady kind kept) engine.parent.channels.items
+
+-- all but the count of steps is as before: channels with their books, rings and chains, descriptors, the device's ring and counts
+pub record IsUnchanged {B : Type 0} (old new : EngineOf B) : Type 0 where
   pub parent_same : new.parent ≡ old.parent
   pub descriptors_same : new.descriptors ≡ old.descriptors

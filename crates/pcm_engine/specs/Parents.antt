@@ -7,15 +7,15 @@ use Rattle.pcm_desk.specs.declared.book.Book.{Book}
 use Rattle.pcm_desk.specs.declared.device.Held.{Held}
 use Rattle.pcm_desk.specs.Books.{begun}
 use Rattle.pcm_desk.specs.Desk.{Desk}
-use Rattle.pcm_engine.specs.declared.parent.Parent.{Parent}
+use Rattle.pcm_engine.specs.declared.parent.ParentOf.{ParentOf}
 use Rattle.pcm_engine.specs.Channels.{books_of}
 
 -- the books of a parent, by slot
-abbrev pub parent_books : Parent → List Book
+abbrev pub parent_books : {B : Type 0} → ParentOf B → List Book
 parent_books parent = books_of parent.channels.items
 
 -- the desk of a parent and descriptors
-abbrev pub desk_with : Parent → List (Option Held) → Desk
+abbrev pub desk_with : {B : Type 0} → ParentOf B → List (Option Held) → Desk
 desk_with parent descriptors = record {
   play = parent_books parent;
   descriptors = descriptors;
@@ -34,7 +34,7 @@ books_begun None settings books = books
 books_begun (Some slot) settings books = slice_set books slot (begun settings)
 
 -- all but the channels is as before: the device, its ring and its counts
-pub record KeepsOutput (old new : Parent) : Type 0 where
+pub record KeepsOutput {B : Type 0} (old new : ParentOf B) : Type 0 where
   pub device_same : new.device ≡ old.device
   pub ring_same : new.ring.bytes ≡ old.ring.bytes
   pub handed_same : new.handed ≡ old.handed

@@ -1,19 +1,24 @@
 -- What an engine's parts stand for: the story of a list of events.
-use Rattle.std.specs.Prelude.{◌≡◌, ℕ, ◌*◌, ◌<◌, List, length, drop, slice_index_or}
+use Rattle.std.specs.Prelude.{◌≡◌, ℕ, ◌*◌, ◌<◌, List, length, drop, slice_index_or, take}
+use Rattle.pcm_feeder.specs.Kept.{Kept}
 use Rattle.pcm_desk.specs.Device.{DeviceSeen, device_frame_bytes}
 use Rattle.pcm_desk.specs.Desk.{Desk, book_at}
 use Rattle.pcm_sound.specs.Runs.{newest_bytes}
 use Rattle.pcm_sound.specs.Story.{Story}
 use Rattle.pcm_sound.specs.DeviceList.{device_bytes}
 use Rattle.pcm_sound.specs.Valid.{StoryIsValid}
-use Rattle.pcm_engine.specs.declared.channel.Channel.{Channel}
+use Rattle.pcm_engine.specs.declared.channel.ChannelOf.{ChannelOf}
 use Rattle.pcm_engine.specs.Channels.{ChannelStands}
 
+-- the bytes that a slot's book counts: those of its newest run, unless it is over
+abbrev pub bytes_counted : DeviceSeen → Story → ℕ → List ℕ
+bytes_counted device story slot = take (book_at device story.desk slot).written (newest_bytes (story.runs slot))
+
 -- A desk, channels and a device's ring stand for a story: the desk is the story's, each channel stands for its slot's book
--- and the bytes of its newest run, and the device's ring holds what was not handed over.
-pub record PartsStand (device : DeviceSeen) (desk : Desk) (channels : List Channel) (ring : List ℕ) (story : Story) : Type 0 where
+-- and the bytes that it counts, and the device's ring holds what was not handed over.
+pub record PartsStand {B : Type 0} (kept : B → Kept) (device : DeviceSeen) (desk : Desk) (channels : List (ChannelOf B)) (ring : List ℕ) (story : Story) : Type 0 where
   pub desk_is : desk ≡ story.desk
-  pub slots : (slot : ℕ) (other : Channel) → slot < length channels
-      → ChannelStands (slice_index_or channels slot other) (book_at device story.desk slot) (newest_bytes (story.runs slot))
+  pub slots : (slot : ℕ) (other : ChannelOf B) → slot < length channels
+      → ChannelStands kept (slice_index_or channels slot other) (book_at device story.desk slot) (bytes_counted device story slot)
   pub ring_is : ring ≡ drop (story.desk.handed * device_frame_bytes device) (device_bytes device story)
   pub valid : StoryIsValid device story

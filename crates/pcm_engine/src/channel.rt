@@ -1,56 +1,78 @@
-//! A channel that plays: its book, and the ring with the bytes that wait.
+//! A channel that plays: its book, the ring with the bytes that wait, and the chain that they go through.
 
-ghost use Rattle.std.specs.Prelude.{◌≡◌, ◌+◌, ◌-◌, ◌*◌, ◌^◌, ◌<◌, ◌≤◌, [], ◌++◌, length, take, drop, IfOk, OnErr, All};
+ghost use Rattle.std.specs.Prelude.{◌≡◌, ◌+◌, ◌*◌, ◌^◌, ◌<◌, ◌≤◌, [], ℕ, List, length, IfOk, OnErr, All};
 ghost use Rattle.pcm_format.specs.Formats.{bits_of};
 ghost use Rattle.pcm_format.specs.Layouts.{channels_of};
 ghost use Rattle.pcm_format.specs.Frames.{frame_bytes};
 ghost use Rattle.pcm_num.specs.Limit.{FitsBits};
+ghost use Rattle.pcm_feeder.specs.Layouts.{unity};
+ghost use Rattle.pcm_feeder.specs.Racks.{HaveKinds, IsRack};
+ghost use Rattle.pcm_chain.specs.Chains.{boxes_in, plan_in};
 ghost use Rattle.pcm_desk.specs.declared.limits.TheConstants.{WRITE_BYTES};
-ghost use Rattle.pcm_desk.specs.Device.{seen};
-ghost use Rattle.pcm_rate.specs.Rates.{len};
-ghost use Rattle.pcm_desk.specs.Books.{is_free, fill_of, frames_written, ring_bytes, giving, begun, write_turn};
+ghost use Rattle.pcm_desk.specs.Device.{IsDevice, Plays, filters_of, plan_between, seen};
+ghost use Rattle.pcm_desk.specs.Books.{is_free, fill_of, ring_bytes, begun, write_turn};
 ghost use Rattle.pcm_desk.specs.Safe.{BookIsSafe};
 ghost use Rattle.pcm_desk.proofs.Props.{book_props};
 ghost use Rattle.pcm_desk.specs.Desk.{closing, mixing, rate_at, unopened};
 ghost use Rattle.pcm_sound.specs.Blocks.{turned};
 
-use crate::fetch::fetch;
-use pcm_desk::{Book, Device, FRAGMENT_BYTES, FRAGMENTS, State};
-use pcm_format::{Answer, Errno};
+use pcm_chain::ChainOf;
+use pcm_desk::{Book, Device, FRAGMENT_BYTES, FRAGMENTS, QUALITY, State};
+use pcm_feeder::{Feeder, RackOf, Tables, UNITY};
+use pcm_format::{Answer, Errno, Settings};
 use pcm_mix::mix_into;
-use pcm_rate::UNCHANGED;
+use pcm_plan::plan_play;
 use pcm_ring::ByteRing;
 use std::alloc::{AllocError, Global};
 
 /// A channel of the device that plays.
 #[derive(Drop)]
-pub struct Channel {
+pub struct ChannelOf<B> {
     pub device: Device,
     pub book: Book,
     pub ring: ByteRing,
-    ghost own: { book.settings ≡ device.settings },
+    pub chain: ChainOf<B>,
+    ghost device_is: { IsDevice (seen device) },
+    ghost plays: { Plays (seen device) book.settings },
+    ghost plan: { plan_in chain ≡ plan_between (seen device) book.settings },
     ghost size: { ring.size ≡ ring_bytes book },
     ghost fill: { length ring.bytes ≡ fill_of book },
     ghost within: { book.eaten * frame_bytes book.settings ≤ book.written },
-    ghost lasts: { book.given ≤ len (rate_at (seen device) book) (frames_written book) },
     ghost safe: { BookIsSafe (rate_at (seen device) book) book } by { Prim.hlevel book_props },
 }
 
-impl Channel {
-    ghost use Rattle.pcm_engine.specs.Channels.{Settles};
+impl<B: Feeder> ChannelOf<B> {
+    ghost use Rattle.pcm_engine.specs.Channels.{ChannelStands, Moves, StandsForSome};
 
     /// A channel of a device that nobody has opened.
-    pub fn new(alloc: Global, device: Device) -> Result<Channel, AllocError>
+    pub fn new(
+        alloc: Global,
+        device: Device,
+        tables: &Tables,
+        rack: RackOf<B>,
+    ) -> Result<ChannelOf<B>, AllocError>
+        requires device { IsDevice (seen device) }
+        requires tables { tables.now ≡ filters_of (seen device) }
+        requires kinds { IsRack B.kind rack }
         ensures book { IfOk result (λ made. made.book ≡ unopened (seen device)) }
         ensures device { IfOk result (λ made. made.device ≡ device) }
-        ensures ring { IfOk result (λ made. made.ring.bytes ≡ []) }
+        ensures kinds { IfOk result (λ made. HaveKinds B.kind (boxes_in made.chain)) }
+        ensures stands { IfOk result (λ made. ChannelStands B.kept made made.book []) }
     {
         let ring = ByteRing::new(alloc, (FRAGMENTS * FRAGMENT_BYTES) as usize)?;
+        let mut chain = ChainOf::new(alloc, rack)?;
+        let plan = plan_play(&device.settings, &device.settings, QUALITY, tables);
+        chain.reset(&plan);
         let book = Book {
             state: State::Free,
             ..Book::begun(device.settings)
         };
-        Ok(Channel { device, book, ring })
+        Ok(ChannelOf {
+            device,
+            book,
+            ring,
+            chain,
+        })
     }
 
     /// Whether nobody has the channel, and nothing of it is left to play.
@@ -60,14 +82,19 @@ impl Channel {
         self.book.is_free()
     }
 
-    /// A new opening begins.
-    pub fn begin(&mut self)
-        ensures book { self.new.book ≡ begun self.old.device.settings }
+    /// A new opening begins, whose sound goes through the plan of its settings.
+    pub fn begin(&mut self, tables: &Tables, settings: Settings)
+        requires plays { Plays (seen self.old.device) settings }
+        requires tables { tables.now ≡ filters_of (seen self.old.device) }
+        requires kinds { HaveKinds B.kind (boxes_in self.old.chain) }
+        ensures book { self.new.book ≡ begun settings }
         ensures device { self.new.device ≡ self.old.device }
-        ensures ring { self.new.ring.bytes ≡ [] }
+        ensures moves { Moves B.kind B.kept [] 0 self.old self.new }
     {
+        let plan = plan_play(&settings, &self.device.settings, QUALITY, tables);
         self.ring.clear();
-        self.book = Book::begun(self.device.settings);
+        self.chain.reset(&plan);
+        self.book = Book::begun(settings);
     }
 
     /// Takes the front of `bytes`, as much as fits.
@@ -78,10 +105,7 @@ impl Channel {
         ensures reply { result ≡ (write_turn (length bytes.now) self.old.book).reply }
         ensures device { self.new.device ≡ self.old.device }
         ensures refused { OnErr result (self.new ≡ self.old) }
-        ensures more { self.new.book.written ≤ self.old.book.written + length bytes.now }
-        ensures ring { self.new.ring.bytes
-            ≡ self.old.ring.bytes
-            ++ take (self.new.book.written - self.old.book.written) bytes.now }
+        ensures moves { Moves B.kind B.kept bytes.now 0 self.old self.new }
     {
         if self.book.is_draining() {
             return Err(Errno::Busy);
@@ -96,45 +120,56 @@ impl Channel {
 
     /// No descriptor has the channel any more: what was written plays to its end.
     pub fn close(&mut self)
+        requires { HaveKinds B.kind (boxes_in self.old.chain) }
         ensures book { self.new.book ≡ closing (seen self.old.device) self.old.book }
         ensures device { self.new.device ≡ self.old.device }
-        ensures settles { Settles self.old self.new }
+        ensures moves { Moves B.kind B.kept [] 0 self.old self.new }
     {
-        self.book = self.book.closed(UNCHANGED);
+        let rate = self.chain.plan().rate();
+        self.book = self.book.closed(rate);
         if self.book.written == 0 {
             self.ring.clear();
+            self.chain.restart();
         }
     }
 
-    /// Gives frames to the front of a block of the mix, as many as an interrupt that mixes `n` frames gets.
-    pub fn refill(&mut self, n: usize, bytes: &mut [u8], frames: &mut [i32], sum: &mut [i32])
+    /// Adds the channel's frames to the front of a block of the mix, as many as an interrupt that mixes `n` frames gets.
+    /// `frames` holds them meanwhile.
+    pub fn refill(&mut self, tables: &Tables, n: usize, frames: &mut [i32], sum: &mut [i32])
         requires some { 0 < n }
-        requires bytes { length bytes.old ≡ n * frame_bytes self.old.device.settings }
+        requires tables { tables.now ≡ filters_of (seen self.old.device) }
+        requires kinds { HaveKinds B.kind (boxes_in self.old.chain) }
+        requires stands { StandsForSome B.kept self.old }
         requires frames { length frames.old ≡ n * channels_of self.old.device.settings.layout }
         requires sum { length sum.old ≡ n * channels_of self.old.device.settings.layout }
         requires fits { All (FitsBits (bits_of self.old.device.settings.format)) sum.old }
         requires count { self.old.book.given + n < 2 ^ 64 }
         ensures book { self.new.book ≡ mixing (seen self.old.device) n self.old.book }
         ensures device { self.new.device ≡ self.old.device }
-        ensures ring { 0 < self.new.book.written → self.new.ring.bytes
-            ≡ drop (giving (rate_at (seen self.old.device) self.old.book) n self.old.book
-            * frame_bytes self.old.book.settings) self.old.ring.bytes }
-        ensures sum { sum.new
-            ≡ turned (seen self.old.device) n self.old.book self.old.ring.bytes sum.old }
+        ensures moves { Moves B.kind B.kept [] n self.old self.new }
+        ensures sum { (bytes : List ℕ) → ChannelStands B.kept self.old self.old.book bytes
+            → sum.new ≡ turned (seen self.old.device) n unity self.old.book bytes sum.old }
         ensures fits { All (FitsBits (bits_of self.old.device.settings.format)) sum.new }
     {
+        if !self.book.is_started() {
+            return;
+        }
         let settings = self.device.settings;
-        let count = self.book.giving(UNCHANGED, n as u64) as usize;
-        let size = count * settings.frame_bytes();
-        let samples = count * settings.layout.channels();
-        let bits = settings.format.bits();
-        let given = &mut frames[..samples];
-        let taken = &mut bytes[..size];
-        fetch(&mut self.ring, settings.format, bits, taken, given);
-        mix_into(&mut sum[..samples], given, bits);
-        self.book = self.book.refilled(UNCHANGED, n as u64);
+        let format = self.book.settings.format;
+        let ended = self.book.is_draining();
+        let pulled = self
+            .chain
+            .pull(tables, UNITY, &mut self.ring, format, ended, n, frames);
+        let samples = pulled.given * settings.layout.channels();
+        mix_into(
+            &mut sum[..samples],
+            &frames[..samples],
+            settings.format.bits(),
+        );
+        self.book = self.book.refilled(self.chain.plan().rate(), n as u64);
         if self.book.written == 0 {
             self.ring.clear();
+            self.chain.restart();
         }
     }
 }

@@ -1,27 +1,31 @@
 //! What clients ask by their descriptors.
 
-ghost use Rattle.std.specs.Prelude.{◌≡◌, ◌+◌, ◌^◌, ◌<◌, ◌≤◌, length, vec_len, All, OnErr, None, slice_index_or};
+ghost use Rattle.std.specs.Prelude.{◌≡◌, ◌+◌, ◌^◌, ◌<◌, ◌≤◌, [], length, vec_len, All, OnErr, None, slice_index_or};
 ghost use Rattle.pcm_desk.specs.declared.limits.TheConstants.{DESCRIPTORS, WRITE_BYTES};
-ghost use Rattle.pcm_desk.specs.Device.{seen};
+ghost use Rattle.pcm_desk.specs.Device.{Plays, seen};
 ghost use Rattle.pcm_desk.specs.Desk.{close_on, held_by, open_turn, write_on};
-ghost use Rattle.pcm_engine.specs.Channels.{Each, Settles, Takes};
+ghost use Rattle.pcm_engine.specs.Channels.{Each, IsReady, Moves};
 ghost use Rattle.pcm_engine.specs.Holds.{HoldWithin};
 ghost use Rattle.pcm_engine.specs.Parents.{KeepsOutput, desk_with};
 
-use crate::parent::Parent;
+use crate::parent::ParentOf;
 use pcm_desk::Held;
-use pcm_format::{Answer, Errno, Way};
+use pcm_feeder::Feeder;
+use pcm_format::{Answer, Errno, Settings, Way};
 
 /// Opens a descriptor on the least free slot.
-pub fn open(
-    parent: &mut Parent,
+pub fn open<B: Feeder>(
+    parent: &mut ParentOf<B>,
     descriptors: &mut [Option<Held>],
     fd: u8,
     way: Way,
+    settings: Settings,
 ) -> Result<Answer, Errno>
     requires fd { fd < DESCRIPTORS }
+    requires plays { Plays (seen parent.old.device) settings }
     requires size { length descriptors.old ≡ DESCRIPTORS }
     requires held { HoldWithin (vec_len parent.old.channels) descriptors.old }
+    requires ready { All (IsReady B.kind B.kept) parent.old.channels.items }
     ensures held { HoldWithin (vec_len parent.new.channels) descriptors.new }
     ensures size { length descriptors.new ≡ length descriptors.old }
     ensures slots { length parent.new.channels.items ≡ length parent.old.channels.items }
@@ -29,24 +33,23 @@ pub fn open(
     ensures refused { OnErr result (parent.new ≡ parent.old) }
     ensures shut { OnErr result (descriptors.new ≡ descriptors.old) }
     ensures desk { desk_with parent.new descriptors.new
-        ≡ (open_turn (desk_with parent.old descriptors.old) fd way
-        parent.old.device.settings).desk }
+        ≡ (open_turn (desk_with parent.old descriptors.old) fd way settings).desk }
     ensures reply { result
-        ≡ (open_turn (desk_with parent.old descriptors.old) fd way
-        parent.old.device.settings).reply }
-    ensures channels { Each Settles parent.old.channels.items parent.new.channels.items }
+        ≡ (open_turn (desk_with parent.old descriptors.old) fd way settings).reply }
+    ensures channels { Each (Moves B.kind B.kept [] 0)
+        parent.old.channels.items parent.new.channels.items }
 {
     if held(descriptors, fd).is_some() {
         return Err(Errno::Exist);
     }
-    let slot = parent.open_slot()?;
+    let slot = parent.open_slot(settings)?;
     descriptors[usize::from(fd)] = Some(Held { way, slot });
     Ok(Answer::Number(slot as u32))
 }
 
 /// Writes to the channel that a descriptor holds.
-pub fn write(
-    parent: &mut Parent,
+pub fn write<B: Feeder>(
+    parent: &mut ParentOf<B>,
     descriptors: &[Option<Held>],
     fd: u8,
     bytes: &[u8],
@@ -66,7 +69,8 @@ pub fn write(
     ensures reply { let desk = desk_with parent.old descriptors.now in
         result
         ≡ (write_on (seen parent.old.device) (held_by desk fd) desk (length bytes.now)).reply }
-    ensures channels { Each (Takes bytes.now) parent.old.channels.items parent.new.channels.items }
+    ensures channels { Each (Moves B.kind B.kept bytes.now 0)
+        parent.old.channels.items parent.new.channels.items }
 {
     let Some(held) = held(descriptors, fd) else {
         return Err(Errno::BadF);
@@ -75,10 +79,15 @@ pub fn write(
 }
 
 /// Closes a descriptor, which others may open then.
-pub fn close(parent: &mut Parent, descriptors: &mut [Option<Held>], fd: u8) -> Result<Answer, Errno>
+pub fn close<B: Feeder>(
+    parent: &mut ParentOf<B>,
+    descriptors: &mut [Option<Held>],
+    fd: u8,
+) -> Result<Answer, Errno>
     requires fd { fd < DESCRIPTORS }
     requires size { length descriptors.old ≡ DESCRIPTORS }
     requires held { HoldWithin (vec_len parent.old.channels) descriptors.old }
+    requires ready { All (IsReady B.kind B.kept) parent.old.channels.items }
     ensures held { HoldWithin (vec_len parent.new.channels) descriptors.new }
     ensures size { length descriptors.new ≡ length descriptors.old }
     ensures slots { length parent.new.channels.items ≡ length parent.old.channels.items }
@@ -90,7 +99,8 @@ pub fn close(parent: &mut Parent, descriptors: &mut [Option<Held>], fd: u8) -> R
         ≡ (close_on (seen parent.old.device) (held_by desk fd) desk fd).desk }
     ensures reply { let desk = desk_with parent.old descriptors.old in
         result ≡ (close_on (seen parent.old.device) (held_by desk fd) desk fd).reply }
-    ensures channels { Each Settles parent.old.channels.items parent.new.channels.items }
+    ensures channels { Each (Moves B.kind B.kept [] 0)
+        parent.old.channels.items parent.new.channels.items }
 {
     let Some(held) = held(descriptors, fd) else {
         return Err(Errno::BadF);

@@ -6,24 +6,26 @@ ghost use Rattle.pcm_desk.specs.Events.{Fits, bytes_handed};
 ghost use Rattle.pcm_engine.specs.Holds.{HoldWithin};
 
 use crate::clients::{close, open, write};
-use crate::parent::Parent;
+use crate::parent::ParentOf;
 use pcm_desk::{DESCRIPTORS, Device, Held};
+use pcm_feeder::{Feeder, RacksOf};
 use pcm_format::{Answer, Event, Pool, ReplyBuf};
 use std::alloc::{AllocError, Global};
 
 /// The descriptors of clients, and the parent whose channels they hold.
 #[derive(Drop)]
-pub struct Engine {
-    parent: Parent,
+pub struct EngineOf<B> {
+    parent: ParentOf<B>,
     descriptors: [Option<Held>; DESCRIPTORS],
     steps: u32,
     ghost held: { HoldWithin (vec_len parent.channels) descriptors },
     ghost written: { All (λ channel. channel.book.written ≤ WRITE_BYTES * steps) parent.channels.items },
+    ghost given: { All (λ channel. channel.book.given ≤ RING_FRAMES * steps) parent.channels.items },
     ghost mixed_within: { parent.mixed ≤ RING_FRAMES * steps },
     ghost handed_within: { parent.handed ≤ RING_FRAMES * steps },
 }
 
-impl Engine {
+impl<B: Feeder> EngineOf<B> {
     ghost use Rattle.pcm_format.specs.declared.event.Event.{Event};
     ghost use Rattle.pcm_format.specs.declared.pool.Pool.{Pool};
     ghost use Rattle.pcm_desk.specs.Usual.{usual_device};
@@ -32,18 +34,24 @@ impl Engine {
     ghost use Rattle.pcm_sound.specs.Story.{story_of};
     ghost use Rattle.pcm_sound.specs.Replies.{reply_to};
     ghost use Rattle.pcm_sound.specs.DeviceList.{device_text};
-    ghost use Rattle.pcm_engine.specs.Steps.{ChannelsAfter, ring_after};
-    ghost use Rattle.pcm_engine.specs.Engines.{device_of, desk_of, Stands, IsUnchanged};
+    ghost use Rattle.pcm_feeder.specs.Racks.{AreRacks, list_of};
+    ghost use Rattle.pcm_engine.specs.Channels.{AllStand};
+    ghost use Rattle.pcm_engine.specs.Parents.{parent_books};
+    ghost use Rattle.pcm_engine.specs.Steps.{ChannelsMove, ring_after};
+    ghost use Rattle.pcm_engine.specs.Engines.{device_of, desk_of, AreReady, Stands, IsUnchanged};
 
-    /// The engine of a device before its first event. All memory of the engine is taken here.
-    pub fn new(alloc: Global) -> Result<Engine, AllocError>
+    /// The engine of a device before its first event. Its channels pick their stages from the racks, one rack a slot; after
+    /// a refusal the racks are dropped. All memory of the engine is taken here.
+    pub fn new(alloc: Global, racks: RacksOf<B>) -> Result<EngineOf<B>, AllocError>
+        requires { AreRacks B.kind (list_of racks) }
         ensures device { IfOk result (λ engine. device_of engine ≡ usual_device) }
         ensures steps { IfOk result (λ engine. engine.steps ≡ 0) }
-        ensures stands { IfOk result (λ engine. (pool : Pool) → Stands engine pool []) }
+        ensures ready { IfOk result (AreReady B.kind B.kept) }
+        ensures stands { IfOk result (λ engine. (pool : Pool) → Stands B.kept engine pool []) }
     {
         let device = Device::usual();
-        let parent = Parent::new(alloc, device)?;
-        Ok(Engine {
+        let parent = ParentOf::new(alloc, device, racks)?;
+        Ok(EngineOf {
             parent,
             descriptors: [None; DESCRIPTORS],
             steps: 0,
@@ -62,22 +70,24 @@ impl Engine {
         requires fits { Fits (device_of self.old) pool.now event.now }
         requires room { bytes_handed (device_of self.old) event.now ≤ length out.old }
         requires count { self.old.steps < EVENTS }
+        requires ready { AreReady B.kind B.kept self.old }
 
         ensures device { device_of self.new ≡ device_of self.old }
         ensures steps { self.new.steps ≡ self.old.steps + 1 }
+        ensures ready { AreReady B.kind B.kept self.new }
 
         // Whatever it stood for, it stands for that with the event appended.
-        ensures stands { (events : List Event) → Stands self.old pool.now events
-            → Stands self.new pool.now (events ++ event.now ∷ []) }
-        ensures reply { (events : List Event) → Stands self.old pool.now events
+        ensures stands { (events : List Event) → Stands B.kept self.old pool.now events
+            → Stands B.kept self.new pool.now (events ++ event.now ∷ []) }
+        ensures reply { (events : List Event) → Stands B.kept self.old pool.now events
             → reply.new ≡ reply_to (device_of self.old)
             (story_of (device_of self.old) pool.now events) event.now }
-        ensures bytes { (events : List Event) → Stands self.old pool.now events
+        ensures bytes { (events : List Event) → Stands B.kept self.old pool.now events
             → device_text (device_of self.old) pool.now (events ++ event.now ∷ [])
             ≡ device_text (device_of self.old) pool.now events ++ take result out.new }
 
         // The counts of every book are in order, and no ring holds more than its size.
-        ensures safe { (events : List Event) → Stands self.old pool.now events
+        ensures safe { (events : List Event) → Stands B.kept self.old pool.now events
             → (slot : ℕ) → let book = book_at (device_of self.new) (desk_of self.new) slot in
             BookIsSafe (rate_at (device_of self.new) book) book }
         ensures refused { IsErr reply.new.result → IsUnchanged self.old self.new }
@@ -93,6 +103,7 @@ impl Engine {
         requires fits { Fits (device_of self.old) pool.now event.now }
         requires room { bytes_handed (device_of self.old) event.now ≤ length out.old }
         requires count { self.old.steps < EVENTS }
+        requires ready { AreReady B.kind B.kept self.old }
         ensures device { self.new.parent.device ≡ self.old.parent.device }
         ensures slots { length self.new.parent.channels.items
             ≡ length self.old.parent.channels.items }
@@ -103,19 +114,21 @@ impl Engine {
             ≡ (after (device_of self.old) (desk_of self.old) event.now).reply }
         ensures no_bytes { reply.new.bytes ≡ [] }
         ensures refused { IsErr reply.new.result → IsUnchanged self.old self.new }
-        ensures channels { ChannelsAfter pool.now event.now
+        ensures channels { ChannelsMove B.kind B.kept pool.now event.now
             self.old.parent.channels.items self.new.parent.channels.items }
-        ensures ring { self.new.parent.ring.bytes
-            ≡ ring_after (device_of self.old) event.now
-            self.old.parent.channels.items self.old.parent.ring.bytes }
+        ensures ring { (streams : ℕ → List ℕ)
+            → AllStand B.kept self.old.parent.channels.items streams
+            → self.new.parent.ring.bytes
+            ≡ ring_after (device_of self.old) event.now (parent_books self.old.parent) streams
+            (length self.old.parent.channels.items) self.old.parent.ring.bytes }
         ensures count { result ≡ bytes_handed (device_of self.old) event.now }
         ensures out { take result out.new ≡ take result self.old.parent.ring.bytes }
         ensures rest { drop result out.new ≡ drop result out.old }
     {
         self.steps += 1;
         match *event {
-            Event::Open { fd, way, .. } => {
-                let answer = open(&mut self.parent, &mut self.descriptors, fd, way);
+            Event::Open { fd, way, settings } => {
+                let answer = open(&mut self.parent, &mut self.descriptors, fd, way, settings);
                 reply.keep(answer, &[]);
                 0
             }
@@ -138,3 +151,6 @@ impl Engine {
         }
     }
 }
+
+/// The engine of a run, whose racks hold boxes.
+pub type Engine = EngineOf<Box<dyn Feeder>>;

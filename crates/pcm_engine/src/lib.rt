@@ -1,12 +1,11 @@
 //! The engine: descriptors, channels and the device's ring, stepped one event at a time.
-//! After any list of events it stands for them: its books, rings and bytes are those of their story.
+//! After any list of events it stands for them: its books, rings, chains and bytes are those of their story.
 #![tactic(auto)]
 
 mod channel;
 mod clients;
 mod engine;
-mod fetch;
 mod mixer;
 mod parent;
 
-pub use engine::Engine;
+pub use engine::{Engine, EngineOf};

@@ -1,33 +1,37 @@
 //! What all clients share: the slots of a device, its ring, and the buffers in which a block is mixed.
 
-ghost use Rattle.std.specs.Prelude.{◌≡◌, ◌+◌, ◌*◌, ◌^◌, ◌<◌, ◌≤◌, ◌++◌, length, vec_len, All, OnErr, IfOk, IfSome, take, drop, position, slice_index_or, slice_set};
+ghost use Rattle.std.specs.Prelude.{◌≡◌, ◌+◌, ◌*◌, ◌^◌, ◌<◌, ◌≤◌, ◌++◌, [], ℕ, List, length, vec_len, All, OnErr, IfOk, IfSome, take, drop, position, slice_index_or, slice_set};
 ghost use Rattle.pcm_format.specs.Frames.{frame_bytes};
 ghost use Rattle.pcm_format.specs.Layouts.{channels_of};
+ghost use Rattle.pcm_feeder.specs.Racks.{AreRacks, list_of};
 ghost use Rattle.pcm_desk.specs.declared.limits.TheConstants.{RING_FRAMES, SLOTS, WRITE_BYTES};
-ghost use Rattle.pcm_desk.specs.Device.{seen};
+ghost use Rattle.pcm_desk.specs.Device.{IsDevice, Plays, filters_of, seen};
 ghost use Rattle.pcm_desk.specs.Books.{is_free, write_turn};
-ghost use Rattle.pcm_desk.specs.Desk.{closing, least_free, unopened};
-ghost use Rattle.pcm_engine.specs.Channels.{IsUnopened, Each, Settles, Takes, Refills};
+ghost use Rattle.pcm_desk.specs.Desk.{closing, least_free, mixing, unopened};
+ghost use Rattle.pcm_engine.specs.Channels.{AllStand, Each, IsReady, IsUnopened, Moves};
 ghost use Rattle.pcm_engine.specs.Steps.{block_bytes, block_of, silent_block};
 
-use crate::channel::Channel;
+use crate::channel::ChannelOf;
 use crate::mixer::mix_block;
 use pcm_desk::Device;
-use pcm_format::{Answer, Errno, spell_frames};
+use pcm_feeder::{Feeder, RackOf, RacksOf, Tables};
+use pcm_format::{Answer, Errno, Settings, spell_frames};
 use pcm_ring::ByteRing;
 use std::alloc::{AllocError, Global};
 
 /// The channels of a device by slot, its ring, which is always full, and how many frames were handed over and mixed.
 #[derive(Drop)]
-pub struct Parent {
+pub struct ParentOf<B> {
     pub device: Device,
-    pub channels: Vec<Channel>,
+    pub tables: Tables,
+    pub channels: Vec<ChannelOf<B>>,
     pub ring: ByteRing,
     pub handed: u64,
     pub mixed: u64,
     bytes: Vec<u8>,
     frames: Vec<i32>,
     sum: Vec<i32>,
+    ghost tables_are: { tables ≡ filters_of (seen device) },
     ghost within: { device.ring_frames ≤ RING_FRAMES },
     ghost slots: { vec_len channels ≡ device.play_slots },
     ghost slots_within: { device.play_slots ≤ SLOTS },
@@ -39,22 +43,27 @@ pub struct Parent {
     ghost sum_size: { vec_len sum ≡ device.ring_frames * channels_of device.settings.layout },
 }
 
-impl Parent {
+impl<B: Feeder> ParentOf<B> {
     ghost use Rattle.pcm_engine.specs.Parents.{parent_books, slot_or_busy, books_begun, KeepsOutput};
 
-    /// A device that nobody has opened, whose ring is full of silence.
-    pub fn new(alloc: Global, device: Device) -> Result<Parent, AllocError>
+    /// A device that nobody has opened, whose ring is full of silence. Each slot gets a rack.
+    pub fn new(alloc: Global, device: Device, racks: RacksOf<B>) -> Result<ParentOf<B>, AllocError>
+        requires device { IsDevice (seen device) }
         requires ring { device.ring_frames ≤ RING_FRAMES }
         requires slots { device.play_slots ≤ SLOTS }
+        requires kinds { AreRacks B.kind (list_of racks) }
         ensures device { IfOk result (λ made. made.device ≡ device) }
         ensures slots { IfOk result (λ made. length made.channels.items ≡ device.play_slots) }
-        ensures channels { IfOk result (λ made. All (IsUnopened device) made.channels.items) }
+        ensures channels { IfOk result
+            (λ made. All (IsUnopened B.kind B.kept device) made.channels.items) }
         ensures ring { IfOk result (λ made. made.ring.bytes
             ≡ block_bytes (seen device) (silent_block (seen device) device.ring_frames)) }
         ensures handed { IfOk result (λ made. made.handed ≡ 0) }
         ensures mixed { IfOk result (λ made. made.mixed ≡ 0) }
     {
-        let channels = free_channels(alloc, device)?;
+        // No filter can be chosen so far.
+        let tables = Tables::new(Vec::new(alloc));
+        let channels = free_channels(alloc, device, &tables, racks.into_list())?;
         let size = device.ring_frames as usize * device.settings.frame_bytes();
         let samples = device.ring_frames as usize * device.settings.layout.channels();
         let mut bytes = vec![in alloc; 0u8; size]?;
@@ -63,8 +72,9 @@ impl Parent {
         spell_frames(device.settings.format, &sum, &mut bytes);
         let mut ring = ByteRing::new(alloc, size)?;
         ring.put(&bytes);
-        Ok(Parent {
+        Ok(ParentOf {
             device,
+            tables,
             channels,
             ring,
             handed: 0,
@@ -76,21 +86,23 @@ impl Parent {
     }
 
     /// An opening begins in the least free slot.
-    pub fn open_slot(&mut self) -> Result<usize, Errno>
+    pub fn open_slot(&mut self, settings: Settings) -> Result<usize, Errno>
+        requires plays { Plays (seen self.old.device) settings }
+        requires ready { All (IsReady B.kind B.kept) self.old.channels.items }
         ensures found { result ≡ slot_or_busy (least_free (parent_books self.old)) }
         ensures books { parent_books self.new
-            ≡ books_begun (least_free (parent_books self.old)) self.old.device.settings
-            (parent_books self.old) }
+            ≡ books_begun (least_free (parent_books self.old)) settings (parent_books self.old) }
         ensures there { IfOk result (λ slot. slot < length self.old.channels.items) }
         ensures slots { length self.new.channels.items ≡ length self.old.channels.items }
         ensures output { KeepsOutput self.old self.new }
         ensures refused { OnErr result (self.new ≡ self.old) }
-        ensures channels { Each Settles self.old.channels.items self.new.channels.items }
+        ensures channels { Each (Moves B.kind B.kept [] 0)
+            self.old.channels.items self.new.channels.items }
     {
         let Some(slot) = self.least_free() else {
             return Err(Errno::Busy);
         };
-        self.channels[slot].begin();
+        self.channels[slot].begin(&self.tables, settings);
         Ok(slot)
     }
 
@@ -108,20 +120,23 @@ impl Parent {
         ensures slots { length self.new.channels.items ≡ length self.old.channels.items }
         ensures output { KeepsOutput self.old self.new }
         ensures refused { OnErr result (self.new ≡ self.old) }
-        ensures channels { Each (Takes bytes.now) self.old.channels.items self.new.channels.items }
+        ensures channels { Each (Moves B.kind B.kept bytes.now 0)
+            self.old.channels.items self.new.channels.items }
     {
         self.channels[slot].write(bytes)
     }
 
     /// No descriptor has the channel of a slot any more.
     pub fn close(&mut self, slot: usize)
-        requires { slot < length self.old.channels.items }
+        requires there { slot < length self.old.channels.items }
+        requires ready { All (IsReady B.kind B.kept) self.old.channels.items }
         ensures books { parent_books self.new
             ≡ slice_set (parent_books self.old) slot (closing (seen self.old.device)
             (slice_index_or (parent_books self.old) slot (unopened (seen self.old.device)))) }
         ensures slots { length self.new.channels.items ≡ length self.old.channels.items }
         ensures output { KeepsOutput self.old self.new }
-        ensures channels { Each Settles self.old.channels.items self.new.channels.items }
+        ensures channels { Each (Moves B.kind B.kept [] 0)
+            self.old.channels.items self.new.channels.items }
     {
         self.channels[slot].close();
     }
@@ -131,25 +146,31 @@ impl Parent {
         requires some { 0 < n }
         requires within { n ≤ self.old.device.ring_frames }
         requires out { length out.old ≡ n * frame_bytes self.old.device.settings }
+        requires ready { All (IsReady B.kind B.kept) self.old.channels.items }
         requires count { All (λ channel. channel.book.given + n < 2 ^ 64) self.old.channels.items }
         requires handed { self.old.handed + n < 2 ^ 64 }
         requires mixed { self.old.mixed + n < 2 ^ 64 }
         ensures device { self.new.device ≡ self.old.device }
         ensures slots { length self.new.channels.items ≡ length self.old.channels.items }
-        ensures channels { Each (Refills n) self.old.channels.items self.new.channels.items }
+        ensures channels { Each (Moves B.kind B.kept [] n)
+            self.old.channels.items self.new.channels.items }
+        ensures books { Each (λ old new. new.book ≡ mixing (seen self.old.device) n old.book)
+            self.old.channels.items self.new.channels.items }
         ensures handed { self.new.handed ≡ self.old.handed + n }
         ensures mixed { self.new.mixed ≡ self.old.mixed + n }
         ensures out { out.new
             ≡ take (n * frame_bytes self.old.device.settings) self.old.ring.bytes }
-        ensures ring { self.new.ring.bytes
+        ensures ring { (streams : ℕ → List ℕ) → AllStand B.kept self.old.channels.items streams
+            → self.new.ring.bytes
             ≡ drop (n * frame_bytes self.old.device.settings) self.old.ring.bytes
-            ++ block_bytes (seen self.old.device)
-            (block_of (seen self.old.device) n self.old.channels.items) }
+            ++ block_bytes (seen self.old.device) (block_of (seen self.old.device) n
+            (parent_books self.old) streams (length self.old.channels.items)) }
     {
         let size = n * self.device.settings.frame_bytes();
         self.ring.take(out);
         mix_block(
             self.device,
+            &self.tables,
             &mut self.channels,
             n,
             &mut self.bytes,
@@ -171,15 +192,25 @@ impl Parent {
     }
 }
 
-// The channels of a device, which nobody has opened.
-fn free_channels(alloc: Global, device: Device) -> Result<Vec<Channel>, AllocError>
+// The channels of a device, which nobody has opened, with the first racks.
+fn free_channels<B: Feeder>(
+    alloc: Global,
+    device: Device,
+    tables: &Tables,
+    racks: Vec<RackOf<B>>,
+) -> Result<Vec<ChannelOf<B>>, AllocError>
+    requires device { IsDevice (seen device) }
+    requires tables { tables.now ≡ filters_of (seen device) }
+    requires enough { device.play_slots ≤ vec_len racks }
+    requires kinds { AreRacks B.kind racks.items }
     ensures slots { IfOk result (λ made. length made.items ≡ device.play_slots) }
-    ensures channels { IfOk result (λ made. All (IsUnopened device) made.items) }
+    ensures channels { IfOk result (λ made. All (IsUnopened B.kind B.kept device) made.items) }
 {
+    let mut racks = racks;
+    racks.truncate(device.play_slots as usize);
     let mut channels = Vec::new(alloc);
-    for slot in 0..device.play_slots {
-        let channel = Channel::new(alloc, device)?;
-        channels.push(channel)?;
+    for rack in racks {
+        channels.push(ChannelOf::new(alloc, device, tables, rack)?)?;
     }
     Ok(channels)
 }

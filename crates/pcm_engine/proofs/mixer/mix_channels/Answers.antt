@@ -1,32 +1,60 @@
-use Rattle.std.proofs.Common.{◌≡◌, ℕ, ◌<◌, List, [], ◌∷◌, length, fold, take, get_or, ℤ, sym, ap, ◌∙◌, subst, inl, inr, arith}
-use Rattle.std.proofs.lemmas.List.{take_more}
-use Rattle.std.proofs.lemmas.List.Sums.{fold-append}
-use Rattle.std.proofs.lemmas.Bool.{cases_lt}
-use Rattle.pcm_engine.specs.declared.channel.Channel.{Channel}
-use Rattle.pcm_desk.specs.Device.{seen}
-use Rattle.pcm_engine.specs.Channels.{Refills, with_channel}
+use Rattle.std.proofs.Common.{◌≡◌, ℕ, ◌+◌, ◌<◌, [], length, get_or, sym, ap, ◌∙◌, subst, inl, inr, arith}
+use Rattle.std.proofs.lemmas.Bool.{cases_lt, cases_eq}
+use Rattle.pcm_feeder.specs.Layouts.{unity}
+use Rattle.pcm_desk.specs.Device.{DeviceSeen, seen}
+use Rattle.pcm_desk.specs.Desk.{mixing}
+use Rattle.pcm_sound.specs.Blocks.{turned}
+use Rattle.pcm_engine.specs.declared.channel.ChannelOf.{ChannelOf}
+use Rattle.pcm_engine.specs.Channels.{ChannelStands, IsReady, Moves}
 use Rattle.pcm_engine.proofs.Channels.{some_channel}
+use Rattle.pcm_engine.proofs.Blocks.{mixed-more}
 use Rattle.pcm_engine.proofs.mixer.mix_channels.Goals as goal
 
+pub mix_slot-requires-clause-ready : goal.mix_slot-requires-clause-ready
+mix_slot-requires-clause-ready g c = λ other.
+    subst (IsReady g.B.Feeder.kind g.B.Feeder.kept) (sym (c.loop-slot.invariant.rest c.loop-slot.slot other (omega arith))) (c.requires.ready c.loop-slot.slot other (omega arith))
+
+pub mix_slot-requires-clause-count : goal.mix_slot-requires-clause-count
+mix_slot-requires-clause-count g c = λ other.
+    subst (λ (n : ChannelOf _). n.book.given + c.args.n < 18446744073709551616) (sym (c.loop-slot.invariant.rest c.loop-slot.slot other (omega arith))) (c.requires.count c.loop-slot.slot other (omega arith))
+
 pub loop-slot-preserved : goal.loop-slot-preserved
-loop-slot-preserved c =
+loop-slot-preserved g c =
     let n = c.args.n in
     let i = c.loop-slot.slot in
-    let before : List Channel = c.args.channels.now in
+    let device : DeviceSeen = seen c.args.device in
+    let before = c.args.channels.now in
     let there : i < length before = omega arith in
-    let first : Channel = some_channel before i there in
-    let same : get_or c.loop-slot.channels i first ≡ get_or before i first = c.loop-slot.invariant.rest i first (omega arith) in
+    let first = some_channel before i there in
+    let was = c.loop-slot.invariant.rest i first (omega arith) in
     record {
-      done = λ at other h. elim (cases_lt at i) [
-        | inl below ↦ subst (Refills n (get_or before at other)) (sym (c.mix_slot.ensures.others at other (omega arith))) (c.loop-slot.invariant.done at other below)
+      own = λ at other h. elim (cases_eq at i) [
+        | inl here ↦ subst (λ (k : ℕ). (get_or c.mix_slot.new.channels k other).device ≡ c.args.device) (sym here) (c.mix_slot.ensures.own other)
+        | inr differ ↦ ap (λ (channel : ChannelOf _). channel.device) (c.mix_slot.ensures.others at other differ) ∙ c.loop-slot.invariant.own at other h
+      ];
+      moved = λ at other h. elim (cases_lt at i) [
+        | inl below ↦ subst (Moves g.B.Feeder.kind g.B.Feeder.kept [] n (get_or before at other)) (sym (c.mix_slot.ensures.others at other (omega arith))) (c.loop-slot.invariant.moved at other below)
         | inr above ↦ (
             let here : at ≡ i = omega arith in
-            subst (λ (k : ℕ). Refills n (get_or before k other) (get_or c.mix_slot.new.channels k other)) (sym here)
-            (subst (λ (channel : Channel). Refills n channel (get_or c.mix_slot.new.channels i other)) (c.loop-slot.invariant.rest i other (omega arith)) (c.mix_slot.ensures.own other)))
+            subst (λ (k : ℕ). Moves g.B.Feeder.kind g.B.Feeder.kept [] n (get_or before k other) (get_or c.mix_slot.new.channels k other)) (sym here)
+            (subst (λ (channel : ChannelOf _). Moves g.B.Feeder.kind g.B.Feeder.kept [] n channel (get_or c.mix_slot.new.channels i other)) (c.loop-slot.invariant.rest i other (omega arith)) (c.mix_slot.ensures.moves other)))
+      ];
+      mixed = λ at other h. elim (cases_lt at i) [
+        | inl below ↦ ap (λ (channel : ChannelOf _). channel.book) (c.mix_slot.ensures.others at other (omega arith)) ∙ c.loop-slot.invariant.mixed at other below
+        | inr above ↦ (
+            let here : at ≡ i = omega arith in
+            subst (λ (k : ℕ). (get_or c.mix_slot.new.channels k other).book ≡ mixing device n (get_or before k other).book) (sym here)
+            (c.mix_slot.ensures.book other ∙ ap (λ (channel : ChannelOf _). mixing device n channel.book) (c.loop-slot.invariant.rest i other (omega arith))))
       ];
       rest = λ at other h. c.mix_slot.ensures.others at other (omega arith) ∙ c.loop-slot.invariant.rest at other (omega arith);
-      sum = c.mix_slot.ensures.sum first ∙ ap (λ (s : List ℤ). with_channel (seen c.args.device) n s (get_or c.loop-slot.channels i first)) c.loop-slot.invariant.sum
-          ∙ ap (with_channel (seen c.args.device) n (fold (with_channel (seen c.args.device) n) c.args.sum.now (take i before))) same
-          ∙ sym (ap (fold (with_channel (seen c.args.device) n) c.args.sum.now) (take_more before i first there) ∙ fold-append (with_channel (seen c.args.device) n) c.args.sum.now (take i before) (get_or before i first ∷ []));
+      sum = λ streams stand.
+          c.mix_slot.ensures.sum first (streams i) (subst (λ (channel : ChannelOf _). ChannelStands g.B.Feeder.kept channel channel.book (streams i)) (sym was) (stand i first there))
+          ∙ ap (turned device n unity (get_or c.loop-slot.channels i first).book (streams i)) (c.loop-slot.invariant.sum streams stand)
+          ∙ mixed-more device n before streams i (get_or c.loop-slot.channels i first) first there was c.args.sum.now;
       fits = c.mix_slot.ensures.fits;
     }
+
+pub returns-clause-sum : goal.returns-clause-sum
+returns-clause-sum g c = λ streams stand.
+    let last : c.loop-slot.slot ≡ length c.args.channels.now = omega arith in
+    rw last at (c.loop-slot.invariant.sum streams stand)

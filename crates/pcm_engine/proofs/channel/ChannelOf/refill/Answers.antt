@@ -1,0 +1,118 @@
+use Rattle.std.proofs.Common.{◌*◌, ◌∙◌, All, drop, length, sym, ap, subst, arith, length-drop}
+use Rattle.std.proofs.lemmas.List.Elements.{All-append, All-drop}
+use Rattle.pcm_num.specs.Limit.{FitsBits}
+use Rattle.pcm_format.specs.declared.settings.Settings.{Settings}
+use Rattle.pcm_format.specs.Formats.{bits_of, bytes_of}
+use Rattle.pcm_format.specs.Layouts.{channels_of}
+use Rattle.pcm_ring.specs.Ring.{Ring}
+use Rattle.pcm_feeder.specs.Filters.{Filters}
+use Rattle.pcm_feeder.specs.Layouts.{unity}
+use Rattle.pcm_feeder.specs.Limits.{IsRate}
+use Rattle.pcm_plan.specs.Plans.{PlanSeen}
+use Rattle.pcm_plan.specs.Fits.{HaveTables}
+use Rattle.pcm_chain.specs.Chains.{plan_in}
+use Rattle.pcm_chain.proofs.Standing.{stands-fitted}
+use Rattle.pcm_desk.specs.Device.{filters_of, plan_between, seen}
+use Rattle.pcm_desk.proofs.Ratios.{tables-between}
+use Rattle.pcm_engine.proofs.Moving.{moves-ended}
+use Rattle.pcm_engine.proofs.Refilling.{pulls-run, book-refilled, ring-refilled, turned-pulled, moves-pulled}
+use Rattle.pcm_engine.proofs.channel.ChannelOf.refill.Goals as goal
+
+pub pull-pulled-requires-clause-fitted : goal.pull-pulled-requires-clause-fitted
+pull-pulled-requires-clause-fitted g c =
+    let old = c.args.self.now in
+    let stands = c.requires.stands.stands in
+    stands-fitted g.B.Feeder.kept (filters_of (seen old.device)) old.chain _ stands.zeros old.book.given stands.chain_is
+
+pub pull-pulled-requires-clause-tables : goal.pull-pulled-requires-clause-tables
+pull-pulled-requires-clause-tables g c =
+    let old = c.args.self.now in
+    let device = seen old.device in
+    let have = tables-between device old.book.settings old.device_is (subst IsRate (sym old.plays) old.device_is) in
+    subst (λ (t : Filters). HaveTables (plan_in old.chain).stages t) (sym c.requires.tables)
+    (subst (λ (p : PlanSeen). HaveTables p.stages (filters_of device)) (sym old.plan) have)
+
+pub invariant_of-self : goal.invariant_of-self
+invariant_of-self g c =
+    let old = c.args.self.now in
+    let device = seen old.device in
+    let k = book-refilled device c.args.n old.book c.refilled-self.result c.rate.result c.plan.result.now c.requires.some old.device_is old.plays old.safe (sym c.if-not-is_started.ensures)
+    c.refilled-self.ensures c.rate.ensures.value (c.plan.ensures ∙ c.pull-pulled.ensures.plan ∙ old.plan) in
+    let none = k.ended c.if-self-eq0.true in
+    record {
+      device_is = old.device_is;
+      plays = ap (λ (s : Settings). s.rate) k.settings ∙ old.plays;
+      plan = c.restart.ensures.plan ∙ c.pull-pulled.ensures.plan ∙ old.plan ∙ ap (plan_between device) (sym k.settings);
+      size = ap (λ (ring : Ring). ring.size) c.clear.ensures ∙ ap (λ (ring : Ring). ring.size) c.pull-pulled.ensures.ring ∙ old.size;
+      fill = ap (λ (ring : Ring). length ring.bytes) c.clear.ensures ∙ none.3;
+      within = none.2;
+      safe = k.safe;
+    }
+
+pub invariant_of-self-else-self-eq0 : goal.invariant_of-self-else-self-eq0
+invariant_of-self-else-self-eq0 g c =
+    let old = c.args.self.now in
+    let device = seen old.device in
+    let k = book-refilled device c.args.n old.book c.refilled-self.result c.rate.result c.plan.result.now c.requires.some old.device_is old.plays old.safe (sym c.if-not-is_started.ensures)
+    c.refilled-self.ensures c.rate.ensures.value (c.plan.ensures ∙ c.pull-pulled.ensures.plan ∙ old.plan) in
+    let go = k.goes c.if-self-eq0.false in
+    let p = pulls-run g.B.Feeder.kept old c.pull-pulled.new.self c.args.tables.now _ c.is_draining-ended.result c.args.n c.pull-pulled.result c.args.frames.now c.pull-pulled.new.out c.requires.stands.bytes
+    (sym c.if-not-is_started.ensures) c.requires.tables c.is_draining-ended.ensures c.pull-pulled.ensures.pulls c.requires.stands.stands in
+    let r = ring-refilled device c.args.n old.book c.refilled-self.result c.pull-pulled.result k.safe go p.counted in
+    let size = ap (λ (q : PlanSeen). c.pull-pulled.result.eaten * (channels_of q.source * bytes_of old.book.settings.format)) old.plan in
+    record {
+      device_is = old.device_is;
+      plays = ap (λ (s : Settings). s.rate) k.settings ∙ old.plays;
+      plan = c.pull-pulled.ensures.plan ∙ old.plan ∙ ap (plan_between device) (sym k.settings);
+      size = ap (λ (ring : Ring). ring.size) c.pull-pulled.ensures.ring ∙ old.size;
+      fill = ap (λ (ring : Ring). length ring.bytes) c.pull-pulled.ensures.ring ∙ (let long = length-drop (c.pull-pulled.result.eaten * (channels_of (plan_in old.chain).source * bytes_of old.book.settings.format)) old.ring.bytes in
+          let fill = old.fill in let left = r.fill in omega arith);
+      within = r.within;
+      safe = k.safe;
+    }
+
+pub returns-then-self-eq0-clause-moves : goal.returns-then-self-eq0-clause-moves
+returns-then-self-eq0-clause-moves g c =
+    let old = c.args.self.now in
+    let k = book-refilled (seen old.device) c.args.n old.book c.refilled-self.result c.rate.result c.plan.result.now c.requires.some old.device_is old.plays old.safe (sym c.if-not-is_started.ensures)
+    c.refilled-self.ensures c.rate.ensures.value (c.plan.ensures ∙ c.pull-pulled.ensures.plan ∙ old.plan) in
+    let none = k.ended c.if-self-eq0.true in
+    moves-ended g.B.Feeder.kind g.B.Feeder.kept _ c.args.n old _ (c.restart.ensures.kinds) c.if-self-eq0.true none.0 none.1 (ap (λ (ring : Ring). ring.bytes) c.clear.ensures) c.restart.ensures.begins
+
+pub returns-else-self-eq0-clause-moves : goal.returns-else-self-eq0-clause-moves
+returns-else-self-eq0-clause-moves g c =
+    let old = c.args.self.now in
+    let k = book-refilled (seen old.device) c.args.n old.book c.refilled-self.result c.rate.result c.plan.result.now c.requires.some old.device_is old.plays old.safe (sym c.if-not-is_started.ensures)
+    c.refilled-self.ensures c.rate.ensures.value (c.plan.ensures ∙ c.pull-pulled.ensures.plan ∙ old.plan) in
+    moves-pulled g.B.Feeder.kind g.B.Feeder.kept old _ c.args.n c.pull-pulled.result _ c.args.frames.now c.pull-pulled.new.out (k.goes c.if-self-eq0.false) c.pull-pulled.ensures.kinds
+    (ap (λ (ring : Ring). ring.bytes) c.pull-pulled.ensures.ring ∙ ap (λ (q : PlanSeen). drop (c.pull-pulled.result.eaten * (channels_of q.source * bytes_of old.book.settings.format)) old.ring.bytes) old.plan)
+    (λ bytes s. pulls-run g.B.Feeder.kept old c.pull-pulled.new.self c.args.tables.now _ c.is_draining-ended.result c.args.n c.pull-pulled.result c.args.frames.now c.pull-pulled.new.out bytes
+    (sym c.if-not-is_started.ensures) c.requires.tables c.is_draining-ended.ensures c.pull-pulled.ensures.pulls s)
+
+pub returns-then-self-eq0-clause-sum : goal.returns-then-self-eq0-clause-sum
+returns-then-self-eq0-clause-sum g c = λ bytes s.
+    let old = c.args.self.now in
+    let p = pulls-run g.B.Feeder.kept old c.pull-pulled.new.self c.args.tables.now _ c.is_draining-ended.result c.args.n c.pull-pulled.result c.args.frames.now c.pull-pulled.new.out bytes
+    (sym c.if-not-is_started.ensures) c.requires.tables c.is_draining-ended.ensures c.pull-pulled.ensures.pulls s in
+    turned-pulled g.B.Feeder.kept (seen old.device) unity c.args.n old.book bytes c.pull-pulled.new.self c.pull-pulled.result c.args.frames.now c.pull-pulled.new.out c.args.sum.now c.mix_into.new.acc c.channels.result c.bits.result
+    old.device_is old.plays p c.channels.ensures c.bits.ensures c.mix_into.ensures.value
+
+pub returns-else-self-eq0-clause-sum : goal.returns-else-self-eq0-clause-sum
+returns-else-self-eq0-clause-sum g c = λ bytes s.
+    let old = c.args.self.now in
+    let p = pulls-run g.B.Feeder.kept old c.pull-pulled.new.self c.args.tables.now _ c.is_draining-ended.result c.args.n c.pull-pulled.result c.args.frames.now c.pull-pulled.new.out bytes
+    (sym c.if-not-is_started.ensures) c.requires.tables c.is_draining-ended.ensures c.pull-pulled.ensures.pulls s in
+    turned-pulled g.B.Feeder.kept (seen old.device) unity c.args.n old.book bytes c.pull-pulled.new.self c.pull-pulled.result c.args.frames.now c.pull-pulled.new.out c.args.sum.now c.mix_into.new.acc c.channels.result c.bits.result
+    old.device_is old.plays p c.channels.ensures c.bits.ensures c.mix_into.ensures.value
+
+pub returns-then-self-eq0-clause-fits : goal.returns-then-self-eq0-clause-fits
+returns-then-self-eq0-clause-fits g c =
+    All-append (FitsBits (bits_of c.args.self.now.device.settings.format)) c.mix_into.new.acc (drop (c.pull-pulled.result.given * c.channels.result) c.args.sum.now)
+    (subst (λ b. All (FitsBits b) c.mix_into.new.acc) c.bits.ensures c.mix_into.ensures.fits)
+    (All-drop (FitsBits (bits_of c.args.self.now.device.settings.format)) (c.pull-pulled.result.given * c.channels.result) c.args.sum.now c.requires.fits)
+
+pub returns-else-self-eq0-clause-fits : goal.returns-else-self-eq0-clause-fits
+returns-else-self-eq0-clause-fits g c =
+    All-append (FitsBits (bits_of c.args.self.now.device.settings.format)) c.mix_into.new.acc (drop (c.pull-pulled.result.given * c.channels.result) c.args.sum.now)
+    (subst (λ b. All (FitsBits b) c.mix_into.new.acc) c.bits.ensures c.mix_into.ensures.fits)
+    (All-drop (FitsBits (bits_of c.args.self.now.device.settings.format)) (c.pull-pulled.result.given * c.channels.result) c.args.sum.now c.requires.fits)

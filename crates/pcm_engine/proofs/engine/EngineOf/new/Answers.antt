@@ -1,0 +1,24 @@
+use Rattle.std.proofs.Common.{refl, ap, arith}
+use Rattle.pcm_desk.specs.declared.book.Book.{Book}
+use Rattle.pcm_engine.proofs.Starting.{hold_within-none, parent-starts, ready-unopened}
+use Rattle.pcm_engine.proofs.engine.EngineOf.new.Goals as goal
+
+pub invariant_of-result : goal.invariant_of-result
+invariant_of-result g c =
+    let parent = c.in_ok-parent.parent in
+    record {
+      held = hold_within-none parent.channels.len _ 64 refl;
+      written = λ slot other there. let none = ap (λ (b : Book). b.written) (c.in_ok-parent.ensures.channels slot other there).book in omega arith;
+      given = λ slot other there. let none = ap (λ (b : Book). b.given) (c.in_ok-parent.ensures.channels slot other there).book in omega arith;
+      mixed_within = omega (arith, c.in_ok-parent.ensures.mixed);
+      handed_within = omega (arith, c.in_ok-parent.ensures.handed);
+    }
+
+pub returns-clause-ready : goal.returns-clause-ready
+returns-clause-ready g c =
+    ready-unopened g.B.Feeder.kind g.B.Feeder.kept c.usual-device.result c.in_ok-parent.parent.channels.items c.in_ok-parent.ensures.channels
+
+pub returns-clause-stands : goal.returns-clause-stands
+returns-clause-stands g c = λ pool.
+    let e = c.in_ok-parent.ensures in
+    parent-starts g.B.Feeder.kind g.B.Feeder.kept c.usual-device.result c.in_ok-parent.parent _ c.usual-device.ensures.limits refl e.device e.slots e.channels e.ring e.handed e.mixed

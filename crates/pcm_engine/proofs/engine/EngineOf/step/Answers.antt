@@ -1,0 +1,62 @@
+use Rattle.std.proofs.Common.{ℕ, List, [], ◌∷◌, ◌++◌, take, refl, sym, ap, ◌∙◌, subst}
+use Rattle.pcm_desk.specs.declared.device.Device.{Device}
+use Rattle.pcm_desk.specs.Device.{seen}
+use Rattle.pcm_desk.specs.Desk.{Desk, book_at, rate_at}
+use Rattle.pcm_desk.specs.Events.{frames_taken}
+use Rattle.pcm_desk.specs.Safe.{BookIsSafe}
+use Rattle.pcm_sound.specs.Story.{story_of, story_at_start}
+use Rattle.pcm_sound.specs.DeviceList.{device_body}
+use Rattle.pcm_sound.proofs.Stories.{told_all-push}
+use Rattle.pcm_engine.specs.Stands.{PartsStand}
+use Rattle.pcm_engine.specs.Steps.{bytes_brought}
+use Rattle.pcm_engine.specs.Engines.{device_of, desk_of}
+use Rattle.pcm_engine.proofs.Channels.{ready-after}
+use Rattle.pcm_engine.proofs.Standing.{Stepped, stands-told, body-told}
+use Rattle.pcm_engine.proofs.engine.EngineOf.step.Goals as goal
+
+pub returns-clause-ready : goal.returns-clause-ready
+returns-clause-ready g c =
+    let old = c.args.self.now in
+    let new = c.apply.new.self in
+    ready-after g.B.Feeder.kind g.B.Feeder.kept (bytes_brought c.args.pool.now c.args.event.now) (frames_taken c.args.event.now) old.parent.channels.items new.parent.channels.items c.apply.ensures.slots c.apply.ensures.channels c.requires.ready
+
+pub returns-clause-stands : goal.returns-clause-stands
+returns-clause-stands g c = λ events s.
+    let old = c.args.self.now in
+    let new = c.apply.new.self in
+    let device = device_of old in
+    let pool = c.args.pool.now in
+    let event = c.args.event.now in
+    let story = story_of device pool events in
+    let kept = g.B.Feeder.kept in
+    let step : Stepped g.B.Feeder.kind kept device pool event (desk_of old) (desk_of new) old.parent.channels.items new.parent.channels.items old.parent.ring.bytes new.parent.ring.bytes = record {
+      desk = c.apply.ensures.desk;
+      play_before = refl;
+      play_now = refl;
+      slots = c.apply.ensures.slots;
+      all_slots = sym old.parent.channels.ok.0 ∙ old.parent.slots;
+      channels = c.apply.ensures.channels;
+      ring = c.apply.ensures.ring;
+    } in
+    let stood = stands-told g.B.Feeder.kind kept device pool story event (desk_of old) (desk_of new) old.parent.channels.items new.parent.channels.items old.parent.ring.bytes new.parent.ring.bytes c.requires.fits step s in
+    let pushed : PartsStand kept device (desk_of new) new.parent.channels.items new.parent.ring.bytes (story_of device pool (events ++ event ∷ [])) =
+    subst (PartsStand kept device (desk_of new) new.parent.channels.items new.parent.ring.bytes) (sym (told_all-push device pool (story_at_start device) events event)) stood in
+    subst (λ (d : Device). PartsStand kept (seen d) (desk_of new) new.parent.channels.items new.parent.ring.bytes (story_of (seen d) pool (events ++ event ∷ []))) (sym c.apply.ensures.device) pushed
+
+pub returns-clause-bytes : goal.returns-clause-bytes
+returns-clause-bytes g c = λ events s.
+    let old = c.args.self.now in
+    let device = device_of old in
+    let pool = c.args.pool.now in
+    let event = c.args.event.now in
+    let story = story_of device pool events in
+    ap (device_body device) (told_all-push device pool (story_at_start device) events event)
+    ∙ body-told g.B.Feeder.kept device pool story event (desk_of old) old.parent.channels.items old.parent.ring.bytes c.requires.fits s
+    ∙ ap (λ (n : ℕ). device_body device story ++ take n old.parent.ring.bytes) (sym c.apply.ensures.count)
+    ∙ ap (λ (bytes : List ℕ). device_body device story ++ bytes) (sym c.apply.ensures.out)
+
+pub returns-clause-safe : goal.returns-clause-safe
+returns-clause-safe g c = λ events s slot.
+    let stood = returns-clause-stands g c events s in
+    let device = device_of c.apply.new.self in
+    subst (λ (desk : Desk). BookIsSafe (rate_at device (book_at device desk slot)) (book_at device desk slot)) (sym stood.desk_is) (stood.valid.safe slot)
