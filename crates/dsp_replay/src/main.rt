@@ -1,13 +1,15 @@
 //! Runs a script of client calls and interrupts, and writes the device's bytes and the replies.
-//! It hands `dsp_main` of `pcm_replay` its words, the real files and standard output.
+//! It hands `dsp_main` of `pcm_replay` its words, the real files, standard output, and 32 racks of boxed feeders.
 #![tactic(auto)]
 
-ghost use Rattle.std.specs.Prelude.{◌≡◌, ◌≢◌, None, map, string_bytes};
+ghost use Rattle.std.specs.Prelude.{◌≡◌, ◌≢◌, ◌⊎◌, None, map, string_bytes};
 ghost use Rattle.pcm_verdict.specs.Verdict.{command_of};
 ghost use Rattle.pcm_replay.specs.Outcomes.{IsStatus};
 
+mod boxed;
+
+use boxed::run_boxed;
 use pcm_outside::{RealFiles, RealSink};
-use pcm_replay::dsp_main;
 use std::env;
 use std::io::{self, ErrorKind};
 use std::process::ExitCode;
@@ -33,12 +35,12 @@ fn words_after_name(rt: &HostRuntime) -> io::Result<Vec<String>> {
 fn run(rt: &HostRuntime, words: &[String]) -> u8
     ensures statuses { IsStatus result }
     ensures usage { result ≡ 2 → command_of (map string_bytes words.now) ≡ None }
-    ensures only_usage { command_of (map string_bytes words.now) ≡ None → result ≢ 2 → result ≡ 7 }
+    ensures only_usage { command_of (map string_bytes words.now) ≡ None → result ≢ 2 → (result ≡ 7) ⊎ (result ≡ 8) }
 {
     let mut files = RealFiles::new(rt);
     let mut out = RealSink::new(rt);
-    let mut ran = None;
-    let status = dsp_main(rt.alloc(), words, &mut files, &mut out, &mut ran);
+    // The boxes that this program makes are of the right kinds, so what refuses them is memory.
+    let status = run_boxed(rt.alloc(), words, &mut files, &mut out).unwrap_or(8);
     explain(rt, status, words, files.write_faults() > 0);
     status
 }

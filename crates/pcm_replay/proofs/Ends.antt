@@ -1,7 +1,8 @@
 -- How a call ends whose script was read.
 use Rattle.std.proofs.Common.{◌≡◌, ℕ, List, Some, Result, Ok, Err, IfErr, IfOk, IsTrue, OnOk, ◌∙◌, ap, refl, subst, sym}
 use Rattle.pcm_outside.specs.Files.{OnlyReads}
-use Rattle.pcm_engine.specs.declared.engine.Engine.{Engine}
+use Rattle.pcm_feeder.specs.Kept.{Kept}
+use Rattle.pcm_engine.specs.declared.engine.EngineOf.{EngineOf}
 use Rattle.pcm_script.specs.Lines.{pool_of}
 use Rattle.pcm_verdict.specs.Verdict.{Accept, Accepted, RunScript, Verdict, command_of}
 use Rattle.pcm_replay.specs.declared.ending.Ending.{Ending}
@@ -26,18 +27,18 @@ read_of words name accepted before between command cause only = record {
   only = only;
 }
 
-pub finishes : (words : List (List ℕ)) (accepted : Accepted) (before between after : Outside) (r : Result Engine Ending)
+pub finishes : {B : Type 0} (kept : B → Kept) (words : List (List ℕ)) (accepted : Accepted) (before between after : Outside) (r : Result (EngineOf B) Ending)
     → IsRead words accepted before between
-    → IfOk r (λ engine. RanThrough engine (pool_of accepted.script) accepted.script.events)
+    → IfOk r (λ engine. RanThrough kept engine (pool_of accepted.script) accepted.script.events)
     → OnOk r (WritesRun (output_of accepted) between after)
-    → IfOk r (λ engine. Finishes engine words before after)
-finishes words accepted before between after (Ok engine) read ran writes = record {
+    → IfOk r (λ engine. Finishes kept engine words before after)
+finishes kept words accepted before between after (Ok engine) read ran writes = record {
   accepted = accepted;
   is_named = read.is_named;
   ran = ran;
   writes = written_later (output_of accepted) before between after read.only writes;
 }
-finishes words accepted before between after (Err ending) read ran writes = ran
+finishes kept words accepted before between after (Err ending) read ran writes = ran
 
 ends_as : (words : List (List ℕ)) (accepted : Accepted) (before between after : Outside) (ending : Ending)
     → IsRead words accepted before between → CutsShort ending accepted between after → Ends ending words before after
@@ -55,7 +56,7 @@ ends_as words accepted before between after NoMemory read same = record {
   sink = ap (λ (outside : Outside). outside.sink) same ∙ read.only.sink;
 }
 
-pub ends : (words : List (List ℕ)) (accepted : Accepted) (before between after : Outside) (r : Result Engine Ending)
+pub ends : {B : Type 0} (words : List (List ℕ)) (accepted : Accepted) (before between after : Outside) (r : Result (EngineOf B) Ending)
     → IsRead words accepted before between
     → IfErr r (λ ending. CutsShort ending accepted between after)
     → IfErr r (λ ending. Ends ending words before after)

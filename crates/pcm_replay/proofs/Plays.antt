@@ -9,9 +9,11 @@ use Rattle.pcm_desk.specs.Usual.{usual_device}
 use Rattle.pcm_sound.specs.DeviceList.{device_text}
 use Rattle.pcm_sound.specs.Replies.{replies, reply_to}
 use Rattle.pcm_sound.specs.Story.{Story, story_at_start, story_of, told, told_all}
-use Rattle.pcm_engine.specs.Engines.{Stands, device_of}
+use Rattle.pcm_feeder.specs.declared.kind.Kind.{Kind}
+use Rattle.pcm_feeder.specs.Kept.{Kept}
+use Rattle.pcm_engine.specs.Engines.{AreReady, Stands, device_of}
 use Rattle.pcm_verdict.specs.Transcript.{lines_from, reply_line, transcript}
-use Rattle.pcm_replay.specs.declared.replay.Replay.{Replay}
+use Rattle.pcm_replay.specs.declared.replay.ReplayOf.{ReplayOf}
 use Rattle.pcm_replay.specs.Playing.{HasPlayed}
 
 length-push : (events : List Event) (event : Event) → length events + 1 ≡ length (events ++ event ∷ [])
@@ -52,13 +54,14 @@ transcript-more device pool events event =
     ∙ ap (λ n. lines_from 1 (replies device pool story events) ++ reply_line n reply) number
 
 -- what an engine's step gave, and what was kept of it
-pub record Steps (old new : Replay) (pool : Pool) (events : List Event) (event : Event) (piece : List ℕ) (number : ℕ) (reply : Reply) : Type 0 where
+pub record Steps {B : Type 0} (kind : B → Kind) (kept : B → Kept) (old new : ReplayOf B) (pool : Pool) (events : List Event) (event : Event) (piece : List ℕ) (number : ℕ) (reply : Reply) : Type 0 where
   pub device : device_of new.engine ≡ device_of old.engine
-  pub stands : Stands old.engine pool events → Stands new.engine pool (events ++ event ∷ [])
+  pub ready : AreReady kind kept new.engine
+  pub stands : Stands kept old.engine pool events → Stands kept new.engine pool (events ++ event ∷ [])
   pub steps : new.engine.steps ≡ old.engine.steps + 1
-  pub bytes : Stands old.engine pool events
+  pub bytes : Stands kept old.engine pool events
       → device_text (device_of old.engine) pool (events ++ event ∷ []) ≡ device_text (device_of old.engine) pool events ++ piece
-  pub replied : Stands old.engine pool events
+  pub replied : Stands kept old.engine pool events
       → reply ≡ reply_to (device_of old.engine) (story_of (device_of old.engine) pool events) event
   pub text : new.text.items ≡ old.text.items ++ piece
   pub counted : number ≡ length events + 1
@@ -66,9 +69,9 @@ pub record Steps (old new : Replay) (pool : Pool) (events : List Event) (event :
   pub room : vec_len new.block ≡ vec_len old.block
 
 -- one event more was run
-pub played : (old new : Replay) (pool : Pool) (events : List Event) (event : Event) (piece : List ℕ) (number : ℕ) (reply : Reply)
-    → Steps old new pool events event piece number reply → HasPlayed old pool events → HasPlayed new pool (events ++ event ∷ [])
-played old new pool events event piece number reply s h =
+pub played : {B : Type 0} (kind : B → Kind) (kept : B → Kept) (old new : ReplayOf B) (pool : Pool) (events : List Event) (event : Event) (piece : List ℕ) (number : ℕ) (reply : Reply)
+    → Steps kind kept old new pool events event piece number reply → HasPlayed kind kept old pool events → HasPlayed kind kept new pool (events ++ event ∷ [])
+played kind kept old new pool events event piece number reply s h =
     let was : device_of old.engine ≡ usual_device = h.engine.device in
     let bytes : device_text usual_device pool (events ++ event ∷ []) ≡ device_text usual_device pool events ++ piece =
     subst (λ (device : DeviceSeen). device_text device pool (events ++ event ∷ []) ≡ device_text device pool events ++ piece) was (s.bytes h.engine.stands) in
@@ -80,6 +83,7 @@ played old new pool events event piece number reply s h =
         stands = s.stands h.engine.stands;
         steps = s.steps ∙ ap (λ n. n + 1) h.engine.steps ∙ length-push events event;
       };
+      ready = s.ready;
       text = s.text ∙ ap (λ (text : List ℕ). text ++ piece) h.text ∙ sym bytes;
       lines = s.lines ∙ ap (λ (lines : List ℕ). lines ++ reply_line number reply) h.lines
           ∙ ap (λ n. transcript usual_device pool events ++ reply_line n reply) s.counted

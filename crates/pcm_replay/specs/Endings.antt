@@ -1,6 +1,7 @@
 -- What a call did, by its ending.
 use Rattle.std.specs.Prelude.{◌≡◌, ℕ, List}
-use Rattle.pcm_engine.specs.declared.engine.Engine.{Engine}
+use Rattle.pcm_feeder.specs.Kept.{Kept}
+use Rattle.pcm_engine.specs.declared.engine.EngineOf.{EngineOf}
 use Rattle.pcm_script.specs.Lines.{pool_of}
 use Rattle.pcm_verdict.specs.Verdict.{Accepted}
 use Rattle.pcm_replay.specs.declared.ending.Ending.{Ending}
@@ -27,8 +28,8 @@ CutsShort CannotWrite accepted before after = CutsRun (output_of accepted) befor
 CutsShort NoMemory accepted before after = after ≡ before
 
 -- what a call did that came to its end
-pub record Finishes (engine : Engine) (words : List (List ℕ)) (before after : Outside) : Type 0 where
+pub record Finishes {B : Type 0} (kept : B → Kept) (engine : EngineOf B) (words : List (List ℕ)) (before after : Outside) : Type 0 where
   pub accepted : Accepted
   pub is_named : IsNamed words before.files accepted
-  pub ran : RanThrough engine (pool_of accepted.script) accepted.script.events
+  pub ran : RanThrough kept engine (pool_of accepted.script) accepted.script.events
   pub writes : WritesRun (output_of accepted) before after

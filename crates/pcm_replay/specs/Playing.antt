@@ -5,24 +5,28 @@ use Rattle.pcm_format.specs.declared.pool.Pool.{Pool}
 use Rattle.pcm_desk.specs.Device.{DeviceSeen, device_frame_bytes, ring_frames}
 use Rattle.pcm_desk.specs.Usual.{usual_device}
 use Rattle.pcm_sound.specs.DeviceList.{device_text}
-use Rattle.pcm_engine.specs.declared.engine.Engine.{Engine}
-use Rattle.pcm_engine.specs.Engines.{Stands, device_of}
+use Rattle.pcm_feeder.specs.declared.kind.Kind.{Kind}
+use Rattle.pcm_feeder.specs.Kept.{Kept}
+use Rattle.pcm_engine.specs.declared.engine.EngineOf.{EngineOf}
+use Rattle.pcm_engine.specs.Engines.{AreReady, Stands, device_of}
 use Rattle.pcm_verdict.specs.Transcript.{transcript}
-use Rattle.pcm_replay.specs.declared.replay.Replay.{Replay}
+use Rattle.pcm_replay.specs.declared.replay.ReplayOf.{ReplayOf}
 
 -- the bytes of the greatest interrupt: a device's whole ring
 abbrev pub ring_room : DeviceSeen → ℕ
 ring_room device = ring_frames device * device_frame_bytes device
 
 -- the engine was stepped through these events, once each
-pub record RanThrough (engine : Engine) (pool : Pool) (events : List Event) : Type 0 where
+pub record RanThrough {B : Type 0} (kept : B → Kept) (engine : EngineOf B) (pool : Pool) (events : List Event) : Type 0 where
   pub device : device_of engine ≡ usual_device
-  pub stands : Stands engine pool events
+  pub stands : Stands kept engine pool events
   pub steps : engine.steps ≡ length events
 
 -- these events were run, and what they leave is kept
-pub record HasPlayed (replay : Replay) (pool : Pool) (events : List Event) : Type 0 where
-  pub engine : RanThrough replay.engine pool events
+pub record HasPlayed {B : Type 0} (kind : B → Kind) (kept : B → Kept) (replay : ReplayOf B) (pool : Pool)
+    (events : List Event) : Type 0 where
+  pub engine : RanThrough kept replay.engine pool events
+  pub ready : AreReady kind kept replay.engine
   pub text : replay.text.items ≡ device_text usual_device pool events
   pub lines : string_bytes replay.lines ≡ transcript usual_device pool events
   pub room : vec_len replay.block ≡ ring_room usual_device

@@ -5,6 +5,7 @@ ghost use Rattle.pcm_format.specs.declared.pool.Pool.{Pool};
 ghost use Rattle.pcm_desk.specs.declared.limits.TheConstants.{EVENTS};
 ghost use Rattle.pcm_desk.specs.Events.{Fits};
 ghost use Rattle.pcm_desk.specs.Usual.{usual_device};
+ghost use Rattle.pcm_feeder.specs.Racks.{AreRacks, list_of};
 ghost use Rattle.pcm_script.specs.Lines.{AllFit, pool_of};
 ghost use Rattle.pcm_replay.specs.Endings.{CutsShort};
 ghost use Rattle.pcm_replay.specs.Outside.{both};
@@ -15,7 +16,8 @@ use crate::ending::Ending;
 use crate::reply_lines::reply_line;
 use crate::writing::write_run;
 use pcm_desk::Device;
-use pcm_engine::Engine;
+use pcm_engine::EngineOf;
+use pcm_feeder::{Feeder, RacksOf};
 use pcm_format::{Event, Pool, ReplyBuf};
 use pcm_outside::{Files, Sink};
 use pcm_script::Script;
@@ -23,24 +25,25 @@ use std::alloc::{AllocError, Global};
 
 /// The engine of a run, with the device's bytes and the lines of the events so far.
 #[derive(Drop)]
-pub struct Replay {
-    engine: Engine,
+pub struct ReplayOf<B> {
+    engine: EngineOf<B>,
     reply: ReplyBuf,
     block: Vec<u8>,
     text: Vec<u8>,
     lines: String,
 }
 
-impl Replay {
+impl<B: Feeder> ReplayOf<B> {
     // Takes the engine's memory, before the first event.
-    fn new(alloc: Global) -> Result<Replay, AllocError>
-        ensures { IfOk result (λ replay. (pool : Pool) → HasPlayed replay pool []) }
+    fn new(alloc: Global, racks: RacksOf<B>) -> Result<ReplayOf<B>, AllocError>
+        requires { AreRacks B.kind (list_of racks) }
+        ensures { IfOk result (λ replay. (pool : Pool) → HasPlayed B.kind B.kept replay pool []) }
     {
         let device = Device::usual();
         // The greatest interrupt takes the device's whole ring.
         let room = device.ring_frames as usize * device.settings.frame_bytes();
-        Ok(Replay {
-            engine: Engine::new(alloc)?,
+        Ok(ReplayOf {
+            engine: EngineOf::new(alloc, racks)?,
             reply: ReplyBuf::new(alloc)?,
             block: vec![in alloc; 0; room]?,
             text: Vec::new(alloc),
@@ -59,8 +62,8 @@ impl Replay {
         requires there { at < length events.now }
         requires fits { All (Fits usual_device pool.now) events.now }
         requires count { length events.now ≤ EVENTS }
-        requires played { HasPlayed self.old pool.now (take at events.now) }
-        ensures { OnOk result (HasPlayed self.new pool.now (take (at + 1) events.now)) }
+        requires played { HasPlayed B.kind B.kept self.old pool.now (take at events.now) }
+        ensures { OnOk result (HasPlayed B.kind B.kept self.new pool.now (take (at + 1) events.now)) }
     {
         let count = self
             .engine
@@ -73,12 +76,18 @@ impl Replay {
 }
 
 /// Runs all events of a script.
-pub fn play(alloc: Global, events: &[Event], pool: &Pool) -> Result<Replay, AllocError>
+pub fn play<B: Feeder>(
+    alloc: Global,
+    racks: RacksOf<B>,
+    events: &[Event],
+    pool: &Pool,
+) -> Result<ReplayOf<B>, AllocError>
+    requires kinds { AreRacks B.kind (list_of racks) }
     requires fits { All (Fits usual_device pool.now) events.now }
     requires count { length events.now ≤ EVENTS }
-    ensures { IfOk result (λ replay. HasPlayed replay pool.now events.now) }
+    ensures { IfOk result (λ replay. HasPlayed B.kind B.kept replay pool.now events.now) }
 {
-    let mut replay = Replay::new(alloc)?;
+    let mut replay = ReplayOf::new(alloc, racks)?;
     for at in 0..events.len() {
         replay.step_at(alloc, events, pool, at)?;
     }
@@ -86,16 +95,18 @@ pub fn play(alloc: Global, events: &[Event], pool: &Pool) -> Result<Replay, Allo
 }
 
 /// Runs a script, and then writes what it leaves.
-pub fn run_script<F: Files, K: Sink>(
+pub fn run_script<B: Feeder, F: Files, K: Sink>(
     alloc: Global,
+    racks: RacksOf<B>,
     script: Script,
     files: &mut F,
     out: &mut K,
     name: &str,
-) -> Result<Engine, Ending>
+) -> Result<EngineOf<B>, Ending>
+    requires kinds { AreRacks B.kind (list_of racks) }
     requires fits { AllFit usual_device script }
     requires count { length script.events ≤ EVENTS }
-    ensures ran { IfOk result (λ engine. RanThrough engine (pool_of script) script.events) }
+    ensures ran { IfOk result (λ engine. RanThrough B.kept engine (pool_of script) script.events) }
     ensures ok { OnOk result (WritesRun (output_of (record { out = name.now; script = script }))
         (both (F.seen files.old) (K.seen out.old)) (both (F.seen files.new) (K.seen out.new))) }
     ensures err { IfErr result (λ ending. CutsShort ending
@@ -108,7 +119,7 @@ pub fn run_script<F: Files, K: Sink>(
         ..
     } = script;
     let pool = Pool { inline_bytes };
-    let Ok(replay) = play(alloc, events.as_slice(), &pool) else {
+    let Ok(replay) = play(alloc, racks, events.as_slice(), &pool) else {
         return Err(Ending::NoMemory);
     };
     let written = write_run(files, out, name, &replay.text, replay.lines.as_bytes());

@@ -2,6 +2,7 @@
 
 ghost use Rattle.std.specs.Prelude.{◌≡◌, ◌≢◌, ◌⊎◌, None, IfErr, IfOk, IsSomeAnd, IsTrue, map, string_bytes};
 ghost use Rattle.pcm_outside.specs.Counts.{Rose};
+ghost use Rattle.pcm_feeder.specs.Racks.{AreRacks, list_of};
 ghost use Rattle.pcm_script.specs.Lines.{pool_of};
 ghost use Rattle.pcm_verdict.specs.Faults.{status_of};
 ghost use Rattle.pcm_verdict.specs.Verdict.{Accepted, command_of};
@@ -17,18 +18,23 @@ use crate::reading::read_script;
 use crate::refusals::refuse_words;
 use crate::replay::run_script;
 use crate::words::command_in;
-use pcm_engine::Engine;
+use pcm_engine::EngineOf;
+use pcm_feeder::{Feeder, RacksOf};
 use pcm_outside::{Files, Sink};
 use std::alloc::Global;
 
-/// Does what the words ask for. The status that the program ends with is 0, or says what stopped it.
-pub fn dsp_main<F: Files, K: Sink>(
+/// Does what the words ask for, with stages out of the racks. The status that the program ends with is 0, or says what
+/// stopped it.
+pub fn dsp_main<B: Feeder, F: Files, K: Sink>(
     alloc: Global,
     words: &[String],
     files: &mut F,
     out: &mut K,
-    ran: &mut Option<Engine>,
+    racks: RacksOf<B>,
+    ran: &mut Option<EngineOf<B>>,
 ) -> u8
+    requires kinds { AreRacks B.kind (list_of racks) }
+
     ensures statuses { IsStatus result }
     ensures completeness { IsTrue (F.seen files.old).tells
         → MayEnd (verdict_on (map string_bytes words.now) (F.seen files.old)) result }
@@ -48,9 +54,9 @@ pub fn dsp_main<F: Files, K: Sink>(
     ensures engine { (accepted : Accepted) → result ≡ 0
         → IsAccepted (map string_bytes words.now) (F.seen files.old) accepted
         → IsSomeAnd ran.new
-        (λ engine. RanThrough engine (pool_of accepted.script) accepted.script.events) }
+        (λ engine. RanThrough B.kept engine (pool_of accepted.script) accepted.script.events) }
     ensures finished { result ≡ 0
-        → IsSomeAnd ran.new (λ engine. Finishes engine (map string_bytes words.now)
+        → IsSomeAnd ran.new (λ engine. Finishes B.kept engine (map string_bytes words.now)
         (both (F.seen files.old) (K.seen out.old)) (both (F.seen files.new) (K.seen out.new))) }
     ensures no_rise { result ≡ 0 → NoneRose
         (both (F.seen files.old) (K.seen out.old)) (both (F.seen files.new) (K.seen out.new)) }
@@ -79,7 +85,7 @@ pub fn dsp_main<F: Files, K: Sink>(
     ensures memory { result ≡ 8 → LacksMemory (map string_bytes words.now)
         (both (F.seen files.old) (K.seen out.old)) (both (F.seen files.new) (K.seen out.new)) }
 {
-    match replay(alloc, words, files, out) {
+    match replay(alloc, words, files, out, racks) {
         Ok(engine) => {
             *ran = Some(engine);
             0
@@ -93,13 +99,15 @@ pub fn dsp_main<F: Files, K: Sink>(
 }
 
 // The words are judged, the script is read and judged, and then it is run.
-fn replay<F: Files, K: Sink>(
+fn replay<B: Feeder, F: Files, K: Sink>(
     alloc: Global,
     words: &[String],
     files: &mut F,
     out: &mut K,
-) -> Result<Engine, Ending>
-    ensures ok { IfOk result (λ engine. Finishes engine (map string_bytes words.now)
+    racks: RacksOf<B>,
+) -> Result<EngineOf<B>, Ending>
+    requires kinds { AreRacks B.kind (list_of racks) }
+    ensures ok { IfOk result (λ engine. Finishes B.kept engine (map string_bytes words.now)
         (both (F.seen files.old) (K.seen out.old)) (both (F.seen files.new) (K.seen out.new))) }
     ensures err { IfErr result (λ ending. Ends ending (map string_bytes words.now)
         (both (F.seen files.old) (K.seen out.old)) (both (F.seen files.new) (K.seen out.new))) }
@@ -108,5 +116,5 @@ fn replay<F: Files, K: Sink>(
         return Err(refuse_words(out));
     };
     let script = read_script(alloc, command.script, files, out)?;
-    run_script(alloc, script, files, out, command.out)
+    run_script(alloc, racks, script, files, out, command.out)
 }

@@ -5,6 +5,6 @@ use Rattle.pcm_replay.proofs.replay.play.Goals as goal
 
 -- after the last event all were run
 pub returns : goal.returns
-returns c =
+returns g c =
     let past : length c.args.events.now ≤ c.loop-at.at = omega arith in
-    subst (HasPlayed c.loop-at.replay c.args.pool.now) (take_all c.loop-at.at c.args.events.now past) c.loop-at.invariant
+    subst (HasPlayed g.B.Feeder.kind g.B.Feeder.kept c.loop-at.replay c.args.pool.now) (take_all c.loop-at.at c.args.events.now past) c.loop-at.invariant

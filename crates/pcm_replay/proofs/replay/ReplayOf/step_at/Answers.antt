@@ -2,11 +2,11 @@ use Rattle.std.proofs.Common.{◌≡◌, ℕ, ◌+◌, ◌≤◌, ◌++◌, List
 use Rattle.std.proofs.lemmas.List.{take_more}
 use Rattle.pcm_replay.specs.Playing.{HasPlayed}
 use Rattle.pcm_replay.proofs.Plays.{front, played}
-use Rattle.pcm_replay.proofs.replay.Replay.step_at.Goals as goal
+use Rattle.pcm_replay.proofs.replay.ReplayOf.step_at.Goals as goal
 
 -- the events up to this one were run
 pub returns : goal.returns
-returns c =
+returns g c =
     let replay = c.args.self.now in
     let pool = c.args.pool.now in
     let xs = c.args.events.now in
@@ -19,10 +19,11 @@ returns c =
     let text : c.extend_from_slice.new.self.items ≡ replay.text.items ++ piece =
     c.in_ok-extend_from_slice.ensures.items ∙ ap (λ (bytes : List ℕ). replay.text.items ++ take c.step-count.result bytes) block in
     let line = c.as_str.ensures.value ∙ c.in_ok-line.ensures in
-    subst (HasPlayed _ pool) (sym (take_more xs c.args.at _ c.requires.there))
-    (played replay _ pool events _ piece (c.args.at + 1) c.step-count.new.reply
+    subst (HasPlayed g.B.Feeder.kind g.B.Feeder.kept _ pool) (sym (take_more xs c.args.at _ c.requires.there))
+    (played g.B.Feeder.kind g.B.Feeder.kept replay _ pool events _ piece (c.args.at + 1) c.step-count.new.reply
     (record {
       device = step.device;
+      ready = step.ready;
       stands = step.stands events;
       steps = step.steps;
       bytes = step.bytes events;

@@ -1,13 +1,14 @@
 use Rattle.std.proofs.Common.{ℕ, ◌*◌, ◌∙◌, ap}
 use Rattle.pcm_replay.specs.Playing.{ring_room}
-use Rattle.pcm_replay.proofs.replay.Replay.new.Goals as goal
+use Rattle.pcm_replay.proofs.replay.ReplayOf.new.Goals as goal
 
 pub returns : goal.returns
-returns c = λ pool. record {
+returns g c = λ pool. record {
   engine = record { device = c.in_ok-new.ensures.device; stands = c.in_ok-new.ensures.stands pool; steps = c.in_ok-new.ensures.steps };
+  ready = c.in_ok-new.ensures.ready;
   text = c.new-3.ensures.items;
   lines = c.new-4.ensures.bytes;
   room = c.in_ok-vec.ensures.len
       ∙ ap (λ (bytes : ℕ). c.usual-device.result.ring_frames * bytes) c.frame_bytes.ensures
-      ∙ ap ring_room c.usual-device.ensures;
+      ∙ ap ring_room c.usual-device.ensures.value;
 }

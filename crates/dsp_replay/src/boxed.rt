@@ -1,0 +1,39 @@
+//! A run with stages out of boxes that this program makes.
+
+ghost use Rattle.std.specs.Prelude.{◌≡◌, ◌≢◌, IfOk, None, map, string_bytes};
+ghost use Rattle.pcm_verdict.specs.Verdict.{command_of};
+ghost use Rattle.pcm_replay.specs.Outcomes.{IsStatus};
+
+use feed_format::DepthFeeder;
+use feed_matrix::MatrixFeeder;
+use feed_volume::VolumeFeeder;
+use pcm_feeder::{RACKS, RackFault, Racks, Six};
+use pcm_outside::{Files, Sink};
+use pcm_replay::dsp_main;
+use std::alloc::Global;
+
+/// Makes the racks of a run, and does with them what the words ask for. The status that the program ends with.
+// No function hands boxes out, so the run stands behind the making of its racks.
+pub fn run_boxed<F: Files, K: Sink>(
+    alloc: Global,
+    words: &[String],
+    files: &mut F,
+    out: &mut K,
+) -> Result<u8, RackFault>
+    ensures statuses { IfOk result IsStatus }
+    ensures usage { IfOk result (λ status. status ≡ 2 → command_of (map string_bytes words.now) ≡ None) }
+    ensures only_usage { command_of (map string_bytes words.now) ≡ None
+        → IfOk result (λ status. status ≢ 2 → status ≡ 7) }
+{
+    let mut boxes = Vec::new(alloc);
+    for _ in 0..RACKS {
+        boxes.push(Six {
+            matrix: Box::new(alloc, MatrixFeeder::new(alloc)?)?,
+            volume: Box::new(alloc, VolumeFeeder::new(alloc)?)?,
+            depth: Box::new(alloc, DepthFeeder::new(alloc)?)?,
+        })?;
+    }
+    let racks = Racks::of_boxes(alloc, boxes)?;
+    let mut ran = None;
+    Ok(dsp_main(alloc, words, files, out, racks, &mut ran))
+}
