@@ -2,6 +2,10 @@
 
 ghost use Rattle.std.specs.Prelude.{◌≡◌, IfOk, None};
 
+use feed_format::DepthFeeder;
+use feed_matrix::MatrixFeeder;
+use feed_volume::VolumeFeeder;
+use pcm_feeder::{RACKS, Racks, Six};
 use pcm_outside::{MemFiles, MemSink};
 use pcm_replay::dsp_main;
 use std::alloc::{AllocError, Global};
@@ -40,11 +44,33 @@ pub fn comes_to(
     expected: Expected,
 ) -> Result<bool, AllocError> {
     let (status, printed, content) = expected;
+    let has_ended = ends_with(alloc, words, files, out, status)?;
+    Ok(has_ended && out.bytes() == printed && has_file(files, content))
+}
+
+// Whether a call with these words, over racks of boxes, ends with that status, and with 0, and only then, leaves an engine.
+fn ends_with(
+    alloc: Global,
+    words: &[&str],
+    files: &mut MemFiles,
+    out: &mut MemSink,
+    status: u8,
+) -> Result<bool, AllocError> {
+    let mut boxes = Vec::new(alloc);
+    for _ in 0..RACKS {
+        boxes.push(Six {
+            matrix: Box::new(alloc, MatrixFeeder::new(alloc)?)?,
+            volume: Box::new(alloc, VolumeFeeder::new(alloc)?)?,
+            depth: Box::new(alloc, DepthFeeder::new(alloc)?)?,
+        })?;
+    }
+    let Ok(racks) = Racks::of_boxes(alloc, boxes) else {
+        return Ok(false);
+    };
     let words = owned(alloc, words)?;
     let mut ran = None;
-    let found = dsp_main(alloc, &words, files, out, &mut ran);
-    let has_ended = found == status && ran.is_some() == (status == 0);
-    Ok(has_ended && out.bytes() == printed && has_file(files, content))
+    let found = dsp_main(alloc, &words, files, out, racks, &mut ran);
+    Ok(found == status && ran.is_some() == (status == 0))
 }
 
 fn owned(alloc: Global, words: &[&str]) -> Result<Vec<String>, AllocError> {

@@ -1,7 +1,9 @@
-//! Tests of the stages and of what holds them: each feeder by itself and in a box, the racks, and the tables.
+//! Tests of the stages and of what holds them: each feeder by itself and in a box, the racks, the tables, and a chain.
 //! They hold what no clause says: that what is generic runs at concrete types, with ample memory.
 #![tactic(auto)]
 
+#[cfg(test)]
+mod chains;
 #[cfg(test)]
 mod depth;
 #[cfg(test)]

@@ -3,7 +3,7 @@
 use feed_format::DepthFeeder;
 use feed_matrix::MatrixFeeder;
 use feed_volume::VolumeFeeder;
-use pcm_feeder::{Feeder, Kind, Rack, RackOf, Racks, Six, SixOf, WrongCount, WrongKind};
+use pcm_feeder::{Feeder, Kind, Rack, RackFault, RackOf, Racks, Six, SixOf, WrongCount, WrongKind};
 use std::alloc::{AllocError, Global};
 use std::test::Fail;
 
@@ -18,8 +18,11 @@ fn boxed(alloc: Global, kind: Kind) -> Result<Box<dyn Feeder>, AllocError> {
     Ok(Box::new(alloc, DepthFeeder::new(alloc)?)?)
 }
 
+// The kinds that the places ask for, in their order.
+pub const RIGHT: [Kind; 3] = [Kind::Matrix, Kind::Volume, Kind::Depth];
+
 // Boxes of these kinds, in the order of the places.
-fn six(alloc: Global, kinds: [Kind; 3]) -> Result<Six, AllocError> {
+pub fn six(alloc: Global, kinds: [Kind; 3]) -> Result<Six, AllocError> {
     let [matrix, volume, depth] = kinds;
     Ok(Six {
         matrix: boxed(alloc, matrix)?,
@@ -57,7 +60,7 @@ fn the_first_wrong_box_is_told(rt: HostRuntime) -> Result<(), Fail> {
 fn racks(alloc: Global, count: usize) -> Result<Vec<Rack>, AllocError> {
     let mut list = Vec::new(alloc);
     for _ in 0..count {
-        if let Ok(rack) = Rack::new(six(alloc, [Kind::Matrix, Kind::Volume, Kind::Depth])?) {
+        if let Ok(rack) = Rack::new(six(alloc, RIGHT)?) {
             list.push(rack)?;
         }
     }
@@ -77,6 +80,44 @@ fn a_run_has_thirty_two_racks(rt: HostRuntime) -> Result<(), Fail> {
             Err(WrongCount { found: count })
         };
         assert_eq!(rt; answer, want, "{count} racks");
+    }
+    Ok(())
+}
+
+// So many six boxes, of the right kinds but for those at one place, which have a depth for their volume.
+fn boxes(alloc: Global, count: usize, wrong: Option<usize>) -> Result<Vec<Six>, AllocError> {
+    let mut list = Vec::new(alloc);
+    for at in 0..count {
+        let kinds = if wrong == Some(at) {
+            [Kind::Matrix, Kind::Depth, Kind::Depth]
+        } else {
+            RIGHT
+        };
+        list.push(six(alloc, kinds)?)?;
+    }
+    Ok(list)
+}
+
+#[test]
+fn boxes_make_the_racks_of_a_run(rt: HostRuntime) -> Result<(), Fail> {
+    let wrong_box = Err(RackFault::WrongBox(WrongKind {
+        place: Kind::Volume,
+        found: Kind::Depth,
+    }));
+    for (count, wrong, want) in [
+        (32, None, Ok(32)),
+        (31, None, Err(RackFault::Count(WrongCount { found: 31 }))),
+        (33, None, Err(RackFault::Count(WrongCount { found: 33 }))),
+        (32, Some(0), wrong_box),
+        (32, Some(31), wrong_box),
+        // A wrong box is told before the number.
+        (31, Some(30), wrong_box),
+    ] {
+        let answer = match Racks::of_boxes(rt.alloc(), boxes(rt.alloc(), count, wrong)?) {
+            Ok(racks) => Ok(racks.into_list().len()),
+            Err(fault) => Err(fault),
+        };
+        assert_eq!(rt; answer, want, "{count} racks, {wrong:?}");
     }
     Ok(())
 }
