@@ -11,9 +11,8 @@ use Rattle.pcm_num.specs.Limit.{clamped}
 use Rattle.pcm_format.specs.Frames.{Frame}
 use Rattle.pcm_format.specs.Layouts.{channels_of, positions_of}
 use Rattle.pcm_format.specs.declared.layout.Layout.{Layout}
-use Rattle.pcm_format.specs.declared.layout.Layout.TheVariants.{One, Two, Four, Six, Eight}
 use Rattle.pcm_format.specs.declared.layout.Position.{Position}
-use Rattle.pcm_format.proofs.Streams.{length-positions}
+use Rattle.pcm_format.proofs.Streams.{channels_of-most, length-positions}
 use Rattle.pcm_feeder.specs.Layouts.{weight, gathered, sum_of}
 use Rattle.feed_matrix.specs.Weights.{row_of, weighted_sum, AreWeights}
 
@@ -69,14 +68,6 @@ pub filled-more : {X : Type 0} (list out : List X) (i : ℕ) (x d : X) → i < l
     → take i out ≡ take i list → take (i + 1) (set out i x) ≡ take (i + 1) list
 filled-more list out i x d room within is before =
     take_more_set out i x room ∙ ap (λ front. front ++ x ∷ []) before ∙ ap (λ y. take i list ++ y ∷ []) is ∙ sym (take_more list i d within)
-
--- no layout has more than eight channels
-pub channels_of-most : (layout : Layout) → channels_of layout ≤ 8
-channels_of-most One = omega arith
-channels_of-most Two = omega arith
-channels_of-most Four = omega arith
-channels_of-most Six = omega arith
-channels_of-most Eight = omega arith
 
 -- one row more
 pub filled-rows : (from to : Layout) (rows : List (List ℕ)) (i : ℕ) (row : List ℕ) (target : Position) → i < length rows → slice_get (positions_of to) i ≡ Some target

@@ -3,7 +3,7 @@ use Rattle.std.proofs.Common.{◌≡◌, ◌<◌, ◌+◌, ℕ, zero, suc, ℤ, 
 use Rattle.std.specs.Simd.Lanes.{zip2}
 use Rattle.std.proofs.lemmas.Simd.{length-zip2}
 use Rattle.std.proofs.lemmas.List.{take_more_set}
-use Rattle.std.proofs.lemmas.List.Elements.{All-nil, All-cons, All-head, All-tail}
+use Rattle.std.proofs.lemmas.List.Elements.{All-head, All-tail}
 use Rattle.pcm_num.specs.Floor.{floor_div}
 use Rattle.pcm_num.proofs.Floors.{floor_div-mul}
 use Rattle.pcm_format.specs.Frames.{Frame}
@@ -44,14 +44,6 @@ put-sample gains frame output i v h k room is before =
 -- a frame has as many samples as before
 pub length-at_gains : (gains : List ℕ) (frame : Frame) → length frame ≡ length gains → length (at_gains gains frame) ≡ length gains
 length-at_gains gains frame same = length-zip2 scaled gains frame (omega arith)
-
--- and so has each frame of a list
-pub at_gains-channels : (gains : List ℕ) (list : List Frame) → HaveChannels (length gains) list → HaveChannels (length gains) (map (at_gains gains) list)
-at_gains-channels gains [] have = All-nil (λ frame. length frame ≡ length gains)
-at_gains-channels gains (frame ∷ list) have =
-    let P : Frame → Type 0 = λ f. length f ≡ length gains in
-    All-cons P (at_gains gains frame) (map (at_gains gains) list)
-    (length-at_gains gains frame (All-head P frame list have)) (at_gains-channels gains list (All-tail P frame list have))
 
 -- ---- a gain of one on both sides
 

@@ -1,10 +1,7 @@
 -- The frames that a volume stage gives, written at the front of its output.
-use Rattle.std.proofs.Common.{◌≡◌, ◌≤◌, ◌<◌, ◌+◌, ◌*◌, ◌/◌, ℕ, ℤ, List, [], ◌∷◌, ◌++◌, length, map, take, drop, min, sym, ap, ◌∙◌, arith}
-use Rattle.std.proofs.Math.Nat.{le-div_iff_mul-le}
-use Rattle.std.proofs.lemmas.List.{length-map, length-take-le, drop-drop, map-append}
+use Rattle.std.proofs.Common.{◌≡◌, ◌≤◌, ◌*◌, ◌/◌, ℕ, ℤ, List, ◌++◌, length, map, take, drop, min, sym, ap, ◌∙◌}
+use Rattle.std.proofs.lemmas.List.{length-take-le}
 use Rattle.std.proofs.lemmas.List.Elements.{All-take}
-use Rattle.std.proofs.lemmas.List.FromFn.{take-map-range_with_len, map-range_with_len_more}
-use borrow.Rule.Slice.PartMut.{put_mid}
 use Rattle.pcm_format.specs.Frames.{Frame}
 use Rattle.pcm_format.specs.Layouts.{channels_of}
 use Rattle.pcm_format.specs.declared.layout.Layout.{Layout}
@@ -13,54 +10,13 @@ use Rattle.pcm_feeder.specs.declared.stage.Gain.{Gain}
 use Rattle.pcm_feeder.specs.declared.stage.Spec.TheVariants.{Volume}
 use Rattle.pcm_feeder.specs.Filters.{Filters}
 use Rattle.pcm_feeder.specs.Layouts.{at_gain}
-use Rattle.pcm_feeder.specs.Streams.{frames_of, interleaved, written}
+use Rattle.pcm_feeder.specs.Streams.{frames_of, written}
 use Rattle.pcm_feeder.specs.Kept.{Kept, fresh}
 use Rattle.pcm_feeder.specs.Turns.{Turn, fed, MapsFrames}
-use Rattle.pcm_feeder.proofs.Frames.{frame_in, frames_of-channels, interleaved-take, length-interleaved, length-frames_of, written-more}
+use Rattle.pcm_feeder.proofs.Frames.{frames_of-channels, interleaved-take, length-frames_of}
+use Rattle.pcm_feeder.proofs.Mapped.{frames-there}
 use Rattle.pcm_feeder.proofs.Unrated.{fed-volume}
-use Rattle.feed_volume.specs.Gains.{at_gains}
-use Rattle.feed_volume.proofs.Gains.{at_gains-channels, unity-same}
-
--- ---- frame by frame
-
--- one frame more of interleaved samples
-take-more : (c k : ℕ) (samples : List ℤ) → k + 1 ≤ length samples / c → take (k + 1) (frames_of c samples) ≡ take k (frames_of c samples) ++ frame_in c samples k ∷ []
-take-more c k samples within =
-    let n = length samples / c in
-    take-map-range_with_len (frame_in c samples) 0 n (k + 1) within
-    ∙ map-range_with_len_more (frame_in c samples) 0 k k (omega arith)
-    ∙ ap (λ list. list ++ frame_in c samples k ∷ []) (sym (take-map-range_with_len (frame_in c samples) 0 n k (omega arith)))
-
--- the samples of the first k frames
-length-first : (gains : List ℕ) (k : ℕ) (samples : List ℤ) → k ≤ length samples / length gains
-    → length (interleaved (map (at_gains gains) (take k (frames_of (length gains) samples)))) ≡ k * length gains
-length-first gains k samples within =
-    let c = length gains in
-    let list = take k (frames_of c samples) in
-    let P : Frame → Type 0 = λ frame. length frame ≡ c in
-    length-interleaved c (map (at_gains gains) list) (at_gains-channels gains list (All-take P k (frames_of c samples) (frames_of-channels c samples)))
-    ∙ ap (λ n. n * c) (length-map list (at_gains gains) ∙ length-take-le k (frames_of c samples) (omega (arith, length-frames_of c samples)))
-
--- one more frame is written
-pub put-more : (gains : List ℕ) (k : ℕ) (samples old output piece : List ℤ) → k + 1 ≤ length samples / length gains
-    → output ≡ written (map (at_gains gains) (take k (frames_of (length gains) samples))) old
-    → piece ≡ at_gains gains (frame_in (length gains) samples k) → length piece ≡ length gains
-    → put_mid (k * length gains) (length gains) output piece ≡ written (map (at_gains gains) (take (k + 1) (frames_of (length gains) samples))) old
-put-more gains k samples old output piece within before is long =
-    let c = length gains in
-    let f = at_gains gains in
-    let frames = take k (frames_of c samples) in
-    let list = map f frames in
-    ap (λ out. put_mid (k * c) c out piece) before
-    ∙ ap (λ rest. take (k * c) (written list old) ++ (piece ++ rest)) (drop-drop c (k * c) (written list old))
-    ∙ ap (λ n. take (k * c) (written list old) ++ (piece ++ drop (k * c + n) (written list old))) (sym long)
-    ∙ written-more list piece old (k * c) (length-first gains k samples (omega arith))
-    ∙ ap (λ frame. written (list ++ frame ∷ []) old) is
-    ∙ ap (λ all. written all old) (sym (map-append f frames (frame_in c samples k ∷ [])) ∙ ap (map f) (sym (take-more c k samples within)))
-
--- so many frames whose samples are there are whole
-pub frames-there : (c n k : ℕ) → 0 < c → k * c ≤ n → k ≤ n / c
-frames-there c n k above fits = (le-div_iff_mul-le {k = c} {x = k} {y = n} above).1 fits
+use Rattle.feed_volume.proofs.Gains.{unity-same}
 
 -- ---- a gain of one on both sides
 

@@ -3,10 +3,10 @@ use Rattle.std.proofs.lemmas.List.{get_or-map, length-map, length-set}
 use Rattle.std.proofs.lemmas.List.Elements.{All-set}
 use Rattle.std.proofs.lemmas.Option.{get_or_from_slice_get}
 use Rattle.pcm_format.specs.Layouts.{positions_of}
-use Rattle.pcm_format.proofs.Streams.{length-positions}
+use Rattle.pcm_format.proofs.Streams.{channels_of-most, length-positions}
 use Rattle.pcm_feeder.specs.Layouts.{weight}
 use Rattle.feed_matrix.specs.Weights.{row_of}
-use Rattle.feed_matrix.proofs.Weights.{channels_of-most, filled-more}
+use Rattle.feed_matrix.proofs.Weights.{filled-more}
 use Rattle.feed_matrix.proofs.weight.row.Goals as goal
 
 pub loop-at-preserved : goal.loop-at-preserved

@@ -2,9 +2,9 @@ use Rattle.std.proofs.Common.{◌≡◌, ◌<◌, map, take, length, ap, ◌∙�
 use Rattle.std.proofs.lemmas.List.{length-map, length-set, take_all}
 use Rattle.std.proofs.lemmas.List.Elements.{All-set}
 use Rattle.pcm_format.specs.Layouts.{channels_of, positions_of}
-use Rattle.pcm_format.proofs.Streams.{length-positions}
+use Rattle.pcm_format.proofs.Streams.{channels_of-most, length-positions}
 use Rattle.feed_matrix.specs.Weights.{row_of, AreAtMostOne}
-use Rattle.feed_matrix.proofs.Weights.{channels_of-most, filled-rows}
+use Rattle.feed_matrix.proofs.Weights.{filled-rows}
 use Rattle.feed_matrix.proofs.weight.weights.Goals as goal
 
 pub loop-at-preserved : goal.loop-at-preserved

@@ -5,7 +5,7 @@ use borrow.Rule.Slice.PartMut.{put_mid}
 use Rattle.pcm_feeder.proofs.Frames.{frame_in}
 use Rattle.feed_volume.specs.Gains.{at_gains}
 use Rattle.feed_volume.proofs.Gains.{length-at_gains}
-use Rattle.feed_volume.proofs.Written.{put-more, frames-there}
+use Rattle.pcm_feeder.proofs.Mapped.{put-more, frames-there}
 use Rattle.feed_volume.proofs.volume.put_at_gains.Goals as goal
 
 pub loop-k-preserved : goal.loop-k-preserved
@@ -20,4 +20,4 @@ loop-k-preserved c =
     let is = c.put_frame.ensures ∙ ap (λ w. at_gains gains (take w (drop (k * n) input))) width in
     let long = ap length is ∙ length-at_gains gains (frame_in n input k) (length-take-le n (drop (k * n) input) (omega (arith, length-drop (k * n) input))) in
     ap (λ w. put_mid (k * n) w c.loop-k.output c.put_frame.new.output) width
-    ∙ put-more gains k input c.args.output.now c.loop-k.output c.put_frame.new.output (frames-there n (length input) (k + 1) c.requires.some fits) c.loop-k.invariant is long
+    ∙ put-more (at_gains gains) n n k input c.args.output.now c.loop-k.output c.put_frame.new.output (length-at_gains gains) (frames-there n (length input) (k + 1) c.requires.some fits) c.loop-k.invariant is long

@@ -3,7 +3,8 @@ use borrow.Rule.Slice.PartMut.{put_mid}
 use Rattle.pcm_format.specs.Layouts.{channels_of}
 use Rattle.pcm_format.proofs.Streams.{channels_of-above}
 use Rattle.pcm_feeder.specs.Layouts.{in_layout}
-use Rattle.feed_matrix.proofs.Written.{put-more, frames-there, length-in_layout}
+use Rattle.pcm_feeder.proofs.Mapped.{put-more, frames-there}
+use Rattle.feed_matrix.proofs.Written.{length-in_layout}
 use Rattle.feed_matrix.proofs.matrix.Fitted.put_frames.Goals as goal
 
 pub loop-k-preserved : goal.loop-k-preserved
@@ -18,9 +19,9 @@ loop-k-preserved c =
     let place : l.k * c.channels-given.result ≡ l.k * given = ap (λ n. l.k * n) c.channels-given.ensures in
     let size : l.k * c.channels-taken.result + c.channels-taken.result - l.k * c.channels-taken.result ≡ taken = omega (arith, c.channels-taken.ensures) in
     let start : l.k * c.channels-taken.result ≡ l.k * taken = ap (λ n. l.k * n) c.channels-taken.ensures in
+    let is = c.put_frame.ensures ∙ ap (λ n. in_layout fitted.from fitted.to (take n (drop (l.k * c.channels-taken.result) input))) size
+    ∙ ap (λ n. in_layout fitted.from fitted.to (take taken (drop n input))) start in
     ap (λ n. put_mid (l.k * c.channels-given.result) n l.output c.put_frame.new.output) long
     ∙ ap (λ n. put_mid n given l.output c.put_frame.new.output) place
-    ∙ put-more (in_layout fitted.from fitted.to) taken given l.k input c.args.output.now l.output c.put_frame.new.output (length-in_layout fitted.from fitted.to)
-    (omega (arith, there, c.loop-k-test.true)) l.invariant
-    (c.put_frame.ensures ∙ ap (λ n. in_layout fitted.from fitted.to (take n (drop (l.k * c.channels-taken.result) input))) size
-    ∙ ap (λ n. in_layout fitted.from fitted.to (take taken (drop n input))) start)
+    ∙ put-more (in_layout fitted.from fitted.to) taken given l.k input c.args.output.now l.output c.put_frame.new.output (λ frame fits. length-in_layout fitted.from fitted.to frame)
+    (omega (arith, there, c.loop-k-test.true)) l.invariant is (ap length is ∙ length-in_layout fitted.from fitted.to (take taken (drop (l.k * taken) input)))
