@@ -1,3 +1,4 @@
 pub mod Limits
 pub mod Floors
 pub mod Fractions
+pub mod Reciprocals

@@ -1,3 +1,4 @@
 pub mod Limit
 pub mod Floor
 pub mod Fraction
+pub mod Reciprocal

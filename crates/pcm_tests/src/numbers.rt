@@ -1,6 +1,6 @@
 //! The arithmetic of samples and rates.
 
-use pcm_num::{clamp_bits, floor_shift, mul_div, reduce};
+use pcm_num::{Reciprocal, clamp_bits, floor_shift, mul_div, reduce};
 
 #[test]
 fn the_limit_at_its_edges(rt: HostRuntime) {
@@ -52,5 +52,44 @@ fn rates_reduce_and_scale(rt: HostRuntime) {
             scaled,
             "100 frames, {src} over {dst}"
         );
+    }
+}
+
+// A quotient by a reciprocal. None for what is past its limits.
+fn divided(n: u64, divisor: u32) -> Option<u64> {
+    if divisor <= 16 || divisor >= 262144 || n >= 4294967296 * u64::from(divisor) {
+        return None;
+    }
+    Some(Reciprocal::of(divisor).quotient(n))
+}
+
+#[test]
+fn a_reciprocal_divides(rt: HostRuntime) {
+    // A divisor, a number, and the quotient: around the first step and the last, and the greatest
+    // number.
+    let rows: [(u32, u64, u64); 20] = [
+        (17, 0, 0),
+        (17, 16, 0),
+        (17, 17, 1),
+        (17, 73014444014, 4294967294),
+        (17, 73014444015, 4294967295),
+        (17, 73014444031, 4294967295),
+        (147, 146, 0),
+        (147, 147, 1),
+        (147, 631360192511, 4294967295),
+        (160, 159, 0),
+        (160, 160, 1),
+        (160, 687194767359, 4294967295),
+        (191999, 191998, 0),
+        (191999, 191999, 1),
+        (191999, 824629425864703, 4294967295),
+        (192000, 191999, 0),
+        (192000, 192000, 1),
+        (192000, 824633720831999, 4294967295),
+        (262143, 1125895611613184, 4294967294),
+        (262143, 1125895611875327, 4294967295),
+    ];
+    for (divisor, n, want) in rows {
+        assert_eq!(rt; divided(n, divisor), Some(want), "{n} by {divisor}");
     }
 }
