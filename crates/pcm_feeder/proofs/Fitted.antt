@@ -108,7 +108,7 @@ eaten-least rate kept o (suc j) above =
 -- ---- the bounds
 
 -- so the next output is never too far behind
-ahead-most-after : (rate : Rate) (kept : Kept) (o want : ℕ) → 0 < rate.src → 0 < rate.dst → kept.phase < rate.dst → kept.ahead ≤ℤ pos (1 + rate.lookahead)
+pub ahead-most-after : (rate : Rate) (kept : Kept) (o want : ℕ) → 0 < rate.src → 0 < rate.dst → kept.phase < rate.dst → kept.ahead ≤ℤ pos (1 + rate.lookahead)
     → (kept.ahead +ℤ pos (eaten_by rate kept.phase kept.ahead o want) -ℤ pos (step_of rate kept.phase (given_by rate kept.phase kept.ahead o want))) ≤ℤ pos (1 + rate.lookahead)
 ahead-most-after rate kept o zero src dst phase most =
     let none : given_by rate kept.phase kept.ahead o 0 ≡ 0 = omega arith in
@@ -121,7 +121,7 @@ ahead-most-after rate kept o (suc j) src dst phase most =
     ]
 
 -- nor too far ahead
-ahead-least-after : (rate : Rate) (kept : Kept) (o want : ℕ) → 0 < rate.src → 0 < rate.dst → kept.phase < rate.dst
+pub ahead-least-after : (rate : Rate) (kept : Kept) (o want : ℕ) → 0 < rate.src → 0 < rate.dst → kept.phase < rate.dst
     → neg_ℤ (pos (rate.src / rate.dst)) ≤ℤ kept.ahead
     → neg_ℤ (pos (rate.src / rate.dst)) ≤ℤ (kept.ahead +ℤ pos (eaten_by rate kept.phase kept.ahead o want) -ℤ pos (step_of rate kept.phase (given_by rate kept.phase kept.ahead o want)))
 ahead-least-after rate kept o want src dst phase least = from_given (given_by rate kept.phase kept.ahead o want) refl

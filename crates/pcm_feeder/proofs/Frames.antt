@@ -96,7 +96,7 @@ frames_of-append c samples more above even =
         ap (λ z. take c (drop z (samples ++ more))) place ∙ ap (take c) (drop-append-add samples more (i * c))
 
 -- one frame
-frames_of-one : (c : ℕ) (frame : Frame) → 0 < c → length frame ≡ c → frames_of c frame ≡ frame ∷ []
+pub frames_of-one : (c : ℕ) (frame : Frame) → 0 < c → length frame ≡ c → frames_of c frame ≡ frame ∷ []
 frames_of-one c frame above has =
     let one : length frame / c ≡ 1 = ap (λ z. z / c) (omega arith) ∙ mul-div_cancel 1 above in
     let start : 0 * c ≡ 0 = omega arith in

@@ -6,6 +6,8 @@ pub mod Past
 pub mod Outputs
 pub mod Turns
 pub mod Fitted
+pub mod Paces
+pub mod Writing
 pub mod Unrated
 pub mod Silence
 pub mod Driven

@@ -6,4 +6,6 @@ pub mod Layouts
 pub mod Stages
 pub mod Kept
 pub mod Turns
+pub mod Fractions
+pub mod Pace
 pub mod Racks

@@ -21,6 +21,8 @@ pub record Place (B : Type 0) : Type 0 where
 abbrev pub places_of : {B : Type 0} → SixOf B → List (Place B)
 places_of six =
     record { asks = kinds.Matrix; box = six.matrix }
+    ∷ record { asks = kinds.Hold; box = six.hold }
+    ∷ record { asks = kinds.Linear; box = six.linear }
     ∷ record { asks = kinds.Volume; box = six.volume }
     ∷ record { asks = kinds.Depth; box = six.depth } ∷ []
 
@@ -38,6 +40,8 @@ IsFirstWrong kind (place ∷ rest) wrong =
 -- each box is of the kind that its place asks for
 pub record HaveKinds {B : Type 0} (kind : B → Kind) (six : SixOf B) : Type 0 where
   pub matrix : kind six.matrix ≡ kinds.Matrix
+  pub hold : kind six.hold ≡ kinds.Hold
+  pub linear : kind six.linear ≡ kinds.Linear
   pub volume : kind six.volume ≡ kinds.Volume
   pub depth : kind six.depth ≡ kinds.Depth
 
@@ -77,11 +81,11 @@ IsRackFault kind boxes (WrongBox found) = IsFirstFault kind boxes found
 IsRackFault kind boxes (Count found) = (found.found ≡ length boxes) × (length boxes ≢ rack_count)
 IsRackFault kind boxes Memory = Unit {0}
 
--- A rack has a box for a stage. So far it has one for each stage that keeps the rate.
+-- A rack has a box for a stage. So far it has none for a filter.
 abbrev pub HasBox : Spec → Type 0
 HasBox (Matrix from to) = Unit {0}
-HasBox (Hold src dst channels) = ⊥
-HasBox (Linear src dst channels) = ⊥
+HasBox (Hold src dst channels) = Unit {0}
+HasBox (Linear src dst channels) = Unit {0}
 HasBox (Poly src dst channels table taps) = ⊥
 HasBox (Volume layout) = Unit {0}
 HasBox (Depth bits channels) = Unit {0}

@@ -3,18 +3,22 @@
 #![tactic(auto)]
 
 mod feeder;
+mod history;
 mod kind;
 mod laws;
+mod pace;
 mod rack;
 mod stage;
 mod table;
 
 pub use feeder::Feeder;
+pub use history::{frame_among, move_on};
 pub use kind::Kind;
 pub use laws::{
     a_feed_continues_its_stream, allowed_outputs_reach_no_further, frames_are_samples,
     outputs_use_what_is_needed, silence_stays_silence, stages_without_a_rate_map_frames,
 };
+pub use pace::{Pace, Step};
 pub use rack::{RACKS, Rack, RackFault, RackOf, Racks, RacksOf, Six, SixOf, WrongCount, WrongKind};
 pub use stage::{Gain, Moved, Spec, UNITY};
 pub use table::{Coefs, Table, Tables};

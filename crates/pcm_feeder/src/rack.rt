@@ -13,6 +13,8 @@ pub const RACKS: usize = 32;
 #[derive(Drop)]
 pub struct SixOf<B> {
     pub matrix: B,
+    pub hold: B,
+    pub linear: B,
     pub volume: B,
     pub depth: B,
 }
@@ -42,6 +44,8 @@ impl<B: Feeder> RackOf<B> {
         ensures wrong { IfErr result (IsFirstWrong B.kind (places_of six)) }
     {
         is_of_kind(&six.matrix, Kind::Matrix)?;
+        is_of_kind(&six.hold, Kind::Hold)?;
+        is_of_kind(&six.linear, Kind::Linear)?;
         is_of_kind(&six.volume, Kind::Volume)?;
         is_of_kind(&six.depth, Kind::Depth)?;
         Ok(RackOf { boxes: six })
