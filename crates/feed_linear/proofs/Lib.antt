@@ -1,0 +1,4 @@
+pub mod Blends
+pub mod Sides
+pub mod Lines
+pub mod Outputs
