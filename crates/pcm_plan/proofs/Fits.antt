@@ -1,9 +1,9 @@
 -- What the stages of a plan are: they fit each other, and their filters are there.
 use Rattle.std.specs.List.{position_or_len}
-use Rattle.std.proofs.Common.{subst, nat_lt, Bool, ◌≡◌, ◌≢◌, ◌≤◌, ◌<◌, ◌+◌, ◌/◌, ◌==◌, ℕ, nat_le, Option, Some, None, List, [], ◌∷◌, ◌++◌, length, refl, sym, ap, ◌∙◌, arith, cond}
+use Rattle.std.proofs.Common.{subst, nat_lt, Bool, ◌≡◌, ◌≢◌, ◌≤◌, ◌<◌, ◌+◌, ◌/◌, ◌==◌, ℕ, zero, suc, nat_le, Option, Some, None, List, [], ◌∷◌, ◌++◌, length, refl, sym, ap, ◌∙◌, arith, cond}
 use Rattle.std.specs.Prelude.{IfSome, All, position}
 use Rattle.std.proofs.lemmas.Bool.{cond_both, eqb-true, eqb-false, ltb-true}
-use Rattle.std.proofs.lemmas.List.{length-append}
+use Rattle.std.proofs.lemmas.List.{append_assoc, length-append}
 use Rattle.std.proofs.lemmas.List.Elements.{All-nil, All-cons, All-head, All-tail, All-append, All-weaker}
 use Rattle.std.proofs.lemmas.Option.{slice_get-get_or}
 use Rattle.pcm_format.specs.declared.format.Format.{Format}
@@ -26,7 +26,7 @@ use Rattle.pcm_feeder.specs.Racks.{HasBox}
 use Rattle.pcm_feeder.specs.Stages.{rate_of, channels_in, channels_out, table_at}
 use Rattle.pcm_feeder.proofs.Outputs.{src-above, dst-above}
 use Rattle.pcm_plan.specs.Plans.{PlanSeen, matrix_stages, is_for, or_else, filter_for, filter_or_line, converter_of, rate_stages, depth_stages, converting, plan_play, rate_among, rate_in_plan}
-use Rattle.pcm_plan.specs.Fits.{Follow, AreDistinct, IsUnrated, HaveOneRate, IsPlan, HaveTables}
+use Rattle.pcm_plan.specs.Fits.{Follow, AreDistinct, IsUnrated, HaveOneRate, GainIsLate, IsPlan, HaveTables}
 
 -- ---- the rate of stages
 
@@ -47,16 +47,6 @@ rate-ratio (Depth bits channels ∷ specs) have = rate-ratio specs (All-tail (λ
 pub ratio-in : (plan : PlanSeen) → IsPlan plan → IsRatio (rate_in_plan plan)
 ratio-in plan is =
     rate-ratio plan.stages (All-weaker IsSpec (λ spec. IsRatio (rate_of spec)) (λ spec limits. record { src = src-above spec limits; dst = dst-above spec limits }) plan.stages is.specs)
-
--- where each stage has a box, the rate is unchanged
-pub rate-boxes : (specs : List Spec) → All HasBox specs → rate_among specs ≡ unchanged
-rate-boxes [] have = refl
-rate-boxes (Matrix from to ∷ specs) have = rate-boxes specs (All-tail HasBox (Matrix from to) specs have)
-rate-boxes (Hold src dst channels ∷ specs) have = absurd (All-head HasBox (Hold src dst channels) specs have)
-rate-boxes (Linear src dst channels ∷ specs) have = absurd (All-head HasBox (Linear src dst channels) specs have)
-rate-boxes (Poly src dst channels table taps ∷ specs) have = absurd (All-head HasBox (Poly src dst channels table taps) specs have)
-rate-boxes (Volume layout ∷ specs) have = rate-boxes specs (All-tail HasBox (Volume layout) specs have)
-rate-boxes (Depth bits channels ∷ specs) have = rate-boxes specs (All-tail HasBox (Depth bits channels) specs have)
 
 -- ---- stages in two parts
 
@@ -94,7 +84,7 @@ differ n m before after other first second k d within i e below same =
     other (sym (first k d within) ∙ ap rank_of same ∙ second i e below)
 
 -- one stage at most changes the rate, where none behind it does
-one-rate-unrated : (specs : List Spec) → All IsUnrated specs → HaveOneRate specs
+pub one-rate-unrated : (specs : List Spec) → All IsUnrated specs → HaveOneRate specs
 one-rate-unrated [] all = tt
 one-rate-unrated (Matrix from to ∷ specs) all = one-rate-unrated specs (All-tail IsUnrated (Matrix from to) specs all)
 one-rate-unrated (Hold src dst channels ∷ specs) all = All-tail IsUnrated (Hold src dst channels) specs all
@@ -224,9 +214,16 @@ play-tables tables quality client device are from to =
     (λ layout differs. each-converter (λ spec. HasTable spec tables) tables quality client.rate device.rate (channels_of layout) tt tt
     (λ place below. has-table tables client.rate device.rate (channels_of layout) place below)) tt tt
 
--- between equal rates each stage has a box
-pub play-boxes : (tables : Filters) (quality : ℕ) (client device : Settings) → client.rate ≡ device.rate → All HasBox (plan_play tables quality client device).stages
-play-boxes tables quality client device same = each-stage HasBox tables quality client device tt (λ layout differs. absurd (differs same)) tt tt
+-- a hold and a line have a box
+line-box : (tables : Filters) (quality src dst channels : ℕ) → quality ≤ 1 → HasBox (converter_of tables quality src dst channels)
+line-box tables zero src dst channels low = tt
+line-box tables (suc zero) src dst channels low = tt
+line-box tables (suc (suc quality)) src dst channels low = absurd (omega arith)
+
+-- up to lines each stage has a box
+pub play-boxes : (tables : Filters) (quality : ℕ) (client device : Settings) → quality ≤ 1 → All HasBox (plan_play tables quality client device).stages
+play-boxes tables quality client device low =
+    each-stage HasBox tables quality client device tt (λ layout differs. line-box tables quality client.rate device.rate (channels_of layout) low) tt tt
 
 -- both rates of its converter are above 0
 pub play-ratio : (tables : Filters) (quality : ℕ) (client device : Settings) → IsRate client.rate → IsRate device.rate → IsRatio (rate_in_plan (plan_play tables quality client device))
@@ -364,6 +361,27 @@ volume-end layout bits =
     (λ whole. end-append layout [] (part-none c c 2 refl) (All-nil Other) (All-nil IsUnrated))
     (λ fewer. end-append layout (Depth bits c ∷ []) (part-one 2 (Depth bits c) refl) (All-cons Other (Depth bits c) [] other (All-nil Other)) (All-cons IsUnrated (Depth bits c) [] refl (All-nil IsUnrated)))
 
+-- the gain comes behind the converter
+late-matrix : (from to : Layout) (rest : List Spec) → GainIsLate rest → GainIsLate (matrix_stages from to ++ rest)
+late-matrix from to rest late =
+    cond_both (channels_of from == channels_of to) [] (Matrix from to ∷ []) (λ row. GainIsLate (row ++ rest)) (λ same. late) (λ other. late)
+
+late-rate : (tables : Filters) (quality src dst channels : ℕ) (rest : List Spec) → GainIsLate rest → GainIsLate (rate_stages tables quality src dst channels ++ rest)
+late-rate tables quality src dst channels rest late =
+    cond_both (src == dst) [] (converter_of tables quality src dst channels ∷ []) (λ row. GainIsLate (row ++ rest)) (λ same. late)
+    (λ other. each-converter (λ spec. GainIsLate (spec ∷ rest)) tables quality src dst channels late late (λ place below. late))
+
+late-converting : (tables : Filters) (quality : ℕ) (source target : Settings) (rest : List Spec) → GainIsLate rest → GainIsLate (converting tables quality source target ++ rest)
+late-converting tables quality source target rest late =
+    let up = rate_stages tables quality source.rate target.rate (channels_of source.layout) in
+    let down = rate_stages tables quality source.rate target.rate (channels_of target.layout) in
+    let moved = matrix_stages source.layout target.layout in
+    cond_both (nat_le (channels_of target.layout) (channels_of source.layout)) (moved ++ down) (up ++ moved) (λ row. GainIsLate (row ++ rest))
+    (λ fewer. subst GainIsLate (sym (append_assoc moved down rest))
+    (late-matrix source.layout target.layout (down ++ rest) (late-rate tables quality source.rate target.rate (channels_of target.layout) rest late)))
+    (λ more. subst GainIsLate (sym (append_assoc up moved rest))
+    (late-rate tables quality source.rate target.rate (channels_of source.layout) (moved ++ rest) (late-matrix source.layout target.layout rest late)))
+
 -- the stages of a client's plan fit each other
 pub play-fits : (tables : Filters) (quality : ℕ) (client device : Settings) → AreFilters tables.list → IsRate client.rate → IsRate device.rate
     → IsPlan (plan_play tables quality client device)
@@ -375,4 +393,4 @@ play-fits tables quality client device are from to =
     let first = converting-way tables quality client device in
     let last = volume-end device.layout (bits_of device.format) in
     let row = row-append c d d 2 2 way behind first.row last.part.row (first.other behind last.part.ranks) (one-rate-append way behind first.row.one_rate last.unrated) in
-    record { follow = row.follow; specs = play-specs tables quality client device are from to; distinct = row.distinct; one_rate = row.one_rate; count = row.count }
+    record { follow = row.follow; specs = play-specs tables quality client device are from to; distinct = row.distinct; one_rate = row.one_rate; late_gain = late-converting tables quality client device behind (All-tail IsUnrated (Volume device.layout) (depth_stages (bits_of device.format) d) last.unrated); count = row.count }

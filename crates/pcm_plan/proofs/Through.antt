@@ -4,10 +4,9 @@ use Rattle.std.specs.Prelude.{All}
 use Rattle.std.specs.List.{range_with_len}
 use Rattle.std.proofs.Math.Path.{fun_ext}
 use Rattle.std.proofs.lemmas.Int.{ints}
-use Rattle.std.proofs.lemmas.List.{map-id, length-map, length-replicate, ext_get_or}
-use Rattle.std.proofs.lemmas.List.FromFn.{length-map-range_with_len, get_or-map-range_with_len}
+use Rattle.std.proofs.lemmas.List.{length-replicate}
+use Rattle.std.proofs.lemmas.List.FromFn.{length-map-range_with_len}
 use Rattle.std.proofs.lemmas.List.Elements.{All-head, All-tail, All-map}
-use Rattle.std.proofs.lemmas.Simd.{map-map}
 use Rattle.pcm_format.specs.Frames.{Frame}
 use Rattle.pcm_format.specs.Layouts.{channels_of}
 use Rattle.pcm_format.proofs.Ranges.{map-range-same, map-range-shift, map-range-add}
@@ -18,56 +17,30 @@ use Rattle.pcm_feeder.specs.declared.stage.Spec.{Spec}
 use Rattle.pcm_feeder.specs.declared.stage.Spec.TheVariants.{Matrix, Hold, Linear, Poly, Volume, Depth}
 use Rattle.pcm_feeder.specs.Filters.{Filters}
 use Rattle.pcm_feeder.specs.Limits.{IsSpec}
-use Rattle.pcm_feeder.specs.Racks.{HasBox}
-use Rattle.pcm_feeder.specs.Stages.{rate_of, channels_in, channels_out, all_outputs}
-use Rattle.pcm_feeder.specs.Streams.{Stream, stream_of, silence, HaveChannels}
-use Rattle.pcm_feeder.proofs.Driven.{all_outputs-matrix, all_outputs-volume, all_outputs-depth}
+use Rattle.pcm_feeder.specs.Stages.{rate_of, channels_out, all_outputs}
+use Rattle.pcm_feeder.specs.Streams.{Stream, stream_of, HaveChannels}
 use Rattle.pcm_feeder.proofs.Outputs.{conv-local, dst-above}
 use Rattle.pcm_feeder.proofs.Streams.{stream-append, stream-channels}
 use Rattle.pcm_feeder.proofs.Turns.{length-conv}
 use Rattle.pcm_plan.specs.Fits.{Follow, IsUnrated, HaveOneRate, IsPlan}
 use Rattle.pcm_plan.specs.Plans.{PlanSeen, rate_among, rate_in_plan}
-use Rattle.pcm_plan.specs.Through.{through, out, outs, frame_by, frame_through}
+use Rattle.pcm_plan.specs.Through.{through, out, outs}
 use Rattle.pcm_plan.proofs.Fits.{ratio-in}
-
--- ---- stages with boxes
 
 -- streams that are the same at each place stay the same
 pub through-same : (tables : Filters) (gain : Gain) (specs : List Spec) (x y : Stream) → ((place : ℤ) → x place ≡ y place)
     → (place : ℤ) → through tables gain specs x place ≡ through tables gain specs y place
 through-same tables gain specs x y same place = ap (λ (stream : Stream). through tables gain specs stream place) (fun_ext same)
 
--- a stage that has a box turns each frame by itself
-pub all_outputs-box : (tables : Filters) (gain : Gain) (spec : Spec) (list : List Frame) → HasBox spec
-    → (place : ℤ) → all_outputs spec tables gain (stream_of (channels_in spec) list) place ≡ stream_of (channels_out spec) (map (frame_by gain spec) list) place
-all_outputs-box tables gain (Matrix from to) list has place = all_outputs-matrix from to tables gain list place
-all_outputs-box tables gain (Hold src dst channels) list has place = absurd has
-all_outputs-box tables gain (Linear src dst channels) list has place = absurd has
-all_outputs-box tables gain (Poly src dst channels table taps) list has place = absurd has
-all_outputs-box tables gain (Volume layout) list has place = all_outputs-volume layout tables gain list place
-all_outputs-box tables gain (Depth bits channels) list has place = all_outputs-depth bits channels tables gain list place
-
--- and so do all stages of a plan that have boxes
-pub through-boxes : (tables : Filters) (gain : Gain) (specs : List Spec) (c d : ℕ) (list : List Frame) → All HasBox specs → Follow c specs d
-    → (place : ℤ) → through tables gain specs (stream_of c list) place ≡ stream_of d (map (frame_through gain specs) list) place
-through-boxes tables gain [] c d list have follow place = ap (λ n. stream_of n list place) follow ∙ ap (λ l. stream_of d l place) (sym (map-id list))
-through-boxes tables gain (spec ∷ specs) c d list have follow place =
-    let turned = map (frame_by gain spec) list in
-    ap (λ n. through tables gain specs (all_outputs spec tables gain (stream_of n list)) place) (sym follow.0)
-    ∙ through-same tables gain specs (all_outputs spec tables gain (stream_of (channels_in spec) list)) (stream_of (channels_out spec) turned)
-    (all_outputs-box tables gain spec list (All-head HasBox spec specs have)) place
-    ∙ through-boxes tables gain specs (channels_out spec) d turned (All-tail HasBox spec specs have) follow.1 place
-    ∙ ap (λ l. stream_of d l place) (map-map (frame_through gain specs) (frame_by gain spec) list)
-
 -- ---- the frames that an output uses
 
 -- how many frames c outputs of all stages use
-abbrev need_through : List Spec → ℕ → ℕ
+abbrev pub need_through : List Spec → ℕ → ℕ
 need_through [] c = c
 need_through (spec ∷ specs) c = need (rate_of spec) (need_through specs c)
 
 -- streams that agree on them give the same outputs
-through-local : (tables : Filters) (gain : Gain) (specs : List Spec) (x y : Stream) (c : ℕ) → All IsSpec specs
+pub through-local : (tables : Filters) (gain : Gain) (specs : List Spec) (x y : Stream) (c : ℕ) → All IsSpec specs
     → ((place : ℤ) → place <ℤ pos (need_through specs c) → x place ≡ y place)
     → (place : ℤ) → place <ℤ pos c → through tables gain specs x place ≡ through tables gain specs y place
 through-local tables gain [] x y c are same place below = same place below
@@ -88,7 +61,7 @@ need_through-unrated (spec ∷ specs) c all =
     ap (need (rate_of spec)) (need_through-unrated specs c (All-tail IsUnrated spec specs all)) ∙ ap (λ rate. need rate c) (All-head IsUnrated spec specs all) ∙ need-unchanged c
 
 -- that is what the one rate of the stages needs
-need_through-rate : (specs : List Spec) (c : ℕ) → HaveOneRate specs → need_through specs c ≡ need (rate_among specs) c
+pub need_through-rate : (specs : List Spec) (c : ℕ) → HaveOneRate specs → need_through specs c ≡ need (rate_among specs) c
 need_through-rate [] c one = sym (need-unchanged c)
 need_through-rate (Matrix from to ∷ specs) c one = need-unchanged (need_through specs c) ∙ need_through-rate specs c one
 need_through-rate (Hold src dst channels ∷ specs) c one = ap (need (rate_of (Hold src dst channels))) (need_through-unrated specs c one)
@@ -156,22 +129,3 @@ outs-channels plan tables gain frames from count is have =
 -- and there are as many as were asked for
 pub length-outs : (plan : PlanSeen) (tables : Filters) (gain : Gain) (frames : List Frame) (from count : ℕ) → length (outs plan tables gain frames from count) ≡ count
 length-outs plan tables gain frames from count = length-map-range_with_len (λ k. out plan tables frames k gain) from count
-
--- ---- plans whose stages have boxes
-
--- frame k is frame k of the frames turned one by one
-pub out-boxes : (plan : PlanSeen) (tables : Filters) (frames : List Frame) (k : ℕ) (gain : Gain) → IsPlan plan → All HasBox plan.stages
-    → out plan tables frames k gain ≡ get_or (map (frame_through gain plan.stages) frames) k (silence (channels_of plan.target))
-out-boxes plan tables frames k gain is have =
-    through-boxes tables gain plan.stages (channels_of plan.source) (channels_of plan.target) frames have is.follow (pos k)
-
--- and the frames up to the end are all of these
-pub outs-boxes : (plan : PlanSeen) (tables : Filters) (gain : Gain) (frames : List Frame) → IsPlan plan → All HasBox plan.stages
-    → outs plan tables gain frames 0 (length frames) ≡ map (frame_through gain plan.stages) frames
-outs-boxes plan tables gain frames is have =
-    let all = map (frame_through gain plan.stages) frames in
-    let d = silence (channels_of plan.target) in
-    let long : length all ≡ length frames = length-map frames (frame_through gain plan.stages) in
-    ext_get_or d (outs plan tables gain frames 0 (length frames)) all (length-outs plan tables gain frames 0 (length frames) ∙ sym long)
-    (λ i below. let within : i < length frames = omega (arith, length-outs plan tables gain frames 0 (length frames)) in
-    get_or-map-range_with_len (λ k. out plan tables frames k gain) 0 (length frames) i i d within (omega arith) ∙ out-boxes plan tables frames i gain is have)

@@ -34,12 +34,23 @@ HaveOneRate (Poly src dst channels table taps ∷ specs) = All IsUnrated specs
 HaveOneRate (Volume layout ∷ specs) = HaveOneRate specs
 HaveOneRate (Depth bits channels ∷ specs) = HaveOneRate specs
 
+-- behind the volume, whose gain may change, no stage changes the rate
+abbrev pub GainIsLate : List Spec → Type 0
+GainIsLate [] = Unit {0}
+GainIsLate (Matrix from to ∷ specs) = GainIsLate specs
+GainIsLate (Hold src dst channels ∷ specs) = GainIsLate specs
+GainIsLate (Linear src dst channels ∷ specs) = GainIsLate specs
+GainIsLate (Poly src dst channels table taps ∷ specs) = GainIsLate specs
+GainIsLate (Volume layout ∷ specs) = All IsUnrated specs
+GainIsLate (Depth bits channels ∷ specs) = GainIsLate specs
+
 -- the stages of a plan fit each other and its ends, and are within their limits
 pub record IsPlan (plan : PlanSeen) : Type 0 where
   pub follow : Follow (channels_of plan.source) plan.stages (channels_of plan.target)
   pub specs : All IsSpec plan.stages
   pub distinct : AreDistinct plan.stages
   pub one_rate : HaveOneRate plan.stages
+  pub late_gain : GainIsLate plan.stages
   pub count : length plan.stages ≤ 4
 
 -- the tables have the filter of each stage

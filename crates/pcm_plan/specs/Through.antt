@@ -5,11 +5,9 @@ use Rattle.pcm_format.specs.Layouts.{channels_of}
 use Rattle.pcm_format.specs.Frames.{Frame}
 use Rattle.pcm_feeder.specs.declared.stage.Gain.{Gain}
 use Rattle.pcm_feeder.specs.declared.stage.Spec.{Spec}
-use Rattle.pcm_feeder.specs.declared.stage.Spec.TheVariants.{Matrix, Hold, Linear, Poly, Volume, Depth}
 use Rattle.pcm_feeder.specs.Filters.{Filters}
 use Rattle.pcm_feeder.specs.Streams.{Stream, stream_of}
-use Rattle.pcm_feeder.specs.Layouts.{in_layout, at_gain}
-use Rattle.pcm_feeder.specs.Stages.{at_bits, all_outputs}
+use Rattle.pcm_feeder.specs.Stages.{all_outputs}
 use Rattle.pcm_plan.specs.Plans.{PlanSeen}
 
 -- a stream put through stages, one after another
@@ -26,17 +24,3 @@ out plan tables frames k gain =
 abbrev pub outs : PlanSeen → Filters → Gain → List Frame → ℕ → ℕ → List Frame
 outs plan tables gain frames from count =
     map (λ k. out plan tables frames k gain) (range_with_len from count)
-
--- a frame through a stage that turns each frame by itself; a converter is none of these
-abbrev pub frame_by : Gain → Spec → Frame → Frame
-frame_by gain (Matrix from to) frame = in_layout from to frame
-frame_by gain (Hold src dst channels) frame = frame
-frame_by gain (Linear src dst channels) frame = frame
-frame_by gain (Poly src dst channels table taps) frame = frame
-frame_by gain (Volume layout) frame = at_gain layout gain frame
-frame_by gain (Depth bits channels) frame = at_bits bits frame
-
--- and through several, one after another
-abbrev pub frame_through : Gain → List Spec → Frame → Frame
-frame_through gain [] frame = frame
-frame_through gain (spec ∷ specs) frame = frame_through gain specs (frame_by gain spec frame)

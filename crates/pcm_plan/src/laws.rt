@@ -1,22 +1,21 @@
 //! What holds of all plans: each function here has no work, and its contract is a law.
 
-ghost use Rattle.std.specs.Prelude.{◌≡◌, ◌<◌, ◌≤◌, ◌+◌, ℕ, ℤ, List, ◌++◌, All, length, map};
+ghost use Rattle.std.specs.Prelude.{◌≡◌, ◌<◌, ◌≤◌, ◌+◌, ℕ, List, ◌++◌, All, length};
 ghost use Rattle.pcm_format.specs.declared.settings.Settings.{Settings};
 ghost use Rattle.pcm_format.specs.Frames.{Frame};
 ghost use Rattle.pcm_format.specs.Layouts.{channels_of};
-ghost use Rattle.pcm_rate.specs.Rates.{can, unchanged, IsRatio};
+ghost use Rattle.pcm_rate.specs.Rates.{can, IsRatio};
 ghost use Rattle.pcm_feeder.specs.declared.stage.Gain.{Gain};
-ghost use Rattle.pcm_feeder.specs.declared.stage.Spec.{Spec};
 ghost use Rattle.pcm_feeder.specs.Filters.{Filters};
 ghost use Rattle.pcm_feeder.specs.Limits.{IsRate, AreFilters};
 ghost use Rattle.pcm_feeder.specs.Racks.{HasBox};
-ghost use Rattle.pcm_feeder.specs.Streams.{stream_of, HaveChannels};
-ghost use Rattle.pcm_plan.specs.Plans.{PlanSeen, plan_play, rate_among, rate_in_plan};
-ghost use Rattle.pcm_plan.specs.Fits.{Follow, IsPlan, HaveTables};
-ghost use Rattle.pcm_plan.specs.Through.{through, out, outs, frame_through};
+ghost use Rattle.pcm_feeder.specs.Streams.{HaveChannels};
+ghost use Rattle.pcm_plan.specs.Plans.{PlanSeen, plan_play, rate_in_plan};
+ghost use Rattle.pcm_plan.specs.Fits.{IsPlan, HaveTables};
+ghost use Rattle.pcm_plan.specs.Through.{out, outs};
 
-/// The stages of a client's plan fit each other, and the tables have its filter. Between equal
-/// rates a rack has a box for each of them.
+/// The stages of a client's plan fit each other, and the tables have its filter. Up to quality 1,
+/// which draws lines, a rack has a box for each of them.
 pub fn plans_fit()
     ensures fits { (tables : Filters) (quality : ℕ) (client device : Settings)
         → AreFilters tables.list → IsRate client.rate → IsRate device.rate
@@ -25,7 +24,7 @@ pub fn plans_fit()
         → AreFilters tables.list → IsRate client.rate → IsRate device.rate
         → HaveTables (plan_play tables quality client device).stages tables }
     ensures boxes { (tables : Filters) (quality : ℕ) (client device : Settings)
-        → client.rate ≡ device.rate → All HasBox (plan_play tables quality client device).stages }
+        → quality ≤ 1 → All HasBox (plan_play tables quality client device).stages }
     ensures ratio { (plan : PlanSeen) → IsPlan plan → IsRatio (rate_in_plan plan) }
 {}
 
@@ -52,17 +51,4 @@ pub fn outputs_have_the_channels_of_the_target()
     ensures parts { (plan : PlanSeen) (tables : Filters) (gain : Gain) (frames : List Frame)
         (from n m : ℕ) → outs plan tables gain frames from (n + m)
         ≡ outs plan tables gain frames from n ++ outs plan tables gain frames (from + n) m }
-{}
-
-/// Stages for which a rack has boxes keep the rate and turn each frame by itself.
-pub fn boxes_turn_each_frame()
-    ensures rate { (specs : List Spec) → All HasBox specs → rate_among specs ≡ unchanged }
-    ensures stream { (tables : Filters) (gain : Gain) (specs : List Spec) (c d : ℕ)
-        (list : List Frame) → All HasBox specs → Follow c specs d
-        → (place : ℤ) → through tables gain specs (stream_of c list) place
-        ≡ stream_of d (map (frame_through gain specs) list) place }
-    ensures frames { (plan : PlanSeen) (tables : Filters) (gain : Gain) (frames : List Frame)
-        → IsPlan plan → All HasBox plan.stages
-        → outs plan tables gain frames 0 (length frames)
-        ≡ map (frame_through gain plan.stages) frames }
 {}

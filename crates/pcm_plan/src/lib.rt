@@ -6,9 +6,6 @@ mod laws;
 mod plan;
 mod play;
 
-pub use laws::{
-    boxes_turn_each_frame, more_frames_change_no_output, outputs_have_the_channels_of_the_target,
-    plans_fit,
-};
+pub use laws::{more_frames_change_no_output, outputs_have_the_channels_of_the_target, plans_fit};
 pub use plan::Plan;
 pub use play::plan_play;

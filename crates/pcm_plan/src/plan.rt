@@ -1,6 +1,6 @@
 //! The stages between two layouts, in their order.
 
-ghost use Rattle.std.specs.Prelude.{◌≡◌, List, [], ◌∷◌, All, unwrap_or};
+ghost use Rattle.std.specs.Prelude.{◌≡◌, ◌<◌, List, [], ◌∷◌, All, unwrap_or};
 ghost use Rattle.pcm_feeder.specs.declared.stage.Spec.{Spec};
 ghost use Rattle.pcm_feeder.specs.Limits.{IsSpec};
 ghost use Rattle.pcm_plan.specs.Plans.{rate_among};
@@ -8,6 +8,7 @@ ghost use Rattle.pcm_plan.specs.Plans.{rate_among};
 use arrayvec::ArrayVec;
 use pcm_feeder::Spec;
 use pcm_format::Layout;
+use pcm_num::reduce;
 use pcm_rate::{Rate, UNCHANGED};
 use std::marker::Model;
 
@@ -39,7 +40,9 @@ impl Model for Plan {
 }
 
 impl Plan {
-    ghost use Rattle.pcm_rate.specs.Rates.{IsRatio, need, can, len};
+    ghost use Rattle.std.specs.Int.{IsGcd};
+    ghost use Rattle.pcm_num.specs.Fraction.{HasCommonFactor};
+    ghost use Rattle.pcm_rate.specs.Rates.{IsRatio, IsPeriod, need, can, len};
     ghost use Rattle.pcm_plan.specs.Plans.{rate_in_plan};
     ghost use Rattle.pcm_plan.specs.Fits.{IsPlan};
 
@@ -103,6 +106,7 @@ impl Plan {
     pub fn rate(&self) -> Rate
         ensures value { result ≡ rate_in_plan self.now }
         ensures ratio { IsRatio result }
+        ensures fits { IsPlan self.now }
     {
         rate_among(self.stages())
     }
@@ -126,6 +130,18 @@ impl Plan {
         ensures { result ≡ len (rate_in_plan self.now) frames }
     {
         self.rate().len(frames)
+    }
+
+    /// How many frames of the input last as long as how many outputs, in lowest terms.
+    pub fn period(&self) -> (u32, u32)
+        ensures period { IsPeriod (rate_in_plan self.now) result.0 result.1 }
+        ensures same { HasCommonFactor (rate_in_plan self.now).src (rate_in_plan self.now).dst result.0 result.1 }
+        ensures lowest { IsGcd result.0 result.1 1 }
+        ensures frames { 0 < result.0 }
+        ensures outputs { 0 < result.1 }
+    {
+        let rate = self.rate();
+        reduce(rate.src, rate.dst)
     }
 }
 
