@@ -1,6 +1,7 @@
-pub mod Boxes
+pub mod Counting
+pub mod Feeding
 pub mod Fitting
-pub mod Blocks
-pub mod Standing
-pub mod Waiting
 pub mod Pulling
+pub mod Standing
+pub mod Streaming
+pub mod Waiting

@@ -1,184 +1,381 @@
--- What a pull means: which frames it gives, and what the chain stands for behind them.
-use Rattle.std.proofs.Common.{◌≡◌, ◌≤◌, ◌⊎◌, ◌+◌, ℕ, zero, suc, ℤ, Bool, true, false, List, [], ◌∷◌, ◌++◌, length, map, take, get_or, replicate, min, All, inl, inr, refl, sym, ap, ◌∙◌, subst, arith}
-use Rattle.std.specs.List.{range_with_len}
-use Rattle.std.proofs.lemmas.List.{append-nil, get_or-append-add, get_or-take, length-append, length-map, length-replicate, length-take-le, map-append, nil_from_length, take_all, take-map}
-use Rattle.std.proofs.lemmas.List.Elements.{All-append, All-head, All-tail, All-take}
-use Rattle.std.proofs.lemmas.List.FromFn.{fill_by_all}
+-- What a pull means: a block, no block, and one pull after another.
+use Rattle.std.proofs.Common.{◌≡◌, ◌<◌, ◌≤◌, ◌+◌, ◌-◌, ◌*◌, min, max, ℕ, zero, suc, ℤ, pos, Bool, List, [], ◌++◌, length, take, drop, get_or, replicate, inl, inr, refl, sym, ap, ◌∙◌, subst, arith}
+use Rattle.std.proofs.lemmas.Bool.{cases_lt}
+use Rattle.std.proofs.Math.Seq.{take-add}
+use Rattle.std.proofs.lemmas.List.Concat.{flat_map-append}
+use Rattle.std.proofs.lemmas.List.{append-nil, append_assoc, drop_all, drop_at, drop-drop, ext_get_or, take_at, length-append, length-drop, length-replicate, length-take-le, nil_from_length, take-append-drop, take_all}
+use Rattle.std.proofs.lemmas.List.Elements.{All-append, All-take, All-replicate}
+use Rattle.std.proofs.lemmas.List.FromFn.{get_or-map-range_with_len}
+use borrow.Rule.Slice.PartMut.{put_mid}
 use Rattle.pcm_format.specs.Frames.{Frame}
 use Rattle.pcm_format.specs.Layouts.{channels_of}
-use Rattle.pcm_format.proofs.Ranges.{map-range-shift}
-use Rattle.pcm_rate.specs.Rates.{unchanged}
-use Rattle.pcm_rate.proofs.Counts.{need-unchanged, can-unchanged, len-unchanged}
+use Rattle.pcm_rate.specs.declared.rate.Rate.{Rate}
+use Rattle.pcm_rate.specs.Rates.{IsRatio, need, can}
+use Rattle.pcm_rate.proofs.Counts.{can-greatest, need_grows}
 use Rattle.pcm_feeder.specs.declared.stage.Gain.{Gain}
 use Rattle.pcm_feeder.specs.declared.stage.Spec.{Spec}
-use Rattle.pcm_feeder.specs.declared.stage.Spec.TheVariants.{Matrix, Hold, Linear, Poly, Volume, Depth}
 use Rattle.pcm_feeder.specs.Filters.{Filters}
-use Rattle.pcm_feeder.specs.Kept.{Kept, StandsFor}
-use Rattle.pcm_feeder.specs.Limits.{IsSpec}
-use Rattle.pcm_feeder.specs.Racks.{HasBox}
-use Rattle.pcm_feeder.specs.Stages.{rate_of, channels_out}
-use Rattle.pcm_feeder.specs.Streams.{silence, written, HaveChannels}
-use Rattle.pcm_feeder.specs.Turns.{turn, Continues, MapsFrames}
-use Rattle.pcm_feeder.proofs.Fitted.{StandsFor-fitted}
-use Rattle.pcm_feeder.proofs.Turns.{given-unchanged, turn-continues}
+use Rattle.pcm_feeder.specs.Kept.{Kept}
+use Rattle.pcm_feeder.specs.Streams.{silence, stream_of, interleaved, written, HaveChannels}
+use Rattle.pcm_feeder.proofs.Frames.{length-interleaved}
+use Rattle.pcm_feeder.proofs.Streams.{stream-silence-after}
 use Rattle.pcm_plan.specs.Plans.{PlanSeen, rate_in_plan}
-use Rattle.pcm_plan.specs.Fits.{Follow, IsPlan}
-use Rattle.pcm_plan.specs.Through.{out, outs, frame_by, frame_through}
-use Rattle.pcm_plan.proofs.Fits.{rate-boxes}
-use Rattle.pcm_plan.proofs.Through.{out-boxes}
+use Rattle.pcm_plan.specs.Fits.{IsPlan}
+use Rattle.pcm_plan.specs.Through.{through, out, outs}
+use Rattle.pcm_plan.proofs.Fits.{ratio-in}
+use Rattle.pcm_plan.proofs.Through.{through-same, out-append, length-outs, outs-add, outs-channels}
 use Rattle.pcm_chain.specs.declared.chain.ChainOf.{ChainOf}
-use Rattle.pcm_chain.specs.Boxes.{kept_in, KeepTheSame}
-use Rattle.pcm_chain.specs.Chains.{StagesStand, ChainStands}
-use Rattle.pcm_chain.specs.Pulls.{allowed_in_all, IsPastTheEnd, Pulls}
-use Rattle.pcm_chain.proofs.Boxes.{fitted-fresh, turn-maps}
-use Rattle.pcm_chain.proofs.Standing.{given-grows}
+use Rattle.pcm_chain.specs.declared.chain.Pulled.{Pulled}
+use Rattle.pcm_chain.specs.declared.counts.Advance.{Advance}
+use Rattle.pcm_chain.specs.Boxes.{kept_in}
+use Rattle.pcm_chain.specs.Chains.{boxes_in, plan_in, counts_in, StagesStand, ChainStands}
+use Rattle.pcm_chain.specs.Counts.{allowed_in_all, AreBounded, Goes, StandFor}
+use Rattle.pcm_chain.specs.Feeds.{fed_through, AreFed}
+use Rattle.pcm_chain.specs.Pulls.{IsPastTheEnd, PullsAsFar, StandsBehind, Pulls}
+use Rattle.pcm_chain.proofs.Counting.{Blocks, past-allowed, goes-real, in_time-real, offers-all, offers-given, offers-silent, offers-ends, offers-enough, offers-far}
+use Rattle.pcm_chain.proofs.Streaming.{Asks, stages-fed, comes-out}
+use Rattle.pcm_chain.proofs.Waiting.{replicate-add}
 
--- ---- the counts
+-- ---- a block
 
--- a stage with a box keeps the rate
-box-unrated : (spec : Spec) → HasBox spec → rate_of spec ≡ unchanged
-box-unrated (Matrix from to) has = refl
-box-unrated (Hold src dst channels) has = absurd has
-box-unrated (Linear src dst channels) has = absurd has
-box-unrated (Poly src dst channels table taps) has = absurd has
-box-unrated (Volume layout) has = refl
-box-unrated (Depth bits channels) has = refl
+-- the frames that a block offers to the first stage: those that it takes out of the ring, and silence behind them
+abbrev pub offered : ℕ → Advance → List Frame → List Frame
+offered channels advance waiting = take advance.eaten waiting ++ replicate advance.silent (silence channels)
 
--- so such stages have given as many frames as they have eaten
-stages-level : (keeps : Spec → Kept) (tables : Filters) (specs : List Spec) (x : List Frame) (given : ℕ) → All HasBox specs → StagesStand keeps tables specs x given → length x ≡ given
-stages-level keeps tables [] x given boxes h = h
-stages-level keeps tables (spec ∷ specs) x given boxes h =
-    given-unchanged spec tables (keeps spec) x (length h.0) (box-unrated spec (All-head HasBox spec specs boxes)) h.1
-    ∙ stages-level keeps tables specs h.0 given (All-tail HasBox spec specs boxes) h.3
+length-offered : (c : ℕ) (advance : Advance) (waiting : List Frame) → advance.eaten ≤ length waiting → length (offered c advance waiting) ≡ advance.eaten + advance.silent
+length-offered c advance waiting within =
+    omega (arith, length-append (take advance.eaten waiting) (replicate advance.silent (silence c)), length-take-le advance.eaten waiting within, length-replicate advance.silent (silence c))
 
--- and a chain as many as it has eaten, with the silence
-pub stands-level : {B : Type 0} (kept : B → Kept) (tables : Filters) (chain : ChainOf B) (x : List Frame) (silent given : ℕ) → All HasBox chain.plan.stages → ChainStands kept tables chain x silent given
-    → length x + silent ≡ given
-stands-level kept tables chain x silent given boxes h =
-    let quiet = replicate silent (silence (channels_of chain.plan.source)) in
-    omega (
-      arith,
-      length-append x quiet,
-      length-replicate silent (silence (channels_of chain.plan.source)),
-      stages-level (kept_in kept chain.boxes) tables chain.plan.stages (x ++ quiet) given boxes h.stages,
-    )
+-- silence that was eaten stays behind all frames
+moved-behind : (c quiet : ℕ) (advance : Advance) (x waiting : List Frame) → (0 < quiet → advance.eaten ≡ 0)
+    → (x ++ replicate quiet (silence c)) ++ offered c advance waiting ≡ (x ++ take advance.eaten waiting) ++ replicate (quiet + advance.silent) (silence c)
+moved-behind c zero advance x waiting none =
+    let same : advance.silent ≡ zero + advance.silent = omega arith in
+    ap (λ list. list ++ offered c advance waiting) (append-nil x)
+    ∙ sym (append_assoc x (take advance.eaten waiting) (replicate advance.silent (silence c)))
+    ∙ ap (λ n. (x ++ take advance.eaten waiting) ++ replicate n (silence c)) same
+moved-behind c (suc quiet) advance x waiting none =
+    let s = silence c in
+    let front : take advance.eaten waiting ≡ [] = ap (λ n. take n waiting) (none (omega arith)) in
+    ap (λ list. (x ++ replicate (suc quiet) s) ++ (list ++ replicate advance.silent s)) front
+    ∙ append_assoc x (replicate (suc quiet) s) (replicate advance.silent s)
+    ∙ ap (λ list. x ++ list) (replicate-add (suc quiet) advance.silent s)
+    ∙ ap (λ list. list ++ replicate (suc quiet + advance.silent) s) (sym (append-nil x))
+    ∙ ap (λ list. (x ++ list) ++ replicate (suc quiet + advance.silent) s) (sym front)
 
--- each frame allows one
-allowed-level : (ended : Bool) (n : ℕ) → allowed_in_all ended unchanged n ≡ n
-allowed-level true n = len-unchanged n
-allowed-level false n = can-unchanged n
+-- an output that was given is the plan's over all frames that wait too
+heard-in-all : (plan : PlanSeen) (tables : Filters) (gain : Gain) (c quiet : ℕ) (x waiting : List Frame) (taken k : ℕ) → c ≡ channels_of plan.source → IsPlan plan
+    → (taken < length waiting → k < can (rate_in_plan plan) (length (x ++ take taken waiting)))
+    → through tables gain plan.stages (stream_of c ((x ++ take taken waiting) ++ replicate quiet (silence c))) (pos k) ≡ out plan tables (x ++ waiting) k gain
+heard-in-all plan tables gain c quiet x waiting taken k same is enough =
+    let front = x ++ take taken waiting in
+    through-same tables gain plan.stages (stream_of c (front ++ replicate quiet (silence c))) (stream_of c front) (λ place. stream-silence-after c quiet front place) (pos k)
+    ∙ ap (λ n. through tables gain plan.stages (stream_of n front) (pos k)) same
+    ∙ elim (cases_lt taken (length waiting)) [
+      | inl fewer ↦
+          sym (out-append plan tables front (drop taken waiting) k gain is (enough fewer))
+          ∙ ap (λ list. out plan tables list k gain) (append_assoc x (take taken waiting) (drop taken waiting) ∙ ap (λ list. x ++ list) (take-append-drop taken waiting))
+      | inr all ↦ ap (λ list. out plan tables (x ++ list) k gain) (take_all taken waiting all)
+    ]
 
--- ---- the frames given
+-- what is known of a block
+pub record IsBlock {B : Type 0} (kept : B → Kept) (tables : Filters) (gain : Gain) (ended : Bool) (want : ℕ) (waiting : List Frame) (old new : ChainOf B) (advance : Advance) (before after : List ℤ) : Type 0 where
+  pub plan : plan_in new ≡ plan_in old
+  pub some : 0 < want
+  pub bounded : AreBounded (rate_in_plan (plan_in old)) (counts_in old)
+  pub goes : Goes (rate_in_plan (plan_in old)) ended (counts_in old) (length waiting) want advance
+  pub within : advance.eaten ≤ length waiting
+  pub counts : (eaten given : ℕ) → StandFor (rate_in_plan (plan_in old)) (counts_in old) eaten given → StandFor (rate_in_plan (plan_in old)) (counts_in new) (eaten + advance.eaten) (given + advance.given)
+  pub have : HaveChannels (channels_of (plan_in old).source) waiting
+  pub fed : AreFed (kept_in kept (boxes_in old)) (kept_in kept (boxes_in new)) tables gain want (plan_in old).stages (offered (channels_of (plan_in old).source) advance waiting)
+  pub out : after ≡ written (fed_through (kept_in kept (boxes_in old)) tables gain want (plan_in old).stages (offered (channels_of (plan_in old).source) advance waiting)) before
 
--- the plan's frames behind those that were eaten are those that wait, turned one by one
-outs-are : (plan : PlanSeen) (tables : Filters) (gain : Gain) (x waiting : List Frame) (n : ℕ) → IsPlan plan → All HasBox plan.stages → n ≤ length waiting
-    → outs plan tables gain (x ++ waiting) (length x) n ≡ map (frame_through gain plan.stages) (take n waiting)
-outs-are plan tables gain x waiting n is boxes within =
-    let f = frame_through gain plan.stages in
-    let given : ℕ → Frame = λ k. out plan tables (x ++ waiting) k gain in
-    let quiet = silence (channels_of plan.target) in
-    let start : length x + 0 ≡ length x = omega arith in
-    let has : length (take n waiting) ≡ n = length-take-le n waiting within in
-    ap (λ s. map given (range_with_len s n)) (sym start)
-    ∙ sym (map-range-shift given (length x) 0 n)
-    ∙ sym (fill_by_all (λ i. given (length x + i)) (map f (take n waiting)) n quiet (length-map (take n waiting) f ∙ has)
-    (λ i below.
-    ap (λ list. get_or list i quiet) (sym (take-map f n waiting))
-    ∙ get_or-take n (map f waiting) i quiet below
-    ∙ sym (get_or-append-add (map f x) (map f waiting) i quiet)
-    ∙ ap (λ k. get_or (map f x ++ map f waiting) (k + i) quiet) (length-map x f)
-    ∙ ap (λ list. get_or list (length x + i) quiet) (sym (map-append f x waiting))
-    ∙ sym (out-boxes plan tables (x ++ waiting) (length x + i) gain is boxes)))
-
--- ---- what stands behind them
-
--- stages with boxes, whose boxes keep what they kept, stand for more frames
-pub stages-grow : (keeps now : Spec → Kept) (tables : Filters) (gain : Gain) (specs : List Spec) (c d : ℕ) (x more : List Frame) (given : ℕ) → All HasBox specs → All IsSpec specs → Follow c specs d
-    → HaveChannels c more → ((spec : Spec) → now spec ≡ keeps spec) → StagesStand keeps tables specs x given → StagesStand now tables specs (x ++ more) (given + length more)
-stages-grow keeps now tables gain [] c d x more given boxes limits follow have same h = length-append x more ∙ ap (λ k. k + length more) h
-stages-grow keeps now tables gain (spec ∷ specs) c d x more given boxes limits follow have same h =
-    let middle = h.0 in
-    let n = length more in
-    let has = All-head HasBox spec specs boxes in
-    let is = All-head IsSpec spec specs limits in
-    let start = fitted-fresh spec (keeps spec) has (StandsFor-fitted spec tables (keeps spec) x (length middle) is h.1) in
-    let turned = turn (keeps spec) tables gain more n in
-    let goes : Continues spec tables gain x (length middle) more n turned = turn-continues spec (keeps spec) tables gain x more (length middle) n is h.1 (rw follow.0 have) in
-    let maps : MapsFrames spec (frame_by gain spec) more n turned = rw start (turn-maps spec tables gain more n has) in
-    let eaten : take turned.eaten more ≡ more = take_all turned.eaten more (omega (arith, maps.eaten)) in
-    let count : length turned.frames ≡ n = omega (arith, goes.count, maps.given) in
-    let long : length middle + turned.given ≡ length (middle ++ turned.frames) = omega (arith, length-append middle turned.frames, goes.count) in
-    let kept : turned.kept ≡ now spec = maps.kept ∙ sym start ∙ sym (same spec) in
-    let stands : StandsFor spec tables (now spec) (x ++ more) (length (middle ++ turned.frames)) = rw (eaten, kept, long) at goes.stands in
-    let gives = given-grows spec (keeps spec) tables gain x more middle n turned is h.1 h.2 goes in (
-      middle ++ turned.frames,
-      stands,
-      rw eaten at gives,
-      rw count at (stages-grow keeps now tables gain specs (channels_out spec) d middle turned.frames given (All-tail HasBox spec specs boxes) (All-tail IsSpec spec specs limits) follow.1 goes.channels same h.3),
-    )
-
--- ---- the meaning of a pull
-
--- a chain whose boxes keep what they kept stands for more frames, where no silence came before them
-stands-behind : {B : Type 0} (kept : B → Kept) (tables : Filters) (gain : Gain) (old new : ChainOf B) (x more : List Frame) (silent before n : ℕ) → All HasBox old.plan.stages
-    → new.plan ≡ old.plan → KeepTheSame kept old.boxes new.boxes → HaveChannels (channels_of old.plan.source) more → length more ≡ n → (silent ≡ 0) ⊎ (more ≡ [])
-    → ChainStands kept tables old x silent before → ChainStands kept tables new (x ++ more) silent (before + n)
-stands-behind kept tables gain old new x more silent before n boxes plan same have count either h =
-    let c = channels_of old.plan.source in
-    let quiet = replicate silent (silence c) in
-    let grown = stages-grow (kept_in kept old.boxes) (kept_in kept new.boxes) tables gain old.plan.stages c (channels_of old.plan.target) (x ++ quiet) more before boxes h.fits.specs h.fits.follow have same h.stages in
-    record {
-      fits = rw plan h.fits;
-      frames = rw plan (All-append (λ (frame : Frame). length frame ≡ c) x more h.frames have);
-      stages = subst stand (sym plan) (rw (count, moved c either) at grown);
-    }
+pub block-pulls : {B : Type 0} (kept : B → Kept) (tables : Filters) (gain : Gain) (ended : Bool) (want : ℕ) (waiting : List Frame) (old new : ChainOf B) (advance : Advance) (out_old out_new : List ℤ)
+    (x : List Frame) (quiet before : ℕ) → IsBlock kept tables gain ended want waiting old new advance out_old out_new → ChainStands kept tables old x quiet before → IsPastTheEnd ended quiet waiting
+    → Pulls kept tables gain ended want waiting old new x before (record { given = advance.given; eaten = advance.eaten }) out_old out_new
+block-pulls {B = B} kept tables gain ended want waiting old new advance out_old out_new x quiet before h stands past =
+    record { far = record { given = far.0; eaten = far.1 }; frames = h.out ∙ ap (λ list. written list out_old) given-are; stands = behind }
   where
+    plan : PlanSeen
+    plan = plan_in old
+
+    rate : Rate
+    rate = rate_in_plan plan
+
+    c : ℕ
+    c = channels_of plan.source
+
+    n : ℕ
+    n = length x
+
+    m : ℕ
+    m = advance.given
+
+    keeps : Spec → Kept
+    keeps = kept_in kept (boxes_in old)
+
+    all : List Frame
+    all = x ++ replicate quiet (silence c)
+
+    input : List Frame
+    input = offered c advance waiting
+
+    blocks : Blocks rate ended n quiet before (length waiting) want advance
+    blocks = record {
+      ratio = ratio-in plan stands.fits;
+      in_time = in_time-real rate (counts_in old) n before stands.counts h.bounded.in_time;
+      silent = stands.silent;
+      past = λ some. ((past some).0, ap length (past some).1);
+      goes = goes-real rate ended (counts_in old) n before (length waiting) want advance stands.counts h.some h.goes;
+    }
+
+    eaten-all : length all ≡ n + quiet
+    eaten-all = omega (arith, length-append x (replicate quiet (silence c)), length-replicate quiet (silence c))
+
+    offered-all : length input ≡ advance.eaten + advance.silent
+    offered-all = length-offered c advance waiting h.within
+
+    asks : Asks rate (length all) before (length input) want m
+    asks = rw (eaten-all, offered-all) (record { all = offers-all rate ended n quiet before (length waiting) want advance blocks; gives = offers-given rate ended n quiet before (length waiting) want advance blocks })
+
+    have : HaveChannels c input
+    have =
+        let P : Frame → Type 0 = λ (frame : Frame). length frame ≡ c in
+        All-append P (take advance.eaten waiting) (replicate advance.silent (silence c)) (All-take P advance.eaten waiting h.have) (All-replicate P advance.silent (silence c) (length-replicate c (pos 0)))
+
+    limits : IsPlan plan
+    limits = stands.fits
+
+    done : StagesStand (kept_in kept (boxes_in new)) tables plan.stages (all ++ input) (before + m) × (length (fed_through keeps tables gain want plan.stages input) ≡ m)
+    done = stages-fed keeps (kept_in kept (boxes_in new)) tables gain want plan.stages c (channels_of plan.target) all input before m limits.specs limits.one_rate limits.follow stands.stages have asks h.fed
+
+    none-more : 0 < quiet → advance.eaten ≡ 0
+    none-more some = let none = ap length (past some).1 in let within = h.within in omega (arith, none, within)
+
+    moved : all ++ input ≡ (x ++ take advance.eaten waiting) ++ replicate (quiet + advance.silent) (silence c)
+    moved = moved-behind c quiet advance x waiting none-more
+
+    count : length (x ++ take advance.eaten waiting) ≡ n + advance.eaten
+    count = omega (arith, length-append x (take advance.eaten waiting), length-take-le advance.eaten waiting h.within)
+
+    far : (advance.given ≡ min want (allowed_in_all ended rate (n + length waiting) - before)) × (n + advance.eaten ≡ max n (min (n + length waiting) (need rate (before + want))))
+    far = offers-far rate ended n quiet before (length waiting) want advance blocks
+
+    enough : (k : ℕ) → k < m → advance.eaten < length waiting → before + k < can rate (length (x ++ take advance.eaten waiting))
+    enough k below fewer =
+        let ratio = ratio-in plan limits in
+        let needed = offers-enough rate ended n quiet before (length waiting) want advance blocks fewer in
+        let wanted : m ≤ want = omega (arith, far.0) in
+        let grown = need_grows rate (before + m) (before + want) ratio.dst (omega arith) in
+        let allowed = (can-greatest rate ratio.src ratio.dst (before + m) (length (x ++ take advance.eaten waiting))).0 (omega (arith, count)) in
+        omega (arith, allowed)
+
+    given-at : (k : ℕ) → k < m → get_or (fed_through keeps tables gain want plan.stages input) k (silence (channels_of plan.target)) ≡ get_or (outs plan tables gain (x ++ waiting) before m) k (silence (channels_of plan.target))
+    given-at k below =
+        comes-out keeps tables gain want plan.stages c (channels_of plan.target) all input before m limits.specs limits.one_rate limits.late_gain limits.follow stands.stages have asks k below
+        ∙ ap (λ list. through tables gain plan.stages (stream_of c list) (pos (before + k))) moved
+        ∙ heard-in-all plan tables gain c (quiet + advance.silent) x waiting advance.eaten (before + k) refl limits (enough k below)
+        ∙ sym (get_or-map-range_with_len (λ j. out plan tables (x ++ waiting) j gain) before m k (before + k) (silence (channels_of plan.target)) below refl)
+
+    given-are : fed_through keeps tables gain want plan.stages input ≡ outs plan tables gain (x ++ waiting) before m
+    given-are =
+        ext_get_or (silence (channels_of plan.target)) (fed_through keeps tables gain want plan.stages input) (outs plan tables gain (x ++ waiting) before m)
+        (done.1 ∙ sym (length-outs plan tables gain (x ++ waiting) before m))
+        (λ k below. given-at k (omega (arith, done.1)))
+
     stand : PlanSeen → Type 0
-    stand seen = StagesStand (kept_in kept new.boxes) tables seen.stages ((x ++ more) ++ replicate silent (silence (channels_of seen.source))) (before + n)
+    stand seen = StagesStand (kept_in kept (boxes_in new)) tables seen.stages ((x ++ take advance.eaten waiting) ++ replicate (quiet + advance.silent) (silence (channels_of seen.source))) (before + m)
 
-    moved : (c : ℕ) → (silent ≡ 0) ⊎ (more ≡ []) → (x ++ replicate silent (silence c)) ++ more ≡ (x ++ more) ++ replicate silent (silence c)
-    moved c (inl none) = rw none (ap (λ list. list ++ more) (append-nil x) ∙ sym (append-nil (x ++ more)))
-    moved c (inr empty) = rw empty (append-nil (x ++ replicate silent (silence c)) ∙ ap (λ list. list ++ replicate silent (silence c)) (sym (append-nil x)))
-
--- no silence was eaten, or no frame waits
-still : (ended : Bool) (silent : ℕ) (waiting : List Frame) → IsPastTheEnd ended silent waiting → (silent ≡ 0) ⊎ (length waiting ≡ 0)
-still ended zero waiting past = inl refl
-still ended (suc silent) waiting past = inr (ap length (past (omega arith)).1)
-
--- what is given is what the plan makes of the frames behind those that were eaten
-given-are : (plan : PlanSeen) (tables : Filters) (gain : Gain) (x waiting : List Frame) (before n : ℕ) → IsPlan plan → All HasBox plan.stages → n ≤ length waiting → (before ≡ length x) ⊎ (n ≡ 0)
-    → map (frame_through gain plan.stages) (take n waiting) ≡ outs plan tables gain (x ++ waiting) before n
-given-are plan tables gain x waiting before n is boxes within (inl level) =
-    sym (outs-are plan tables gain x waiting n is boxes within) ∙ ap (λ from. outs plan tables gain (x ++ waiting) from n) (sym level)
-given-are plan tables gain x waiting before n is boxes within (inr none) =
-    ap (λ k. map (frame_through gain plan.stages) (take k waiting)) none ∙ ap (outs plan tables gain (x ++ waiting) before) (sym none)
-
--- The boxes kept what they kept, and so many of the waiting frames were turned one by one: as many as were wanted, or all.
-pub pulls : {B : Type 0} (kept : B → Kept) (tables : Filters) (gain : Gain) (ended : Bool) (want : ℕ) (waiting : List Frame) (old new : ChainOf B) (x : List Frame) (silent before n : ℕ)
-    (out_old out_new : List ℤ) → All HasBox old.plan.stages → new.plan ≡ old.plan → KeepTheSame kept old.boxes new.boxes → HaveChannels (channels_of old.plan.source) waiting
-    → n ≡ min want (length waiting) → out_new ≡ written (map (frame_through gain old.plan.stages) (take n waiting)) out_old
-    → ChainStands kept tables old x silent before → IsPastTheEnd ended silent waiting
-    → Pulls kept tables gain ended want waiting old new x before (record { given = n; eaten = n }) out_old out_new
-pulls kept tables gain ended want waiting old new x silent before n out_old out_new boxes plan same have count turned h past =
-    let c = channels_of old.plan.source in
-    let level = stands-level kept tables old x silent before boxes h in
-    let rate : rate_in_plan old.plan ≡ unchanged = rate-boxes old.plan.stages boxes in
-    let all = length x + length waiting in
-    let within : n ≤ length waiting = omega (arith, count) in
-    let either = still ended silent waiting past in
-    let begin : (before ≡ length x) ⊎ (n ≡ 0) = elim either [ inl none ↦ inl (omega (arith, none, level)) | inr empty ↦ inr (omega (arith, count, empty)) ] in
-    let rest : (silent ≡ 0) ⊎ (take n waiting ≡ []) =
-    elim either [ inl none ↦ inl none | inr empty ↦ inr (nil_from_length (take n waiting) (omega (arith, length-take-le n waiting within, within, empty))) ] in
-    record {
-      far = rw rate (record {
-        given = elim either [ inl none ↦ omega (arith, none, count, level, allowed-level ended all) | inr empty ↦ omega (arith, empty, count, level, allowed-level ended all) ];
-        eaten = elim either [ inl none ↦ omega (arith, none, count, level, need-unchanged (before + want)) | inr empty ↦ omega (arith, empty, count, level, need-unchanged (before + want)) ];
-      });
-      frames = turned ∙ ap (λ list. written list out_old) (given-are old.plan tables gain x waiting before n h.fits boxes within begin);
+    behind : StandsBehind kept tables ended waiting new x before (record { given = advance.given; eaten = advance.eaten })
+    behind = record {
+      zeros = quiet + advance.silent;
       stands = record {
-        zeros = silent;
-        stands = stands-behind kept tables gain old new x (take n waiting) silent before n boxes plan same
-            (All-take (λ (frame : Frame). length frame ≡ c) n waiting have) (length-take-le n waiting within) rest h;
-        ends = λ some. ((past some).0, omega (arith, count, ap length (past some).1));
+        fits = subst IsPlan (sym h.plan) limits;
+        frames = subst (λ (p : PlanSeen). HaveChannels (channels_of p.source) (x ++ take advance.eaten waiting)) (sym h.plan)
+            (All-append (λ (frame : Frame). length frame ≡ c) x (take advance.eaten waiting) stands.frames (All-take (λ (frame : Frame). length frame ≡ c) advance.eaten waiting h.have));
+        counts = subst (λ (p : PlanSeen). StandFor (rate_in_plan p) (counts_in new) (length (x ++ take advance.eaten waiting)) (before + m)) (sym h.plan)
+            (subst (λ k. StandFor rate (counts_in new) k (before + m)) (sym count) (h.counts n before stands.counts));
+        silent = subst (λ (p : PlanSeen). quiet + advance.silent ≡ need (rate_in_plan p) (before + m) - length (x ++ take advance.eaten waiting)) (sym h.plan)
+            (subst (λ k. quiet + advance.silent ≡ need rate (before + m) - k) (sym count) (offers-silent rate ended n quiet before (length waiting) want advance blocks));
+        stages = subst stand (sym h.plan) (rw moved at done.0);
       };
+      ends = λ some. offers-ends rate ended n quiet before (length waiting) want advance blocks some;
+    }
+
+-- ---- no block, one more, and one that falls short
+
+-- where nothing was asked for nothing was pulled
+pub nothing-pulled : {B : Type 0} (kept : B → Kept) (tables : Filters) (gain : Gain) (ended : Bool) (waiting : List Frame) (chain : ChainOf B) (x : List Frame) (quiet before : ℕ) (out : List ℤ)
+    → ChainStands kept tables chain x quiet before → IsPastTheEnd ended quiet waiting → Pulls kept tables gain ended 0 waiting chain chain x before (record { given = 0; eaten = 0 }) out out
+nothing-pulled kept tables gain ended waiting chain x quiet before out stands past = record {
+  far = record { given = omega arith; eaten = eats quiet stands.silent past };
+  frames = refl;
+  stands = record {
+    zeros = quiet;
+    stands = subst (λ n. ChainStands kept tables chain (x ++ []) quiet n) same (subst (λ list. ChainStands kept tables chain list quiet before) (sym (append-nil x)) stands);
+    ends = λ some. ((past some).0, sym (ap length (past some).1));
+  };
+}
+  where
+    same : before ≡ before + 0
+    same = omega arith
+
+    rate : Rate
+    rate = rate_in_plan (plan_in chain)
+
+    eats : (quiet : ℕ) → quiet ≡ need rate before - length x → IsPastTheEnd ended quiet waiting → length x + 0 ≡ max (length x) (min (length x + length waiting) (need rate (before + 0)))
+    eats zero silent past = omega (arith, silent, ap (need rate) same)
+    eats (suc quiet) silent past = let none = ap length (past (omega arith)).1 in omega (arith, none)
+
+-- more frames behind those that were written
+pub written-behind : (list more : List Frame) (old out : List ℤ) (at : ℕ) → out ≡ written list old → length (interleaved list) ≡ at
+    → take at out ++ written more (drop at out) ≡ written (list ++ more) old
+written-behind list more old out at is start =
+    let joined = interleaved list in
+    let next = interleaved more in
+    let rest = drop (length joined) old in
+    let all : interleaved (list ++ more) ≡ joined ++ next = flat_map-append (λ (frame : Frame). frame) list more in
+    let place : length joined + length next ≡ length (joined ++ next) = omega (arith, length-append joined next) in
+    ap (λ o. take at o ++ written more (drop at o)) is
+    ∙ ap (λ front. front ++ written more (drop at (joined ++ rest))) (take_at joined rest at start)
+    ∙ ap (λ back. joined ++ written more back) (drop_at joined rest at start)
+    ∙ ap (λ back. joined ++ (next ++ back)) (drop-drop (length next) (length joined) old)
+    ∙ sym (append_assoc joined next (drop (length joined + length next) old))
+    ∙ ap (λ n. (joined ++ next) ++ drop n old) place
+    ∙ ap (λ l. l ++ drop (length l) old) (sym all)
+
+-- what was written to the end of a buffer
+pub put-end : (at : ℕ) (out piece : List ℤ) → put_mid at (length out - at) out piece ≡ take at out ++ piece
+put-end at out piece =
+    ap (λ list. take at out ++ (piece ++ list)) (drop_all (length out - at) (drop at out) (omega (arith, length-drop at out)))
+    ∙ ap (λ list. take at out ++ list) (append-nil piece)
+
+pub end-taken : (at : ℕ) (out : List ℤ) → take (length out - at) (drop at out) ≡ drop at out
+end-taken at out = take_all (length out - at) (drop at out) (omega (arith, length-drop at out))
+
+-- what is known of a second pull behind a first one that gave all that it was asked for
+pub record GoesOn {B : Type 0} (kept : B → Kept) (tables : Filters) (gain : Gain) (ended : Bool) (asked more : ℕ) (waiting : List Frame) (old mid new : ChainOf B) (x : List Frame) (before : ℕ)
+    (first second : Pulled) (start middle part : List ℤ) : Type 0 where
+  pub full : first.given ≡ asked
+  pub plan : plan_in mid ≡ plan_in old
+  pub channels : HaveChannels (channels_of (plan_in old).source) (x ++ waiting)
+  pub is : IsPlan (plan_in old)
+  pub pulled : Pulls kept tables gain ended asked waiting old mid x before first start middle
+  pub next : (y : List Frame) (quiet given : ℕ) → ChainStands kept tables mid y quiet given → IsPastTheEnd ended quiet (drop first.eaten waiting)
+      → Pulls kept tables gain ended more (drop first.eaten waiting) mid new y given second (drop (asked * channels_of (plan_in old).target) middle) part
+
+pub goes-on : {B : Type 0} (kept : B → Kept) (tables : Filters) (gain : Gain) (ended : Bool) (asked more : ℕ) (waiting : List Frame) (old mid new : ChainOf B) (x : List Frame) (before : ℕ)
+    (first second : Pulled) (start middle part : List ℤ) → GoesOn kept tables gain ended asked more waiting old mid new x before first second start middle part
+    → Pulls kept tables gain ended (asked + more) waiting old new x before (record { given = first.given + second.given; eaten = first.eaten + second.eaten })
+    start (take (asked * channels_of (plan_in old).target) middle ++ part)
+goes-on {B = B} kept tables gain ended asked more waiting old mid new x before first second start middle part h = record { far = far; frames = frames; stands = behind }
+  where
+    plan : PlanSeen
+    plan = plan_in old
+
+    rate : Rate
+    rate = rate_in_plan plan
+
+    n : ℕ
+    n = length x
+
+    first-far : PullsAsFar rate ended asked n (length waiting) before first
+    first-far = h.pulled.far
+
+    within : first.eaten ≤ length waiting
+    within = omega (arith, first-far.eaten)
+
+    y : List Frame
+    y = x ++ take first.eaten waiting
+
+    rest : List Frame
+    rest = drop first.eaten waiting
+
+    long : length y ≡ n + first.eaten
+    long = omega (arith, length-append x (take first.eaten waiting), length-take-le first.eaten waiting within)
+
+    left : length rest ≡ length waiting - first.eaten
+    left = length-drop first.eaten waiting
+
+    past : IsPastTheEnd ended h.pulled.stands.zeros rest
+    past some =
+        let ends = h.pulled.stands.ends some in
+        (ends.0, nil_from_length rest (omega (arith, left, ends.1)))
+
+    second-pulls : Pulls kept tables gain ended more rest mid new y (before + first.given) second (drop (asked * channels_of plan.target) middle) part
+    second-pulls = h.next y h.pulled.stands.zeros (before + first.given) h.pulled.stands.stands past
+
+    second-far : PullsAsFar rate ended more (length y) (length rest) (before + first.given) second
+    second-far = subst (λ (p : PlanSeen). PullsAsFar (rate_in_plan p) ended more (length y) (length rest) (before + first.given) second) h.plan second-pulls.far
+
+    all : length y + length rest ≡ n + length waiting
+    all = omega (arith, long, left, within)
+
+    ratio : IsRatio rate
+    ratio = ratio-in plan h.is
+
+    far : PullsAsFar rate ended (asked + more) n (length waiting) before (record { given = first.given + second.given; eaten = first.eaten + second.eaten })
+    far =
+        let full = h.full in
+        let place : before + first.given + more ≡ before + (asked + more) = omega arith in
+        record {
+          given = omega (arith, first-far.given, second-far.given, ap (allowed_in_all ended rate) all);
+          eaten = omega (arith, first-far.eaten, second-far.eaten, long, left, ap (need rate) place, need_grows rate (before + asked) (before + (asked + more)) ratio.dst (omega arith));
+        }
+
+    joined : y ++ rest ≡ x ++ waiting
+    joined = append_assoc x (take first.eaten waiting) rest ∙ ap (λ list. x ++ list) (take-append-drop first.eaten waiting)
+
+    one : List Frame
+    one = outs plan tables gain (x ++ waiting) before first.given
+
+    two : List Frame
+    two = outs plan tables gain (x ++ waiting) (before + first.given) second.given
+
+    part-is : part ≡ written two (drop (asked * channels_of plan.target) middle)
+    part-is =
+        second-pulls.frames
+        ∙ ap (λ (p : PlanSeen). written (outs p tables gain (y ++ rest) (before + first.given) second.given) (drop (asked * channels_of plan.target) middle)) h.plan
+        ∙ ap (λ list. written (outs plan tables gain list (before + first.given) second.given) (drop (asked * channels_of plan.target) middle)) joined
+
+    front : length (interleaved one) ≡ asked * channels_of plan.target
+    front =
+        length-interleaved (channels_of plan.target) one (outs-channels plan tables gain (x ++ waiting) before first.given h.is h.channels)
+        ∙ ap (λ k. k * channels_of plan.target) (length-outs plan tables gain (x ++ waiting) before first.given ∙ h.full)
+
+    frames : take (asked * channels_of plan.target) middle ++ part ≡ written (outs plan tables gain (x ++ waiting) before (first.given + second.given)) start
+    frames =
+        ap (λ p. take (asked * channels_of plan.target) middle ++ p) part-is
+        ∙ written-behind one two start middle (asked * channels_of plan.target) h.pulled.frames front
+        ∙ ap (λ list. written list start) (sym (outs-add plan tables gain (x ++ waiting) before first.given second.given))
+
+    taken : y ++ take second.eaten rest ≡ x ++ take (first.eaten + second.eaten) waiting
+    taken = append_assoc x (take first.eaten waiting) (take second.eaten rest) ∙ ap (λ list. x ++ list) (sym (take-add first.eaten second.eaten waiting))
+
+    total : before + first.given + second.given ≡ before + (first.given + second.given)
+    total = omega arith
+
+    behind : StandsBehind kept tables ended waiting new x before (record { given = first.given + second.given; eaten = first.eaten + second.eaten })
+    behind = record {
+      zeros = second-pulls.stands.zeros;
+      stands = subst (λ k. ChainStands kept tables new (x ++ take (first.eaten + second.eaten) waiting) second-pulls.stands.zeros k) total
+          (subst (λ list. ChainStands kept tables new list second-pulls.stands.zeros (before + first.given + second.given)) taken second-pulls.stands.stands);
+      ends = λ some. let ends = second-pulls.stands.ends some in (ends.0, omega (arith, ends.1, left, within));
+    }
+
+-- a pull that gave less than it was asked for gives no more where more is asked for
+pub falls-short : {B : Type 0} (kept : B → Kept) (tables : Filters) (gain : Gain) (ended : Bool) (asked want : ℕ) (waiting : List Frame) (old new : ChainOf B) (x : List Frame) (before : ℕ)
+    (pulled : Pulled) (start out : List ℤ) → IsPlan (plan_in old) → pulled.given < asked → asked ≤ want
+    → Pulls kept tables gain ended asked waiting old new x before pulled start out → Pulls kept tables gain ended want waiting old new x before pulled start out
+falls-short kept tables gain ended asked want waiting old new x before pulled start out is fewer within h =
+    let rate = rate_in_plan (plan_in old) in
+    let ratio = ratio-in (plan_in old) is in
+    let n = length x + length waiting in
+    let far = h.far in
+    let past = past-allowed ended rate (before + asked) n ratio (omega (arith, far.given)) in
+    let grown = need_grows rate (before + asked) (before + want) ratio.dst (omega arith) in
+    record {
+      far = record { given = omega (arith, far.given); eaten = omega (arith, far.eaten, past, grown) };
+      frames = h.frames;
+      stands = h.stands;
     }

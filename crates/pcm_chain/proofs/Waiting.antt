@@ -1,28 +1,66 @@
--- The frames that wait in a ring, and what went from there to an output.
-use Rattle.std.proofs.Common.{◌≡◌, ◌≤◌, ◌+◌, ◌*◌, ◌/◌, ℕ, ℤ, List, ◌++◌, length, map, take, drop, get_or, min, sym, ap, ◌∙◌, arith}
+-- The frames that wait in a ring, and those of a block that was loaded.
+use Rattle.std.proofs.Common.{◌≡◌, ◌<◌, ◌≤◌, ◌+◌, ◌-◌, ◌*◌, ◌/◌, ◌%◌, ℕ, zero, suc, ℤ, pos, List, ◌∷◌, ◌++◌, length, map, take, drop, get_or, replicate, sym, ap, ◌∙◌, arith}
 use Rattle.std.specs.List.{range_with_len}
-use Rattle.std.proofs.Math.Seq.{take-add}
-use Rattle.std.proofs.lemmas.List.{append_assoc, drop_at, drop-drop, length-append, map-append, take_at}
-use Rattle.std.proofs.lemmas.List.Concat.{flat_map-append}
-use Rattle.std.proofs.lemmas.List.Elements.{All-map}
+use Rattle.std.proofs.Math.Nat.{mul_assoc, mul-div_cancel, mul-mod_left}
+use Rattle.std.proofs.lemmas.List.{length-drop, length-take-le, length-replicate, take_all}
+use Rattle.std.proofs.lemmas.List.Elements.{All-map, All-replicate}
 use Rattle.std.proofs.lemmas.List.Folds.{flat_map-map}
-use borrow.Rule.Slice.PartMut.{put_mid}
 use Rattle.pcm_format.specs.declared.format.Format.{Format}
 use Rattle.pcm_format.specs.declared.layout.Layout.{Layout}
 use Rattle.pcm_format.specs.declared.settings.Settings.{Settings}
 use Rattle.pcm_format.specs.Formats.{bytes_of}
-use Rattle.pcm_format.specs.Frames.{Frame, frame_bytes, frame_at, whole_frames}
+use Rattle.pcm_format.specs.Frames.{Frame, frame_bytes, frame_at, frames, whole_frames}
 use Rattle.pcm_format.specs.Layouts.{channels_of}
-use Rattle.pcm_format.specs.Samples.{samples}
-use Rattle.pcm_format.proofs.Ranges.{part-of-range}
-use Rattle.pcm_format.proofs.Streams.{channels_of-above, length-frame_at, length-frames, samples-part}
+use Rattle.pcm_format.specs.Samples.{sample_at, samples}
+use Rattle.pcm_format.proofs.Ranges.{map-range-same, part-of-range}
+use Rattle.pcm_format.proofs.Streams.{bytes_of-above, channels_of-above, frame_bytes-above, length-frame_at, length-frames, length-samples, sample_at-drop, samples-part}
 use Rattle.pcm_format.proofs.Whole.{frames_fit, frames_there}
-use Rattle.pcm_feeder.specs.declared.stage.Gain.{Gain}
-use Rattle.pcm_feeder.specs.Streams.{frames_of, interleaved, written, HaveChannels}
-use Rattle.pcm_feeder.proofs.Frames.{frames_of-interleaved, frames_of-samples}
+use Rattle.pcm_rate.proofs.Counts.{div_more}
+use Rattle.pcm_feeder.specs.Streams.{silence, frames_of, interleaved, HaveChannels}
+use Rattle.pcm_feeder.proofs.Frames.{frames_of-append, frames_of-interleaved, frames_of-samples}
 use Rattle.pcm_plan.specs.Plans.{PlanSeen}
-use Rattle.pcm_plan.specs.Through.{out, frame_through}
+use Rattle.pcm_chain.specs.Feeds.{first_frames}
 use Rattle.pcm_chain.specs.Pulls.{waiting_frames}
+
+-- ---- the frames of bytes from a later frame on
+
+-- a frame of what is left once so many frames are gone
+frame_at-drop : (settings : Settings) (bytes : List ℕ) (n i : ℕ) → frame_at settings (drop (n * frame_bytes settings) bytes) i ≡ frame_at settings bytes (n + i)
+frame_at-drop settings bytes n i =
+    let f = settings.format in
+    let c = channels_of settings.layout in
+    let w = bytes_of f in
+    let start : n * (c * w) ≡ n * c * w = sym (mul_assoc n c w) in
+    ap (λ m. frame_at settings (drop m bytes) i) start
+    ∙ map-range-same (λ channel. sample_at f (drop (n * c * w) bytes) (i * c + channel)) (λ channel. sample_at f bytes ((n + i) * c + channel)) c
+    (λ channel below.
+    let place : n * c + (i * c + channel) ≡ (n + i) * c + channel = omega arith in
+    sample_at-drop f bytes (n * c) (i * c + channel) ∙ ap (sample_at f bytes) place)
+
+-- how many are left
+whole_frames-drop : (settings : Settings) (bytes : List ℕ) (n : ℕ) → n ≤ whole_frames settings (length bytes) → whole_frames settings (length (drop (n * frame_bytes settings) bytes)) ≡ whole_frames settings (length bytes) - n
+whole_frames-drop settings bytes n within =
+    let z = frame_bytes settings in
+    let fits = frames_fit settings (length bytes) n within in
+    let rest : length (drop (n * z) bytes) ≡ length bytes - n * z = length-drop (n * z) bytes in
+    let more = div_more (length bytes - n * z) (length bytes) z n (frame_bytes-above settings) (omega arith) in
+    ap (whole_frames settings) rest ∙ omega (arith, more)
+
+-- the frames of what is left are the later frames
+frames-drop : (settings : Settings) (bytes : List ℕ) (n : ℕ) → n ≤ whole_frames settings (length bytes) → frames settings (drop (n * frame_bytes settings) bytes) ≡ drop n (frames settings bytes)
+frames-drop settings bytes n within =
+    let all = whole_frames settings (length bytes) in
+    let left = all - n in
+    let g = frame_at settings bytes in
+    ap (λ m. map (frame_at settings (drop (n * frame_bytes settings) bytes)) (range_with_len 0 m)) (whole_frames-drop settings bytes n within)
+    ∙ map-range-same (frame_at settings (drop (n * frame_bytes settings) bytes)) (λ i. g (n + i)) left (λ i below. frame_at-drop settings bytes n i)
+    ∙ sym (part-of-range g n left all (omega arith))
+    ∙ take_all left (drop n (frames settings bytes)) (omega (arith, length-drop n (frames settings bytes), length-frames settings bytes))
+
+-- so are the frames of samples that were loaded from there
+pub frames-waiting : (settings : Settings) (bytes : List ℕ) (n : ℕ) → n ≤ whole_frames settings (length bytes)
+    → frames_of (channels_of settings.layout) (samples settings.format (drop (n * frame_bytes settings) bytes)) ≡ drop n (frames settings bytes)
+frames-waiting settings bytes n within = frames_of-samples settings (drop (n * frame_bytes settings) bytes) ∙ frames-drop settings bytes n within
 
 -- ---- the frames of a ring
 
@@ -51,64 +89,65 @@ part-waiting settings bytes k m within =
     ∙ sym (part-of-range (frame_at settings bytes) k m (whole_frames settings (length bytes)) (frames_there settings (length bytes) (k + m) within))
     ∙ ap (λ all. take m (drop k all)) (sym (frames_of-samples settings bytes))
 
--- as many frames are taken as are wanted, or all that wait
-pub count-is : (plan : PlanSeen) (format : Format) (bytes : List ℕ) (source : Layout) (want n fill c w : ℕ) → n ≡ min want (fill / (c * w)) → fill ≡ length bytes → c ≡ channels_of source
-    → source ≡ plan.source → w ≡ bytes_of format → n ≡ min want (length (waiting_frames plan format bytes))
-count-is plan format bytes source want n fill c w is filled channels layout width =
-    is ∙ ap (min want) (ap (λ z. z / (c * w)) filled ∙ ap (λ z. length bytes / (z * w)) (channels ∙ ap channels_of layout) ∙ ap (λ z. length bytes / (channels_of plan.source * z)) width
-    ∙ sym (length-waiting plan format bytes))
-
 -- frames that wait have their bytes in the ring
 pub bytes-wait : (plan : PlanSeen) (format : Format) (bytes : List ℕ) (n : ℕ) → n ≤ length (waiting_frames plan format bytes) → n * (channels_of plan.source * bytes_of format) ≤ length bytes
 bytes-wait plan format bytes n within =
     frames_fit (settings_of plan.source format) (length bytes) n (omega (arith, length-waiting plan format bytes))
 
--- ---- block by block
+-- so many are counted
+pub waiting-count : (plan : PlanSeen) (format : Format) (bytes : List ℕ) (source : Layout) (fill c w : ℕ) → fill ≡ length bytes → c ≡ channels_of source → source ≡ plan.source → w ≡ bytes_of format
+    → fill / (c * w) ≡ length (waiting_frames plan format bytes)
+waiting-count plan format bytes source fill c w filled channels layout width =
+    ap (λ z. z / (c * w)) filled ∙ ap (λ z. length bytes / (z * w)) (channels ∙ ap channels_of layout) ∙ ap (λ z. length bytes / (channels_of plan.source * z)) width
+    ∙ sym (length-waiting plan format bytes)
 
--- more frames behind those that were written
-written-after : (list more : List Frame) (old out piece : List ℤ) (at width : ℕ) → out ≡ written list old → piece ≡ interleaved more → length (interleaved list) ≡ at → length (interleaved more) ≡ width
-    → put_mid at width out piece ≡ written (list ++ more) old
-written-after list more old out piece at width before is start long =
-    let joined = interleaved list in
-    let next = interleaved more in
-    let rest = drop (length joined) old in
-    let all : interleaved (list ++ more) ≡ joined ++ next = flat_map-append (λ (frame : Frame). frame) list more in
-    let place : length joined + width ≡ length (joined ++ next) = omega (arith, length-append joined next) in
-    ap (λ o. put_mid at width o piece) before
-    ∙ ap (λ p. put_mid at width (written list old) p) is
-    ∙ ap (λ front. front ++ (next ++ drop width (drop at (joined ++ rest)))) (take_at joined rest at start)
-    ∙ ap (λ back. joined ++ (next ++ drop width back)) (drop_at joined rest at start)
-    ∙ ap (λ back. joined ++ (next ++ back)) (drop-drop width (length joined) old)
-    ∙ sym (append_assoc joined next (drop (length joined + width) old))
-    ∙ ap (λ n. (joined ++ next) ++ drop n old) place
-    ∙ ap (λ l. l ++ drop (length l) old) (sym all)
+-- behind the first frames that wait the others do
+pub waiting-drop : (plan : PlanSeen) (format : Format) (bytes : List ℕ) (n : ℕ) → n ≤ length (waiting_frames plan format bytes)
+    → waiting_frames plan format (drop (n * (channels_of plan.source * bytes_of format)) bytes) ≡ drop n (waiting_frames plan format bytes)
+waiting-drop plan format bytes n within =
+    let settings = settings_of plan.source format in
+    frames-waiting settings bytes n (omega (arith, length-waiting plan format bytes)) ∙ ap (drop n) (sym (frames_of-samples settings bytes))
 
--- so many frames went from a ring to the front of an output
-pub record HasMoved (plan : PlanSeen) (format : Format) (gain : Gain) (bytes left : List ℕ) (old out : List ℤ) (done : ℕ) : Type 0 where
-  pub rest : left ≡ drop (done * (channels_of plan.source * bytes_of format)) bytes
-  pub given : out ≡ written (map (frame_through gain plan.stages) (take done (waiting_frames plan format bytes))) old
-  pub long : length (interleaved (map (frame_through gain plan.stages) (take done (waiting_frames plan format bytes)))) ≡ done * channels_of plan.target
+-- ---- a block
 
--- a block more
-pub moved-more : (plan : PlanSeen) (format : Format) (gain : Gain) (bytes before left : List ℕ) (old out piece : List ℤ) (done m : ℕ) → HasMoved plan format gain bytes before old out done
-    → done + m ≤ length (waiting_frames plan format bytes) → left ≡ drop (m * (channels_of plan.source * bytes_of format)) before
-    → piece ≡ interleaved (map (frame_through gain plan.stages) (waiting_frames plan format (take (m * (channels_of plan.source * bytes_of format)) before)))
-    → length piece ≡ m * channels_of plan.target
-    → HasMoved plan format gain bytes left old (put_mid (done * channels_of plan.target) (m * channels_of plan.target) out piece) (done + m)
-moved-more plan format gain bytes before left old out piece done m h within cut_off given long =
-    let f = frame_through gain plan.stages in
-    let size = channels_of plan.source * bytes_of format in
-    let all = waiting_frames plan format bytes in
-    let first = map f (take done all) in
-    let next = map f (take m (drop done all)) in
-    let taken : waiting_frames plan format (take (m * size) before) ≡ take m (drop done all) =
-    ap (λ b. waiting_frames plan format (take (m * size) b)) h.rest ∙ part-waiting (settings_of plan.source format) bytes done m (bytes-wait plan format bytes (done + m) within) in
-    let piece_is : piece ≡ interleaved next = given ∙ ap (λ list. interleaved (map f list)) taken in
-    let piece_long : length (interleaved next) ≡ m * channels_of plan.target = sym (ap length piece_is) ∙ long in
-    let cut : map f (take (done + m) all) ≡ first ++ next = ap (map f) (take-add done m all) ∙ map-append f (take done all) (take m (drop done all)) in
-    let place : done * size + m * size ≡ (done + m) * size = omega arith in
-    record {
-      rest = cut_off ∙ ap (drop (m * size)) h.rest ∙ drop-drop (m * size) (done * size) bytes ∙ ap (λ n. drop n bytes) place;
-      given = written-after first next old out piece (done * channels_of plan.target) (m * channels_of plan.target) h.given piece_is h.long piece_long ∙ ap (λ list. written list old) (sym cut);
-      long = ap (λ list. length (interleaved list)) cut ∙ ap length (flat_map-append (λ (frame : Frame). frame) first next) ∙ omega (arith, length-append (interleaved first) (interleaved next), h.long, piece_long);
-    }
+pub replicate-add : {X : Type 0} (n m : ℕ) (s : X) → replicate n s ++ replicate m s ≡ replicate (n + m) s
+replicate-add zero m s = let none : zero + m ≡ m = omega arith in ap (λ k. replicate k s) (sym none)
+replicate-add (suc n) m s = let more : suc n + m ≡ suc (n + m) = omega arith in ap (λ list. s ∷ list) (replicate-add n m s) ∙ ap (λ k. replicate k s) (sym more)
+
+-- silent samples are silent frames
+frames_of-silence : (c n : ℕ) → 0 < c → frames_of c (replicate (n * c) (pos 0)) ≡ replicate n (silence c)
+frames_of-silence c n above =
+    let P : Frame → Type 0 = λ (frame : Frame). length frame ≡ c in
+    ap (frames_of c) (sym (joined n)) ∙ frames_of-interleaved c (replicate n (silence c)) above (All-replicate P n (silence c) (length-replicate c (pos 0)))
+  where
+    joined : (n : ℕ) → interleaved (replicate n (silence c)) ≡ replicate (n * c) (pos 0)
+    joined zero = let none : zero * c ≡ 0 = omega arith in ap (λ k. replicate k (pos 0)) (sym none)
+    joined (suc n) =
+        let all : c + n * c ≡ suc n * c = omega arith in
+        ap (λ rest. silence c ++ rest) (joined n) ∙ replicate-add c (n * c) (pos 0) ∙ ap (λ k. replicate k (pos 0)) all
+
+-- what was loaded for a block is the first frames that wait, with silence behind them
+pub loaded-frames : (plan : PlanSeen) (format : Format) (bytes : List ℕ) (eaten silent c : ℕ) (samples_now : List ℤ) → c ≡ channels_of plan.source → eaten ≤ length (waiting_frames plan format bytes)
+    → take (eaten * c + silent * c) samples_now ≡ samples format (take (eaten * c * bytes_of format) bytes) ++ replicate (silent * c) (pos 0)
+    → first_frames (eaten + silent) c samples_now ≡ take eaten (waiting_frames plan format bytes) ++ replicate silent (silence c)
+loaded-frames plan format bytes eaten silent c samples_now same within loaded =
+    let settings = settings_of plan.source format in
+    let above : 0 < c = rw same (channels_of-above plan.source) in
+    let w = bytes_of format in
+    let all : (eaten + silent) * c ≡ eaten * c + silent * c = omega arith in
+    let width : eaten * c * w ≡ eaten * (c * w) = mul_assoc eaten c w in
+    let z : c * w ≡ frame_bytes settings = ap (λ n. n * w) same in
+    let fits : eaten * c * w ≤ length bytes = omega (arith, bytes-wait plan format bytes eaten within, width, ap (λ n. eaten * n) z) in
+    let front = samples format (take (eaten * c * w) bytes) in
+    let long : length front ≡ eaten * c = length-samples format (take (eaten * c * w) bytes) ∙ ap (λ n. n / w) (length-take-le (eaten * c * w) bytes fits) ∙ mul-div_cancel (eaten * c) (bytes_of-above format) in
+    let start : 0 * frame_bytes settings ≡ 0 = omega arith in
+    let taken : frames_of c front ≡ take eaten (waiting_frames plan format bytes) =
+    ap (λ n. frames_of n front) same
+    ∙ ap (λ n. frames_of (channels_of plan.source) (samples format (take n bytes))) (width ∙ ap (λ n. eaten * n) z)
+    ∙ ap (λ n. frames_of (channels_of plan.source) (samples format (take (eaten * frame_bytes settings) (drop n bytes)))) (sym start)
+    ∙ part-waiting settings bytes 0 eaten (omega (arith, bytes-wait plan format bytes eaten within)) in
+    ap (λ n. frames_of c (take n samples_now)) all
+    ∙ ap (frames_of c) loaded
+    ∙ frames_of-append c front (replicate (silent * c) (pos 0)) above (ap (λ n. n % c) long ∙ mul-mod_left eaten c)
+    ∙ ap (λ list. list ++ frames_of c (replicate (silent * c) (pos 0))) taken
+    ∙ ap (λ list. take eaten (waiting_frames plan format bytes) ++ list) (frames_of-silence c silent above)

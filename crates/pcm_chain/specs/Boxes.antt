@@ -1,5 +1,5 @@
 -- The boxes of a chain by stage, and what each keeps.
-use Rattle.std.specs.Prelude.{◌≡◌, List, All}
+use Rattle.std.specs.Prelude.{List, All}
 use Rattle.pcm_feeder.specs.declared.rack.SixOf.{SixOf}
 use Rattle.pcm_feeder.specs.declared.stage.Spec.{Spec}
 use Rattle.pcm_feeder.specs.declared.stage.Spec.TheVariants.{Matrix, Hold, Linear, Poly, Volume, Depth}
@@ -8,15 +8,11 @@ use Rattle.pcm_feeder.specs.Kept.{Kept, unfitted, IsFitted}
 -- what the box of a stage keeps; a kind without a box keeps nothing
 abbrev pub kept_in : {B : Type 0} → (B → Kept) → SixOf B → Spec → Kept
 kept_in kept six (Matrix from to) = kept six.matrix
-kept_in kept six (Hold src dst channels) = unfitted
-kept_in kept six (Linear src dst channels) = unfitted
+kept_in kept six (Hold src dst channels) = kept six.hold
+kept_in kept six (Linear src dst channels) = kept six.linear
 kept_in kept six (Poly src dst channels table taps) = unfitted
 kept_in kept six (Volume layout) = kept six.volume
 kept_in kept six (Depth bits channels) = kept six.depth
-
--- each box keeps what it kept
-abbrev pub KeepTheSame : {B : Type 0} → (B → Kept) → SixOf B → SixOf B → Type 0
-KeepTheSame kept old new = (spec : Spec) → kept_in kept new spec ≡ kept_in kept old spec
 
 -- each stage has its box fitted to it
 abbrev pub HaveFitted : {B : Type 0} → (B → Kept) → SixOf B → List Spec → Type 0

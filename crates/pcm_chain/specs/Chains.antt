@@ -1,5 +1,5 @@
 -- What a chain stands for: the frames that went into it, and what each of its stages made of them.
-use Rattle.std.specs.Prelude.{◌≡◌, ◌<◌, ℕ, List, [], ◌∷◌, ◌++◌, length, replicate, slice_index_or}
+use Rattle.std.specs.Prelude.{◌≡◌, ◌<◌, ℕ, ◌-◌, List, [], ◌∷◌, ◌++◌, length, replicate, slice_index_or}
 use Rattle.pcm_format.specs.Frames.{Frame}
 use Rattle.pcm_format.specs.Layouts.{channels_of}
 use Rattle.pcm_feeder.specs.declared.rack.SixOf.{SixOf}
@@ -9,9 +9,12 @@ use Rattle.pcm_feeder.specs.Filters.{Filters}
 use Rattle.pcm_feeder.specs.Kept.{Kept, StandsFor}
 use Rattle.pcm_feeder.specs.Stages.{channels_in, channels_out, conv}
 use Rattle.pcm_feeder.specs.Streams.{Stream, silence, stream_of, HaveChannels}
-use Rattle.pcm_plan.specs.Plans.{PlanSeen}
+use Rattle.pcm_rate.specs.Rates.{need}
+use Rattle.pcm_plan.specs.Plans.{PlanSeen, rate_in_plan}
 use Rattle.pcm_plan.specs.Fits.{IsPlan}
 use Rattle.pcm_chain.specs.Boxes.{kept_in, HaveFitted}
+use Rattle.pcm_chain.specs.Counts.{StandFor}
+use Rattle.pcm_chain.specs.declared.counts.Counts.{Counts}
 use Rattle.pcm_chain.specs.declared.chain.ChainOf.{ChainOf}
 
 -- the boxes of a chain
@@ -21,6 +24,10 @@ boxes_in chain = chain.boxes
 -- the plan of a chain
 abbrev pub plan_in : {B : Type 0} → ChainOf B → PlanSeen
 plan_in chain = chain.plan
+
+-- the counts of a chain
+abbrev pub counts_in : {B : Type 0} → ChainOf B → Counts
+counts_in chain = chain.counts
 
 -- each stage of a chain's plan has its box fitted to it
 abbrev pub AreFitted : {B : Type 0} → (B → Kept) → ChainOf B → Type 0
@@ -42,10 +49,13 @@ StagesStand keeps tables [] x given = length x ≡ given
 StagesStand keeps tables (spec ∷ specs) x given =
     (middle : List Frame) × StandsFor spec tables (keeps spec) x (length middle) × HasGiven spec tables x middle × StagesStand keeps tables specs middle given
 
--- a chain that has eaten the frames x and so many frames of silence behind them, and has given so many frames
+-- A chain that has eaten the frames x and so many frames of silence behind them, and has given so many frames. Silence is
+-- eaten only as far as the frames given need it.
 pub record ChainStands {B : Type 0} (kept : B → Kept) (tables : Filters) (chain : ChainOf B)
     (x : List Frame) (zeros given : ℕ) : Type 0 where
   pub fits : IsPlan (plan_in chain)
   pub frames : HaveChannels (channels_of (plan_in chain).source) x
+  pub counts : StandFor (rate_in_plan (plan_in chain)) (counts_in chain) (length x) given
+  pub silent : zeros ≡ need (rate_in_plan (plan_in chain)) given - length x
   pub stages : StagesStand (kept_in kept (boxes_in chain)) tables (plan_in chain).stages
       (x ++ replicate zeros (silence (channels_of (plan_in chain).source))) given

@@ -1,4 +1,6 @@
 pub mod Boxes
+pub mod Counts
+pub mod Feeds
 pub mod Chains
 pub mod Pulls
 pub mod Props

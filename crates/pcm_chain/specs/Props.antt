@@ -7,8 +7,8 @@ use Rattle.pcm_feeder.specs.Racks.{HasBox}
 
 pub HasBox-prop : (spec : Spec) → IsProp (HasBox spec)
 HasBox-prop (Matrix from to) = λ a b. refl
-HasBox-prop (Hold src dst channels) = λ a b. absurd a
-HasBox-prop (Linear src dst channels) = λ a b. absurd a
+HasBox-prop (Hold src dst channels) = λ a b. refl
+HasBox-prop (Linear src dst channels) = λ a b. refl
 HasBox-prop (Poly src dst channels table taps) = λ a b. absurd a
 HasBox-prop (Volume layout) = λ a b. refl
 HasBox-prop (Depth bits channels) = λ a b. refl

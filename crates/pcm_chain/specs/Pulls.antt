@@ -1,11 +1,11 @@
 -- What a pull eats and gives.
-use Rattle.std.specs.Prelude.{◌≡◌, ◌<◌, ℕ, ◌+◌, ◌-◌, min, max, ℤ, Bool, IsTrue, if◌then◌else◌, List, [], ◌++◌, length, take}
+use Rattle.std.specs.Prelude.{◌≡◌, ◌<◌, ℕ, ◌+◌, ◌-◌, min, max, ℤ, Bool, IsTrue, List, [], ◌++◌, length, take}
 use Rattle.pcm_format.specs.declared.format.Format.{Format}
 use Rattle.pcm_format.specs.Frames.{Frame}
 use Rattle.pcm_format.specs.Layouts.{channels_of}
 use Rattle.pcm_format.specs.Samples.{samples}
 use Rattle.pcm_rate.specs.declared.rate.Rate.{Rate}
-use Rattle.pcm_rate.specs.Rates.{need, can, len}
+use Rattle.pcm_rate.specs.Rates.{need}
 use Rattle.pcm_feeder.specs.declared.stage.Gain.{Gain}
 use Rattle.pcm_feeder.specs.Filters.{Filters}
 use Rattle.pcm_feeder.specs.Kept.{Kept}
@@ -15,14 +15,11 @@ use Rattle.pcm_plan.specs.Through.{outs}
 use Rattle.pcm_chain.specs.declared.chain.ChainOf.{ChainOf}
 use Rattle.pcm_chain.specs.declared.chain.Pulled.{Pulled}
 use Rattle.pcm_chain.specs.Chains.{plan_in, ChainStands}
+use Rattle.pcm_chain.specs.Counts.{allowed_in_all}
 
 -- the whole frames that wait in a ring, in a plan's layout and a format
 abbrev pub waiting_frames : PlanSeen → Format → List ℕ → List Frame
 waiting_frames plan format bytes = frames_of (channels_of plan.source) (samples format bytes)
-
--- how many outputs n frames allow: those that last as long where nothing more comes, else those that are sure
-abbrev pub allowed_in_all : Bool → Rate → ℕ → ℕ
-allowed_in_all ended rate n = if ended then len rate n else can rate n
 
 -- silence was eaten only where nothing more comes, and no frame waits
 abbrev pub IsPastTheEnd : Bool → ℕ → List Frame → Type 0
@@ -34,11 +31,6 @@ pub record PullsAsFar (rate : Rate) (ended : Bool) (want n waiting before : ℕ)
     : Type 0 where
   pub given : pulled.given ≡ min want (allowed_in_all ended rate (n + waiting) - before)
   pub eaten : n + pulled.eaten ≡ max n (min (n + waiting) (need rate (before + want)))
-
--- without a change of rate a pull gives a frame for each that it eats: as many as are wanted, or all that wait
-pub record PullsEach (want waiting : ℕ) (pulled : Pulled) : Type 0 where
-  pub given : pulled.given ≡ min want waiting
-  pub eaten : pulled.eaten ≡ min want waiting
 
 -- where a chain stands behind a pull: silence was eaten only where nothing more comes and all that waited was eaten
 pub record StandsBehind {B : Type 0} (kept : B → Kept) (tables : Filters) (ended : Bool)

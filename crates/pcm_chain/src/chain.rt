@@ -2,10 +2,14 @@
 
 ghost use Rattle.std.specs.Prelude.{◌≡◌, ◌≤◌, ◌*◌, All};
 ghost use Rattle.pcm_feeder.specs.Racks.{HasBox};
+ghost use Rattle.std.proofs.Props.{props};
+ghost use Rattle.pcm_plan.specs.Plans.{rate_in_plan};
+ghost use Rattle.pcm_chain.specs.Counts.{AreBounded};
 ghost use Rattle.pcm_chain.specs.Props.{box_props};
 
+use crate::counts::Counts;
 use crate::stages::{feed_stages, fit_stages};
-use crate::staging::{BLOCK_FRAMES, Staging};
+use crate::staging::Staging;
 use pcm_feeder::{Feeder, Gain, RackOf, SixOf, Tables};
 use pcm_format::{Format, Layout};
 use pcm_plan::Plan;
@@ -18,7 +22,9 @@ pub struct ChainOf<B> {
     boxes: SixOf<B>,
     plan: Plan,
     staging: Staging,
+    counts: Counts,
     ghost has_boxes: { All HasBox plan.stages } by { Prim.hlevel box_props },
+    ghost bounded: { AreBounded (rate_in_plan plan) counts } by { Prim.hlevel props },
 }
 
 /// How many frames a pull gave, and how many of the waiting ones it ate.
@@ -29,21 +35,18 @@ pub struct Pulled {
 }
 
 impl<B: Feeder> ChainOf<B> {
-    ghost use Rattle.std.specs.Prelude.{ℕ, List, [], length, map, take, drop, IfOk};
+    ghost use Rattle.std.specs.Prelude.{◌+◌, ◌<◌, ℕ, List, [], length, drop, IfOk};
     ghost use Rattle.pcm_format.specs.Formats.{bytes_of};
     ghost use Rattle.pcm_format.specs.Frames.{Frame};
     ghost use Rattle.pcm_format.specs.Layouts.{channels_of};
-    ghost use Rattle.pcm_rate.specs.Rates.{unchanged};
+    ghost use Rattle.pcm_rate.specs.Rates.{need};
     ghost use Rattle.pcm_feeder.specs.Filters.{Filters};
     ghost use Rattle.pcm_feeder.specs.Limits.{IsGain};
     ghost use Rattle.pcm_feeder.specs.Racks.{HaveKinds, IsRack, boxes_of};
-    ghost use Rattle.pcm_feeder.specs.Streams.{interleaved};
-    ghost use Rattle.pcm_plan.specs.Plans.{rate_in_plan};
     ghost use Rattle.pcm_plan.specs.Fits.{HaveTables};
-    ghost use Rattle.pcm_plan.specs.Through.{frame_through};
-    ghost use Rattle.pcm_chain.specs.Boxes.{KeepTheSame};
-    ghost use Rattle.pcm_chain.specs.Chains.{boxes_in, plan_in, AreFitted, ChainStands};
-    ghost use Rattle.pcm_chain.specs.Pulls.{waiting_frames, IsPastTheEnd, PullsEach, Pulls};
+    ghost use Rattle.pcm_chain.specs.Chains.{boxes_in, counts_in, plan_in, AreFitted, ChainStands};
+    ghost use Rattle.pcm_chain.specs.Counts.{fed_in_all};
+    ghost use Rattle.pcm_chain.specs.Pulls.{waiting_frames, IsPastTheEnd, Pulls};
     ghost use Rattle.pcm_chain.specs.declared.staging.TheConstants.{BLOCK_FRAMES};
 
     /// A chain with the boxes of a rack and no stage. All memory of the chain is taken here.
@@ -57,6 +60,7 @@ impl<B: Feeder> ChainOf<B> {
             boxes: rack.into_boxes(),
             plan: Plan::straight(Layout::One),
             staging,
+            counts: Counts::none(),
         })
     }
 
@@ -76,6 +80,8 @@ impl<B: Feeder> ChainOf<B> {
         ensures fitted { AreFitted B.kept self.new }
         ensures begins { (tables : Filters) → ChainStands B.kept tables self.new [] 0 0 }
     {
+        // The old counts are of the old plan's rate.
+        self.counts = Counts::none();
         self.plan = plan.copy();
         self.restart();
     }
@@ -88,6 +94,7 @@ impl<B: Feeder> ChainOf<B> {
         ensures fitted { AreFitted B.kept self.new }
         ensures begins { (tables : Filters) → ChainStands B.kept tables self.new [] 0 0 }
     {
+        self.counts = Counts::none();
         fit_stages(&mut self.boxes, self.plan.stages());
     }
 
@@ -115,9 +122,6 @@ impl<B: Feeder> ChainOf<B> {
           bytes = drop (result.eaten
               * (channels_of (plan_in self.old).source * bytes_of format)) ring.old.bytes;
         } }
-        ensures level { rate_in_plan (plan_in self.old) ≡ unchanged
-            → PullsEach want
-            (length (waiting_frames (plan_in self.old) format ring.old.bytes)) result }
         ensures pulls { (x : List Frame) (zeros before : ℕ)
             → ChainStands B.kept tables.now self.old x zeros before
             → IsPastTheEnd ended zeros (waiting_frames (plan_in self.old) format ring.old.bytes)
@@ -125,62 +129,87 @@ impl<B: Feeder> ChainOf<B> {
             (waiting_frames (plan_in self.old) format ring.old.bytes)
             self.old self.new x before result out.old out.new }
     {
-        // No stage changes the rate: each frame that is eaten gives one, also where the stream has ended.
+        let waiting = ring.fill() / (self.plan.source().channels() * format.bytes());
         let channels = self.plan.target().channels();
-        let frames = want.min(ring.fill() / (self.plan.source().channels() * format.bytes()));
-        let mut done = 0;
-        while done < frames {
-            let block = BLOCK_FRAMES.min(frames - done);
-            let at = done * channels;
-            let piece = &mut out[at..at + block * channels];
-            self.pull_block(tables, gain, ring, format, block, piece);
-            done += block;
+        let mut pulled = Pulled { given: 0, eaten: 0 };
+        let mut asked = 0;
+        while asked < want && pulled.given == asked {
+            let block = self.counts.block(self.plan.rate(), want - asked);
+            let rest = &mut out[asked * channels..];
+            let left = waiting - pulled.eaten;
+            let more = self.pull_block(tables, gain, ring, format, ended, left, block, rest);
+            asked += block;
+            pulled = Pulled {
+                given: pulled.given + more.given,
+                eaten: pulled.eaten + more.eaten,
+            };
         }
-        Pulled {
-            given: frames,
-            eaten: frames,
-        }
+        pulled
     }
 
-    // Takes so many frames out of a ring and puts them through the stages.
+    // A pull of so few frames that those eaten for them make a block, where so many wait.
     fn pull_block(
         &mut self,
         tables: &Tables,
         gain: Gain,
         ring: &mut ByteRing,
         format: Format,
-        frames: usize,
+        ended: bool,
+        waiting: usize,
+        want: usize,
         out: &mut [i32],
-    )
+    ) -> Pulled
         requires fitted { AreFitted B.kept self.old }
         requires gain { IsGain gain }
         requires tables { HaveTables (plan_in self.old).stages tables.now }
-        requires block { frames ≤ BLOCK_FRAMES }
-        requires waiting { frames * (channels_of (plan_in self.old).source * bytes_of format)
-            ≤ length ring.old.bytes }
-        requires room { length out.old ≡ frames * channels_of (plan_in self.old).target }
+        requires waiting { waiting
+            ≡ length (waiting_frames (plan_in self.old) format ring.old.bytes) }
+        requires some { 0 < want }
+        requires few { want ≤ BLOCK_FRAMES }
+        requires reach { need (rate_in_plan (plan_in self.old)) ((counts_in self.old).given + want)
+            ≤ fed_in_all (rate_in_plan (plan_in self.old)) (counts_in self.old) + BLOCK_FRAMES }
+        requires room { want * channels_of (plan_in self.old).target ≤ length out.old }
         ensures plan { plan_in self.new ≡ plan_in self.old }
         ensures kinds { HaveKinds B.kind (boxes_in self.old) → HaveKinds B.kind (boxes_in self.new) }
-        ensures kept { KeepTheSame B.kept (boxes_in self.old) (boxes_in self.new) }
+        ensures fitted { AreFitted B.kept self.new }
+        ensures most { result.given ≤ want }
+        ensures there { result.eaten ≤ waiting }
         ensures ring { ring.new ≡ record ring.old {
-          bytes = drop (frames
+          bytes = drop (result.eaten
               * (channels_of (plan_in self.old).source * bytes_of format)) ring.old.bytes;
         } }
-        ensures out { out.new ≡ interleaved (map (frame_through gain (plan_in self.old).stages)
-            (waiting_frames (plan_in self.old) format (take (frames
-            * (channels_of (plan_in self.old).source * bytes_of format)) ring.old.bytes))) }
+        ensures pulls { (x : List Frame) (zeros before : ℕ)
+            → ChainStands B.kept tables.now self.old x zeros before
+            → IsPastTheEnd ended zeros (waiting_frames (plan_in self.old) format ring.old.bytes)
+            → Pulls B.kept tables.now gain ended want
+            (waiting_frames (plan_in self.old) format ring.old.bytes)
+            self.old self.new x before result out.old out.new }
     {
-        let samples = frames * self.plan.source().channels();
-        self.staging.load(ring, format, samples);
+        let source = self.plan.source().channels();
+        let rate = self.plan.rate();
+        let advance = self.counts.advance(rate, ended, waiting, want);
+        self.staging.load(
+            ring,
+            format,
+            advance.eaten * source,
+            advance.silent * source,
+        );
         feed_stages(
             &mut self.boxes,
-            &self.plan,
+            self.plan.stages(),
+            source,
             tables,
             gain,
-            frames,
+            advance.eaten + advance.silent,
+            want,
             &mut self.staging,
             out,
         );
+        self.counts = self.counts.after(rate, self.plan.period(), advance);
+        Pulled {
+            given: advance.given,
+            eaten: advance.eaten,
+        }
     }
 }
 

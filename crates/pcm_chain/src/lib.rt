@@ -3,6 +3,7 @@
 #![tactic(auto)]
 
 mod chain;
+mod counts;
 mod stages;
 mod staging;
 

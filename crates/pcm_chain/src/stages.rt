@@ -1,22 +1,23 @@
 //! The boxes of stages, fitted and fed one after another.
 
-ghost use Rattle.std.specs.Prelude.{◌≡◌, ◌≢◌, ◌≤◌, ◌*◌, length, map, take, All};
-ghost use Rattle.pcm_format.specs.Layouts.{channels_of};
+ghost use Rattle.std.specs.Prelude.{◌≡◌, ◌≢◌, ◌≤◌, ◌*◌, length, take, All};
+ghost use Rattle.pcm_rate.specs.Rates.{unchanged};
 ghost use Rattle.pcm_feeder.specs.declared.stage.Spec.{Spec};
 ghost use Rattle.pcm_feeder.specs.Kept.{fresh, IsFitted};
 ghost use Rattle.pcm_feeder.specs.Kinds.{kind_of};
-ghost use Rattle.pcm_feeder.specs.Limits.{IsSpec, IsGain, HasTable};
+ghost use Rattle.pcm_feeder.specs.Limits.{AreChannels, IsSpec, IsGain, HasTable};
 ghost use Rattle.pcm_feeder.specs.Racks.{HaveKinds, HasBox};
 ghost use Rattle.pcm_feeder.specs.Stages.{channels_in, channels_out};
-ghost use Rattle.pcm_feeder.specs.Streams.{frames_of, interleaved, written};
+ghost use Rattle.pcm_feeder.specs.Streams.{written};
+ghost use Rattle.pcm_feeder.specs.Turns.{fed};
+ghost use Rattle.pcm_plan.specs.Plans.{rate_among};
 ghost use Rattle.pcm_plan.specs.Fits.{AreDistinct, HaveTables};
-ghost use Rattle.pcm_plan.specs.Through.{frame_by, frame_through};
-ghost use Rattle.pcm_chain.specs.Boxes.{kept_in, KeepTheSame, HaveFitted};
+ghost use Rattle.pcm_chain.specs.Boxes.{kept_in, HaveFitted};
+ghost use Rattle.pcm_chain.specs.Feeds.{asked, fed_through, first_frames, AreFed, HaveRoom};
 ghost use Rattle.pcm_chain.specs.declared.staging.TheConstants.{BLOCK_FRAMES};
 
 use crate::staging::Staging;
 use pcm_feeder::{Feeder, Gain, SixOf, Spec, Tables};
-use pcm_plan::Plan;
 
 /// Fits the box of each stage to it.
 pub fn fit_stages<B: Feeder>(boxes: &mut SixOf<B>, stages: &[Spec])
@@ -44,82 +45,122 @@ fn fit_stage<B: Feeder>(boxes: &mut SixOf<B>, spec: Spec)
 {
     match spec {
         Spec::Matrix { .. } => boxes.matrix.fit(spec),
+        Spec::Hold { .. } => boxes.hold.fit(spec),
+        Spec::Linear { .. } => boxes.linear.fit(spec),
         Spec::Volume { .. } => boxes.volume.fit(spec),
         Spec::Depth { .. } => boxes.depth.fit(spec),
-        Spec::Hold { .. } | Spec::Linear { .. } | Spec::Poly { .. } => unreachable!(),
+        Spec::Poly { .. } => unreachable!(),
     }
 }
 
-/// Puts the frames at the front of a staging through the stages of a plan. The last stage gives to `out`.
+/// Puts the first `frames` frames of a staging, each of `source` channels, through stages that each give to the next one. The
+/// last one gives at most `want` frames to the front of `out`. Answers how many these are.
 pub fn feed_stages<B: Feeder>(
     boxes: &mut SixOf<B>,
-    plan: &Plan,
+    stages: &[Spec],
+    source: usize,
     tables: &Tables,
     gain: Gain,
     frames: usize,
+    want: usize,
     staging: &mut Staging,
     out: &mut [i32],
-)
-    requires boxes { All HasBox plan.now.stages }
-    requires fitted { HaveFitted B.kept boxes.old plan.now.stages }
+) -> usize
+    requires boxes { All HasBox stages.now }
+    requires limits { All IsSpec stages.now }
+    requires distinct { AreDistinct stages.now }
+    requires fitted { HaveFitted B.kept boxes.old stages.now }
     requires gain { IsGain gain }
-    requires tables { HaveTables plan.now.stages tables.now }
-    requires block { frames ≤ BLOCK_FRAMES }
-    requires room { length out.old ≡ frames * channels_of plan.now.target }
-    ensures kept { KeepTheSame B.kept boxes.old boxes.new }
+    requires tables { HaveTables stages.now tables.now }
+    requires channels { AreChannels source }
+    requires offered { frames ≤ BLOCK_FRAMES }
+    requires wanted { want ≤ BLOCK_FRAMES }
+    requires level { rate_among stages.now ≡ unchanged → frames ≤ want }
+    requires room { HaveRoom source stages.now want (length out.old) }
     ensures kinds { HaveKinds B.kind boxes.old → HaveKinds B.kind boxes.new }
-    ensures out { let channels = channels_of plan.now.source in
-        out.new ≡ interleaved (map (frame_through gain plan.now.stages)
-        (frames_of channels (take (frames * channels) staging.old.now.items))) }
+    ensures others { (other : Spec) → All (λ spec. kind_of other ≢ kind_of spec) stages.now
+        → kept_in B.kept boxes.new other ≡ kept_in B.kept boxes.old other }
+    ensures fed { AreFed (kept_in B.kept boxes.old) (kept_in B.kept boxes.new) tables.now gain want
+        stages.now (first_frames frames source staging.old.now.items) }
+    ensures given { result ≡ length (fed_through (kept_in B.kept boxes.old) tables.now gain want
+        stages.now (first_frames frames source staging.old.now.items)) }
+    ensures out { out.new ≡ written (fed_through (kept_in B.kept boxes.old) tables.now gain want
+        stages.now (first_frames frames source staging.old.now.items)) out.old }
 {
-    let Some((last, before)) = plan.stages().split_last() else {
-        out.copy_from_slice(&staging.now[..out.len()]);
-        return;
-    };
-    for spec in before {
-        feed_stage(
-            boxes,
-            *spec,
-            tables,
-            gain,
-            frames,
-            &staging.now,
-            &mut staging.next,
-        );
-        staging.turn();
+    if stages.is_empty() {
+        let samples = frames * source;
+        out[..samples].copy_from_slice(&staging.now[..samples]);
+        return frames;
     }
-    feed_stage(boxes, *last, tables, gain, frames, &staging.now, out);
+    let spec = stages[0];
+    let rest = &stages[1..];
+    if rest.is_empty() {
+        return feed_stage(boxes, spec, tables, gain, frames, want, &staging.now, out);
+    }
+    let given = feed_stage(
+        boxes,
+        spec,
+        tables,
+        gain,
+        frames,
+        want,
+        &staging.now,
+        &mut staging.next,
+    );
+    staging.turn();
+    feed_stages(
+        boxes,
+        rest,
+        channels_out(spec),
+        tables,
+        gain,
+        given,
+        want,
+        staging,
+        out,
+    )
 }
 
-// Feeds the frames at the front of `input` to the box of a stage, which gives as many to the front of `output`.
+// Feeds the first `frames` frames of `input` to the box of a stage, which gives frames to the front of `output`. Answers how many
+// these are.
 fn feed_stage<B: Feeder>(
     boxes: &mut SixOf<B>,
     spec: Spec,
     tables: &Tables,
     gain: Gain,
     frames: usize,
+    want: usize,
     input: &[i32],
     output: &mut [i32],
-)
+) -> usize
     requires there { HasBox spec }
     requires limits { IsSpec spec }
     requires fitted { IsFitted spec (kept_in B.kept boxes.old spec) }
     requires gain { IsGain gain }
     requires filter { HasTable spec tables.now }
     requires source { frames * channels_in spec ≤ length input.now }
-    requires room { frames * channels_out spec ≤ length output.old }
-    ensures kept { KeepTheSame B.kept boxes.old boxes.new }
+    requires room { asked spec want frames * channels_out spec ≤ length output.old }
     ensures kinds { HaveKinds B.kind boxes.old → HaveKinds B.kind boxes.new }
-    ensures frames { output.new ≡ written (map (frame_by gain spec)
-        (frames_of (channels_in spec) (take (frames * channels_in spec) input.now))) output.old }
+    ensures kept { kept_in B.kept boxes.new spec ≡ (fed (kept_in B.kept boxes.old spec) tables.now gain
+        (take (frames * channels_in spec) input.now) (asked spec want frames)).kept }
+    ensures others { (other : Spec) → kind_of other ≢ kind_of spec
+        → kept_in B.kept boxes.new other ≡ kept_in B.kept boxes.old other }
+    ensures given { result ≡ (fed (kept_in B.kept boxes.old spec) tables.now gain
+        (take (frames * channels_in spec) input.now) (asked spec want frames)).given }
+    ensures most { result ≤ asked spec want frames }
+    ensures frames { output.new ≡ written (fed (kept_in B.kept boxes.old spec) tables.now gain
+        (take (frames * channels_in spec) input.now) (asked spec want frames)).frames output.old }
 {
     let input = &input[..frames * channels_in(spec)];
-    match spec {
+    let moved = match spec {
         Spec::Matrix { .. } => boxes.matrix.feed(tables, gain, input, frames, output),
+        Spec::Hold { .. } => boxes.hold.feed(tables, gain, input, want, output),
+        Spec::Linear { .. } => boxes.linear.feed(tables, gain, input, want, output),
         Spec::Volume { .. } => boxes.volume.feed(tables, gain, input, frames, output),
         Spec::Depth { .. } => boxes.depth.feed(tables, gain, input, frames, output),
-        Spec::Hold { .. } | Spec::Linear { .. } | Spec::Poly { .. } => unreachable!(),
+        Spec::Poly { .. } => unreachable!(),
     };
+    moved.given
 }
 
 // The channels that a stage takes.
@@ -133,5 +174,15 @@ fn channels_in(spec: Spec) -> usize
         Spec::Poly { channels, .. } => channels,
         Spec::Volume { layout } => layout.channels(),
         Spec::Depth { channels, .. } => channels,
+    }
+}
+
+// The channels that a stage gives.
+fn channels_out(spec: Spec) -> usize
+    ensures { result ≡ channels_out spec }
+{
+    match spec {
+        Spec::Matrix { to, .. } => to.channels(),
+        _ => channels_in(spec),
     }
 }

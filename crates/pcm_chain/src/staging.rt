@@ -1,6 +1,6 @@
 //! Where the frames of a block lie between its stages.
 
-ghost use Rattle.std.specs.Prelude.{◌≡◌, ◌≤◌, ◌*◌, length, take, drop, vec_len};
+ghost use Rattle.std.specs.Prelude.{◌≡◌, ◌≤◌, ◌+◌, ◌*◌, ◌++◌, pos, length, take, drop, replicate, vec_len};
 ghost use Rattle.pcm_format.specs.Formats.{bytes_of};
 ghost use Rattle.pcm_format.specs.Samples.{samples};
 ghost use Rattle.pcm_chain.specs.declared.staging.TheConstants.{BLOCK_SAMPLES, BLOCK_BYTES};
@@ -38,16 +38,17 @@ impl Staging {
         Ok(Staging { now, next, bytes })
     }
 
-    /// Moves the oldest `count` samples of a ring to the front of `now`.
-    pub fn load(&mut self, ring: &mut ByteRing, format: Format, count: usize)
-        requires within { count ≤ BLOCK_SAMPLES }
+    /// Moves the oldest `count` samples of a ring to the front of `now`, and puts `silent` ones behind them.
+    pub fn load(&mut self, ring: &mut ByteRing, format: Format, count: usize, silent: usize)
+        requires within { count + silent ≤ BLOCK_SAMPLES }
         requires waiting { count * bytes_of format ≤ length ring.old.bytes }
         ensures ring { ring.new
             ≡ record ring.old { bytes = drop (count * bytes_of format) ring.old.bytes } }
-        ensures loaded { take count self.new.now.items
-            ≡ samples format (take (count * bytes_of format) ring.old.bytes) }
+        ensures loaded { take (count + silent) self.new.now.items
+            ≡ samples format (take (count * bytes_of format) ring.old.bytes) ++ replicate silent (pos 0) }
     {
         load_front(ring, format, count, &mut self.bytes, &mut self.now);
+        self.now[count..count + silent].fill(0);
     }
 
     /// The samples given are those that the next stage takes.

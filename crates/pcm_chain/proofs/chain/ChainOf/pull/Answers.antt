@@ -1,69 +1,107 @@
-use Rattle.std.proofs.Common.{◌≡◌, ◌+◌, ◌-◌, ◌*◌, ◌≤◌, length, map, take, drop, ap, ◌∙◌, arith}
-use Rattle.std.proofs.Math.Nat.{mul-le-mul_right}
-use Rattle.std.proofs.lemmas.List.{length-drop, length-take-le}
+use Rattle.std.proofs.Common.{◌≡◌, ◌+◌, ◌*◌, ◌++◌, ℕ, ℤ, List, length, take, drop, refl, sym, ap, ◌∙◌, subst, arith}
+use Rattle.std.proofs.lemmas.List.{length-drop, drop-drop}
+use Rattle.std.proofs.lemmas.List.Elements.{All-append}
 use Rattle.pcm_format.specs.Formats.{bytes_of}
+use Rattle.pcm_format.specs.Frames.{Frame}
 use Rattle.pcm_format.specs.Layouts.{channels_of}
 use Rattle.pcm_format.specs.Samples.{samples}
 use Rattle.pcm_ring.specs.Ring.{Ring}
-use Rattle.pcm_feeder.specs.Streams.{interleaved, written}
 use Rattle.pcm_feeder.proofs.Frames.{frames_of-channels}
 use Rattle.pcm_plan.specs.Plans.{PlanSeen}
-use Rattle.pcm_plan.specs.Through.{frame_through}
-use Rattle.pcm_chain.specs.Pulls.{waiting_frames}
-use Rattle.pcm_chain.proofs.Waiting.{count-is, moved-more}
-use Rattle.pcm_chain.proofs.Pulling.{pulls}
+use Rattle.pcm_chain.specs.Chains.{plan_in, ChainStands}
+use Rattle.pcm_chain.specs.Pulls.{waiting_frames, IsPastTheEnd, Pulls}
+use Rattle.pcm_chain.proofs.Counting.{rate-near}
+use Rattle.pcm_chain.proofs.Pulling.{nothing-pulled, put-end, end-taken, goes-on, falls-short}
+use Rattle.pcm_chain.proofs.Waiting.{waiting-count, waiting-drop}
 use Rattle.pcm_chain.proofs.chain.ChainOf.pull.Goals as goal
 
-pub loop-done-preserved : goal.loop-done-preserved
-loop-done-preserved g c =
-    let h = c.loop-done.invariant in
+pub block-block-requires-clause-near : goal.block-block-requires-clause-near
+block-block-requires-clause-near g c = rw c.rate.ensures.value (rate-near c.loop-asked.self.plan c.rate.ensures.fits)
+
+pub returns-after-loop-asked-clause-pulls : goal.returns-after-loop-asked-clause-pulls
+returns-after-loop-asked-clause-pulls g c x quiet before stands past =
+    let h = c.loop-asked.invariant in
+    let all : c.loop-asked.asked ≡ c.args.want = omega (arith, h.within, c.loop-asked-test.false) in
+    let pulls = h.pulls x quiet before stands past in
+    rw all at pulls
+
+pub returns-else-pulled-asked-clause-pulls : goal.returns-else-pulled-asked-clause-pulls
+returns-else-pulled-asked-clause-pulls g c x quiet before stands past =
+    let h = c.loop-asked.invariant in
+    falls-short g.B.Feeder.kept c.args.tables.now c.args.gain c.args.ended c.loop-asked.asked c.args.want (waiting_frames c.args.self.now.plan c.args.format c.args.ring.now.bytes) c.args.self.now c.loop-asked.self x before
+    c.loop-asked.pulled c.args.out.now c.loop-asked.out stands.fits (omega (arith, h.most, c.if-pulled-asked.false)) h.within (h.pulls x quiet before stands past)
+
+pub loop-asked-init : goal.loop-asked-init
+loop-asked-init g c =
     let plan = c.args.self.now.plan in
     let bytes = c.args.ring.now.bytes in
-    let left = c.loop-done.ring.bytes in
-    let done = c.loop-done.done in
-    let m = c.min-block.result in
-    let width = c.channels-channels.result in
-    let same : width ≡ channels_of plan.target = c.channels-channels.ensures ∙ ap channels_of c.target.ensures in
-    let count = count-is plan c.args.format bytes c.source.result c.args.want c.min-frames.result c.fill.result c.channels.result c.bytes.result
-    c.min-frames.ensures c.fill.ensures.count c.channels.ensures c.source.ensures c.bytes.ensures in
-    let within : done + m ≤ c.min-frames.result = omega (arith, c.min-block.ensures, c.loop-done-test.true) in
-    let out_fits : (done + m) * width ≤ length c.loop-done.out = rw same (omega (arith, c.requires.room, c.loop-done.auto.out, count, within, mul-le-mul_right {m = done + m} {n = c.args.want} (channels_of plan.target) (omega arith))) in
-    let part : done * width + m * width - done * width ≡ m * width = omega arith in
-    let long : length c.pull_block.new.out ≡ m * width =
-    c.pull_block.auto.out ∙ ap (λ n. length (take n (drop (done * width) c.loop-done.out))) part
-    ∙ length-take-le (m * width) (drop (done * width) c.loop-done.out) (omega (arith, length-drop (done * width) c.loop-done.out, out_fits)) in
-    let moved = moved-more plan c.args.format c.args.gain bytes left c.pull_block.new.ring.bytes c.args.out.now c.loop-done.out c.pull_block.new.out done m h.moved
-    (omega (arith, count, within))
-    (ap (λ (ring : Ring). ring.bytes) c.pull_block.ensures.ring ∙ ap (λ (seen : PlanSeen). drop (m * (channels_of seen.source * bytes_of c.args.format)) left) h.plan)
-    (c.pull_block.ensures.out
-    ∙ ap (λ (seen : PlanSeen). interleaved (map (frame_through c.args.gain seen.stages) (waiting_frames seen c.args.format (take (m * (channels_of seen.source * bytes_of c.args.format)) left)))) h.plan)
-    (rw same at long) in
+    let none : 0 ≡ 0 * (channels_of plan.source * bytes_of c.args.format) = omega arith in
     record {
-      within = within;
-      plan = c.pull_block.ensures.plan ∙ h.plan;
-      kinds = λ have. c.pull_block.ensures.kinds (h.kinds have);
-      kept = λ spec. c.pull_block.ensures.kept spec ∙ h.kept spec;
-      size = ap (λ (ring : Ring). ring.size) c.pull_block.ensures.ring ∙ h.size;
-      moved = rw (part, same) moved;
+      within = omega arith;
+      most = omega arith;
+      there = omega arith;
+      waiting = waiting-count plan c.args.format bytes c.source.result c.fill.result c.channels.result c.bytes.result c.fill.ensures.count c.channels.ensures c.source.ensures c.bytes.ensures;
+      plan = refl;
+      kinds = λ have. have;
+      fitted = c.requires.fitted;
+      bytes = ap (λ n. drop n bytes) none;
+      size = refl;
+      pulls = λ x quiet before stands past. nothing-pulled g.B.Feeder.kept c.args.tables.now c.args.gain c.args.ended (waiting_frames plan c.args.format bytes) c.args.self.now x quiet before c.args.out.now stands past;
     }
 
-pub returns-clause-level : goal.returns-clause-level
-returns-clause-level g c unrated =
+pub pull_block-more-requires-clause-waiting : goal.pull_block-more-requires-clause-waiting
+pull_block-more-requires-clause-waiting g c =
+    let h = c.loop-asked.invariant in
     let plan = c.args.self.now.plan in
-    let count = count-is plan c.args.format c.args.ring.now.bytes c.source.result c.args.want c.min-frames.result c.fill.result c.channels.result c.bytes.result
-    c.min-frames.ensures c.fill.ensures.count c.channels.ensures c.source.ensures c.bytes.ensures in
-    record { given = count; eaten = count }
+    let all = waiting_frames plan c.args.format c.args.ring.now.bytes in
+    let rest = ap (λ (p : PlanSeen). waiting_frames p c.args.format c.loop-asked.ring.bytes) h.plan ∙ ap (waiting_frames plan c.args.format) h.bytes
+    ∙ waiting-drop plan c.args.format c.args.ring.now.bytes c.loop-asked.pulled.eaten (omega (arith, h.there, h.waiting)) in
+    omega (arith, h.waiting, ap length rest, length-drop c.loop-asked.pulled.eaten all)
 
-pub returns-clause-pulls : goal.returns-clause-pulls
-returns-clause-pulls g c x silent before stands past =
-    let h = c.loop-done.invariant in
+pub loop-asked-preserved : goal.loop-asked-preserved
+loop-asked-preserved g c =
+    let h = c.loop-asked.invariant in
+    let kept = g.B.Feeder.kept in
     let plan = c.args.self.now.plan in
     let bytes = c.args.ring.now.bytes in
+    let size = channels_of plan.source * bytes_of c.args.format in
     let all = waiting_frames plan c.args.format bytes in
-    let count = count-is plan c.args.format bytes c.source.result c.args.want c.min-frames.result c.fill.result c.channels.result c.bytes.result
-    c.min-frames.ensures c.fill.ensures.count c.channels.ensures c.source.ensures c.bytes.ensures in
-    let end : c.loop-done.done ≡ c.min-frames.result = omega (arith, h.within, c.loop-done-test.false) in
-    pulls g.B.Feeder.kept c.args.tables.now c.args.gain c.args.ended c.args.want all c.args.self.now c.loop-done.self x silent before c.min-frames.result c.args.out.now c.loop-done.out
-    c.args.self.now.has_boxes h.plan h.kept (frames_of-channels (channels_of plan.source) (samples c.args.format bytes)) count
-    (h.moved.given ∙ ap (λ n. written (map (frame_through c.args.gain plan.stages) (take n all)) c.args.out.now) end)
-    stands past
+    let first = c.loop-asked.pulled in
+    let more = c.pull_block-more.result in
+    let rest = ap (λ (p : PlanSeen). waiting_frames p c.args.format c.loop-asked.ring.bytes) h.plan ∙ ap (waiting_frames plan c.args.format) h.bytes
+    ∙ waiting-drop plan c.args.format bytes first.eaten (omega (arith, h.there, h.waiting)) in
+    let place : first.eaten * size + more.eaten * size ≡ (first.eaten + more.eaten) * size = omega arith in
+    record {
+      within = omega (arith, c.block-block.ensures.wanted, h.within);
+      most = omega (arith, h.most, c.pull_block-more.ensures.most);
+      there = omega (arith, h.there, c.pull_block-more.ensures.there);
+      waiting = h.waiting;
+      plan = c.pull_block-more.ensures.plan ∙ h.plan;
+      kinds = λ have. c.pull_block-more.ensures.kinds (h.kinds have);
+      fitted = c.pull_block-more.ensures.fitted;
+      bytes = ap (λ (ring : Ring). ring.bytes) c.pull_block-more.ensures.ring
+          ∙ ap (λ (p : PlanSeen). drop (more.eaten * (channels_of p.source * bytes_of c.args.format)) c.loop-asked.ring.bytes) h.plan
+          ∙ ap (drop (more.eaten * size)) h.bytes ∙ drop-drop (more.eaten * size) (first.eaten * size) bytes ∙ ap (λ n. drop n bytes) place;
+      size = ap (λ (ring : Ring). ring.size) c.pull_block-more.ensures.ring ∙ h.size;
+      pulls = λ x quiet before stands past.
+          let at : c.loop-asked.asked * c.channels-channels.result ≡ c.loop-asked.asked * channels_of plan.target = ap (λ n. c.loop-asked.asked * n) (c.channels-channels.ensures ∙ ap channels_of c.target.ensures) in
+          let Waits : List Frame → Type 0 = λ list. (y : List Frame) (silent given : ℕ) → ChainStands kept c.args.tables.now c.loop-asked.self y silent given → IsPastTheEnd c.args.ended silent list
+          → Pulls kept c.args.tables.now c.args.gain c.args.ended c.block-block.result list c.loop-asked.self c.pull_block-more.new.self y given more (drop (c.loop-asked.asked * channels_of plan.target) c.loop-asked.out) c.pull_block-more.new.out in
+          let part = end-taken (c.loop-asked.asked * c.channels-channels.result) c.loop-asked.out ∙ ap (λ n. drop n c.loop-asked.out) at in
+          let Heard : List ℤ → Type 0 = λ out. (y : List Frame) (silent given : ℕ) → ChainStands kept c.args.tables.now c.loop-asked.self y silent given
+          → IsPastTheEnd c.args.ended silent (waiting_frames (plan_in c.loop-asked.self) c.args.format c.loop-asked.ring.bytes)
+          → Pulls kept c.args.tables.now c.args.gain c.args.ended c.block-block.result (waiting_frames (plan_in c.loop-asked.self) c.args.format c.loop-asked.ring.bytes) c.loop-asked.self c.pull_block-more.new.self y given more out c.pull_block-more.new.out in
+          let ends = put-end (c.loop-asked.asked * c.channels-channels.result) c.loop-asked.out c.pull_block-more.new.out ∙ ap (λ n. take n c.loop-asked.out ++ c.pull_block-more.new.out) at in
+          let Ends : List ℤ → Type 0 = Pulls kept c.args.tables.now c.args.gain c.args.ended (c.loop-asked.asked + c.block-block.result) all c.args.self.now c.pull_block-more.new.self x before
+          (record { given = first.given + more.given; eaten = first.eaten + more.eaten }) c.args.out.now in
+          subst Ends (sym ends)
+          (goes-on kept c.args.tables.now c.args.gain c.args.ended c.loop-asked.asked c.block-block.result all c.args.self.now c.loop-asked.self c.pull_block-more.new.self x before first more
+          c.args.out.now c.loop-asked.out c.pull_block-more.new.out (record {
+            full = c.if-pulled-asked.true;
+            plan = h.plan;
+            channels = All-append (λ (frame : Frame). length frame ≡ channels_of plan.source) x all stands.frames (frames_of-channels (channels_of plan.source) (samples c.args.format bytes));
+            is = stands.fits;
+            pulled = h.pulls x quiet before stands past;
+            next = subst Waits rest (subst Heard part c.pull_block-more.ensures.pulls);
+          }));
+    }

@@ -1,8 +1,11 @@
-use Rattle.std.proofs.Common.{◌≡◌, length}
+use Rattle.std.proofs.Common.{◌≡◌, length, arith}
 use Rattle.std.proofs.lemmas.List.Elements.{All-nil}
 use Rattle.pcm_format.specs.Frames.{Frame}
 use Rattle.pcm_format.specs.Layouts.{channels_of}
+use Rattle.pcm_plan.specs.Plans.{rate_in_plan}
+use Rattle.pcm_plan.proofs.Fits.{ratio-in}
 use Rattle.pcm_chain.specs.Boxes.{kept_in}
+use Rattle.pcm_chain.proofs.Counting.{none-stands}
 use Rattle.pcm_chain.proofs.Standing.{fresh-stages}
 use Rattle.pcm_chain.proofs.chain.ChainOf.restart.Goals as goal
 
@@ -13,5 +16,7 @@ returns-clause-begins g c tables =
     record {
       fits = c.stages.ensures.fits;
       frames = All-nil (λ (frame : Frame). length frame ≡ channels_of plan.source);
+      counts = rw c.none-self.ensures (none-stands (rate_in_plan plan) (ratio-in plan c.stages.ensures.fits));
+      silent = omega arith;
       stages = fresh-stages keeps tables plan.stages (rw c.stages.ensures.value at c.fit_stages.ensures.fresh) c.stages.ensures.fits.specs;
     }

@@ -1,0 +1,307 @@
+-- What stages stand for after a block went through them, and what it gave.
+use Rattle.std.proofs.Common.{◌≡◌, ◌≢◌, ◌≤◌, ◌<◌, ◌+◌, ◌-◌, min, max, ℕ, ℤ, pos, negsuc, ◌<ℤ◌, List, [], ◌∷◌, ◌++◌, length, take, get_or, All, refl, sym, ap, ◌∙◌, subst, arith}
+use Rattle.std.proofs.lemmas.Int.{ints}
+use Rattle.std.proofs.lemmas.List.{take_all, length-append, get_or-append-add}
+use Rattle.std.proofs.lemmas.List.Elements.{All-head, All-tail}
+use Rattle.std.proofs.lemmas.List.FromFn.{get_or-map-range_with_len}
+use Rattle.pcm_format.specs.Frames.{Frame}
+use Rattle.pcm_rate.specs.declared.rate.Rate.{Rate}
+use Rattle.pcm_rate.specs.Rates.{need, can, unchanged, IsRatio}
+use Rattle.pcm_rate.proofs.Counts.{can-greatest, need-unchanged, can-unchanged}
+use Rattle.pcm_feeder.specs.declared.kind.Kind.TheVariants as kinds
+use Rattle.pcm_feeder.specs.declared.stage.Gain.{Gain}
+use Rattle.pcm_feeder.specs.declared.stage.Spec.{Spec}
+use Rattle.pcm_feeder.specs.declared.stage.Spec.TheVariants.{Matrix, Hold, Linear, Poly, Volume, Depth}
+use Rattle.pcm_feeder.specs.Filters.{Filters}
+use Rattle.pcm_feeder.specs.Kept.{Kept, StandsFor}
+use Rattle.pcm_feeder.specs.Kinds.{kind_of}
+use Rattle.pcm_feeder.specs.Layouts.{in_layout, at_gain}
+use Rattle.pcm_feeder.specs.Limits.{IsSpec}
+use Rattle.pcm_feeder.specs.Stages.{rate_of, channels_in, channels_out, at_bits, conv, all_outputs}
+use Rattle.pcm_feeder.specs.Streams.{Stream, silence, stream_of, HaveChannels}
+use Rattle.pcm_feeder.specs.Turns.{Turn, Continues}
+use Rattle.pcm_feeder.proofs.Outputs.{conv-gain, src-above, dst-above}
+use Rattle.pcm_feeder.proofs.Turns.{turn-continues, given-unchanged}
+use Rattle.pcm_feeder.proofs.Unrated.{conv-matrix, conv-volume, conv-depth}
+use Rattle.pcm_plan.specs.Plans.{rate_among}
+use Rattle.pcm_plan.specs.Fits.{Follow, IsUnrated, HaveOneRate, GainIsLate}
+use Rattle.pcm_plan.specs.Through.{through}
+use Rattle.pcm_plan.proofs.Fits.{one-rate-unrated}
+use Rattle.pcm_plan.proofs.Through.{through-local, need_through-rate}
+use Rattle.pcm_chain.specs.Chains.{HasGiven, StagesStand}
+use Rattle.pcm_chain.specs.Feeds.{asked, turn_in, fed_through, AreFed}
+use Rattle.pcm_chain.proofs.Standing.{given-grows}
+
+-- ---- counts
+
+-- Stages that have eaten so many frames and given so many are offered frames, all of which they eat, and give m of those wanted.
+pub record Asks (rate : Rate) (eaten before offered want m : ℕ) : Type 0 where
+  pub all : eaten + offered ≡ max eaten (min (eaten + offered) (need rate (before + want)))
+  pub gives : m ≡ min want (can rate (eaten + offered) - before)
+
+-- without a change of rate what is given is what was offered
+level-asks : (eaten offered want m : ℕ) → Asks unchanged eaten eaten offered want m → m ≡ offered
+level-asks eaten offered want m asks = omega (arith, asks.all, asks.gives, need-unchanged (eaten + want), can-unchanged (eaten + offered))
+
+-- stages that keep the rate have that of no change
+rate-unrated : (specs : List Spec) → All IsUnrated specs → rate_among specs ≡ unchanged
+rate-unrated [] level = refl
+rate-unrated (Matrix from to ∷ specs) level = rate-unrated specs (All-tail IsUnrated (Matrix from to) specs level)
+rate-unrated (Hold src dst channels ∷ specs) level = All-head IsUnrated (Hold src dst channels) specs level
+rate-unrated (Linear src dst channels ∷ specs) level = All-head IsUnrated (Linear src dst channels) specs level
+rate-unrated (Poly src dst channels table taps ∷ specs) level = All-head IsUnrated (Poly src dst channels table taps) specs level
+rate-unrated (Volume layout ∷ specs) level = rate-unrated specs (All-tail IsUnrated (Volume layout) specs level)
+rate-unrated (Depth bits channels ∷ specs) level = rate-unrated specs (All-tail IsUnrated (Depth bits channels) specs level)
+
+-- and have given as many frames as they have eaten
+stages-level : (keeps : Spec → Kept) (tables : Filters) (specs : List Spec) (x : List Frame) (given : ℕ) → All IsUnrated specs → StagesStand keeps tables specs x given → length x ≡ given
+stages-level keeps tables [] x given level h = h
+stages-level keeps tables (spec ∷ specs) x given level h =
+    given-unchanged spec tables (keeps spec) x (length h.0) (All-head IsUnrated spec specs level) h.1
+    ∙ stages-level keeps tables specs h.0 given (All-tail IsUnrated spec specs level) h.3
+
+-- ---- the first stage
+
+-- what the first stage does with a block, and what it leaves to the others
+record HeadGoes (keeps : Spec → Kept) (tables : Filters) (gain : Gain) (want : ℕ) (spec : Spec) (specs : List Spec) (x middle input : List Frame) (before m : ℕ) : Type 0 where
+  goes : Continues spec tables gain x (length middle) input (asked spec want (length input)) (turn_in keeps tables gain want spec input)
+  eaten : (turn_in keeps tables gain want spec input).eaten ≡ length input
+  asks : Asks (rate_among specs) (length middle) before (length (turn_in keeps tables gain want spec input).frames) want m
+  one : HaveOneRate specs
+
+-- a stage that keeps the rate gives all frames that it is offered
+head-level : (keeps : Spec → Kept) (tables : Filters) (gain : Gain) (want : ℕ) (spec : Spec) (specs : List Spec) (x middle input : List Frame) (before m : ℕ) → IsSpec spec → IsUnrated spec
+    → asked spec want (length input) ≡ length input → StandsFor spec tables (keeps spec) x (length middle) → HaveChannels (channels_in spec) input → HaveOneRate specs
+    → Asks (rate_among specs) (length x) before (length input) want m → HeadGoes keeps tables gain want spec specs x middle input before m
+head-level keeps tables gain want spec specs x middle input before m is level wanted stands have one asks =
+    let turned = turn_in keeps tables gain want spec input in
+    let o = length input in
+    let goes = turn-continues spec (keeps spec) tables gain x input (length middle) (asked spec want o) is stands have in
+    let same = given-unchanged spec tables (keeps spec) x (length middle) level stands in
+    let all = ap (λ r. need r (length middle + asked spec want o)) level ∙ need-unchanged (length middle + asked spec want o) in
+    let fits = ap (λ r. can r (length x + o)) level ∙ can-unchanged (length x + o) in
+    let eaten : turned.eaten ≡ o = omega (arith, goes.eaten, all, same, wanted) in
+    let count : length turned.frames ≡ o = omega (arith, goes.count, goes.given, fits, same, wanted) in
+    record { goes = goes; eaten = eaten; asks = rw (← same, count) asks; one = one }
+
+-- a stage that changes the rate gives what is wanted
+head-rated : (keeps : Spec → Kept) (tables : Filters) (gain : Gain) (want : ℕ) (spec : Spec) (specs : List Spec) (x middle input : List Frame) (before m : ℕ) → IsSpec spec → All IsUnrated specs
+    → asked spec want (length input) ≡ want → StandsFor spec tables (keeps spec) x (length middle) → StagesStand keeps tables specs middle before → HaveChannels (channels_in spec) input
+    → Asks (rate_of spec) (length x) before (length input) want m → HeadGoes keeps tables gain want spec specs x middle input before m
+head-rated keeps tables gain want spec specs x middle input before m is level wanted stands rest have asks =
+    let turned = turn_in keeps tables gain want spec input in
+    let o = length input in
+    let goes = turn-continues spec (keeps spec) tables gain x input (length middle) (asked spec want o) is stands have in
+    let same = stages-level keeps tables specs middle before level rest in
+    let more : length middle + asked spec want o ≡ before + want = omega (arith, same, wanted) in
+    let eaten : turned.eaten ≡ o = omega (arith, goes.eaten, ap (need (rate_of spec)) more, asks.all) in
+    let gives : turned.given ≡ m = omega (arith, goes.given, same, wanted, asks.gives) in
+    let count : length turned.frames ≡ m = goes.count ∙ gives in
+    let within : m ≤ want = omega (arith, asks.gives) in
+    record {
+      goes = goes;
+      eaten = eaten;
+      asks = rw (rate-unrated specs level, same, count) (record {
+        all = omega (arith, within, need-unchanged (before + want));
+        gives = omega (arith, within, can-unchanged (before + m));
+      });
+      one = one-rate-unrated specs level;
+    }
+
+head-goes : (keeps : Spec → Kept) (tables : Filters) (gain : Gain) (want : ℕ) (spec : Spec) (specs : List Spec) (x middle input : List Frame) (before m : ℕ) → IsSpec spec → HaveOneRate (spec ∷ specs)
+    → StandsFor spec tables (keeps spec) x (length middle) → StagesStand keeps tables specs middle before → HaveChannels (channels_in spec) input
+    → Asks (rate_among (spec ∷ specs)) (length x) before (length input) want m → HeadGoes keeps tables gain want spec specs x middle input before m
+head-goes keeps tables gain want (Matrix from to) specs x middle input before m is one stands rest have asks =
+    head-level keeps tables gain want (Matrix from to) specs x middle input before m is refl refl stands have one asks
+head-goes keeps tables gain want (Hold src dst channels) specs x middle input before m is one stands rest have asks =
+    head-rated keeps tables gain want (Hold src dst channels) specs x middle input before m is one refl stands rest have asks
+head-goes keeps tables gain want (Linear src dst channels) specs x middle input before m is one stands rest have asks =
+    head-rated keeps tables gain want (Linear src dst channels) specs x middle input before m is one refl stands rest have asks
+head-goes keeps tables gain want (Poly src dst channels table taps) specs x middle input before m is one stands rest have asks =
+    head-rated keeps tables gain want (Poly src dst channels table taps) specs x middle input before m is one refl stands rest have asks
+head-goes keeps tables gain want (Volume layout) specs x middle input before m is one stands rest have asks =
+    head-level keeps tables gain want (Volume layout) specs x middle input before m is refl refl stands have one asks
+head-goes keeps tables gain want (Depth bits channels) specs x middle input before m is one stands rest have asks =
+    head-level keeps tables gain want (Depth bits channels) specs x middle input before m is refl refl stands have one asks
+
+-- what it stands for then, and what it has given
+head-given : (keeps : Spec → Kept) (tables : Filters) (gain : Gain) (want : ℕ) (spec : Spec) (specs : List Spec) (x middle input : List Frame) (before m : ℕ) → IsSpec spec
+    → StandsFor spec tables (keeps spec) x (length middle) → HasGiven spec tables x middle → HeadGoes keeps tables gain want spec specs x middle input before m
+    → HasGiven spec tables (x ++ input) (middle ++ (turn_in keeps tables gain want spec input).frames)
+head-given keeps tables gain want spec specs x middle input before m is stands has h =
+    let turned = turn_in keeps tables gain want spec input in
+    let whole : take turned.eaten input ≡ input = take_all turned.eaten input (omega (arith, h.eaten)) in
+    rw whole at (given-grows spec (keeps spec) tables gain x input middle (asked spec want (length input)) turned is stands has h.goes)
+
+head-stands : (keeps : Spec → Kept) (tables : Filters) (gain : Gain) (want : ℕ) (spec : Spec) (specs : List Spec) (x middle input : List Frame) (before m : ℕ) (kept : Kept)
+    → HeadGoes keeps tables gain want spec specs x middle input before m → kept ≡ (turn_in keeps tables gain want spec input).kept
+    → StandsFor spec tables kept (x ++ input) (length (middle ++ (turn_in keeps tables gain want spec input).frames))
+head-stands keeps tables gain want spec specs x middle input before m kept h same =
+    let turned = turn_in keeps tables gain want spec input in
+    let whole : take turned.eaten input ≡ input = take_all turned.eaten input (omega (arith, h.eaten)) in
+    let long : length middle + turned.given ≡ length (middle ++ turned.frames) = omega (arith, length-append middle turned.frames, h.goes.count) in
+    rw (same, ← long) (rw whole at h.goes.stands)
+
+-- ---- all stages
+
+-- stages that were offered a block stand for the frames with it, and have given m more
+pub stages-fed : (keeps now : Spec → Kept) (tables : Filters) (gain : Gain) (want : ℕ) (specs : List Spec) (c d : ℕ) (x input : List Frame) (before m : ℕ) → All IsSpec specs → HaveOneRate specs → Follow c specs d
+    → StagesStand keeps tables specs x before → HaveChannels c input → Asks (rate_among specs) (length x) before (length input) want m → AreFed keeps now tables gain want specs input
+    → StagesStand now tables specs (x ++ input) (before + m) × (length (fed_through keeps tables gain want specs input) ≡ m)
+stages-fed keeps now tables gain want [] c d x input before m limits one follow h have asks fed =
+    let level : Asks unchanged (length x) (length x) (length input) want m = subst (λ n. Asks unchanged (length x) n (length input) want m) (sym h) asks in
+    let same = level-asks (length x) (length input) want m level in
+    (omega (arith, length-append x input, h, same), sym same)
+stages-fed keeps now tables gain want (spec ∷ specs) c d x input before m limits one follow h have asks fed =
+    let is = All-head IsSpec spec specs limits in
+    let turned = turn_in keeps tables gain want spec input in
+    let head = head-goes keeps tables gain want spec specs x h.0 input before m is one h.1 h.3 (rw follow.0 have) asks in
+    let rest = stages-fed keeps now tables gain want specs (channels_out spec) d h.0 turned.frames before m (All-tail IsSpec spec specs limits) head.one follow.1 h.3 head.goes.channels head.asks fed.1 in (
+      (
+        h.0 ++ turned.frames,
+        head-stands keeps tables gain want spec specs x h.0 input before m (now spec) head fed.0,
+        head-given keeps tables gain want spec specs x h.0 input before m is h.1 h.2 head,
+        rest.0,
+      ),
+      rest.1,
+    )
+
+-- ---- the frames that come out
+
+-- stages that keep the rate turn each frame by itself
+through-point : (tables : Filters) (gain : Gain) (specs : List Spec) (x y : Stream) (p : ℕ) → All IsSpec specs → All IsUnrated specs → x (pos p) ≡ y (pos p)
+    → through tables gain specs x (pos p) ≡ through tables gain specs y (pos p)
+through-point tables gain [] x y p limits level same = same
+through-point tables gain (spec ∷ specs) x y p limits level same =
+    through-point tables gain specs (all_outputs spec tables gain x) (all_outputs spec tables gain y) p (All-tail IsSpec spec specs limits) (All-tail IsUnrated spec specs level)
+    (point spec (All-head IsSpec spec specs limits) (All-head IsUnrated spec specs level))
+  where
+    point : (spec : Spec) → IsSpec spec → IsUnrated spec → conv spec tables gain x p ≡ conv spec tables gain y p
+    point (Matrix from to) is level = conv-matrix from to tables gain x p ∙ ap (in_layout from to) same ∙ sym (conv-matrix from to tables gain y p)
+    point (Hold src dst channels) is level = absurd (omega (arith, is.source.least, ap (λ (r : Rate). r.src) level))
+    point (Linear src dst channels) is level = absurd (omega (arith, is.source.least, ap (λ (r : Rate). r.src) level))
+    point (Poly src dst channels table taps) is level = absurd (omega (arith, is.change.source.least, ap (λ (r : Rate). r.src) level))
+    point (Volume layout) is level = conv-volume layout tables gain x p ∙ ap (at_gain layout gain) same ∙ sym (conv-volume layout tables gain y p)
+    point (Depth bits channels) is level = conv-depth bits channels tables gain x p ∙ ap (at_bits bits) same ∙ sym (conv-depth bits channels tables gain y p)
+
+-- the rate of stages has both parts above 0
+ratio-among : (specs : List Spec) → All IsSpec specs → IsRatio (rate_among specs)
+ratio-among [] limits = record { src = omega arith; dst = omega arith }
+ratio-among (Matrix from to ∷ specs) limits = ratio-among specs (All-tail IsSpec (Matrix from to) specs limits)
+ratio-among (Hold src dst channels ∷ specs) limits = let is = All-head IsSpec (Hold src dst channels) specs limits in record { src = src-above (Hold src dst channels) is; dst = dst-above (Hold src dst channels) is }
+ratio-among (Linear src dst channels ∷ specs) limits = let is = All-head IsSpec (Linear src dst channels) specs limits in record { src = src-above (Linear src dst channels) is; dst = dst-above (Linear src dst channels) is }
+ratio-among (Poly src dst channels table taps ∷ specs) limits =
+    let is = All-head IsSpec (Poly src dst channels table taps) specs limits in record { src = src-above (Poly src dst channels table taps) is; dst = dst-above (Poly src dst channels table taps) is }
+ratio-among (Volume layout ∷ specs) limits = ratio-among specs (All-tail IsSpec (Volume layout) specs limits)
+ratio-among (Depth bits channels ∷ specs) limits = ratio-among specs (All-tail IsSpec (Depth bits channels) specs limits)
+
+-- what a stage has given, as a stream, is its stream of outputs up to there, where the gain has no part in it
+given-stream : (spec : Spec) (tables : Filters) (gain : Gain) (x given : List Frame) (place : ℤ) → kind_of spec ≢ kinds.Volume → HasGiven spec tables x given → place <ℤ pos (length given)
+    → stream_of (channels_out spec) given place ≡ all_outputs spec tables gain (stream_of (channels_in spec) x) place
+given-stream spec tables gain x given (negsuc k) fixed has below = refl
+given-stream spec tables gain x given (pos k) fixed has below =
+    let output = has.frames k (silence (channels_out spec)) (omega (arith, ints)) in
+    output.1 ∙ conv-gain spec tables output.0 gain (stream_of (channels_in spec) x) k fixed
+
+-- what the stages behind the first one make of what it gave
+record IsHeard (tables : Filters) (gain : Gain) (spec : Spec) (specs : List Spec) (x given : List Frame) (before m : ℕ) : Type 0 where
+  heard : (k : ℕ) → k < m → through tables gain specs (stream_of (channels_out spec) given) (pos (before + k))
+      ≡ through tables gain specs (all_outputs spec tables gain (stream_of (channels_in spec) x)) (pos (before + k))
+
+-- a stage before the volume
+heard-early : (keeps : Spec → Kept) (tables : Filters) (gain : Gain) (want : ℕ) (spec : Spec) (specs : List Spec) (x middle input : List Frame) (before m : ℕ) → kind_of spec ≢ kinds.Volume → All IsSpec specs
+    → HasGiven spec tables (x ++ input) (middle ++ (turn_in keeps tables gain want spec input).frames) → HeadGoes keeps tables gain want spec specs x middle input before m
+    → IsHeard tables gain spec specs (x ++ input) (middle ++ (turn_in keeps tables gain want spec input).frames) before m
+heard-early keeps tables gain want spec specs x middle input before m fixed limits has h = record { heard = heard }
+  where
+    given : List Frame
+    given = middle ++ (turn_in keeps tables gain want spec input).frames
+
+    heard : (k : ℕ) → k < m → through tables gain specs (stream_of (channels_out spec) given) (pos (before + k))
+        ≡ through tables gain specs (all_outputs spec tables gain (stream_of (channels_in spec) (x ++ input))) (pos (before + k))
+    heard k below =
+        let ratio = ratio-among specs limits in
+        let asks = h.asks in
+        let long = length-append middle (turn_in keeps tables gain want spec input).frames in
+        let allowed : before + m ≤ can (rate_among specs) (length given) = omega (arith, asks.gives, long, ap (can (rate_among specs)) long) in
+        let enough = (can-greatest (rate_among specs) ratio.src ratio.dst (before + m) (length given)).1 allowed in
+        through-local tables gain specs (stream_of (channels_out spec) given) (all_outputs spec tables gain (stream_of (channels_in spec) (x ++ input))) (before + m) limits
+        (λ place within. given-stream spec tables gain (x ++ input) given place fixed has (omega (arith, ints, need_through-rate specs (before + m) h.one, enough)))
+        (pos (before + k)) (omega (arith, ints))
+
+-- the volume itself
+heard-late : (keeps : Spec → Kept) (tables : Filters) (gain : Gain) (want : ℕ) (spec : Spec) (specs : List Spec) (x middle input : List Frame) (before m : ℕ) → All IsSpec specs → All IsUnrated specs
+    → length middle ≡ before → HeadGoes keeps tables gain want spec specs x middle input before m
+    → IsHeard tables gain spec specs (x ++ input) (middle ++ (turn_in keeps tables gain want spec input).frames) before m
+heard-late keeps tables gain want spec specs x middle input before m limits level same h = record { heard = heard }
+  where
+    turned : Turn
+    turned = turn_in keeps tables gain want spec input
+
+    heard : (k : ℕ) → k < m → through tables gain specs (stream_of (channels_out spec) (middle ++ turned.frames)) (pos (before + k))
+        ≡ through tables gain specs (all_outputs spec tables gain (stream_of (channels_in spec) (x ++ input))) (pos (before + k))
+    heard k below =
+        let d = silence (channels_out spec) in
+        let whole : take turned.eaten input ≡ input = take_all turned.eaten input (omega (arith, h.eaten)) in
+        let asks = subst (λ r. Asks r (length middle) before (length turned.frames) want m) (rate-unrated specs level) h.asks in
+        let count = level-asks (length middle) (length turned.frames) want m (rw (← same) at asks) in
+        through-point tables gain specs (stream_of (channels_out spec) (middle ++ turned.frames)) (all_outputs spec tables gain (stream_of (channels_in spec) (x ++ input))) (before + k) limits level
+        (ap (λ n. get_or (middle ++ turned.frames) (n + k) d) (sym same)
+        ∙ get_or-append-add middle turned.frames k d
+        ∙ ap (λ list. get_or list k d) h.goes.frames
+        ∙ get_or-map-range_with_len (conv spec tables gain (stream_of (channels_in spec) (x ++ take turned.eaten input))) (length middle) turned.given k (before + k) d (omega (arith, count, h.goes.count)) (omega (arith, same))
+        ∙ ap (λ list. conv spec tables gain (stream_of (channels_in spec) (x ++ list)) (before + k)) whole)
+
+heard-by : (keeps : Spec → Kept) (tables : Filters) (gain : Gain) (want : ℕ) (spec : Spec) (specs : List Spec) (x middle input : List Frame) (before m : ℕ) → All IsSpec specs → GainIsLate (spec ∷ specs)
+    → StagesStand keeps tables specs middle before → HasGiven spec tables (x ++ input) (middle ++ (turn_in keeps tables gain want spec input).frames) → HeadGoes keeps tables gain want spec specs x middle input before m
+    → IsHeard tables gain spec specs (x ++ input) (middle ++ (turn_in keeps tables gain want spec input).frames) before m
+heard-by keeps tables gain want (Matrix from to) specs x middle input before m limits late rest has h =
+    heard-early keeps tables gain want (Matrix from to) specs x middle input before m (λ (same : kinds.Matrix ≡ kinds.Volume). cc) limits has h
+heard-by keeps tables gain want (Hold src dst channels) specs x middle input before m limits late rest has h =
+    heard-early keeps tables gain want (Hold src dst channels) specs x middle input before m (λ (same : kinds.Hold ≡ kinds.Volume). cc) limits has h
+heard-by keeps tables gain want (Linear src dst channels) specs x middle input before m limits late rest has h =
+    heard-early keeps tables gain want (Linear src dst channels) specs x middle input before m (λ (same : kinds.Linear ≡ kinds.Volume). cc) limits has h
+heard-by keeps tables gain want (Poly src dst channels table taps) specs x middle input before m limits late rest has h =
+    heard-early keeps tables gain want (Poly src dst channels table taps) specs x middle input before m (λ (same : kinds.Poly ≡ kinds.Volume). cc) limits has h
+heard-by keeps tables gain want (Volume layout) specs x middle input before m limits late rest has h =
+    heard-late keeps tables gain want (Volume layout) specs x middle input before m limits late (stages-level keeps tables specs middle before late rest) h
+heard-by keeps tables gain want (Depth bits channels) specs x middle input before m limits late rest has h =
+    heard-early keeps tables gain want (Depth bits channels) specs x middle input before m (λ (same : kinds.Depth ≡ kinds.Volume). cc) limits has h
+
+-- the gain is late behind the first stage too
+late-tail : (spec : Spec) (specs : List Spec) → GainIsLate (spec ∷ specs) → GainIsLate specs
+late-tail (Matrix from to) specs late = late
+late-tail (Hold src dst channels) specs late = late
+late-tail (Linear src dst channels) specs late = late
+late-tail (Poly src dst channels table taps) specs late = late
+late-tail (Volume layout) specs late = unrated-late specs late
+  where
+    unrated-late : (list : List Spec) → All IsUnrated list → GainIsLate list
+    unrated-late [] level = tt
+    unrated-late (Matrix from to ∷ list) level = unrated-late list (All-tail IsUnrated (Matrix from to) list level)
+    unrated-late (Hold src dst channels ∷ list) level = unrated-late list (All-tail IsUnrated (Hold src dst channels) list level)
+    unrated-late (Linear src dst channels ∷ list) level = unrated-late list (All-tail IsUnrated (Linear src dst channels) list level)
+    unrated-late (Poly src dst channels table taps ∷ list) level = unrated-late list (All-tail IsUnrated (Poly src dst channels table taps) list level)
+    unrated-late (Volume layout ∷ list) level = All-tail IsUnrated (Volume layout) list level
+    unrated-late (Depth bits channels ∷ list) level = unrated-late list (All-tail IsUnrated (Depth bits channels) list level)
+late-tail (Depth bits channels) specs late = late
+
+-- what comes out is what the stages make of all frames
+pub comes-out : (keeps : Spec → Kept) (tables : Filters) (gain : Gain) (want : ℕ) (specs : List Spec) (c d : ℕ) (x input : List Frame) (before m : ℕ) → All IsSpec specs → HaveOneRate specs → GainIsLate specs → Follow c specs d
+    → StagesStand keeps tables specs x before → HaveChannels c input → Asks (rate_among specs) (length x) before (length input) want m
+    → (k : ℕ) → k < m → get_or (fed_through keeps tables gain want specs input) k (silence d) ≡ through tables gain specs (stream_of c (x ++ input)) (pos (before + k))
+comes-out keeps tables gain want [] c d x input before m limits one late follow h have asks k below =
+    ap (λ n. get_or input k (silence n)) (sym follow)
+    ∙ sym (get_or-append-add x input k (silence c))
+    ∙ ap (λ n. get_or (x ++ input) (n + k) (silence c)) h
+comes-out keeps tables gain want (spec ∷ specs) c d x input before m limits one late follow h have asks k below =
+    let is = All-head IsSpec spec specs limits in
+    let rest = All-tail IsSpec spec specs limits in
+    let turned = turn_in keeps tables gain want spec input in
+    let head = head-goes keeps tables gain want spec specs x h.0 input before m is one h.1 h.3 (rw follow.0 have) asks in
+    let has = head-given keeps tables gain want spec specs x h.0 input before m is h.1 h.2 head in
+    let next = late-tail spec specs late in
+    let heard = heard-by keeps tables gain want spec specs x h.0 input before m rest late h.3 has head in
+    comes-out keeps tables gain want specs (channels_out spec) d h.0 turned.frames before m rest head.one next follow.1 h.3 head.goes.channels head.asks k below
+    ∙ heard.heard k below
+    ∙ ap (λ n. through tables gain specs (all_outputs spec tables gain (stream_of n (x ++ input))) (pos (before + k))) follow.0

@@ -1,0 +1,47 @@
+-- The counts of a chain: how many frames it has eaten and given, without whole periods, and what a block moves them by.
+use Rattle.std.specs.Prelude.{◌≡◌, ◌<◌, ◌≤◌, ℕ, ◌+◌, ◌-◌, ◌*◌, min, max, Bool, if◌then◌else◌}
+use Rattle.pcm_rate.specs.declared.rate.Rate.{Rate}
+use Rattle.pcm_rate.specs.Rates.{IsRatio, IsPeriod, need, can, len}
+use Rattle.pcm_chain.specs.declared.counts.Counts.{Counts}
+use Rattle.pcm_chain.specs.declared.counts.Advance.{Advance}
+
+-- how many outputs n frames allow: those that last as long where nothing more comes, else those that are sure
+abbrev pub allowed_in_all : Bool → Rate → ℕ → ℕ
+allowed_in_all ended rate n = if ended then len rate n else can rate n
+
+-- a rate within the limits of a plan
+pub record IsNear (rate : Rate) : Type 0 where
+  pub ratio : IsRatio rate
+  pub src : rate.src ≤ 48 * rate.dst
+  pub dst : rate.dst ≤ 192000
+  pub lookahead : rate.lookahead ≤ 32
+
+-- no frame was eaten before the next output needs it, and no output was given past the end of what was eaten
+pub record InTime (rate : Rate) (counts : Counts) : Type 0 where
+  pub early : counts.eaten ≤ max (need rate counts.given) (need rate (counts.given + 1) - 1)
+  pub late : counts.given ≤ len rate counts.eaten
+
+-- and so it is with counts that stay small, however long the stream
+pub record AreBounded (rate : Rate) (counts : Counts) : Type 0 where
+  pub in_time : InTime rate counts
+  pub few : counts.given ≤ 192000
+
+-- how many frames went into the stages: those eaten, and silence behind them where outputs needed it
+abbrev pub fed_in_all : Rate → Counts → ℕ
+fed_in_all rate counts = max counts.eaten (need rate counts.given)
+
+-- What a block of at most `want` outputs moves, where so many frames wait: it eats what the outputs need, as far as that waits;
+-- it gives what is allowed then; and it eats silence where outputs need more.
+pub record Goes (rate : Rate) (ended : Bool) (counts : Counts) (waiting want : ℕ) (advance : Advance) : Type 0 where
+  pub eaten : advance.eaten ≡ min waiting (need rate (counts.given + want) - fed_in_all rate counts)
+  pub given : advance.given ≡ min want (allowed_in_all ended rate (counts.eaten + advance.eaten) - counts.given)
+  pub silent : advance.silent ≡ need rate (counts.given + advance.given) - (fed_in_all rate counts + advance.eaten)
+
+-- All frames eaten and given, and the counts that stand for them: on both sides as much was left out as lasts equally long.
+pub record StandFor (rate : Rate) (counts : Counts) (eaten given : ℕ) : Type 0 where
+  pub eaten_before : ℕ
+  pub given_before : ℕ
+  pub period : IsPeriod rate eaten_before given_before
+  pub eaten_is : eaten ≡ counts.eaten + eaten_before
+  pub given_is : given ≡ counts.given + given_before
+  pub begun : 0 < given_before → 0 < counts.given

@@ -1,0 +1,47 @@
+-- What frames come to on their way through stages that are fed one after another.
+use Rattle.std.specs.Prelude.{◌≡◌, ◌≤◌, ℕ, ◌*◌, ℤ, List, [], ◌∷◌, length, take}
+use Rattle.pcm_format.specs.Frames.{Frame}
+use Rattle.pcm_feeder.specs.declared.stage.Gain.{Gain}
+use Rattle.pcm_feeder.specs.declared.stage.Spec.{Spec}
+use Rattle.pcm_feeder.specs.declared.stage.Spec.TheVariants.{Matrix, Hold, Linear, Poly, Volume, Depth}
+use Rattle.pcm_feeder.specs.Filters.{Filters}
+use Rattle.pcm_feeder.specs.Kept.{Kept}
+use Rattle.pcm_feeder.specs.Streams.{frames_of}
+use Rattle.pcm_feeder.specs.Turns.{Turn, turn}
+use Rattle.pcm_plan.specs.Fits.{Follow}
+
+-- the first n frames of samples
+abbrev pub first_frames : ℕ → ℕ → List ℤ → List Frame
+first_frames n channels samples = frames_of channels (take (n * channels) samples)
+
+-- how many frames a stage is asked for: a converter for those that are wanted, another for as many as it is offered
+abbrev pub asked : Spec → ℕ → ℕ → ℕ
+asked (Matrix from to) want offered = offered
+asked (Hold src dst channels) want offered = want
+asked (Linear src dst channels) want offered = want
+asked (Poly src dst channels table taps) want offered = want
+asked (Volume layout) want offered = offered
+asked (Depth bits channels) want offered = offered
+
+-- what a stage does that is offered frames
+abbrev pub turn_in : (Spec → Kept) → Filters → Gain → ℕ → Spec → List Frame → Turn
+turn_in keeps tables gain want spec input = turn (keeps spec) tables gain input (asked spec want (length input))
+
+-- the frames that come out of stages, each offered what the one before it gives
+abbrev pub fed_through : (Spec → Kept) → Filters → Gain → ℕ → List Spec → List Frame → List Frame
+fed_through keeps tables gain want [] input = input
+fed_through keeps tables gain want (spec ∷ specs) input =
+    fed_through keeps tables gain want specs (turn_in keeps tables gain want spec input).frames
+
+-- and what each of them keeps then
+abbrev pub AreFed : (Spec → Kept) → (Spec → Kept) → Filters → Gain → ℕ → List Spec → List Frame → Type 0
+AreFed old new tables gain want [] input = Unit {0}
+AreFed old new tables gain want (spec ∷ specs) input =
+    (new spec ≡ (turn_in old tables gain want spec input).kept)
+    × AreFed old new tables gain want specs (turn_in old tables gain want spec input).frames
+
+-- stages that take frames of so many channels, and whose last one has room for so many frames
+pub record HaveRoom (source : ℕ) (specs : List Spec) (want room : ℕ) : Type 0 where
+  pub target : ℕ
+  pub follow : Follow source specs target
+  pub room_is : want * target ≤ room
