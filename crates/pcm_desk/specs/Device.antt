@@ -1,5 +1,5 @@
 -- What the rules read of a device. Whatever a device has beside it is read by one more word here.
-use Rattle.std.specs.Prelude.{◌≡◌, ℕ, []}
+use Rattle.std.specs.Prelude.{ℕ, []}
 use Rattle.pcm_format.specs.declared.settings.Settings.{Settings}
 use Rattle.pcm_format.specs.Frames.{frame_bytes}
 use Rattle.pcm_rate.specs.declared.rate.Rate.{Rate}
@@ -67,7 +67,3 @@ rate_between device settings = rate_in_plan (plan_between device settings)
 -- a device whose mix has a rate within the limits
 abbrev pub IsDevice : DeviceSeen → Type 0
 IsDevice device = IsRate (mix_settings device).rate
-
--- the device plays clients with these settings: so far those with the rate of the mix, in every format and layout
-abbrev pub Plays : DeviceSeen → Settings → Type 0
-Plays device settings = settings.rate ≡ (mix_settings device).rate

@@ -6,12 +6,12 @@ use Rattle.pcm_format.specs.declared.event.Event.TheVariants.{Open, Write, Close
 use Rattle.pcm_format.specs.declared.pool.Pool.{Pool}
 use Rattle.pcm_feeder.specs.Limits.{IsRate}
 use Rattle.pcm_desk.specs.declared.limits.TheConstants.{DESCRIPTORS, WRITE_BYTES}
-use Rattle.pcm_desk.specs.Device.{DeviceSeen, Plays, device_frame_bytes, ring_frames}
+use Rattle.pcm_desk.specs.Device.{DeviceSeen, device_frame_bytes, ring_frames}
 use Rattle.pcm_desk.specs.Desk.{Desk, after}
 
--- the event keeps the limits of a device, and names bytes that are there
+-- The event keeps the limits of a device, and names bytes that are there. A client may have any rate within the limits.
 abbrev pub Fits : DeviceSeen → Pool → Event → Type 0
-Fits device pool (Open fd way settings) = (fd < DESCRIPTORS) × IsRate settings.rate × Plays device settings
+Fits device pool (Open fd way settings) = (fd < DESCRIPTORS) × IsRate settings.rate
 Fits device pool (Write fd at count) =
     (fd < DESCRIPTORS) × (count ≤ WRITE_BYTES) × (at + count ≤ length pool.inline_bytes)
 Fits device pool (Close fd) = fd < DESCRIPTORS
