@@ -1,16 +1,15 @@
 -- What holds of each script that is read: its events fit the device, and the limits are kept.
-use Rattle.std.proofs.Common.{◌≡◌, ℕ, ◌+◌, ◌*◌, ◌<◌, ◌≤◌, Bool, true, false, not, ◌&&◌, ◌==◌, nat_le, nat_lt, cond, List, [], ◌∷◌, length, Option, Some, None, Result, Ok, Err, refl, ap, ◌∙◌, arith, IfOk}
+use Rattle.std.proofs.Common.{◌≡◌, ℕ, ◌+◌, ◌*◌, ◌<◌, ◌≤◌, Bool, true, false, not, ◌&&◌, nat_le, nat_lt, cond, List, [], ◌∷◌, length, Option, Some, None, Result, Ok, Err, refl, ap, ◌∙◌, arith, IfOk}
 use Rattle.std.specs.Option.{IfSome}
 use Rattle.std.proofs.lemmas.Bool.Decides.{nat_tests}
 use Rattle.std.proofs.lemmas.List.{length-append}
 use Rattle.std.proofs.lemmas.List.Elements.{All-nil, All-push, All-weaker}
 use Rattle.std.proofs.lemmas.List.Sums.{sum_by-append}
-use Rattle.std.proofs.lemmas.Bool.{and_parts, eqb-true}
 use Rattle.pcm_format.specs.declared.pool.Pool.{Pool}
 use Rattle.pcm_format.specs.declared.event.Event.{Event}
 use Rattle.pcm_format.specs.declared.event.Event.TheVariants as events
 use Rattle.pcm_desk.specs.declared.limits.TheConstants.{DEVICE_BYTES, EVENTS}
-use Rattle.pcm_desk.specs.Device.{DeviceSeen, device_frame_bytes, mix_settings}
+use Rattle.pcm_desk.specs.Device.{DeviceSeen, device_frame_bytes}
 use Rattle.pcm_desk.specs.Events.{Fits, all_frames_taken, frames_taken}
 use Rattle.pcm_script.specs.declared.fault.ScriptKind.{ScriptKind}
 use Rattle.pcm_script.specs.declared.fault.ScriptKind.TheVariants.{Long}
@@ -40,14 +39,13 @@ Fits-more device few many (events.Write fd at len) more fits = (fits.0, fits.1, 
 Fits-more device few many (events.Close fd) more fits = fits
 Fits-more device few many (events.Intr frames) more fits = fits
 
--- the event of a line fits where the line is built
-event_at-fits : (device : DeviceSeen) (script : Script) (line : LineEvent) → HasBlocks device → IsWithin device line → is_built device line ≡ true
+-- the event of a line fits
+event_at-fits : (device : DeviceSeen) (script : Script) (line : LineEvent) → HasBlocks device → IsWithin device line
     → Fits device (pool_of (script_with script line)) (event_at (length script.inline_bytes) line)
-event_at-fits device script (Open fd plays settings) blocks within built =
-    (within.0, within.1, eqb-true settings.rate (mix_settings device).rate (and_parts plays (settings.rate == (mix_settings device).rate) built).1)
-event_at-fits device script (Write fd bytes) blocks within built = (within.0, within.1, omega (arith, length-append script.inline_bytes bytes))
-event_at-fits device script (Close fd) blocks within built = within
-event_at-fits device script (Intr frames) blocks within built = within blocks
+event_at-fits device script (Open fd plays settings) blocks within = within
+event_at-fits device script (Write fd bytes) blocks within = (within.0, within.1, omega (arith, length-append script.inline_bytes bytes))
+event_at-fits device script (Close fd) blocks within = within
+event_at-fits device script (Intr frames) blocks within = within blocks
 
 -- the place of its bytes changes nothing of the frames that an event takes
 frames_taken-event_at : (place : ℕ) (line : LineEvent) → frames_taken (event_at place line) ≡ frames_asked line
@@ -79,20 +77,20 @@ script_with-sound device script line sound fits few small =
 room_parts : (a b c d : ℕ) → (nat_lt a b && nat_le c d) ≡ true → (a < b) × (c ≤ d)
 room_parts a b c d both = grind (arith, nat_tests)
 
--- what passes two judgements
-two_tests : {A E : Type 0} (room built : Bool) (one other : E) (value : A) (P : A → Type 0) → (room ≡ true → built ≡ true → P value)
+-- what passes two judgements, of which the first counts
+two_tests : {A E : Type 0} (room built : Bool) (one other : E) (value : A) (P : A → Type 0) → (room ≡ true → P value)
     → IfOk (cond (not room) (Err one) (cond (not built) (Err other) (Ok value))) P
-two_tests true true one other value P passed = passed refl refl
+two_tests true true one other value P passed = passed refl
 two_tests true false one other value P passed = tt
 two_tests false built one other value P passed = tt
 
 with_event-sound : (device : DeviceSeen) (script : Script) (line : LineEvent) → HasBlocks device → IsSound device script → IsWithin device line
     → IfOk (with_event device script line) (IsSound device)
 with_event-sound device script line blocks sound within =
-    two_tests (has_room device script (frames_asked line)) (is_built device line) _ _ (script_with script line) (IsSound device)
-    (λ room built.
+    two_tests (has_room device script (frames_asked line)) (is_built line) _ _ (script_with script line) (IsSound device)
+    (λ room.
     let parts = room_parts (length script.events) EVENTS ((script.device_frames + frames_asked line) * device_frame_bytes device) DEVICE_BYTES room in
-    script_with-sound device script line sound (event_at-fits device script line blocks within built) parts.0 parts.1)
+    script_with-sound device script line sound (event_at-fits device script line blocks within) parts.0 parts.1)
 
 -- ---- lines
 

@@ -1,10 +1,10 @@
 -- How the events of lines are collected: where their bytes stand, and what limits a script has.
-use Rattle.std.specs.Prelude.{ℕ, ◌+◌, ◌*◌, Bool, true, not, ◌&&◌, ◌==◌, nat_le, nat_lt, if◌then◌else◌, List, [], ◌∷◌, ◌++◌, length, Option, Some, None, Result, Ok, Err}
+use Rattle.std.specs.Prelude.{ℕ, ◌+◌, ◌*◌, Bool, true, not, ◌&&◌, nat_le, nat_lt, if◌then◌else◌, List, [], ◌∷◌, ◌++◌, length, Option, Some, None, Result, Ok, Err}
 use Rattle.pcm_format.specs.declared.event.Event.{Event}
 use Rattle.pcm_format.specs.declared.event.Event.TheVariants as events
 use Rattle.pcm_format.specs.declared.event.Way.TheVariants.{Play}
 use Rattle.pcm_desk.specs.declared.limits.TheConstants.{DEVICE_BYTES, EVENTS}
-use Rattle.pcm_desk.specs.Device.{DeviceSeen, device_frame_bytes, mix_settings}
+use Rattle.pcm_desk.specs.Device.{DeviceSeen, device_frame_bytes}
 use Rattle.pcm_desk.specs.Events.{frames_taken}
 use Rattle.pcm_script.specs.declared.fault.ScriptKind.{ScriptKind}
 use Rattle.pcm_script.specs.declared.fault.ScriptKind.TheVariants.{Long, Unbuilt}
@@ -35,12 +35,12 @@ abbrev pub has_room : DeviceSeen → Script → ℕ → Bool
 has_room device script frames =
     nat_lt (length script.events) EVENTS && nat_le ((script.device_frames + frames) * device_frame_bytes device) DEVICE_BYTES
 
--- Whether what a line asks for is built: so far a client plays, at the rate of the mix.
-abbrev pub is_built : DeviceSeen → LineEvent → Bool
-is_built device (Open fd plays settings) = plays && settings.rate == (mix_settings device).rate
-is_built device (Write fd bytes) = true
-is_built device (Close fd) = true
-is_built device (Intr frames) = true
+-- whether what a line asks for is built: so far no channel records
+abbrev pub is_built : LineEvent → Bool
+is_built (Open fd plays settings) = plays
+is_built (Write fd bytes) = true
+is_built (Close fd) = true
+is_built (Intr frames) = true
 
 -- a script with one event more, whose bytes stand behind those of the events before it
 abbrev pub script_with : Script → LineEvent → Script
@@ -54,7 +54,7 @@ script_with script line = record {
 abbrev pub with_event : DeviceSeen → Script → LineEvent → Result Script ScriptKind
 with_event device script line =
     if not (has_room device script (frames_asked line)) then Err Long
-    else if not (is_built device line) then Err Unbuilt
+    else if not (is_built line) then Err Unbuilt
     else Ok (script_with script line)
 
 -- the script with what a line was judged to ask for

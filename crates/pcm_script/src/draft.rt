@@ -69,7 +69,7 @@ impl Draft {
             return Err(LineFault::Refused(ScriptKind::Long));
         }
         // Judged after all else.
-        if !line.is_built(device) {
+        if !line.is_built() {
             return Err(LineFault::Refused(ScriptKind::Unbuilt));
         }
         let place = self.inline_bytes.len() as u32;

@@ -2,9 +2,7 @@
 
 ghost use Rattle.std.specs.Prelude.{◌≡◌, ◌≤◌, length};
 ghost use Rattle.pcm_desk.specs.declared.limits.TheConstants.{WRITE_BYTES};
-ghost use Rattle.pcm_desk.specs.Device.{seen};
 
-use pcm_desk::Device;
 use pcm_format::{Bytes, Event, Settings, Way};
 
 // An event with the bytes that the line names, and not yet a place for them.
@@ -51,15 +49,11 @@ impl LineEvent {
     }
 
     // Whether this program does what the line asks for.
-    pub(crate) fn is_built(&self, device: &Device) -> bool
-        ensures { result ≡ is_built (seen device.now) self.now }
+    pub(crate) fn is_built(&self) -> bool
+        ensures { result ≡ is_built self.now }
     {
         match self {
-            LineEvent::Open {
-                plays,
-                settings,
-                ..
-            } => *plays && settings.rate == device.settings.rate,
+            LineEvent::Open { plays, .. } => *plays,
             _ => true,
         }
     }
