@@ -6,6 +6,7 @@ pub mod OneClient
 pub mod Fragments
 pub mod SeveralClients
 pub mod ClientFormats
+pub mod ClientRates
 pub mod Samples
 pub mod Stages
 pub mod PlanRows

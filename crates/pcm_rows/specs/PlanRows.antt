@@ -1,11 +1,13 @@
 -- Plans between settings, and what one gives.
-use Rattle.std.specs.Prelude.{ℕ}
+use Rattle.std.specs.Prelude.{ℕ, List, [], ◌∷◌, pos}
 use Rattle.pcm_format.specs.declared.format.Format.TheVariants.{S16Le, S32Le}
 use Rattle.pcm_format.specs.declared.layout.Layout.{Layout}
 use Rattle.pcm_format.specs.declared.layout.Layout.TheVariants.{One, Two}
 use Rattle.pcm_format.specs.declared.settings.Settings.{Settings}
+use Rattle.pcm_format.specs.Frames.{Frame}
 use Rattle.pcm_desk.specs.Usual.{usual_device}
 use Rattle.pcm_desk.specs.Device.{DeviceSeen}
+use Rattle.pcm_feeder.specs.declared.stage.Spec.TheVariants.{Matrix, Linear, Volume}
 use Rattle.pcm_feeder.specs.Filters.{Filters}
 use Rattle.pcm_plan.specs.Plans.{PlanSeen, plan_play}
 use Rattle.pcm_rows.specs.Stages.{no_filters}
@@ -25,3 +27,15 @@ plan_by_lines client device = plan_play no_filters 1 client device
 -- one channel at 24000 to two at 48000, by a quality and filters
 abbrev pub doubling_plan : Filters → ℕ → PlanSeen
 doubling_plan tables quality = plan_play tables quality (sixteen_bits One 24000) (sixteen_bits Two 48000)
+
+-- two channels of 32 bits at 24000 to one at 48000
+abbrev pub downmix_plan : PlanSeen
+downmix_plan = plan_by_lines (record { format = S32Le; layout = Two; rate = 24000 }) (record { format = S32Le; layout = One; rate = 48000 })
+
+-- the same stages with the rate before the matrix, which is no plan of a client
+abbrev pub late_downmix_plan : PlanSeen
+late_downmix_plan = record { source = Two; target = One; stages = Linear 24000 48000 2 ∷ Matrix Two One ∷ Volume One ∷ [] }
+
+-- 1 and 0, and then 1 and 2
+abbrev pub downmix_frames : List Frame
+downmix_frames = (pos 1 ∷ pos 0 ∷ []) ∷ (pos 1 ∷ pos 2 ∷ []) ∷ []

@@ -4,6 +4,7 @@ use Rattle.pcm_format.specs.declared.event.Event.TheVariants.{Open, Intr}
 use Rattle.pcm_format.specs.declared.event.Way.TheVariants.{Play}
 use Rattle.pcm_format.specs.declared.format.Format.TheVariants.{U32Be}
 use Rattle.pcm_format.specs.declared.layout.Layout.TheVariants.{Eight}
+use Rattle.pcm_format.specs.declared.settings.Settings.{Settings}
 use Rattle.pcm_desk.specs.Device.{DeviceSeen}
 use Rattle.pcm_desk.specs.Usual.{usual_device}
 use Rattle.pcm_script.specs.declared.fault.ScriptKind.{ScriptKind}
@@ -14,13 +15,13 @@ use Rattle.pcm_verdict.specs.Verdict.{Verdict, BadScript}
 abbrev pub refused_at : ℕ → ScriptKind → Verdict
 refused_at line kind = BadScript (record { line = line; kind = kind })
 
--- an open of eight channels of 32 bits
-abbrev pub eight_open_script : Script
-eight_open_script = record {
-  events = Open 0 Play (record { format = U32Be; layout = Eight; rate = 48000 }) ∷ [];
-  inline_bytes = [];
-  device_frames = 0;
-}
+-- an open alone
+abbrev pub open_script : Settings → Script
+open_script settings = record { events = Open 0 Play settings ∷ []; inline_bytes = []; device_frames = 0 }
+
+-- eight channels of 32 bits
+abbrev pub eight_at : ℕ → Settings
+eight_at rate = record { format = U32Be; layout = Eight; rate = rate }
 
 -- a ring of 2 ^ 26 + 1 frames of four bytes; the device gets 2 ^ 28 bytes at most
 abbrev pub large_device : DeviceSeen

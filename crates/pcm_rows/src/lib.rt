@@ -7,6 +7,7 @@ mod formats;
 mod fragments;
 mod one_client;
 mod plans;
+mod rates;
 mod refusals;
 mod samples;
 mod several_clients;
@@ -26,11 +27,15 @@ pub use one_client::{
     part_of_a_frame_is_dropped,
 };
 pub use plans::{
-    plan_doubles_the_rate, plans_at_the_rate_of_the_device, quality_chooses_the_converter,
-    rate_is_changed_at_the_fewer_channels,
+    downmix_comes_before_the_rate, plan_doubles_the_rate, plans_at_the_rate_of_the_device,
+    quality_chooses_the_converter, rate_is_changed_at_the_fewer_channels,
+};
+pub use rates::{
+    downmix_at_half_the_rate, drain_gives_its_tail, shortage_at_half_the_rate, six_frames_for_each,
 };
 pub use refusals::{
-    device_bytes_at_the_limit, each_kind_of_fault, interrupt_above_the_ring, other_rates_unbuilt,
+    device_bytes_at_the_limit, each_kind_of_fault, interrupt_above_the_ring, rates_at_their_limits,
+    recordings_unbuilt,
 };
 pub use samples::{
     edges_of_8_bits, edges_of_16_bits, edges_of_24_bits, edges_of_32_bits, fewer_bits_round_down,
@@ -40,8 +45,8 @@ pub use several_clients::{
     fifth_open_busy, one_slot_free_after_drain, three_clients_other_order, three_clients_saturate,
 };
 pub use stages::{
-    a_line_waits_for_its_end, depth_rounds_down, hold_doubles, linear_doubles,
-    six_channels_fold_to_two, two_taps_double, volume_halves_the_right_side,
+    a_line_waits_for_its_end, depth_rounds_down, hold_doubles, linear_doubles, linear_from_44100,
+    linear_halves, six_channels_fold_to_two, two_taps_double, volume_halves_the_right_side,
 };
 pub use texts::{comments_and_empty_lines, hex_of_either_case, interrupt_without_a_number};
 pub use verdicts::{script_not_there, words_of_no_form};

@@ -10,7 +10,7 @@ ghost use Rattle.pcm_feeder.specs.declared.stage.Spec.TheVariants.{Matrix, Hold,
 ghost use Rattle.pcm_feeder.specs.Layouts.{unity};
 ghost use Rattle.pcm_plan.specs.Through.{outs};
 ghost use Rattle.pcm_rows.specs.ClientFormats.{at_usual_rate};
-ghost use Rattle.pcm_rows.specs.PlanRows.{sixteen_bits, wide_device, plan_by_lines, doubling_plan};
+ghost use Rattle.pcm_rows.specs.PlanRows.{sixteen_bits, wide_device, plan_by_lines, doubling_plan, downmix_plan, late_downmix_plan, downmix_frames};
 ghost use Rattle.pcm_rows.specs.Stages.{mono, no_filters, two_taps};
 
 /// A client with the device's settings goes through the volume and the depth, one of six channels
@@ -48,6 +48,21 @@ pub fn rate_is_changed_at_the_fewer_channels()
           target = Two;
           stages = Matrix Six Two ∷ Linear 24000 48000 2 ∷ Volume Two ∷ Depth 16 2 ∷ [];
         } }
+{}
+
+/// Two channels come to one before the rate changes, and a device of 32 bits has no depth. Each stage
+/// rounds down, so that the other order would give other frames.
+pub fn downmix_comes_before_the_rate()
+    ensures plan { downmix_plan
+        ≡ record {
+          source = Two;
+          target = One;
+          stages = Matrix Two One ∷ Linear 24000 48000 1 ∷ Volume One ∷ [];
+        } }
+    ensures frames { outs downmix_plan no_filters unity downmix_frames 0 4
+        ≡ mono (pos 0 ∷ pos 0 ∷ pos 1 ∷ pos 0 ∷ []) }
+    ensures other { outs late_downmix_plan no_filters unity downmix_frames 0 4
+        ≡ mono (pos 0 ∷ pos 1 ∷ pos 1 ∷ pos 0 ∷ []) }
 {}
 
 /// Quality 0 holds, 1 draws a line, and 2 filters where there is a filter, or else draws a line.

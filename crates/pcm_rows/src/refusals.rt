@@ -2,11 +2,12 @@
 #![tactic(auto, unfolding(crate::proofs::Computing::row))]
 
 ghost use Rattle.std.specs.Prelude.{◌≡◌, codes};
+ghost use Rattle.pcm_desk.specs.declared.device.TheConstants.{OPENING};
 ghost use Rattle.pcm_desk.specs.Usual.{usual_device};
 ghost use Rattle.pcm_script.specs.declared.fault.ScriptKind.TheVariants.{Word, Count, Number, Name, Hex, Range, Long, Unbuilt};
 ghost use Rattle.pcm_verdict.specs.Faults.{fault_line, status_of};
 ghost use Rattle.pcm_rows.specs.Calls.{accepted, judged};
-ghost use Rattle.pcm_rows.specs.Refusals.{refused_at, eight_open_script, large_device, largest_script};
+ghost use Rattle.pcm_rows.specs.Refusals.{refused_at, open_script, eight_at, large_device, largest_script};
 
 /// An interrupt can't take more than the ring holds.
 pub fn interrupt_above_the_ring()
@@ -16,16 +17,24 @@ pub fn interrupt_above_the_ring()
     ensures status { status_of (judged usual_device (codes "intr 1025\n")) ≡ 5 }
 {}
 
-/// A recording and a rate other than the device's aren't built. Any format and layout at that rate is.
-pub fn other_rates_unbuilt()
-    ensures verdict { judged usual_device (codes "open 0 play u8 1 8000\n") ≡ refused_at 1 Unbuilt }
-    ensures printed { fault_line (judged usual_device (codes "open 0 play u8 1 8000\n"))
-        ≡ codes "dsp_replay: bad script: line 1: unbuilt\n" }
-    ensures opening { judged usual_device (codes "open 0 play") ≡ refused_at 1 Unbuilt }
-    ensures recording { judged usual_device (codes "open 0 rec s16le 2 48000")
+/// A recording isn't built, whatever it records.
+pub fn recordings_unbuilt()
+    ensures verdict { judged usual_device (codes "open 0 rec s16le 2 48000\n")
         ≡ refused_at 1 Unbuilt }
-    ensures built { judged usual_device (codes "open 0 play u32be 8 48000")
-        ≡ accepted eight_open_script }
+    ensures printed { fault_line (judged usual_device (codes "open 0 rec s16le 2 48000\n"))
+        ≡ codes "dsp_replay: bad script: line 1: unbuilt\n" }
+    ensures opening { judged usual_device (codes "open 0 rec") ≡ refused_at 1 Unbuilt }
+{}
+
+/// A client plays in any format and layout, at any rate from 4000 to 192000.
+pub fn rates_at_their_limits()
+    ensures opening { judged usual_device (codes "open 0 play") ≡ accepted (open_script OPENING) }
+    ensures least { judged usual_device (codes "open 0 play u32be 8 4000")
+        ≡ accepted (open_script (eight_at 4000)) }
+    ensures most { judged usual_device (codes "open 0 play u32be 8 192000")
+        ≡ accepted (open_script (eight_at 192000)) }
+    ensures below { judged usual_device (codes "open 0 play u32be 8 3999") ≡ refused_at 1 Range }
+    ensures above { judged usual_device (codes "open 0 play u32be 8 192001") ≡ refused_at 1 Range }
 {}
 
 /// The device gets 2 ^ 28 bytes at most: one frame more is refused, in one interrupt or in two.

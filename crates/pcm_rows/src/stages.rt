@@ -17,6 +17,28 @@ pub fn linear_doubles()
     ensures len { len (rate_of (specs.Linear 24000 48000 1)) 2 ≡ 4 }
 {}
 
+/// From 44100 to 48000 by lines, rounded down also below zero: output k lies between the frames
+/// i and i + 1, where k * 44100 is i * 48000 and a rest. Outputs 1 to 4 have i 0, 1, 2 and 3 and the
+/// rests 44100, 40200, 36300 and 32400.
+pub fn linear_from_44100()
+    ensures frames { first_outputs (specs.Linear 44100 48000 1) no_filters unity
+        (mono (pos 0 ∷ pos 480 ∷ negsuc 480 ∷ pos 160 ∷ [])) 5
+        ≡ mono (pos 0 ∷ pos 441 ∷ negsuc 324 ∷ pos 3 ∷ pos 52 ∷ []) }
+    ensures len { len (rate_of (specs.Linear 44100 48000 1)) 4 ≡ 5 }
+    ensures can { can (rate_of (specs.Linear 44100 48000 1)) 4 ≡ 4 }
+    ensures need { need (rate_of (specs.Linear 44100 48000 1)) 4 ≡ 4 }
+    ensures more { need (rate_of (specs.Linear 44100 48000 1)) 5 ≡ 5 }
+{}
+
+/// Half the rate by lines leaves every other frame out, and an odd last one is given.
+pub fn linear_halves()
+    ensures frames { first_outputs (specs.Linear 96000 48000 1) no_filters unity
+        (mono (pos 1 ∷ pos 2 ∷ pos 3 ∷ pos 4 ∷ pos 5 ∷ [])) 3
+        ≡ mono (pos 1 ∷ pos 3 ∷ pos 5 ∷ []) }
+    ensures len { len (rate_of (specs.Linear 96000 48000 1)) 5 ≡ 3 }
+    ensures can { can (rate_of (specs.Linear 96000 48000 1)) 5 ≡ 2 }
+{}
+
 /// Twice the rate by a hold: each frame twice.
 pub fn hold_doubles()
     ensures frames { (a b : ℤ)

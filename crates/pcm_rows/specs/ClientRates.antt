@@ -1,0 +1,121 @@
+-- Scripts with one client at another rate than the device's.
+use Rattle.std.specs.Prelude.{ℕ, List, [], ◌∷◌, codes, Some, None, true}
+use Rattle.pcm_format.specs.declared.event.Event.{Event}
+use Rattle.pcm_format.specs.declared.event.Event.TheVariants.{Open, Write, Close, Intr}
+use Rattle.pcm_format.specs.declared.event.Way.TheVariants.{Play}
+use Rattle.pcm_format.specs.declared.format.Format.TheVariants.{S16Le, S32Le}
+use Rattle.pcm_format.specs.declared.layout.Layout.TheVariants.{One, Two, Eight}
+use Rattle.pcm_format.specs.declared.settings.Settings.{Settings}
+use Rattle.pcm_desk.specs.declared.book.Book.{Book}
+use Rattle.pcm_desk.specs.declared.book.State.TheVariants.{Free, Running, Draining}
+use Rattle.pcm_desk.specs.declared.device.TheConstants.{OPENING}
+use Rattle.pcm_desk.specs.Device.{DeviceSeen}
+use Rattle.pcm_sound.specs.Runs.{Run}
+use Rattle.pcm_script.specs.declared.script.Script.{Script}
+use Rattle.pcm_rows.specs.Calls.{joined, piece, small_device}
+use Rattle.pcm_rows.specs.ClientFormats.{client_script}
+
+-- an open without settings, which is 8000 frames of one byte each second: 0, 6 and -6
+abbrev pub opening_text : List ℕ
+opening_text = joined (
+    codes "open 0 play" ∷
+    codes "write 0 80867a" ∷
+    codes "close 0" ∷
+    codes "intr 1024" ∷
+    codes "intr 18" ∷ [])
+
+abbrev pub opening_script : Script
+opening_script = client_script OPENING (0x80 ∷ 0x86 ∷ 0x7a ∷ []) 18
+
+-- six frames for each of the three, and both sides alike: up by one and down by two, in steps of 256, and up to silence by one
+abbrev pub opening_bytes : List ℕ
+opening_bytes =
+    0 ∷ 0x00 ∷ 0 ∷ 0x00 ∷ 0 ∷ 0x01 ∷ 0 ∷ 0x01 ∷ 0 ∷ 0x02 ∷ 0 ∷ 0x02 ∷ 0 ∷ 0x03 ∷ 0 ∷ 0x03 ∷ 0 ∷ 0x04 ∷ 0 ∷ 0x04 ∷ 0 ∷ 0x05 ∷ 0 ∷ 0x05
+    ∷ 0 ∷ 0x06 ∷ 0 ∷ 0x06 ∷ 0 ∷ 0x04 ∷ 0 ∷ 0x04 ∷ 0 ∷ 0x02 ∷ 0 ∷ 0x02 ∷ 0 ∷ 0x00 ∷ 0 ∷ 0x00 ∷ 0 ∷ 0xfe ∷ 0 ∷ 0xfe ∷ 0 ∷ 0xfc ∷ 0 ∷ 0xfc
+    ∷ 0 ∷ 0xfa ∷ 0 ∷ 0xfa ∷ 0 ∷ 0xfb ∷ 0 ∷ 0xfb ∷ 0 ∷ 0xfc ∷ 0 ∷ 0xfc ∷ 0 ∷ 0xfd ∷ 0 ∷ 0xfd ∷ 0 ∷ 0xfe ∷ 0 ∷ 0xfe ∷ 0 ∷ 0xff ∷ 0 ∷ 0xff ∷ []
+
+-- half the rate of the device
+abbrev pub half_settings : Settings
+half_settings = record { format = S16Le; layout = Two; rate = 24000 }
+
+-- two frames at half the rate, of which three of the four frames that they last for are mixed first
+abbrev pub tail_text : List ℕ
+tail_text = joined (
+    codes "open 0 play s16le 2 24000" ∷
+    codes "write 0 0000000064006400" ∷
+    codes "close 0" ∷
+    codes "intr 3" ∷
+    codes "intr 1" ∷
+    codes "intr 4" ∷ [])
+
+abbrev pub tail_script : Script
+tail_script = record {
+  events = Open 0 Play half_settings ∷ Write 0 0 8 ∷ Close 0 ∷ Intr 3 ∷ Intr 1 ∷ Intr 4 ∷ [];
+  inline_bytes = 0 ∷ 0 ∷ 0 ∷ 0 ∷ 100 ∷ 0 ∷ 100 ∷ 0 ∷ [];
+  device_frames = 8;
+}
+
+abbrev pub tail_lines : List ℕ
+tail_lines = joined (
+    codes "1: ok 0" ∷ codes "2: ok 8" ∷ codes "3: ok" ∷ codes "4: ok 3" ∷ codes "5: ok 1" ∷ codes "6: ok 4" ∷ [])
+
+-- its book while the last frame fades to silence: both frames are eaten, and one output is left
+abbrev pub tail_book : Book
+tail_book = record { settings = half_settings; state = Draining true; written = 8; eaten = 2; given = 3; underruns = 0 }
+
+-- and after that
+abbrev pub tail_over_book : Book
+tail_over_book = record { settings = half_settings; state = Free; written = 0; eaten = 0; given = 0; underruns = 0 }
+
+-- its run: pieces count frames of the mix
+abbrev pub tail_run : Run
+tail_run = record {
+  settings = half_settings;
+  bytes = tail_script.inline_bytes;
+  start = Some 0;
+  drained = true;
+  dropped = None;
+  pieces = piece 3 3 1 0 ∷ piece 0 0 3 0 ∷ [];
+}
+
+-- a device of one channel of 32 bits, over a ring of four frames
+abbrev pub narrow_device : DeviceSeen
+narrow_device = record small_device { settings = record { format = S32Le; layout = One; rate = 48000 } }
+
+-- two channels at half its rate: (1, 0) and (1, 2)
+abbrev pub downmix_text : List ℕ
+downmix_text = joined (
+    codes "open 0 play s32le 2 24000" ∷
+    codes "write 0 01000000000000000100000002000000" ∷
+    codes "close 0" ∷
+    codes "intr 4" ∷
+    codes "intr 4" ∷ [])
+
+abbrev pub downmix_script : Script
+downmix_script = record {
+  events = Open 0 Play (record { format = S32Le; layout = Two; rate = 24000 }) ∷ Write 0 0 16 ∷ Close 0 ∷ Intr 4 ∷ Intr 4 ∷ [];
+  inline_bytes = 1 ∷ 0 ∷ 0 ∷ 0 ∷ 0 ∷ 0 ∷ 0 ∷ 0 ∷ 1 ∷ 0 ∷ 0 ∷ 0 ∷ 2 ∷ 0 ∷ 0 ∷ 0 ∷ [];
+  device_frames = 8;
+}
+
+abbrev pub downmix_lines : List ℕ
+downmix_lines = joined (
+    codes "1: ok 0" ∷ codes "2: ok 16" ∷ codes "3: ok" ∷ codes "4: ok 4" ∷ codes "5: ok 4" ∷ [])
+
+-- a fragment of 128 frames at half the rate, and a late frame
+abbrev pub wide_settings : Settings
+wide_settings = record { format = S32Le; layout = Eight; rate = 24000 }
+
+abbrev pub wide_events : List Event
+wide_events = Open 0 Play wide_settings ∷ Write 0 0 4096 ∷ Intr 254 ∷ Intr 2 ∷ Write 0 4096 32 ∷ Intr 2 ∷ []
+
+-- its book while it runs
+abbrev pub wide_book : ℕ → ℕ → ℕ → ℕ → Book
+wide_book written eaten given underruns = record {
+  settings = wide_settings;
+  state = Running;
+  written = written;
+  eaten = eaten;
+  given = given;
+  underruns = underruns;
+}

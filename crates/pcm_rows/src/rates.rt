@@ -1,0 +1,45 @@
+//! Clients at another rate than the device's: lines are drawn between their frames.
+#![tactic(auto, unfolding(crate::proofs::Computing::row))]
+
+ghost use Rattle.std.specs.Prelude.{◌≡◌, ◌∷◌, ◌++◌, [], codes, replicate, take};
+ghost use Rattle.pcm_desk.specs.Usual.{usual_device};
+ghost use Rattle.pcm_rows.specs.Calls.{small_device, accepted, judged, played, printed, book_after, story_after};
+ghost use Rattle.pcm_rows.specs.ClientFormats.{client_text, client_lines};
+ghost use Rattle.pcm_rows.specs.ClientRates.{opening_text, opening_script, opening_bytes, tail_text, tail_script, tail_lines, tail_book, tail_over_book, tail_run, narrow_device, downmix_text, downmix_script, downmix_lines, wide_events, wide_book};
+
+/// An open without settings is one channel of unsigned bytes at 8000, so each of its frames makes
+/// six on both sides, of which the first is the frame itself.
+pub fn six_frames_for_each()
+    ensures verdict { judged usual_device opening_text ≡ accepted opening_script }
+    ensures named { judged usual_device
+        (client_text (codes "u8 1 8000") (codes "80867a") (codes "18")) ≡ accepted opening_script }
+    ensures device { played usual_device opening_script ≡ replicate 4096 0 ++ opening_bytes }
+    ensures lines { printed usual_device opening_script ≡ client_lines (codes "3") (codes "18") }
+{}
+
+/// A drain goes on past the output after which no more is sure: its last frame fades to silence.
+pub fn drain_gives_its_tail()
+    ensures verdict { judged small_device tail_text ≡ accepted tail_script }
+    ensures device { played small_device tail_script
+        ≡ replicate 20 0 ++ 50 ∷ 0 ∷ 50 ∷ 0 ∷ 100 ∷ 0 ∷ 100 ∷ 0 ∷ 50 ∷ 0 ∷ 50 ∷ 0 ∷ [] }
+    ensures lines { printed small_device tail_script ≡ tail_lines }
+    ensures left { book_after small_device (take 4 tail_script.events) ≡ tail_book }
+    ensures over { book_after small_device tail_script.events ≡ tail_over_book }
+    ensures runs { (story_after small_device tail_script).runs 0 ≡ tail_run ∷ [] }
+{}
+
+/// Two channels come to one before the rate changes, each time rounded down: 0, 0, 1 and 0.
+pub fn downmix_at_half_the_rate()
+    ensures verdict { judged narrow_device downmix_text ≡ accepted downmix_script }
+    ensures device { played narrow_device downmix_script
+        ≡ replicate 24 0 ++ 1 ∷ 0 ∷ 0 ∷ 0 ∷ 0 ∷ 0 ∷ 0 ∷ 0 ∷ [] }
+    ensures lines { printed narrow_device downmix_script ≡ downmix_lines }
+{}
+
+/// The last frame of a stream waits for the one after it: 128 frames give 254 of the 256 that they
+/// last for. The shortage is counted once, and what was missed is given when the next frame comes.
+pub fn shortage_at_half_the_rate()
+    ensures all { book_after usual_device (take 3 wide_events) ≡ wide_book 4096 128 254 0 }
+    ensures short { book_after usual_device (take 4 wide_events) ≡ wide_book 4096 128 254 1 }
+    ensures late { book_after usual_device wide_events ≡ wide_book 4128 129 256 1 }
+{}
