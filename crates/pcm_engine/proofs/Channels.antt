@@ -1,19 +1,26 @@
 -- The channels of a device, one of them changed or all refilled.
 use Rattle.std.proofs.Common.{◌≡◌, ℕ, ◌*◌, ◌+◌, ◌<◌, ◌≤◌, Bool, cond, List, [], ◌∷◌, ◌++◌, length, map, set, get_or, take, Option, Some, None, All, refl, sym, ap, ◌∙◌, subst, inl, inr, arith, get_or-set_same, get_or-set_other}
-use Rattle.std.specs.Prelude.{not, nat_lt, position}
+use Rattle.std.specs.Prelude.{Vec, not, nat_lt, position}
+use Rattle.std.specs.Vec.{with_item}
+use Rattle.std.proofs.Props.{props}
+use mathlib.Core.HLevel.{is_prop→PathP}
+use Rattle.pcm_format.specs.Frames.{frame_bytes}
+use Rattle.pcm_format.specs.Layouts.{channels_of}
+use Rattle.pcm_desk.specs.declared.limits.TheConstants.{RING_FRAMES, SLOTS}
 use Rattle.std.specs.List.{position_or_len, prefix_len}
-use Rattle.std.proofs.lemmas.List.{get_or-map, map-set, length-map, get_or_default, same_lists, take_at}
-use Rattle.std.proofs.lemmas.Bool.{cases_eq}
+use Rattle.std.proofs.lemmas.List.{get_or-map, map-set, length-map, length-set, set-get_or, set_past, get_or_default, same_lists, take_at}
+use Rattle.std.proofs.lemmas.Bool.{cases_eq, cases_lt}
 use Rattle.pcm_feeder.specs.declared.kind.Kind.{Kind}
 use Rattle.pcm_feeder.specs.Kept.{Kept}
 use Rattle.pcm_desk.specs.declared.book.Book.{Book}
 use Rattle.pcm_desk.specs.declared.device.Device.{Device}
-use Rattle.pcm_desk.specs.Device.{seen}
+use Rattle.pcm_desk.specs.Device.{filters_of, seen}
 use Rattle.pcm_desk.specs.Books.{is_free}
 use Rattle.pcm_desk.specs.declared.device.Held.{Held}
 use Rattle.pcm_desk.specs.Desk.{least_free, mixing, interrupt_turn}
 use Rattle.pcm_engine.specs.declared.channel.ChannelOf.{ChannelOf}
 use Rattle.pcm_engine.specs.declared.parent.ParentOf.{ParentOf}
+use Rattle.pcm_engine.specs.Holds.{HoldWithin}
 use Rattle.pcm_engine.specs.Parents.{desk_with, parent_books}
 use Rattle.pcm_engine.specs.Channels.{books_of, Each, ChannelStands, IsReady, Moves}
 
@@ -50,6 +57,28 @@ each_set {B = B} how channels at old new there is changed stays = λ slot other 
           (subst (how (get_or channels at other)) (sym (get_or-set_same channels at new other there))
           (subst (λ (c : ChannelOf B). how c new) (is ∙ get_or_default channels at old other there) changed))
       | inr differ ↦ subst (how (get_or channels slot other)) (sym (get_or-set_other channels at slot new other differ)) (stays (get_or channels slot other))
+    ]
+
+-- each channel is of one device still, once one of them changed
+pub own_set : {B : Type 0} (device : Device) (channels : List (ChannelOf B)) (at : ℕ) (old new : ChannelOf B) → at < length channels → old ≡ get_or channels at old → new.device ≡ old.device
+    → All (λ (channel : ChannelOf B). channel.device ≡ device) channels → All (λ (channel : ChannelOf B). channel.device ≡ device) (set channels at new)
+own_set {B = B} device channels at old new there is same own = λ slot other within.
+    let before : slot < length channels = omega (arith, length-set channels at new) in
+    let How : ChannelOf B → ChannelOf B → Type 0 = λ a b. a.device ≡ device → b.device ≡ device in
+    each_set How channels at old new there is (λ e. same ∙ e) (λ channel e. e) slot other before (own slot other before)
+
+-- descriptors of which one was shut hold what they held
+pub hold_within-shut : (slots : ℕ) (descriptors : List (Option Held)) (at : ℕ) → HoldWithin slots descriptors → HoldWithin slots (set descriptors at None)
+hold_within-shut slots descriptors at h = λ fd held e.
+    elim (cases_eq fd at) [
+      | inl same ↦ elim (cases_lt at (length descriptors)) [
+        | inl there ↦
+            let shut : get_or (set descriptors at None) fd None ≡ None = subst (λ (k : ℕ). get_or (set descriptors at None) k None ≡ None) (sym same) (get_or-set_same descriptors at None None there) in
+            let clash : None ≡ Some held = sym shut ∙ e in
+            cc
+        | inr past ↦ h fd held (ap (λ (l : List (Option Held)). get_or l fd None) (sym (set_past descriptors at None past)) ∙ e)
+      ]
+      | inr differ ↦ h fd held (sym (get_or-set_other descriptors at fd None None differ) ∙ e)
     ]
 
 -- a channel that stays stands for what it stood for
@@ -110,3 +139,42 @@ desk_with-mixed old new descriptors n books handed mixed =
     ap (λ (play : List Book). record { play = play; descriptors = descriptors; handed = new.handed; mixed = new.mixed }) books
     ∙ ap (λ (h : ℕ). record { play = map (mixing (seen old.device) n) (parent_books old); descriptors = descriptors; handed = h; mixed = new.mixed }) handed
     ∙ ap (λ (m : ℕ). record { play = map (mixing (seen old.device) n) (parent_books old); descriptors = descriptors; handed = old.handed + n; mixed = m }) mixed
+
+-- an element that is written back changes nothing of a vector
+pub vec_same : {X Z : Type 0} (v : Vec X Z) (at : ℕ) (x d : X) → x ≡ get_or v.items at d → with_item v at x ≡ v
+vec_same v at x d is =
+    let items : set v.items at x ≡ v.items = ap (set v.items at) is ∙ set-get_or v.items at d in
+    λ i. record {
+      ptr = v.ptr;
+      len = v.len;
+      cap = v.cap;
+      alloc = v.alloc;
+      items = items i;
+      ok = is_prop→PathP (λ j. (v.len ≡ length (items j)) × (v.len ≤ v.cap)) (λ j. hlevel props) (with_item v at x).ok v.ok i;
+      small = v.small;
+    }
+
+-- a parent with other channels that are the old ones is the old one
+pub parent_same : {B : Type 0} (new old : ParentOf B) (device : new.device ≡ old.device) (tables : new.tables ≡ old.tables) (channels : new.channels ≡ old.channels) (ring : new.ring ≡ old.ring) → new.handed ≡ old.handed → new.mixed ≡ old.mixed
+    → new.bytes ≡ old.bytes → new.frames ≡ old.frames → new.sum ≡ old.sum → new ≡ old
+parent_same {B = B} new old device tables channels ring handed mixed bytes frames sum = λ i. record {
+  device = device i;
+  tables = tables i;
+  channels = channels i;
+  ring = ring i;
+  handed = handed i;
+  mixed = mixed i;
+  bytes = bytes i;
+  frames = frames i;
+  sum = sum i;
+  tables_are = is_prop→PathP (λ j. tables j ≡ filters_of (seen (device j))) (λ j. hlevel props) new.tables_are old.tables_are i;
+  within = is_prop→PathP (λ j. (device j).ring_frames ≤ RING_FRAMES) (λ j. hlevel props) new.within old.within i;
+  slots = is_prop→PathP (λ j. (channels j).len ≡ (device j).play_slots) (λ j. hlevel props) new.slots old.slots i;
+  slots_within = is_prop→PathP (λ j. (device j).play_slots ≤ SLOTS) (λ j. hlevel props) new.slots_within old.slots_within i;
+  own = is_prop→PathP (λ j. All (λ (channel : ChannelOf B). channel.device ≡ device j) (channels j).items) (λ j. hlevel props) new.own old.own i;
+  size = is_prop→PathP (λ j. (ring j).size ≡ (device j).ring_frames * frame_bytes (device j).settings) (λ j. hlevel props) new.size old.size i;
+  full = is_prop→PathP (λ j. length (ring j).bytes ≡ (device j).ring_frames * frame_bytes (device j).settings) (λ j. hlevel props) new.full old.full i;
+  bytes_size = is_prop→PathP (λ j. (bytes j).len ≡ (device j).ring_frames * frame_bytes (device j).settings) (λ j. hlevel props) new.bytes_size old.bytes_size i;
+  frames_size = is_prop→PathP (λ j. (frames j).len ≡ (device j).ring_frames * channels_of (device j).settings.layout) (λ j. hlevel props) new.frames_size old.frames_size i;
+  sum_size = is_prop→PathP (λ j. (sum j).len ≡ (device j).ring_frames * channels_of (device j).settings.layout) (λ j. hlevel props) new.sum_size old.sum_size i;
+}

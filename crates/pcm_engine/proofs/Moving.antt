@@ -12,7 +12,7 @@ use Rattle.pcm_rate.specs.Rates.{IsRatio}
 use Rattle.pcm_plan.specs.Plans.{PlanSeen, rate_in_plan}
 use Rattle.pcm_chain.specs.Chains.{boxes_in, ChainStands}
 use Rattle.pcm_desk.specs.declared.book.Book.{Book}
-use Rattle.pcm_desk.specs.Device.{DeviceSeen, IsDevice, Plays, plan_between}
+use Rattle.pcm_desk.specs.Device.{DeviceSeen, IsDevice, plan_between}
 use Rattle.pcm_desk.specs.Desk.{closing, rate_at}
 use Rattle.pcm_desk.proofs.Ratios.{ratio-between}
 use Rattle.pcm_desk.specs.Books.{accepting, close_turn, fill_of, is_draining}
@@ -66,11 +66,10 @@ pub record Closed (device : DeviceSeen) (old new : Book) : Type 0 where
   -- where some are, the counts are the old ones
   pub goes : (new.written ≡ 0 → ⊥) → Stays old new
 
-pub book-closed : (device : DeviceSeen) (old new : Book) (between : Rate) (plan : PlanSeen) → IsDevice device → Plays device old.settings → IsSafeAt device old
+pub book-closed : (device : DeviceSeen) (old new : Book) (between : Rate) (plan : PlanSeen) → IsDevice device → IsRate old.settings.rate → IsSafeAt device old
     → new ≡ close_turn between old → between ≡ rate_in_plan plan → plan ≡ plan_between device old.settings → Closed device old new
-book-closed device old new between plan d plays safe turned rate_is plan_is =
+book-closed device old new between plan d rate safe turned rate_is plan_is =
     let is : new ≡ closing device old = turned ∙ ap (λ (r : Rate). close_turn r old) (rate_is ∙ ap (λ (p : PlanSeen). rate_in_plan p) plan_is) in
-    let rate : IsRate old.settings.rate = subst IsRate (sym plays) d in
     let settings : new.settings ≡ old.settings = ap (λ (b : Book). b.settings) is ∙ settings-close (rate_at device old) old in
     let safe_now : IsSafeAt device new = subst (IsSafeAt device) (sym is) (safe-closing device old d rate safe) in
     let stays : StaysOrEnds old new = subst (StaysOrEnds old) (sym is) (close-stays (rate_at device old) old) in

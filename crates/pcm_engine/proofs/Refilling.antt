@@ -1,5 +1,5 @@
 -- What a refill leaves of a channel, from what a pull of its chain means.
-use Rattle.std.proofs.Common.{◌≡◌, ℕ, ◌+◌, ◌-◌, ◌*◌, ◌<◌, ◌≤◌, Bool, true, inl, inr, List, [], ◌++◌, length, take, drop, ℤ, sym, ap, ◌∙◌, subst, arith}
+use Rattle.std.proofs.Common.{◌≡◌, ℕ, ◌+◌, ◌-◌, ◌*◌, ◌<◌, ◌≤◌, Bool, true, false, inl, inr, List, [], ◌++◌, length, take, drop, ℤ, sym, ap, ◌∙◌, subst, arith}
 use Rattle.std.proofs.lemmas.List.{take-append-drop, drop_all}
 use Rattle.pcm_format.specs.declared.settings.Settings.{Settings}
 use Rattle.pcm_format.specs.Formats.{bits_of}
@@ -24,9 +24,9 @@ use Rattle.pcm_chain.specs.declared.chain.Pulled.{Pulled}
 use Rattle.pcm_chain.specs.Chains.{boxes_in, plan_in, ChainStands}
 use Rattle.pcm_chain.specs.Pulls.{waiting_frames, IsPastTheEnd, Pulls, StandsBehind}
 use Rattle.pcm_desk.specs.declared.book.Book.{Book}
-use Rattle.pcm_desk.specs.Device.{DeviceSeen, IsDevice, Plays, filters_of, mix_settings, plan_between, seen}
+use Rattle.pcm_desk.specs.Device.{DeviceSeen, IsDevice, filters_of, mix_settings, plan_between, seen}
 use Rattle.pcm_desk.specs.Books.{is_draining, is_started, fill_of, frames_written, refilled}
-use Rattle.pcm_desk.specs.Desk.{rate_at}
+use Rattle.pcm_desk.specs.Desk.{mixing, rate_at}
 use Rattle.pcm_desk.proofs.Safe.{settings-refilled}
 use Rattle.pcm_desk.proofs.Ratios.{plan-between-fits, ratio-between}
 use Rattle.pcm_sound.specs.Plans.{given_samples}
@@ -35,10 +35,10 @@ use Rattle.pcm_sound.proofs.DeviceLists.{frames-channels}
 use Rattle.pcm_sound.proofs.Stories.{IsSafeAt, safe-mixing}
 use Rattle.pcm_engine.specs.declared.channel.ChannelOf.{ChannelOf}
 use Rattle.pcm_engine.specs.Channels.{ChannelStands, Moves}
-use Rattle.pcm_engine.proofs.Frames.{frames-waiting}
+use Rattle.pcm_chain.proofs.Waiting.{frames-waiting}
 use Rattle.pcm_engine.proofs.Moving.{ended}
 use Rattle.pcm_engine.proofs.Stands.{nothing-more, stands-pulled}
-use Rattle.pcm_engine.proofs.Refills.{Goes, GoesOrEnds, PullsAsCounted, refilled-goes, mixing-some, eaten-written, length-eaten, length-waiting, pulls-counted, front-written}
+use Rattle.pcm_engine.proofs.Refills.{Goes, GoesOrEnds, PullsAsCounted, giving-none, refilled-goes, mixing-some, eaten-written, length-eaten, length-waiting, pulls-counted, front-written}
 
 -- what a pull of a channel's chain says of its frames, once the run's bytes are known
 pub record PullsRun {B : Type 0} (kept : B → Kept) (device : DeviceSeen) (gain : Gain) (n : ℕ) (book : Book) (bytes : List ℕ) (new : ChainOf B) (pulled : Pulled) (out_old out_new : List ℤ) : Type 0 where
@@ -94,10 +94,15 @@ pub record BookRefilled (device : DeviceSeen) (n : ℕ) (old new : Book) : Type 
   -- where some are, the run goes on
   pub goes : (new.written ≡ 0 → ⊥) → Goes (rate_at device old) n old new
 
-pub book-refilled : (device : DeviceSeen) (n : ℕ) (old new : Book) (between : Rate) (plan : PlanSeen) → 0 < n → IsDevice device → Plays device old.settings → IsSafeAt device old → is_started old.state ≡ true
+-- the book of a refill is that of an interrupt
+pub book-mixed : (device : DeviceSeen) (n : ℕ) (old new : Book) (between : Rate) (plan : PlanSeen) → 0 < n
+    → new ≡ refilled between n old → between ≡ rate_in_plan plan → plan ≡ plan_between device old.settings → new ≡ mixing device n old
+book-mixed device n old new between plan some made rate_is plan_is =
+    made ∙ ap (λ (r : Rate). refilled r n old) (rate_is ∙ ap (λ (p : PlanSeen). rate_in_plan p) plan_is) ∙ sym (mixing-some device n old some)
+
+pub book-refilled : (device : DeviceSeen) (n : ℕ) (old new : Book) (between : Rate) (plan : PlanSeen) → 0 < n → IsDevice device → IsRate old.settings.rate → IsSafeAt device old → is_started old.state ≡ true
     → new ≡ refilled between n old → between ≡ rate_in_plan plan → plan ≡ plan_between device old.settings → BookRefilled device n old new
-book-refilled device n old new between plan some d plays safe started made rate_is plan_is =
-    let rate : IsRate old.settings.rate = subst IsRate (sym plays) d in
+book-refilled device n old new between plan some d rate safe started made rate_is plan_is =
     let is : new ≡ refilled (rate_at device old) n old = made ∙ ap (λ (r : Rate). refilled r n old) (rate_is ∙ ap (λ (p : PlanSeen). rate_in_plan p) plan_is) in
     let settings : new.settings ≡ old.settings = ap (λ (b : Book). b.settings) is ∙ settings-refilled (rate_at device old) n old in
     let safe_now : IsSafeAt device new = subst (IsSafeAt device) (mixing-some device n old some ∙ sym is) (safe-mixing device n old d rate safe) in
@@ -125,12 +130,21 @@ ring-refilled device n old new pulled safe go counted =
       fill = rw (go.written, eaten, size) (omega arith);
     }
 
+-- a channel that isn't started adds nothing to a block
+pub turned-none : (device : DeviceSeen) (n : ℕ) (gain : Gain) (book : Book) (bytes : List ℕ) (sum : List ℤ) → is_started book.state ≡ false → sum ≡ turned device n gain book bytes sum
+turned-none device n gain book bytes sum idle =
+    let size : ℕ = channels_of (mix_settings device).layout in
+    let bits : ℕ = bits_of (mix_settings device).format in
+    let none : 0 * size ≡ 0 = omega arith in
+    let samples : ℕ → List ℤ = given_samples device gain book.settings bytes book.given in
+    sym (ap (λ (k : ℕ). mixed bits (take (k * size) sum) (samples k) ++ drop (k * size) sum) (giving-none (rate_at device book) n book idle)
+    ∙ ap (λ (m : ℕ). mixed bits (take m sum) (samples 0) ++ drop m sum) none)
+
 -- what a channel adds to a block: the samples that its chain gave
 pub turned-pulled : {B : Type 0} (kept : B → Kept) (device : DeviceSeen) (gain : Gain) (n : ℕ) (book : Book) (bytes : List ℕ) (new : ChainOf B) (pulled : Pulled) (out_old out_new sum acc : List ℤ) (size bits : ℕ)
-    → IsDevice device → Plays device book.settings → PullsRun kept device gain n book bytes new pulled out_old out_new → size ≡ channels_of (mix_settings device).layout → bits ≡ bits_of (mix_settings device).format
+    → IsDevice device → IsRate book.settings.rate → PullsRun kept device gain n book bytes new pulled out_old out_new → size ≡ channels_of (mix_settings device).layout → bits ≡ bits_of (mix_settings device).format
     → acc ≡ mixed bits (take (pulled.given * size) sum) (take (pulled.given * size) out_new) → acc ++ drop (pulled.given * size) sum ≡ turned device n gain book bytes sum
-turned-pulled kept device gain n book bytes new pulled out_old out_new sum acc size bits d plays p size_is bits_is acc_is =
-    let rate : IsRate book.settings.rate = subst IsRate (sym plays) d in
+turned-pulled kept device gain n book bytes new pulled out_old out_new sum acc size bits d rate p size_is bits_is acc_is =
     let c : ℕ = channels_of (mix_settings device).layout in
     let given : List Frame = outs (plan_between device book.settings) (filters_of device) gain (frames book.settings bytes) book.given pulled.given in
     let have = outs-channels (plan_between device book.settings) (filters_of device) gain (frames book.settings bytes) book.given pulled.given (plan-between-fits device book.settings d rate) (frames-channels book.settings bytes) in

@@ -37,6 +37,17 @@ allowed-is rate book started = at book.state started
     at Running e = refl
     at (Draining closed) e = refl
 
+-- a book that isn't started gives nothing
+pub giving-none : (rate : Rate) (n : ℕ) (book : Book) → is_started book.state ≡ false → giving rate n book ≡ 0
+giving-none rate n book idle = at book.state idle
+  where
+    at : (state : State) → is_started state ≡ false → min n (allowed_in rate state book - book.given) ≡ 0
+    at Free e = omega arith
+    at Setup e = omega arith
+    at Primed e = omega arith
+    at Running e = cc
+    at (Draining closed) e = cc
+
 -- no frame is eaten that wasn't written
 pub eaten-written : (rate : Rate) (book : Book) → BookIsSafe rate book → book.eaten ≤ frames_written book
 eaten-written rate book safe = at book.state safe.order

@@ -6,10 +6,11 @@ ghost use Rattle.pcm_format.specs.Layouts.{channels_of};
 ghost use Rattle.pcm_format.specs.Frames.{frame_bytes};
 ghost use Rattle.pcm_num.specs.Limit.{FitsBits};
 ghost use Rattle.pcm_feeder.specs.Layouts.{unity};
+ghost use Rattle.pcm_feeder.specs.Limits.{IsRate};
 ghost use Rattle.pcm_feeder.specs.Racks.{HaveKinds, IsRack};
 ghost use Rattle.pcm_chain.specs.Chains.{boxes_in, plan_in};
 ghost use Rattle.pcm_desk.specs.declared.limits.TheConstants.{WRITE_BYTES};
-ghost use Rattle.pcm_desk.specs.Device.{IsDevice, Plays, filters_of, plan_between, seen};
+ghost use Rattle.pcm_desk.specs.Device.{IsDevice, filters_of, plan_between, seen};
 ghost use Rattle.pcm_desk.specs.Books.{is_free, fill_of, ring_bytes, begun, write_turn};
 ghost use Rattle.pcm_desk.specs.Safe.{BookIsSafe};
 ghost use Rattle.pcm_desk.proofs.Props.{book_props};
@@ -33,7 +34,7 @@ pub struct ChannelOf<B> {
     pub ring: ByteRing,
     pub chain: ChainOf<B>,
     ghost device_is: { IsDevice (seen device) },
-    ghost plays: { Plays (seen device) book.settings },
+    ghost rate: { IsRate book.settings.rate },
     ghost plan: { plan_in chain ≡ plan_between (seen device) book.settings },
     ghost size: { ring.size ≡ ring_bytes book },
     ghost fill: { length ring.bytes ≡ fill_of book },
@@ -84,7 +85,7 @@ impl<B: Feeder> ChannelOf<B> {
 
     /// A new opening begins, whose sound goes through the plan of its settings.
     pub fn begin(&mut self, tables: &Tables, settings: Settings)
-        requires plays { Plays (seen self.old.device) settings }
+        requires rate { IsRate settings.rate }
         requires tables { tables.now ≡ filters_of (seen self.old.device) }
         requires kinds { HaveKinds B.kind (boxes_in self.old.chain) }
         ensures book { self.new.book ≡ begun settings }

@@ -1,8 +1,9 @@
 //! What clients ask by their descriptors.
 
 ghost use Rattle.std.specs.Prelude.{◌≡◌, ◌+◌, ◌^◌, ◌<◌, ◌≤◌, [], length, vec_len, All, OnErr, None, slice_index_or};
+ghost use Rattle.pcm_feeder.specs.Limits.{IsRate};
 ghost use Rattle.pcm_desk.specs.declared.limits.TheConstants.{DESCRIPTORS, WRITE_BYTES};
-ghost use Rattle.pcm_desk.specs.Device.{Plays, seen};
+ghost use Rattle.pcm_desk.specs.Device.{seen};
 ghost use Rattle.pcm_desk.specs.Desk.{close_on, held_by, open_turn, write_on};
 ghost use Rattle.pcm_engine.specs.Channels.{Each, IsReady, Moves};
 ghost use Rattle.pcm_engine.specs.Holds.{HoldWithin};
@@ -22,7 +23,7 @@ pub fn open<B: Feeder>(
     settings: Settings,
 ) -> Result<Answer, Errno>
     requires fd { fd < DESCRIPTORS }
-    requires plays { Plays (seen parent.old.device) settings }
+    requires rate { IsRate settings.rate }
     requires size { length descriptors.old ≡ DESCRIPTORS }
     requires held { HoldWithin (vec_len parent.old.channels) descriptors.old }
     requires ready { All (IsReady B.kind B.kept) parent.old.channels.items }

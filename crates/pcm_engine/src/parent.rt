@@ -3,9 +3,10 @@
 ghost use Rattle.std.specs.Prelude.{◌≡◌, ◌+◌, ◌*◌, ◌^◌, ◌<◌, ◌≤◌, ◌++◌, [], ℕ, List, length, vec_len, All, OnErr, IfOk, IfSome, take, drop, position, slice_index_or, slice_set};
 ghost use Rattle.pcm_format.specs.Frames.{frame_bytes};
 ghost use Rattle.pcm_format.specs.Layouts.{channels_of};
+ghost use Rattle.pcm_feeder.specs.Limits.{IsRate};
 ghost use Rattle.pcm_feeder.specs.Racks.{AreRacks, list_of};
 ghost use Rattle.pcm_desk.specs.declared.limits.TheConstants.{RING_FRAMES, SLOTS, WRITE_BYTES};
-ghost use Rattle.pcm_desk.specs.Device.{IsDevice, Plays, filters_of, seen};
+ghost use Rattle.pcm_desk.specs.Device.{IsDevice, filters_of, seen};
 ghost use Rattle.pcm_desk.specs.Books.{is_free, write_turn};
 ghost use Rattle.pcm_desk.specs.Desk.{closing, least_free, mixing, unopened};
 ghost use Rattle.pcm_engine.specs.Channels.{AllStand, Each, IsReady, IsUnopened, Moves};
@@ -87,7 +88,7 @@ impl<B: Feeder> ParentOf<B> {
 
     /// An opening begins in the least free slot.
     pub fn open_slot(&mut self, settings: Settings) -> Result<usize, Errno>
-        requires plays { Plays (seen self.old.device) settings }
+        requires rate { IsRate settings.rate }
         requires ready { All (IsReady B.kind B.kept) self.old.channels.items }
         ensures found { result ≡ slot_or_busy (least_free (parent_books self.old)) }
         ensures books { parent_books self.new

@@ -12,6 +12,9 @@ use Rattle.pcm_engine.specs.declared.channel.ChannelOf.{ChannelOf}
 use Rattle.pcm_engine.specs.Channels.{ChannelStands}
 use Rattle.pcm_engine.proofs.mixer.mix_slot.Goals as goal
 
+pub refill-requires-clause-kinds : goal.refill-requires-clause-kinds
+refill-requires-clause-kinds g c = (c.requires.ready c.index-channels-slot.result).kinds
+
 pub refill-requires-clause-stands : goal.refill-requires-clause-stands
 refill-requires-clause-stands g c = (c.requires.ready c.index-channels-slot.result).stands
 
@@ -23,6 +26,12 @@ refill-requires-clause-sum g c = c.requires.sum ∙ ap (λ (d : Device). c.args.
 
 pub refill-requires-clause-fits : goal.refill-requires-clause-fits
 refill-requires-clause-fits g c = subst (λ (d : Device). All (FitsBits (bits_of d.settings.format)) c.args.sum.now) (sym (c.requires.own c.index-channels-slot.result)) c.requires.fits
+
+pub returns-clause-own : goal.returns-clause-own
+returns-clause-own g c = λ other.
+    ap (λ (n : ChannelOf _). n.device) (get_or-set_same c.args.channels.now c.args.slot c.refill.new.self other c.requires.there)
+    ∙ c.refill.ensures.device
+    ∙ c.requires.own c.index-channels-slot.result
 
 pub returns-clause-book : goal.returns-clause-book
 returns-clause-book g c = λ other.

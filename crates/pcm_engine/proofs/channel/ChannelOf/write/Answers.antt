@@ -26,13 +26,13 @@ invariant_of-self g c =
     ap (λ (ring : Ring). length ring.bytes) c.put-accepted.ensures.kept ∙ omega (arith, length-append old.ring.bytes (take accepted c.args.bytes.now), length-take accepted c.args.bytes.now) in
     record {
       device_is = old.device_is;
-      plays = ap (λ (s : Settings). s.rate) settings ∙ old.plays;
+      rate = subst (λ (s : Settings). IsRate s.rate) (sym settings) old.rate;
       plan = old.plan ∙ ap (plan_between device) (sym settings);
       size = ap (λ (ring : Ring). ring.size) c.put-accepted.ensures.kept ∙ old.size;
       fill = length_is ∙ ap (λ n. n + accepted) old.fill ∙ sym (fill_of-accepting accepted old.book old.within) ∙ sym (ap fill_of is);
       within = rw is (within-accepting accepted old.book old.within);
       safe = subst (IsSafeAt device) (sym is)
-          (rw (a.settings) (safe-accepting (rate_at device old.book) accepted old.book (ratio-between device old.book.settings old.device_is (subst IsRate (sym old.plays) old.device_is))
+          (rw (a.settings) (safe-accepting (rate_at device old.book) accepted old.book (ratio-between device old.book.settings old.device_is old.rate)
           (sym c.is_draining.ensures ∙ c.if-is_draining.false)
           (let size = old.size in let fill = old.fill in omega (arith, count)) old.safe));
     }

@@ -4,8 +4,24 @@ use Rattle.pcm_desk.specs.Device.{seen}
 use Rattle.pcm_desk.specs.Desk.{closing, unopened}
 use Rattle.pcm_engine.specs.declared.channel.ChannelOf.{ChannelOf}
 use Rattle.pcm_engine.specs.Channels.{Moves}
-use Rattle.pcm_engine.proofs.Channels.{books_of-set, each_set, moves-nothing}
+use Rattle.pcm_engine.proofs.Channels.{books_of-set, each_set, moves-nothing, own_set}
 use Rattle.pcm_engine.proofs.parent.ParentOf.close.Goals as goal
+
+pub invariant_of-self : goal.invariant_of-self
+invariant_of-self g c =
+    let old = c.args.self.now in
+    record {
+      tables_are = old.tables_are;
+      within = old.within;
+      slots = old.slots;
+      slots_within = old.slots_within;
+      own = own_set old.device old.channels.items c.args.slot c.index_mut.result.now c.close.new.self c.requires.there c.index_mut.ensures.value c.close.ensures.device old.own;
+      size = old.size;
+      full = old.full;
+      bytes_size = old.bytes_size;
+      frames_size = old.frames_size;
+      sum_size = old.sum_size;
+    }
 
 pub returns-clause-books : goal.returns-clause-books
 returns-clause-books g c =

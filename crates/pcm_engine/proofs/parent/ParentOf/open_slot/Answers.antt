@@ -3,8 +3,26 @@ use Rattle.std.proofs.lemmas.List.{map-set}
 use Rattle.pcm_engine.specs.declared.channel.ChannelOf.{ChannelOf}
 use Rattle.pcm_engine.specs.Channels.{Moves, books_of}
 use Rattle.pcm_engine.specs.Parents.{slot_or_busy, books_begun}
-use Rattle.pcm_engine.proofs.Channels.{least_free-books, each_set, moves-nothing}
+use Rattle.pcm_engine.proofs.Channels.{least_free-books, each_set, moves-nothing, own_set}
 use Rattle.pcm_engine.proofs.parent.ParentOf.open_slot.Goals as goal
+
+pub invariant_of-self : goal.invariant_of-self
+invariant_of-self g c =
+    let old = c.args.self.now in
+    let within = c.in-Some.ensures.within in
+    let there : c.in-Some.slot < length old.channels.items = omega (arith, old.channels.ok.0) in
+    record {
+      tables_are = old.tables_are;
+      within = old.within;
+      slots = old.slots;
+      slots_within = old.slots_within;
+      own = own_set old.device old.channels.items c.in-Some.slot c.index_mut.result.now c.begin.new.self there c.index_mut.ensures.value c.begin.ensures.device old.own;
+      size = old.size;
+      full = old.full;
+      bytes_size = old.bytes_size;
+      frames_size = old.frames_size;
+      sum_size = old.sum_size;
+    }
 
 pub returns-in_default-clause-found : goal.returns-in_default-clause-found
 returns-in_default-clause-found g c =
