@@ -5,6 +5,8 @@ ghost use Rattle.pcm_verdict.specs.Verdict.{command_of};
 ghost use Rattle.pcm_replay.specs.Outcomes.{IsStatus};
 
 use feed_format::DepthFeeder;
+use feed_hold::HoldFeeder;
+use feed_linear::LinearFeeder;
 use feed_matrix::MatrixFeeder;
 use feed_volume::VolumeFeeder;
 use pcm_feeder::{RACKS, RackFault, Racks, Six};
@@ -29,6 +31,8 @@ pub fn run_boxed<F: Files, K: Sink>(
     for _ in 0..RACKS {
         boxes.push(Six {
             matrix: Box::new(alloc, MatrixFeeder::new(alloc)?)?,
+            hold: Box::new(alloc, HoldFeeder::new(alloc)?)?,
+            linear: Box::new(alloc, LinearFeeder::new(alloc)?)?,
             volume: Box::new(alloc, VolumeFeeder::new(alloc)?)?,
             depth: Box::new(alloc, DepthFeeder::new(alloc)?)?,
         })?;
