@@ -3,6 +3,8 @@
 ghost use Rattle.std.specs.Prelude.{◌≡◌, IfOk, None};
 
 use feed_format::DepthFeeder;
+use feed_hold::HoldFeeder;
+use feed_linear::LinearFeeder;
 use feed_matrix::MatrixFeeder;
 use feed_volume::VolumeFeeder;
 use pcm_feeder::{RACKS, Racks, Six};
@@ -60,6 +62,8 @@ fn ends_with(
     for _ in 0..RACKS {
         boxes.push(Six {
             matrix: Box::new(alloc, MatrixFeeder::new(alloc)?)?,
+            hold: Box::new(alloc, HoldFeeder::new(alloc)?)?,
+            linear: Box::new(alloc, LinearFeeder::new(alloc)?)?,
             volume: Box::new(alloc, VolumeFeeder::new(alloc)?)?,
             depth: Box::new(alloc, DepthFeeder::new(alloc)?)?,
         })?;

@@ -14,10 +14,18 @@ const THREE: &[u8] =
 const THREE_PRINTED: &[u8] =
     b"1: ok 0\n2: ok 1\n3: ok 2\n4: ok 4\n5: ok\n6: ok 4\n7: ok\n8: ok 4\n9: ok\n10: ok 1024\n11: ok 1\n";
 
+// A client at half the rate with two frames, and what is printed and heard of it.
+const HALF: &[u8] =
+    b"open 0 play s16le 2 24000\nwrite 0 0000000064006400\nclose 0\nintr 1024\nintr 4\n";
+
+const HALF_PRINTED: &[u8] = b"1: ok 0\n2: ok 8\n3: ok\n4: ok 1024\n5: ok 4\n";
+
+const HALF_HEARD: &[u8] = b"\0\0\0\0\x32\0\x32\0\x64\0\x64\0\x32\0\x32\0";
+
 #[test]
 fn scripts(rt: HostRuntime) -> Result<(), Fail> {
     // The script, the status, what is printed, and the device file.
-    let rows: [(&[u8], Expected); 4] = [
+    let rows: [(&[u8], Expected); 5] = [
         (b"", (0, b"", Some((0, b"")))),
         (
             FOUR_FRAMES,
@@ -25,6 +33,8 @@ fn scripts(rt: HostRuntime) -> Result<(), Fail> {
         ),
         // The limit acts after each addition: 30000 + 10000 - 10000 is 22767.
         (THREE, (0, THREE_PRINTED, Some((4096, b"\xef\x58\xef\x58")))),
+        // Lines between 0, 100 and the silence after them.
+        (HALF, (0, HALF_PRINTED, Some((4096, HALF_HEARD)))),
         // An interrupt above the ring.
         (
             b"intr 1025\n",

@@ -7,6 +7,10 @@ mod chains;
 #[cfg(test)]
 mod depth;
 #[cfg(test)]
+mod hold;
+#[cfg(test)]
+mod linear;
+#[cfg(test)]
 mod matrix;
 #[cfg(test)]
 mod racks;

@@ -1,6 +1,8 @@
 //! The racks of a run.
 
 use feed_format::DepthFeeder;
+use feed_hold::HoldFeeder;
+use feed_linear::LinearFeeder;
 use feed_matrix::MatrixFeeder;
 use feed_volume::VolumeFeeder;
 use pcm_feeder::{Feeder, Kind, Rack, RackFault, RackOf, Racks, Six, SixOf, WrongCount, WrongKind};
@@ -12,6 +14,12 @@ fn boxed(alloc: Global, kind: Kind) -> Result<Box<dyn Feeder>, AllocError> {
     if kind == Kind::Matrix {
         return Ok(Box::new(alloc, MatrixFeeder::new(alloc)?)?);
     }
+    if kind == Kind::Hold {
+        return Ok(Box::new(alloc, HoldFeeder::new(alloc)?)?);
+    }
+    if kind == Kind::Linear {
+        return Ok(Box::new(alloc, LinearFeeder::new(alloc)?)?);
+    }
     if kind == Kind::Volume {
         return Ok(Box::new(alloc, VolumeFeeder::new(alloc)?)?);
     }
@@ -19,13 +27,21 @@ fn boxed(alloc: Global, kind: Kind) -> Result<Box<dyn Feeder>, AllocError> {
 }
 
 // The kinds that the places ask for, in their order.
-pub const RIGHT: [Kind; 3] = [Kind::Matrix, Kind::Volume, Kind::Depth];
+pub const RIGHT: [Kind; 5] = [
+    Kind::Matrix,
+    Kind::Hold,
+    Kind::Linear,
+    Kind::Volume,
+    Kind::Depth,
+];
 
 // Boxes of these kinds, in the order of the places.
-pub fn six(alloc: Global, kinds: [Kind; 3]) -> Result<Six, AllocError> {
-    let [matrix, volume, depth] = kinds;
+pub fn six(alloc: Global, kinds: [Kind; 5]) -> Result<Six, AllocError> {
+    let [matrix, hold, linear, volume, depth] = kinds;
     Ok(Six {
         matrix: boxed(alloc, matrix)?,
+        hold: boxed(alloc, hold)?,
+        linear: boxed(alloc, linear)?,
         volume: boxed(alloc, volume)?,
         depth: boxed(alloc, depth)?,
     })
@@ -41,13 +57,33 @@ fn first_wrong<B: Feeder>(six: SixOf<B>) -> Option<WrongKind> {
 
 #[test]
 fn the_first_wrong_box_is_told(rt: HostRuntime) -> Result<(), Fail> {
-    let (matrix, volume, depth) = (Kind::Matrix, Kind::Volume, Kind::Depth);
+    let [matrix, hold, linear, volume, depth] = RIGHT;
     for (kinds, want) in [
-        ([matrix, volume, depth], None),
-        ([volume, volume, depth], Some((matrix, volume))),
-        ([matrix, matrix, depth], Some((volume, matrix))),
-        ([matrix, depth, volume], Some((volume, depth))),
-        ([matrix, volume, volume], Some((depth, volume))),
+        ([matrix, hold, linear, volume, depth], None),
+        (
+            [volume, hold, linear, volume, depth],
+            Some((matrix, volume)),
+        ),
+        ([hold, matrix, linear, volume, depth], Some((matrix, hold))),
+        (
+            [matrix, linear, linear, volume, depth],
+            Some((hold, linear)),
+        ),
+        ([matrix, linear, hold, volume, depth], Some((hold, linear))),
+        ([matrix, hold, hold, volume, depth], Some((linear, hold))),
+        (
+            [matrix, hold, volume, linear, depth],
+            Some((linear, volume)),
+        ),
+        (
+            [matrix, hold, linear, matrix, depth],
+            Some((volume, matrix)),
+        ),
+        ([matrix, hold, linear, depth, volume], Some((volume, depth))),
+        (
+            [matrix, hold, linear, volume, volume],
+            Some((depth, volume)),
+        ),
     ] {
         let wrong = first_wrong(six(rt.alloc(), kinds)?);
         let told = wrong.map(|wrong| (wrong.place, wrong.found));
@@ -89,7 +125,13 @@ fn boxes(alloc: Global, count: usize, wrong: Option<usize>) -> Result<Vec<Six>, 
     let mut list = Vec::new(alloc);
     for at in 0..count {
         let kinds = if wrong == Some(at) {
-            [Kind::Matrix, Kind::Depth, Kind::Depth]
+            [
+                Kind::Matrix,
+                Kind::Hold,
+                Kind::Linear,
+                Kind::Depth,
+                Kind::Depth,
+            ]
         } else {
             RIGHT
         };
@@ -126,6 +168,8 @@ fn boxes_make_the_racks_of_a_run(rt: HostRuntime) -> Result<(), Fail> {
 fn plain_feeders_are_told_apart(rt: HostRuntime) -> Result<(), Fail> {
     let wrong = first_wrong(SixOf {
         matrix: DepthFeeder::new(rt.alloc())?,
+        hold: DepthFeeder::new(rt.alloc())?,
+        linear: DepthFeeder::new(rt.alloc())?,
         volume: DepthFeeder::new(rt.alloc())?,
         depth: DepthFeeder::new(rt.alloc())?,
     });

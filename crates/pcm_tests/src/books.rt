@@ -3,7 +3,7 @@ ghost use Rattle.std.specs.Prelude.{◌*◌, ◌≤◌, ◌<◌, ◌^◌};
 ghost use Rattle.pcm_format.specs.Frames.{frame_bytes};
 
 use pcm_desk::{Book, Device, State};
-use pcm_rate::UNCHANGED;
+use pcm_rate::{Rate, UNCHANGED};
 
 // A book of the usual device's settings with frames of four bytes that were played, and bytes that wait.
 fn book(state: State, played: u16, waiting: u16, underruns: u32) -> Book
@@ -102,4 +102,48 @@ fn interrupts(rt: HostRuntime) {
 fn the_count_of_shortages_stands_still_at_its_end(rt: HostRuntime) {
     let starved = book(State::Running, 1024, 0, u32::MAX);
     assert_eq!(rt; starved.refilled(UNCHANGED, 1), starved);
+}
+
+// Half the rate of the mix, by lines.
+const HALF: Rate = Rate {
+    src: 24000,
+    dst: 48000,
+    lookahead: 1,
+};
+
+// A book at half the rate of the mix: frames of four bytes eaten, frames of the mix given for them, and bytes that wait.
+fn half_book(state: State, eaten: u16, given: u16, waiting: u16, underruns: u32) -> Book
+    ensures whole { result.eaten * frame_bytes result.settings ≤ result.written }
+    ensures small { (result.written < 2 ^ 32) × (result.given < 2 ^ 32) }
+{
+    Book {
+        given: u64::from(given),
+        ..book(state, eaten, waiting, underruns)
+    }
+}
+
+#[test]
+fn interrupts_at_half_the_rate(rt: HostRuntime) {
+    // The state before, frames eaten and given, bytes that wait, and frames wanted; then the state, frames eaten and
+    // given, bytes that wait, and shortages. Of two frames, two outputs are sure, and a drain gives four.
+    let rows: [((State, u16, u16, u16, u16), (State, u16, u16, u16, u32)); 10] = [
+        ((State::Running, 0, 0, 4, 1), (State::Running, 1, 0, 0, 1)),
+        ((State::Running, 0, 0, 8, 1), (State::Running, 2, 1, 0, 0)),
+        ((State::Running, 2, 1, 0, 2), (State::Running, 2, 2, 0, 1)),
+        ((State::Running, 2, 2, 0, 1), (State::Running, 2, 2, 0, 1)),
+        ((State::Running, 2, 2, 4, 2), (State::Running, 3, 4, 0, 0)),
+        ((State::Running, 2, 2, 7, 1), (State::Running, 3, 3, 3, 0)),
+        ((CLOSED, 2, 2, 0, 1), (CLOSED, 2, 3, 0, 0)),
+        ((CLOSED, 0, 0, 8, 3), (CLOSED, 2, 3, 0, 0)),
+        ((CLOSED, 2, 3, 0, 4), (State::Free, 0, 0, 0, 0)),
+        ((OPEN, 2, 2, 3, 2), (State::Setup, 0, 0, 0, 0)),
+    ];
+    for ((state, eaten, given, waiting, n), (after, kept, gone, left, short)) in rows {
+        let got = half_book(state, eaten, given, waiting, 0).refilled(HALF, u64::from(n));
+        assert_eq!(rt;
+            got,
+            half_book(after, kept, gone, left, short),
+            "{n} frames of {waiting} bytes"
+        );
+    }
 }

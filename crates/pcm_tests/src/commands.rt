@@ -1,7 +1,7 @@
 //! Texts to events: words, numbers, and each kind of fault.
 
 use pcm_desk::Device;
-use pcm_format::{Event, Way};
+use pcm_format::{Event, Format, Layout, Settings, Way};
 use pcm_script::{Events, ScriptFault, script_of};
 use std::alloc::Global;
 use std::test::Fail;
@@ -98,7 +98,7 @@ fn counts_come_first(rt: HostRuntime) {
 }
 
 // Words of an open are judged from left to right, and only then whether it is built.
-const OPENS: [Row; 13] = [
+const OPENS: [Row; 17] = [
     (b"open 0 play s16le 2 48000", Ok(1)),
     (b"open 64 no", Err((1, "range"))),
     (b"open 0 Play", Err((1, "name"))),
@@ -110,8 +110,12 @@ const OPENS: [Row; 13] = [
     (b"open 0 rec u8 8 192001", Err((1, "range"))),
     (b"open 0 rec u8 8 192000", Err((1, "unbuilt"))),
     (b"open 0 rec s16le 2 48000", Err((1, "unbuilt"))),
-    (b"open 0 play s16le 2 4000", Err((1, "unbuilt"))),
-    (b"open 0 play", Err((1, "unbuilt"))),
+    (b"open 0 rec", Err((1, "unbuilt"))),
+    (b"open 0 play u8 8 3999", Err((1, "range"))),
+    (b"open 0 play u8 8 192001", Err((1, "range"))),
+    (b"open 0 play s16le 2 4000", Ok(1)),
+    (b"open 0 play u8 8 192000", Ok(1)),
+    (b"open 0 play", Ok(1)),
 ];
 
 #[test]
@@ -168,13 +172,27 @@ fn a_script_has_its_events_in_order(rt: HostRuntime) -> Result<(), Fail> {
 }
 
 #[test]
-fn an_open_has_the_settings_of_the_device(rt: HostRuntime) -> Result<(), Fail> {
-    let script = script_of(rt.alloc(), b"open 3 play s16le 2 48000", &Device::usual())?;
-    let open = Event::Open {
-        fd: 3,
-        way: Way::Play,
-        settings: Device::usual().settings,
-    };
-    assert_eq!(rt; script.events.as_slice(), [open].as_slice());
+fn an_open_has_its_settings(rt: HostRuntime) -> Result<(), Fail> {
+    let text = b"open 3 play s16le 2 48000\nopen 4 play s32be 6 44100\nopen 5 play";
+    let script = script_of(rt.alloc(), text, &Device::usual())?;
+    let opens = [
+        open(3, Format::S16Le, Layout::Two, 48000),
+        open(4, Format::S32Be, Layout::Six, 44100),
+        open(5, Format::U8, Layout::One, 8000),
+    ];
+    assert_eq!(rt; script.events.as_slice(), opens.as_slice());
     Ok(())
+}
+
+// An open to play.
+fn open(fd: u8, format: Format, layout: Layout, rate: u32) -> Event {
+    Event::Open {
+        fd,
+        way: Way::Play,
+        settings: Settings {
+            format,
+            layout,
+            rate,
+        },
+    }
 }
