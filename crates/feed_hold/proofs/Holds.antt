@@ -16,7 +16,7 @@ use Rattle.pcm_feeder.specs.Streams.{frames_of, silence}
 use Rattle.pcm_feeder.specs.Turns.{kept_after}
 use Rattle.pcm_feeder.proofs.Frames.{frames_of-one}
 use Rattle.pcm_feeder.proofs.Writing.{frames-moved, kept-by}
-use Rattle.feed_hold.specs.Hold.{spec_by, kept_at}
+use Rattle.feed_hold.specs.Hold.{spec_by, kept_by}
 use Rattle.feed_hold.specs.declared.hold.Fitted.{Fitted}
 
 -- what is kept, by its parts
@@ -48,7 +48,7 @@ pub moves : (fitted : Fitted) (pace : Pace) (last : List ℤ) (tables : Filters)
     → eaten ≤ length samples / fitted.channels
     → take fitted.channels last ≡ drop (length (take (eaten * fitted.channels) samples)) (take fitted.channels fitted.last ++ take (eaten * fitted.channels) samples)
     → kept_of_parts (rate_by pace) (phase_by pace) (ahead_by pace) fitted.channels (frames_of fitted.channels (take fitted.channels last))
-    ≡ kept_after (spec_by fitted) tables (kept_at fitted) (frames_of fitted.channels samples) eaten given
+    ≡ kept_after (spec_by fitted) tables (kept_by (Some fitted)) (frames_of fitted.channels samples) eaten given
 moves fitted pace last tables samples eaten given step at rate phase ahead within is =
     let c = fitted.channels in
     let kept = take c fitted.last in
@@ -57,4 +57,4 @@ moves fitted pace last tables samples eaten given step at rate phase ahead withi
     let even : length kept % c ≡ 0 = ap (λ n. n % c) long ∙ mod_self c in
     let tail_is : tail ≡ moved_on (frames_of c kept) (take eaten (frames_of c samples)) = ap (frames_of c) is ∙ frames-moved c eaten kept samples (omega (arith, fitted.limits.least)) even within in
     ap (λ r. kept_of_parts r (phase_by pace) (ahead_by pace) c tail) rate
-    ∙ kept-by (spec_by fitted) tables (kept_at fitted) (frames_of c samples) tail fitted.pace pace eaten given step (rate-is fitted) refl refl at phase ahead tail_is
+    ∙ kept-by (spec_by fitted) tables (kept_by (Some fitted)) (frames_of c samples) tail fitted.pace pace eaten given step (rate-is fitted) refl refl at phase ahead tail_is

@@ -1,5 +1,5 @@
 -- The next frames of a feeder, on the lines between those kept and those that come.
-use Rattle.std.proofs.Common.{◌≡◌, ◌+◌, ◌-◌, ◌*◌, ℕ, ℤ, pos, ◌+ℤ◌, ◌-ℤ◌, ◌*ℤ◌, List, ◌++◌, length, take, sym, ap, ◌∙◌, arith}
+use Rattle.std.proofs.Common.{◌≡◌, ◌+◌, ◌-◌, ◌*◌, ℕ, ℤ, pos, ◌+ℤ◌, ◌-ℤ◌, ◌*ℤ◌, List, ◌++◌, length, take, sym, ap, ◌∙◌, arith, Some}
 use Rattle.std.proofs.lemmas.Int.{ints}
 use Rattle.std.proofs.lemmas.List.Elements.{All-append}
 use Rattle.std.proofs.lemmas.Simd.{length-zip2}
@@ -13,13 +13,13 @@ use Rattle.pcm_feeder.specs.Turns.{step_of, phase_of, around}
 use Rattle.pcm_feeder.proofs.Frames.{frames_of-channels}
 use Rattle.pcm_feeder.proofs.Streams.{stream-channels}
 use Rattle.feed_linear.specs.declared.linear.Fitted.{Fitted}
-use Rattle.feed_linear.specs.Linear.{spec_by, kept_at}
+use Rattle.feed_linear.specs.Linear.{spec_by, kept_by}
 
 -- output j from now
 abbrev pub output_at : Fitted → List ℤ → ℕ → Frame
 output_at fitted input j =
     on_line (rate_by fitted.pace).dst (phase_of (rate_by fitted.pace) (phase_by fitted.pace) j)
-    (around (spec_by fitted) (kept_at fitted) (frames_of fitted.channels input) j)
+    (around (spec_by fitted) (kept_by (Some fitted)) (frames_of fitted.channels input) j)
 
 -- all frames, those kept first
 abbrev pub all_frames : Fitted → List ℤ → List Frame
@@ -58,4 +58,4 @@ output-is fitted input frame next written j start parts step at begins here ther
     let past : pos (start + step.frames + 1) ≡ (pos (2 + step_of rate (phase_by fitted.pace) j) -ℤ ahead_by fitted.pace +ℤ pos 1) = omega (arith, ints, begins, at.frames) in
     is ∙ ap (λ p. blended rate.dst p frame next) (phase ∙ at.phase)
     ∙ ap (λ f. blended rate.dst (phase_of rate (phase_by fitted.pace) j) f next) (here ∙ ap (stream_of c all) under)
-    ∙ ap (λ f. blended rate.dst (phase_of rate (phase_by fitted.pace) j) (around (spec_by fitted) (kept_at fitted) (frames_of c input) j (pos 0)) f) (there ∙ ap (stream_of c all) past)
+    ∙ ap (λ f. blended rate.dst (phase_of rate (phase_by fitted.pace) j) (around (spec_by fitted) (kept_by (Some fitted)) (frames_of c input) j (pos 0)) f) (there ∙ ap (stream_of c all) past)

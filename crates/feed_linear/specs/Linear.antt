@@ -15,18 +15,15 @@ use Rattle.feed_linear.specs.declared.linear.Fitted.{Fitted}
 abbrev pub spec_by : Fitted → Spec
 spec_by fitted = specs.Linear (rate_by fitted.pace).src (rate_by fitted.pace).dst fitted.channels
 
--- what a fitted feeder keeps
-abbrev pub kept_at : Fitted → Kept
-kept_at fitted = record {
+-- what a feeder keeps by what it is fitted to
+abbrev pub kept_by : Option Fitted → Kept
+kept_by None = unfitted
+kept_by (Some fitted) = record {
   spec = Some (spec_by fitted);
   phase = phase_by fitted.pace;
   ahead = ahead_by fitted.pace;
   tail = frames_of fitted.channels (take (2 * fitted.channels) fitted.last);
 }
-
-abbrev pub kept_by : Option Fitted → Kept
-kept_by None = unfitted
-kept_by (Some fitted) = kept_at fitted
 
 -- what a feeder keeps
 abbrev pub kept_of : LinearFeeder → Kept
@@ -35,5 +32,5 @@ kept_of feeder = kept_by feeder.fitted
 -- the next frames that a fitted feeder gives
 abbrev pub next_frames : Fitted → List ℤ → ℕ → List Frame
 next_frames fitted input count =
-    next_outputs (on_line (rate_by fitted.pace).dst) (spec_by fitted) (kept_at fitted)
+    next_outputs (on_line (rate_by fitted.pace).dst) (spec_by fitted) (kept_by (Some fitted))
     (frames_of fitted.channels input) count

@@ -32,7 +32,7 @@ near-change src dst channels lookahead is near =
 pub need-near : (rate : Rate) (c : ℕ) → IsNear rate → need rate c ≤ 48 * c + 33
 need-near rate zero near = omega arith
 need-near rate (suc c) near =
-    let product = mul-le-mul_right {m = rate.src} {n = 48 * rate.dst} c near.src in
+    let product = mul-le-mul_right {m = rate.src} {n = 48 * rate.dst} c (omega (arith, near.src)) in
     let place : c * rate.src / rate.dst ≤ 48 * c = div-le_of_le-mul rate.dst {m = c * rate.src} {n = 48 * c} (omega (arith, product)) in
     omega (arith, place, near.lookahead)
 

@@ -1,5 +1,6 @@
 -- The counts of a chain: how many frames it has eaten and given, without whole periods, and what a block moves them by.
 use Rattle.std.specs.Prelude.{◌≡◌, ◌<◌, ◌≤◌, ℕ, ◌+◌, ◌-◌, ◌*◌, min, max, Bool, if◌then◌else◌}
+use Rattle.pcm_format.specs.declared.settings.TheConstants.{RATE_LEAST, RATE_MOST}
 use Rattle.pcm_rate.specs.declared.rate.Rate.{Rate}
 use Rattle.pcm_rate.specs.Rates.{IsRatio, IsPeriod, need, can, len}
 use Rattle.pcm_chain.specs.declared.counts.Counts.{Counts}
@@ -12,8 +13,8 @@ allowed_in_all ended rate n = if ended then len rate n else can rate n
 -- a rate within the limits of a plan
 pub record IsNear (rate : Rate) : Type 0 where
   pub ratio : IsRatio rate
-  pub src : rate.src ≤ 48 * rate.dst
-  pub dst : rate.dst ≤ 192000
+  pub src : rate.src * RATE_LEAST ≤ RATE_MOST * rate.dst
+  pub dst : rate.dst ≤ RATE_MOST
   pub lookahead : rate.lookahead ≤ 32
 
 -- no frame was eaten before the next output needs it, and no output was given past the end of what was eaten
@@ -24,7 +25,7 @@ pub record InTime (rate : Rate) (counts : Counts) : Type 0 where
 -- and so it is with counts that stay small, however long the stream
 pub record AreBounded (rate : Rate) (counts : Counts) : Type 0 where
   pub in_time : InTime rate counts
-  pub few : counts.given ≤ 192000
+  pub few : counts.given ≤ RATE_MOST
 
 -- how many frames went into the stages: those eaten, and silence behind them where outputs needed it
 abbrev pub fed_in_all : Rate → Counts → ℕ

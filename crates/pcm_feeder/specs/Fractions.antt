@@ -1,6 +1,7 @@
 -- A change of rate in lowest terms, and the bounds of what a converter counts.
 use Rattle.std.specs.Prelude.{◌≡◌, ◌≤◌, ◌<◌, ◌+◌, ◌*◌, ◌/◌, ℕ, ℤ, pos, neg_ℤ, ◌≤ℤ◌}
 use Rattle.std.specs.Int.{IsGcd}
+use Rattle.pcm_format.specs.declared.settings.TheConstants.{RATE_MOST}
 use Rattle.pcm_rate.specs.declared.rate.Rate.{Rate}
 use Rattle.pcm_feeder.specs.Limits.{IsRate}
 
@@ -18,8 +19,8 @@ pub record IsFraction (rate : Rate) (factor low whole part : ℕ) : Type 0 where
   pub lowest : IsGcd (whole * low + part) low 1
   pub below : part < low
   pub above : 0 < factor
-  pub low_most : low ≤ 192000
-  pub whole_most : whole ≤ 192000
+  pub low_most : low ≤ RATE_MOST
+  pub whole_most : whole ≤ RATE_MOST
 
 -- the bounds of the frames eaten past those under the next output, however long the stream
 pub record IsAhead (rate : Rate) (ahead : ℤ) : Type 0 where

@@ -1,5 +1,5 @@
 -- Each output is the frame under it.
-use Rattle.std.proofs.Common.{rules, ◌≡◌, ◌<◌, ◌≤◌, ◌+◌, ◌*◌, ◌/◌, ◌^◌, pos, ◌+ℤ◌, ◌-ℤ◌, ℕ, ℤ, ◌++◌, length, take, ap, ◌∙◌, arith}
+use Rattle.std.proofs.Common.{rules, ◌≡◌, ◌<◌, ◌≤◌, ◌+◌, ◌*◌, ◌/◌, ◌^◌, pos, ◌+ℤ◌, ◌-ℤ◌, ℕ, ℤ, ◌++◌, length, take, ap, ◌∙◌, arith, Some}
 use Rattle.std.proofs.Math.Nat.{div-le_self, mul-le-mul_right, div-mul-le_self}
 use Rattle.std.proofs.lemmas.Int.{ints}
 use Rattle.std.proofs.lemmas.List.{length-take-le}
@@ -11,7 +11,7 @@ use Rattle.pcm_feeder.specs.Turns.{step_of, around}
 use Rattle.pcm_feeder.proofs.Frames.{frames_of-channels}
 use Rattle.pcm_feeder.proofs.Streams.{stream-channels}
 use Rattle.pcm_feeder.proofs.Writing.{step-short, step-within, write-step}
-use Rattle.feed_hold.specs.Hold.{spec_by, kept_at}
+use Rattle.feed_hold.specs.Hold.{spec_by, kept_by}
 use Rattle.feed_hold.proofs.hold.Fitted.put_frames.Goals as goal
 
 pub overflow_add-start : goal.overflow_add-start
@@ -67,7 +67,7 @@ loop-j-preserved c =
     let place : (k : ℕ) → ℤ = λ k. pos (1 + step_of (rate_by fitted.pace) (phase_by fitted.pace) k) -ℤ ahead_by fitted.pace +ℤ pos 0 in
     let under : pos (c.place-start.result + c.loop-j.step.frames) ≡ place c.loop-j.j = omega (arith, ints, c.place-start.ensures, c.loop-j.invariant.step.frames) in
     record {
-      frames = write-step channels (λ k. around (spec_by fitted) (kept_at fitted) (frames_of channels input) k (pos 0)) c.loop-j.output c.copy_from_slice.new.self c.frame_among-frame.result.now c.args.output.now c.loop-j.j
+      frames = write-step channels (λ k. around (spec_by fitted) (kept_by (Some fitted)) (frames_of channels input) k (pos 0)) c.loop-j.output c.copy_from_slice.new.self c.frame_among-frame.result.now c.args.output.now c.loop-j.j
           (λ k. stream-channels channels all (place k) have)
           c.loop-j.invariant.frames c.copy_from_slice.ensures.after
           (c.frame_among-frame.ensures.value ∙ ap (stream_of channels all) under);

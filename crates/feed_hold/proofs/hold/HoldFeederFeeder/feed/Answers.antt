@@ -10,7 +10,7 @@ use Rattle.pcm_feeder.specs.Pace.{rate_by}
 use Rattle.pcm_feeder.specs.Streams.{frames_of, written}
 use Rattle.pcm_feeder.specs.Turns.{Turn, fed}
 use Rattle.pcm_feeder.proofs.Writing.{given-enough, moved-within, fed-by, turn_by}
-use Rattle.feed_hold.specs.Hold.{spec_by, kept_by, kept_at, kept_of}
+use Rattle.feed_hold.specs.Hold.{spec_by, kept_by, kept_of}
 use Rattle.feed_hold.proofs.Holds.{rate-is, moves}
 use Rattle.feed_hold.proofs.hold.HoldFeederFeeder.feed.Goals as goal
 
@@ -37,10 +37,10 @@ returns c =
     let eaten = c.eaten-eaten.result in
     let given = c.given-given.result in
     let input = c.args.input.now in
-    let before : kept_of c.args.self.now ≡ kept_at fitted = ap kept_by c.in-Some.is in
-    let turned : fed (kept_of c.args.self.now) c.args.tables.now c.args.gain input c.args.want ≡ turn_by (spec_by fitted) (kept_at fitted) c.args.tables.now c.args.gain (frames_of fitted.channels input) eaten given =
+    let before : kept_of c.args.self.now ≡ kept_by (Some fitted) = ap kept_by c.in-Some.is in
+    let turned : fed (kept_of c.args.self.now) c.args.tables.now c.args.gain input c.args.want ≡ turn_by (spec_by fitted) (kept_by (Some fitted)) c.args.tables.now c.args.gain (frames_of fitted.channels input) eaten given =
     ap (λ kept. fed kept c.args.tables.now c.args.gain input c.args.want) before
-    ∙ fed-by (spec_by fitted) (kept_at fitted) c.args.tables.now c.args.gain input (rate_by fitted.pace) c.args.want eaten given refl (rate-is fitted) c.eaten-eaten.ensures.value c.given-given.ensures.value in
+    ∙ fed-by (spec_by fitted) (kept_by (Some fitted)) c.args.tables.now c.args.gain input (rate_by fitted.pace) c.args.want eaten given refl (rate-is fitted) c.eaten-eaten.ensures.value c.given-given.ensures.value in
     let eaten_of : Turn → ℕ = λ turn. turn.eaten in
     let given_of : Turn → ℕ = λ turn. turn.given in
     let frames_in : Turn → List ℤ = λ turn. written turn.frames c.args.output.now in
