@@ -2,5 +2,4 @@ pub mod Formats
 pub mod Layouts
 pub mod Samples
 pub mod Frames
-pub mod Replies
 pub mod Pools

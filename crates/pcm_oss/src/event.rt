@@ -1,6 +1,7 @@
 //! The events of a script, each an indivisible step.
 
-use crate::Settings;
+use crate::Request;
+use pcm_format::Settings;
 
 /// Which way sound goes through a descriptor.
 #[derive(Clone, Copy, Debug, PartialEq, Eq)]
@@ -23,6 +24,11 @@ pub enum Event {
         fd: u8,
         at: u32,
         len: u32,
+    },
+    /// A client asks something of its channel.
+    Ioctl {
+        fd: u8,
+        request: Request,
     },
     /// A client closes a descriptor.
     Close {

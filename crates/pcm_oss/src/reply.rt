@@ -10,8 +10,10 @@ use std::marker::Model;
 pub enum Errno {
     /// The ring has no room now.
     Again,
-    /// No slot is free, or the channel drains.
+    /// No slot is free, or the channel's state doesn't allow it.
     Busy,
+    /// The request is of the other way, or its argument is outside its set.
+    Inval,
     /// The descriptor isn't open.
     BadF,
     /// The descriptor is open already.
@@ -23,6 +25,25 @@ pub enum Errno {
 pub enum Answer {
     Done,
     Number(u32),
+    /// The room of a ring: whole fragments, fragments in all, and bytes.
+    Space {
+        fragments: u32,
+        fragstotal: u32,
+        fragsize: u32,
+        bytes: u32,
+    },
+    /// A position: bytes since the opening or its last halt, fragments that were passed since it was told last, and the
+    /// place in the ring.
+    Pointer {
+        bytes: u64,
+        blocks: u64,
+        ptr: u32,
+    },
+    /// Shortages of playing and of recording.
+    Errors {
+        underruns: u32,
+        overruns: u32,
+    },
 }
 
 /// How many bytes a reply has at most, beside its answer.
@@ -38,8 +59,8 @@ pub struct ReplyBuf {
 
 impl Model for ReplyBuf {
     ghost use Rattle.std.specs.Prelude.{◌≡◌, ◌≤◌, length, take};
-    ghost use Rattle.pcm_format.specs.Replies.{Reply};
-    ghost use Rattle.pcm_format.specs.declared.reply.TheConstants.{REPLY_BYTES};
+    ghost use Rattle.pcm_oss.specs.Replies.{Reply};
+    ghost use Rattle.pcm_oss.specs.declared.reply.TheConstants.{REPLY_BYTES};
 
     ghost Value = { Reply };
 
@@ -49,7 +70,7 @@ impl Model for ReplyBuf {
 }
 
 impl ReplyBuf {
-    ghost use Rattle.pcm_format.specs.Replies.{bytes_due};
+    ghost use Rattle.pcm_oss.specs.Replies.{bytes_due};
 
     /// Begins with the reply of an event that has no more to say. All memory of the buffer is taken here.
     pub fn new(alloc: Global) -> Result<ReplyBuf, AllocError>

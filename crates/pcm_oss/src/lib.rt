@@ -1,0 +1,15 @@
+//! The words of the Open Sound System: what clients ask by events and requests, and what these are answered.
+//! Fragments and volumes are told as the numbers that requests carry.
+#![tactic(auto)]
+
+mod event;
+mod fragments;
+mod reply;
+mod request;
+mod volume;
+
+pub use event::{Event, Way};
+pub use fragments::{FRAGMENTS, Fragments, RING_BYTES};
+pub use reply::{Answer, Errno, REPLY_BYTES, ReplyBuf};
+pub use request::Request;
+pub use volume::{VOLUME, gain_of, is_volume};
