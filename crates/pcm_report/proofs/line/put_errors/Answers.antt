@@ -1,0 +1,6 @@
+use Rattle.pcm_report.proofs.Puts.{put-next}
+use Rattle.pcm_report.proofs.line.put_errors.Goals as goal
+
+pub returns-clause-put : goal.returns-clause-put
+returns-clause-put c =
+    rw (← c.from.ensures, ← c.from-2.ensures) (put-next (put-next c.put_text-at.ensures.put c.put_field-at.ensures.put) c.put_field.ensures.put)

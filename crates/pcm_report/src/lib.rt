@@ -1,0 +1,8 @@
+//! The lines that tell what events were answered.
+//! A line is written into bytes that the caller has, and takes no memory.
+#![tactic(auto)]
+
+mod line;
+mod texts;
+
+pub use line::{LINE_BYTES, write_line};

@@ -1,0 +1,121 @@
+//! The line of one reply.
+
+ghost use Rattle.std.specs.Prelude.{◌≡◌, ◌+◌, ◌≤◌, length, take, drop};
+ghost use Rattle.pcm_oss.specs.declared.reply.Answer.TheVariants.{Space, Pointer, Errors};
+ghost use Rattle.pcm_report.specs.Lines.{answer_text, errno_word, reply_line, result_text};
+ghost use Rattle.pcm_report.specs.Texts.{IsPut};
+
+use crate::texts::{put_field, put_number, put_text};
+use pcm_oss::{Answer, Errno, ReplyBuf};
+
+/// How many bytes a line has at most.
+pub const LINE_BYTES: usize = 8320;
+
+// How many of them are the text of the reply at most.
+const TEXT_BYTES: usize = 8256;
+
+/// Writes the line of the event of a number to the front of `out`. Answers how many bytes it has.
+pub fn write_line(number: u32, reply: &ReplyBuf, out: &mut [u8]) -> usize
+    requires room { LINE_BYTES ≤ length out.old }
+    ensures line { take result out.new ≡ reply_line number reply.now }
+    ensures rest { drop result out.new ≡ drop result out.old }
+    ensures within { result ≤ LINE_BYTES }
+{
+    let at = put_number(out, 0, u64::from(number));
+    let at = put_text(out, at, ": ");
+    let at = put_result(out, at, reply.result());
+    put_text(out, at, "\n")
+}
+
+fn put_result(out: &mut [u8], at: usize, reply: Result<Answer, Errno>) -> usize
+    requires room { at + TEXT_BYTES ≤ length out.old }
+    ensures put { IsPut (result_text reply) at result out.old out.new }
+    ensures within { result ≤ at + TEXT_BYTES }
+{
+    match reply {
+        Ok(answer) => put_answer(out, at, answer),
+        Err(errno) => {
+            let at = put_text(out, at, "refused ");
+            put_text(out, at, errno_word(errno))
+        }
+    }
+}
+
+// The word of a refusal.
+fn errno_word(errno: Errno) -> &'static str
+    ensures word { result.now ≡ errno_word errno }
+    ensures short { length result.now ≤ 5 }
+{
+    match errno {
+        Errno::Again => "again",
+        Errno::Busy => "busy",
+        Errno::Inval => "inval",
+        Errno::BadF => "badf",
+        Errno::Exist => "exist",
+    }
+}
+
+fn put_answer(out: &mut [u8], at: usize, answer: Answer) -> usize
+    requires room { at + TEXT_BYTES ≤ length out.old }
+    ensures put { IsPut (answer_text answer) at result out.old out.new }
+    ensures within { result ≤ at + TEXT_BYTES }
+{
+    match answer {
+        Answer::Done => put_text(out, at, "ok"),
+        Answer::Number(number) => {
+            let at = put_text(out, at, "ok ");
+            put_number(out, at, u64::from(number))
+        }
+        Answer::Space {
+            fragments,
+            fragstotal,
+            fragsize,
+            bytes,
+        } => put_space(out, at, fragments, fragstotal, fragsize, bytes),
+        Answer::Pointer { bytes, blocks, ptr } => put_pointer(out, at, bytes, blocks, ptr),
+        Answer::Errors {
+            underruns,
+            overruns,
+        } => put_errors(out, at, underruns, overruns),
+    }
+}
+
+fn put_space(
+    out: &mut [u8],
+    at: usize,
+    fragments: u32,
+    fragstotal: u32,
+    fragsize: u32,
+    bytes: u32,
+) -> usize
+    requires room { at + TEXT_BYTES ≤ length out.old }
+    ensures put { IsPut (answer_text (Space fragments fragstotal fragsize bytes)) at result out.old out.new }
+    ensures within { result ≤ at + TEXT_BYTES }
+{
+    let at = put_text(out, at, "ok");
+    let at = put_field(out, at, "fragments", u64::from(fragments));
+    let at = put_field(out, at, "fragstotal", u64::from(fragstotal));
+    let at = put_field(out, at, "fragsize", u64::from(fragsize));
+    put_field(out, at, "bytes", u64::from(bytes))
+}
+
+fn put_pointer(out: &mut [u8], at: usize, bytes: u64, blocks: u64, ptr: u32) -> usize
+    requires room { at + TEXT_BYTES ≤ length out.old }
+    ensures put { IsPut (answer_text (Pointer bytes blocks ptr)) at result out.old out.new }
+    ensures within { result ≤ at + TEXT_BYTES }
+{
+    let at = put_text(out, at, "ok");
+    let at = put_field(out, at, "bytes", bytes);
+    let at = put_field(out, at, "blocks", blocks);
+    put_field(out, at, "ptr", u64::from(ptr))
+}
+
+fn put_errors(out: &mut [u8], at: usize, underruns: u32, overruns: u32) -> usize
+    requires room { at + TEXT_BYTES ≤ length out.old }
+    ensures put { IsPut (answer_text (Errors underruns overruns)) at result out.old out.new }
+    ensures within { result ≤ at + TEXT_BYTES }
+{
+    let at = put_text(out, at, "ok");
+    let at = put_field(out, at, "underruns", u64::from(underruns));
+    put_field(out, at, "overruns", u64::from(overruns))
+}
