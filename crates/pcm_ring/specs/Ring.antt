@@ -1,14 +1,15 @@
--- A ring as its callers know it: bytes in a row, and a size.
+-- A ring as its callers know it: bytes in a row, a size, and the room that was taken.
 use Rattle.std.specs.Prelude.{ℕ, ◌-◌, List, [], length}
 
--- the bytes that wait, the oldest first, and how many may wait
+-- the bytes that wait, the oldest first, how many may wait, and for how many there is room
 pub record Ring : Type 0 where
   pub bytes : List ℕ
   pub size : ℕ
+  pub max : ℕ
 
--- a ring of a size in which nothing waits
+-- a ring with so much room, all of which may wait, in which nothing does
 abbrev pub empty_ring : ℕ → Ring
-empty_ring n = record { bytes = []; size = n }
+empty_ring n = record { bytes = []; size = n; max = n }
 
 -- how many more bytes fit
 abbrev pub free_bytes : Ring → ℕ

@@ -6,7 +6,7 @@ use circular_buffer::HeapCircularBuffer;
 use std::alloc::{AllocError, Global};
 use std::marker::Model;
 
-/// A queue of at most `size` bytes, the oldest first.
+/// A queue of at most `size` bytes, the oldest first. It has room for `max`.
 #[derive(Drop)]
 pub struct ByteRing {
     buffer: HeapCircularBuffer<u8>,
@@ -19,7 +19,7 @@ impl Model for ByteRing {
 
     ghost Value = { Ring };
 
-    ghost view = { λ r. record { bytes = r.buffer.items; size = r.size } };
+    ghost view = { λ r. record { bytes = r.buffer.items; size = r.size; max = r.buffer.capacity } };
 
     ghost invariant = { λ r. (length r.buffer.items ≤ r.size) × (r.size ≤ r.buffer.capacity) };
 }
@@ -31,6 +31,15 @@ impl ByteRing {
     {
         let buffer = HeapCircularBuffer::with_capacity(alloc, max)?;
         Ok(ByteRing { buffer, size: max })
+    }
+
+    /// Makes an empty ring hold at most `n` bytes, of those for which there is room.
+    pub fn set_size(&mut self, n: usize)
+        requires empty { self.old.bytes ≡ [] }
+        requires room { n ≤ self.old.max }
+        ensures { self.new ≡ record self.old { size = n } }
+    {
+        self.size = n;
     }
 
     /// How many bytes wait.

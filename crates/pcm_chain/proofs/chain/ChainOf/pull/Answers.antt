@@ -46,6 +46,7 @@ loop-asked-init g c =
       fitted = c.requires.fitted;
       bytes = ap (λ n. drop n bytes) none;
       size = refl;
+      room = refl;
       pulls = λ x quiet before stands past. nothing-pulled g.B.Feeder.kept c.args.tables.now c.args.gain c.args.ended (waiting_frames plan c.args.format bytes) c.args.self.now x quiet before c.args.out.now stands past;
     }
 
@@ -83,6 +84,7 @@ loop-asked-preserved g c =
           ∙ ap (λ (p : PlanSeen). drop (more.eaten * (channels_of p.source * bytes_of c.args.format)) c.loop-asked.ring.bytes) h.plan
           ∙ ap (drop (more.eaten * size)) h.bytes ∙ drop-drop (more.eaten * size) (first.eaten * size) bytes ∙ ap (λ n. drop n bytes) place;
       size = ap (λ (ring : Ring). ring.size) c.pull_block-more.ensures.ring ∙ h.size;
+      room = ap (λ (ring : Ring). ring.max) c.pull_block-more.ensures.ring ∙ h.room;
       pulls = λ x quiet before stands past.
           let at : c.loop-asked.asked * c.channels-channels.result ≡ c.loop-asked.asked * channels_of plan.target = ap (λ n. c.loop-asked.asked * n) (c.channels-channels.ensures ∙ ap channels_of c.target.ensures) in
           let Waits : List Frame → Type 0 = λ list. (y : List Frame) (silent given : ℕ) → ChainStands kept c.args.tables.now c.loop-asked.self y silent given → IsPastTheEnd c.args.ended silent list

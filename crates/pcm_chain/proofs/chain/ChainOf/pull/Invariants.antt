@@ -19,6 +19,7 @@ invariant-loop-asked g l = record {
   fitted : AreFitted g.B.Feeder.kept l.self;
   bytes : l.ring.bytes ≡ drop (l.pulled.eaten * (channels_of (plan_in l.fn.self).source * bytes_of l.format)) l.fn.ring.bytes;
   size : l.ring.size ≡ l.fn.ring.size;
+  room : l.ring.max ≡ l.fn.ring.max;
   pulls : (x : List Frame) (quiet before : ℕ) → ChainStands g.B.Feeder.kept l.tables l.fn.self x quiet before
       → IsPastTheEnd l.ended quiet (waiting_frames (plan_in l.fn.self) l.format l.fn.ring.bytes)
       → Pulls g.B.Feeder.kept l.tables l.gain l.ended l.asked (waiting_frames (plan_in l.fn.self) l.format l.fn.ring.bytes) l.fn.self l.self x before l.pulled l.fn.out l.out;
