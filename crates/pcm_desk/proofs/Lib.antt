@@ -1,3 +1,5 @@
 pub mod Safe
+pub mod Asking
+pub mod Leaves
 pub mod Props
 pub mod Ratios

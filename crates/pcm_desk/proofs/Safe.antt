@@ -5,17 +5,18 @@ use Rattle.std.specs.Prelude.{nat_lt, nat_le, ◌&&◌}
 use Rattle.std.proofs.lemmas.Bool.{cases_lt}
 use Rattle.std.proofs.lemmas.Bool.Decides.{nat_tests}
 use Rattle.pcm_format.specs.declared.settings.Settings.{Settings}
-use Rattle.pcm_format.specs.declared.reply.Answer.TheVariants.{Number}
-use Rattle.pcm_format.specs.declared.reply.Errno.TheVariants.{Again, Busy}
+use Rattle.pcm_oss.specs.declared.reply.Answer.TheVariants.{Number}
+use Rattle.pcm_oss.specs.declared.reply.Errno.TheVariants.{Again, Busy}
 use Rattle.pcm_format.specs.Frames.{frame_bytes, whole_frames}
 use Rattle.pcm_format.proofs.Whole.{whole_frames-mono}
+use Rattle.pcm_oss.proofs.Limits.{usual-fragments}
 use Rattle.pcm_rate.specs.declared.rate.Rate.{Rate}
 use Rattle.pcm_rate.specs.Rates.{IsRatio, need, can, len}
 use Rattle.pcm_rate.proofs.Counts.{below_div_up, can-greatest, can-le-len, need_grows, len_above, need-can, need-past}
 use Rattle.pcm_desk.specs.declared.book.Book.{Book}
 use Rattle.pcm_desk.specs.declared.book.State.{State}
 use Rattle.pcm_desk.specs.declared.book.State.TheVariants.{Free, Setup, Primed, Running, Draining}
-use Rattle.pcm_desk.specs.Books.{BookTurn, is_draining, is_started, allowed_in, frames_written, fill_of, free_of, ring_bytes, giving, gives, begun, emptied, accepting, started_in, write_turn, closed_in, close_turn, refilled}
+use Rattle.pcm_desk.specs.Books.{BookTurn, is_draining, is_started, allowed_in, frames_written, fill_of, fragment_bytes, free_of, played_of, ring_bytes, giving, gives, begun, emptied, finished, accepting, started_in, write_turn, drained_in, closed_in, close_turn, refilled}
 use Rattle.pcm_desk.specs.Safe.{EatsInTime, IsRunning, IsDraining, IsUnstarted, IsInOrder, BookIsSafe}
 
 -- ---- counts alone
@@ -25,7 +26,7 @@ pub unstarted : IsUnstarted 0 0
 unstarted = record { eaten_none = refl; given_none = refl }
 
 -- with nothing eaten and given a run may start
-unstarted_running : (rate : Rate) (frames eaten given : ℕ) → IsUnstarted eaten given → IsRunning rate frames eaten given
+pub unstarted_running : (rate : Rate) (frames eaten given : ℕ) → IsUnstarted eaten given → IsRunning rate frames eaten given
 unstarted_running rate frames eaten given u =
     let none = u.eaten_none in
     let start = u.given_none in
@@ -125,6 +126,18 @@ draining-gives rate frames eaten given n r o left =
       | inr all ↦ absurd (left (omega arith))
     ]
 
+-- a position that was reached stays so while more is eaten
+played_grows : (told done z a b : ℕ) → told ≤ done + a * z → a ≤ b → told ≤ done + b * z
+played_grows told done z a b t h = let more = mul-le-mul_right z h in omega arith
+
+-- and once the run is over, of which all was eaten
+played_over : (told done z a b : ℕ) → told ≤ done + a * z → a ≤ b → told ≤ done + b * z + 0 * z
+played_over told done z a b t h = let more = mul-le-mul_right z h in omega arith
+
+-- nothing was eaten
+played_none : (told done z a : ℕ) → told ≤ done + a * z → a ≡ 0 → told ≤ done + 0 * z
+played_none told done z a t none = rw none at t
+
 -- ---- a book after each event
 
 -- a book with more bytes and a state
@@ -135,34 +148,38 @@ grown accepted state old = record old { state = state; written = old.written + a
 grown_fill : (accepted : ℕ) (state : State) (old : Book) → fill_of old ≤ ring_bytes old → accepted ≤ free_of old → fill_of (grown accepted state old) ≤ ring_bytes old
 grown_fill accepted state old fill room = omega arith
 
+-- whether a primed book with more bytes starts
+abbrev pub full_at : ℕ → Book → Bool
+full_at accepted old = old.trigger && nat_le (fragment_bytes old) (fill_of (grown accepted Primed old))
+
 grown_frames : (accepted : ℕ) (state : State) (old : Book) → frames_written old ≤ frames_written (grown accepted state old)
 grown_frames accepted state old = whole_frames-mono old.settings old.written (old.written + accepted) (omega arith)
 
-safe_primed : (b : Bool) (rate : Rate) (accepted : ℕ) (old : Book) → IsUnstarted old.eaten old.given → 0 < old.written + accepted → fill_of old ≤ ring_bytes old → accepted ≤ free_of old
-    → BookIsSafe rate (cond b (grown accepted Running old) (grown accepted Primed old))
-safe_primed true rate accepted old u written fill room =
-    record { order = unstarted_running rate (frames_written (grown accepted Running old)) old.eaten old.given u; fill = grown_fill accepted Running old fill room }
-safe_primed false rate accepted old u written fill room = record { order = (written, u); fill = grown_fill accepted Primed old fill room }
+grown_safe : (rate : Rate) (accepted : ℕ) (state : State) (old : Book) → BookIsSafe rate old → accepted ≤ free_of old → IsInOrder rate state (grown accepted state old) → BookIsSafe rate (grown accepted state old)
+grown_safe rate accepted state old s room order = record { order = order; fill = grown_fill accepted state old s.fill room; fragments = s.fragments; volume = s.volume; told = s.told }
 
-safe_setup : (b : Bool) (rate : Rate) (accepted : ℕ) (old : Book) → nat_lt 0 (old.written + accepted) ≡ b → IsUnstarted old.eaten old.given → fill_of old ≤ ring_bytes old → accepted ≤ free_of old
+safe_primed : (b : Bool) (rate : Rate) (accepted : ℕ) (old : Book) → IsUnstarted old.eaten old.given → 0 < old.written + accepted → BookIsSafe rate old → accepted ≤ free_of old
+    → BookIsSafe rate (cond b (grown accepted Running old) (grown accepted Primed old))
+safe_primed true rate accepted old u written s room =
+    grown_safe rate accepted Running old s room (unstarted_running rate (frames_written (grown accepted Running old)) old.eaten old.given u)
+safe_primed false rate accepted old u written s room = grown_safe rate accepted Primed old s room (written, u)
+
+safe_setup : (b : Bool) (rate : Rate) (accepted : ℕ) (old : Book) → nat_lt 0 (old.written + accepted) ≡ b → IsUnstarted old.eaten old.given → BookIsSafe rate old → accepted ≤ free_of old
     → BookIsSafe rate (let primed : Book = cond b (grown accepted Primed old) (grown accepted Setup old) in started_in primed.state primed)
-safe_setup true rate accepted old e u fill room = safe_primed (nat_le 4096 (fill_of (grown accepted Primed old))) rate accepted old u (grind (arith, nat_tests)) fill room
-safe_setup false rate accepted old e u fill room = record { order = (grind (arith, nat_tests), u); fill = grown_fill accepted Setup old fill room }
+safe_setup true rate accepted old e u s room = safe_primed (full_at accepted old) rate accepted old u (grind (arith, nat_tests)) s room
+safe_setup false rate accepted old e u s room = grown_safe rate accepted Setup old s room (grind (arith, nat_tests), u)
 
 safe_accepting_at : (state : State) (rate : Rate) (accepted : ℕ) (book : Book) → IsRatio rate → is_draining state ≡ false → accepted ≤ free_of (record book { state = state })
     → BookIsSafe rate (record book { state = state }) → BookIsSafe rate (accepting accepted (record book { state = state }))
-safe_accepting_at Free rate accepted book r more room s = record { order = s.order; fill = grown_fill accepted Free (record book { state = Free }) s.fill room }
-safe_accepting_at Setup rate accepted book r more room s = let o = s.order in safe_setup (nat_lt 0 (book.written + accepted)) rate accepted (record book { state = Setup }) refl o.1 s.fill room
+safe_accepting_at Free rate accepted book r more room s = grown_safe rate accepted Free (record book { state = Free }) s room s.order
+safe_accepting_at Setup rate accepted book r more room s = let o = s.order in safe_setup (nat_lt 0 (book.written + accepted)) rate accepted (record book { state = Setup }) refl o.1 s room
 safe_accepting_at Primed rate accepted book r more room s =
     let o = s.order in
     let above = o.0 in
-    safe_primed (nat_le 4096 (fill_of (grown accepted Primed (record book { state = Primed })))) rate accepted (record book { state = Primed }) o.1 (omega arith) s.fill room
+    safe_primed (full_at accepted (record book { state = Primed })) rate accepted (record book { state = Primed }) o.1 (omega arith) s room
 safe_accepting_at Running rate accepted book r more room s =
     let old : Book = record book { state = Running } in
-    record {
-      order = running-more rate (frames_written old) (frames_written (grown accepted Running old)) book.eaten book.given r (grown_frames accepted Running old) s.order;
-      fill = grown_fill accepted Running old s.fill room;
-    }
+    grown_safe rate accepted Running old s room (running-more rate (frames_written old) (frames_written (grown accepted Running old)) book.eaten book.given r (grown_frames accepted Running old) s.order)
 safe_accepting_at (Draining closed) rate accepted book r more room s = cc
 
 -- bytes that fit, while more may come
@@ -189,51 +206,100 @@ safe-write rate length book r s = at (is_draining book.state) refl
 
 -- an opening
 pub safe-begun : (rate : Rate) (settings : Settings) → BookIsSafe rate (begun settings)
-safe-begun rate settings = record { order = (refl, unstarted); fill = omega arith }
+safe-begun rate settings = record { order = (refl, unstarted); fill = omega arith; fragments = usual-fragments; volume = refl; told = omega arith }
 
-safe_emptied : (rate : Rate) (state : State) (book : Book) → IsInOrder rate state (emptied state book) → BookIsSafe rate (emptied state book)
-safe_emptied rate state book order = record { order = order; fill = omega arith }
+-- nothing is left of a run that had nothing eaten
+pub safe-emptied : (rate : Rate) (state : State) (book : Book) → BookIsSafe rate book → book.eaten ≡ 0 → IsInOrder rate state (emptied state book) → BookIsSafe rate (emptied state book)
+safe-emptied rate state book s none order =
+    record { order = order; fill = omega arith; fragments = s.fragments; volume = s.volume; told = played_none book.told book.done (frame_bytes book.settings) book.eaten s.told none }
 
-safe_close_running : (b : Bool) (rate : Rate) (book : Book) → IsRatio rate → eqb book.given (len rate (frames_written book)) ≡ b → BookIsSafe rate (record book { state = Running })
-    → BookIsSafe rate (let drained : Book = cond b (emptied Setup (record book { state = Draining false })) (record book { state = Draining false }) in closed_in drained.state drained)
-safe_close_running true rate book r e s = safe_emptied rate Free book unstarted
-safe_close_running false rate book r e s = record { order = running-drains rate (frames_written book) book.eaten book.given r (λ all. grind (arith, nat_tests)) s.order; fill = s.fill }
+-- a run is over
+safe_finished : (rate : Rate) (state : State) (book : Book) → BookIsSafe rate book → book.eaten ≤ frames_written book → IsInOrder rate state (finished state book) → BookIsSafe rate (finished state book)
+safe_finished rate state book s within order =
+    record { order = order; fill = omega arith; fragments = s.fragments; volume = s.volume; told = played_over book.told book.done (frame_bytes book.settings) book.eaten (frames_written book) s.told within }
 
-safe_close_primed : (b : Bool) (rate : Rate) (book : Book) → IsRatio rate → nat_lt 0 (frames_written book) ≡ b → BookIsSafe rate (record book { state = Primed })
-    → BookIsSafe rate (let drained : Book = cond b (record book { state = Draining false }) (emptied Setup book) in closed_in drained.state drained)
-safe_close_primed true rate book r e s = record { order = unstarted_draining rate (frames_written book) book.eaten book.given r (grind (arith, nat_tests)) (let o = s.order in o.1); fill = s.fill }
-safe_close_primed false rate book r e s = safe_emptied rate Free book unstarted
+-- the same counts in another state
+pub safe-state : (rate : Rate) (state : State) (book : Book) → BookIsSafe rate book → IsInOrder rate state (record book { state = state }) → BookIsSafe rate (record book { state = state })
+safe-state rate state book s order = record { order = order; fill = s.fill; fragments = s.fragments; volume = s.volume; told = s.told }
 
-safe_close_at : (state : State) (rate : Rate) (book : Book) → IsRatio rate → BookIsSafe rate (record book { state = state }) → BookIsSafe rate (close_turn rate (record book { state = state }))
-safe_close_at Free rate book r s = s
-safe_close_at Setup rate book r s = let o = s.order in record { order = o.1; fill = s.fill }
-safe_close_at Primed rate book r s = safe_close_primed (nat_lt 0 (frames_written (record book { state = Primed }))) rate book r refl s
-safe_close_at Running rate book r s = safe_close_running (eqb book.given (len rate (frames_written book))) rate book r refl s
-safe_close_at (Draining closed) rate book r s = record { order = s.order; fill = s.fill }
+drain_running : (b : Bool) (rate : Rate) (book : Book) → IsRatio rate → eqb book.given (len rate (frames_written book)) ≡ b → BookIsSafe rate (record book { state = Running })
+    → BookIsSafe rate (cond b (finished Setup (record book { state = Draining false })) (record book { state = Draining false }))
+drain_running true rate book r e s = let o = s.order in safe_finished rate Setup (record book { state = Running }) s o.eats.written (refl, unstarted)
+drain_running false rate book r e s =
+    safe-state rate (Draining false) (record book { state = Running }) s (running-drains rate (frames_written book) book.eaten book.given r (λ all. grind (arith, nat_tests)) s.order)
+
+drain_primed : (b : Bool) (rate : Rate) (book : Book) → IsRatio rate → nat_lt 0 (frames_written book) ≡ b → BookIsSafe rate (record book { state = Primed })
+    → BookIsSafe rate (cond b (record book { state = Draining false }) (emptied Setup book))
+drain_primed true rate book r e s =
+    safe-state rate (Draining false) (record book { state = Primed }) s (unstarted_draining rate (frames_written book) book.eaten book.given r (grind (arith, nat_tests)) (let o = s.order in o.1))
+drain_primed false rate book r e s = let o = s.order in let u = o.1 in safe-emptied rate Setup (record book { state = Primed }) s u.eaten_none (refl, unstarted)
+
+safe_drained_at : (state : State) (rate : Rate) (book : Book) → IsRatio rate → BookIsSafe rate (record book { state = state }) → BookIsSafe rate (drained_in rate state (record book { state = state }))
+safe_drained_at Free rate book r s = s
+safe_drained_at Setup rate book r s = s
+safe_drained_at Primed rate book r s = drain_primed (nat_lt 0 (frames_written (record book { state = Primed }))) rate book r refl s
+safe_drained_at Running rate book r s = drain_running (eqb book.given (len rate (frames_written book))) rate book r refl s
+safe_drained_at (Draining closed) rate book r s = s
+
+-- no more comes
+pub safe-drained : (rate : Rate) (book : Book) → IsRatio rate → BookIsSafe rate book → BookIsSafe rate (drained_in rate book.state book)
+safe-drained rate book r s = safe_drained_at book.state rate book r s
+
+safe_closed_at : (state : State) (rate : Rate) (book : Book) → BookIsSafe rate (record book { state = state }) → BookIsSafe rate (closed_in state (record book { state = state }))
+safe_closed_at Free rate book s = s
+safe_closed_at Setup rate book s = let o = s.order in safe-state rate Free (record book { state = Setup }) s o.1
+safe_closed_at Primed rate book s = s
+safe_closed_at Running rate book s = s
+safe_closed_at (Draining closed) rate book s = safe-state rate (Draining true) (record book { state = Draining closed }) s s.order
 
 -- a close
 pub safe-close : (rate : Rate) (book : Book) → IsRatio rate → BookIsSafe rate book → BookIsSafe rate (close_turn rate book)
-safe-close rate book r s = safe_close_at book.state rate book r s
+safe-close rate book r s =
+    let drained : Book = drained_in rate book.state book in
+    safe_closed_at drained.state rate drained (safe-drained rate book r s)
 
 gives_fill : (rate : Rate) (n : ℕ) (book : Book) → fill_of book ≤ ring_bytes book → fill_of (gives rate n book) ≤ ring_bytes book
 gives_fill rate n book fill =
     let more : book.eaten * frame_bytes book.settings ≤ max book.eaten (min (frames_written book) (need rate (book.given + n))) * frame_bytes book.settings = mul-le-mul_right (frame_bytes book.settings) (omega arith) in
     omega arith
 
+-- more is eaten
+gives_played : (rate : Rate) (n : ℕ) (book : Book) → book.told ≤ played_of book → book.told ≤ played_of (gives rate n book)
+gives_played rate n book t = played_grows book.told book.done (frame_bytes book.settings) book.eaten (max book.eaten (min (frames_written book) (need rate (book.given + n)))) t (omega arith)
+
+gives_safe : (rate : Rate) (n : ℕ) (book : Book) → BookIsSafe rate book → IsInOrder rate book.state (gives rate n book) → BookIsSafe rate (gives rate n book)
+gives_safe rate n book s order = record { order = order; fill = gives_fill rate n book s.fill; fragments = s.fragments; volume = s.volume; told = gives_played rate n book s.told }
+
+-- what is eaten for the next frames was written
+gives_written : (rate : Rate) (n : ℕ) (book : Book) → book.eaten ≤ frames_written book → (gives rate n book).eaten ≤ frames_written book
+gives_written rate n book h = omega arith
+
+settle_safe : (rate : Rate) (n : ℕ) (state before : State) (book : Book) → BookIsSafe rate (record book { state = before }) → book.eaten ≤ frames_written book → IsInOrder rate state (finished state (gives rate n book))
+    → BookIsSafe rate (finished state (gives rate n book))
+settle_safe rate n state before book s within order =
+    let given : Book = gives rate n book in
+    record {
+      order = order;
+      fill = omega arith;
+      fragments = s.fragments;
+      volume = s.volume;
+      told = played_over book.told book.done (frame_bytes book.settings) given.eaten (frames_written book) (gives_played rate n book s.told) (gives_written rate n book within);
+    }
+
 safe_settled : (b closed : Bool) (rate : Rate) (n : ℕ) (book : Book) → IsRatio rate → eqb (book.given + giving rate n (record book { state = Draining closed })) (len rate (frames_written book)) ≡ b → BookIsSafe rate (record book { state = Draining closed })
-    → BookIsSafe rate (let given : Book = gives rate n (record book { state = Draining closed }) in cond b (emptied (cond closed Free Setup) given) given)
-safe_settled true true rate n book r e s = safe_emptied rate Free (gives rate n (record book { state = Draining true })) unstarted
-safe_settled true false rate n book r e s = safe_emptied rate Setup (gives rate n (record book { state = Draining false })) (refl, unstarted)
-safe_settled false closed rate n book r e s = record {
-  order = draining-gives rate (frames_written book) book.eaten book.given n r s.order (λ all. grind (arith, nat_tests));
-  fill = gives_fill rate n (record book { state = Draining closed }) s.fill;
-}
+    → BookIsSafe rate (let given : Book = gives rate n (record book { state = Draining closed }) in cond b (finished (cond closed Free Setup) given) given)
+safe_settled true true rate n book r e s = let o = s.order in settle_safe rate n Free (Draining true) (record book { state = Draining true }) s o.eats.written unstarted
+safe_settled true false rate n book r e s = let o = s.order in settle_safe rate n Setup (Draining false) (record book { state = Draining false }) s o.eats.written (refl, unstarted)
+safe_settled false closed rate n book r e s =
+    gives_safe rate n (record book { state = Draining closed }) s (draining-gives rate (frames_written book) book.eaten book.given n r s.order (λ all. grind (arith, nat_tests)))
 
 safe_refilled_at : (state : State) (rate : Rate) (n : ℕ) (book : Book) → IsRatio rate → BookIsSafe rate (record book { state = state }) → BookIsSafe rate (refilled rate n (record book { state = state }))
 safe_refilled_at Free rate n book r s = s
 safe_refilled_at Setup rate n book r s = s
 safe_refilled_at Primed rate n book r s = s
-safe_refilled_at Running rate n book r s = record { order = running-gives rate (frames_written book) book.eaten book.given n r s.order; fill = gives_fill rate n (record book { state = Running }) s.fill }
+safe_refilled_at Running rate n book r s =
+    let g = gives_safe rate n (record book { state = Running }) s (running-gives rate (frames_written book) book.eaten book.given n r s.order) in
+    record { order = g.order; fill = g.fill; fragments = g.fragments; volume = g.volume; told = g.told }
 safe_refilled_at (Draining closed) rate n book r s =
     safe_settled (eqb (book.given + giving rate n (record book { state = Draining closed })) (len rate (frames_written book))) closed rate n book r refl s
 
@@ -296,27 +362,7 @@ allowed-started (Draining closed) rate book h = refl
 
 -- ---- the settings of a book
 
-settings_close_primed : (b : Bool) (book : Book) → (let drained : Book = cond b (record book { state = Draining false }) (emptied Setup book) in closed_in drained.state drained).settings ≡ book.settings
-settings_close_primed true book = refl
-settings_close_primed false book = refl
-
-settings_close_running : (b : Bool) (book : Book)
-    → (let drained : Book = cond b (emptied Setup (record book { state = Draining false })) (record book { state = Draining false }) in closed_in drained.state drained).settings ≡ book.settings
-settings_close_running true book = refl
-settings_close_running false book = refl
-
-settings_close_at : (state : State) (rate : Rate) (book : Book) → (close_turn rate (record book { state = state })).settings ≡ book.settings
-settings_close_at Free rate book = refl
-settings_close_at Setup rate book = refl
-settings_close_at Primed rate book = settings_close_primed (nat_lt 0 (frames_written book)) book
-settings_close_at Running rate book = settings_close_running (eqb book.given (len rate (frames_written book))) book
-settings_close_at (Draining closed) rate book = refl
-
--- a close leaves them
-pub settings-close : (rate : Rate) (book : Book) → (close_turn rate book).settings ≡ book.settings
-settings-close rate book = settings_close_at book.state rate book
-
-settings_settled : (b closed : Bool) (given : Book) → (cond {A = Book} b (emptied (cond closed Free Setup) given) given).settings ≡ given.settings
+settings_settled : (b closed : Bool) (given : Book) → (cond {A = Book} b (finished (cond closed Free Setup) given) given).settings ≡ given.settings
 settings_settled true closed given = refl
 settings_settled false closed given = refl
 
@@ -329,6 +375,6 @@ settings_refilled_at (Draining closed) rate n book =
     let given : Book = gives rate n (record book { state = Draining closed }) in
     settings_settled (eqb given.given (len rate (frames_written book))) closed given
 
--- and so does an interrupt
+-- an interrupt leaves them
 pub settings-refilled : (rate : Rate) (n : ℕ) (book : Book) → (refilled rate n book).settings ≡ book.settings
 settings-refilled rate n book = settings_refilled_at book.state rate n book

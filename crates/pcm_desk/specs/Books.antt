@@ -1,17 +1,19 @@
 -- The book of one play opening: what is counted, and what each event does to it. No book looks at another.
 use Rattle.std.specs.Prelude.{ℕ, ◌+◌, ◌-◌, ◌*◌, ◌^◌, min, max, Bool, true, false, ◌&&◌, nat_lt, nat_le, ◌==◌, if◌then◌else◌, Result, Ok, Err}
 use Rattle.pcm_format.specs.declared.settings.Settings.{Settings}
-use Rattle.pcm_format.specs.declared.reply.Answer.{Answer}
-use Rattle.pcm_format.specs.declared.reply.Answer.TheVariants.{Number}
-use Rattle.pcm_format.specs.declared.reply.Errno.{Errno}
-use Rattle.pcm_format.specs.declared.reply.Errno.TheVariants.{Again, Busy}
+use Rattle.pcm_oss.specs.declared.reply.Answer.{Answer}
+use Rattle.pcm_oss.specs.declared.reply.Answer.TheVariants.{Number}
+use Rattle.pcm_oss.specs.declared.reply.Errno.{Errno}
+use Rattle.pcm_oss.specs.declared.reply.Errno.TheVariants.{Again, Busy}
+use Rattle.pcm_oss.specs.declared.fragments.TheConstants.{FRAGMENTS}
+use Rattle.pcm_oss.specs.declared.volume.TheConstants.{VOLUME}
+use Rattle.pcm_oss.specs.Fragments.{fragment_size, ring_size}
 use Rattle.pcm_format.specs.Frames.{frame_bytes, whole_frames}
 use Rattle.pcm_rate.specs.declared.rate.Rate.{Rate}
 use Rattle.pcm_rate.specs.Rates.{need, can, len}
 use Rattle.pcm_desk.specs.declared.book.Book.{Book}
 use Rattle.pcm_desk.specs.declared.book.State.{State}
 use Rattle.pcm_desk.specs.declared.book.State.TheVariants.{Free, Setup, Primed, Running, Draining}
-use Rattle.pcm_desk.specs.declared.book.TheConstants.{FRAGMENT_BYTES, FRAGMENTS}
 
 abbrev pub is_free : State → Bool
 is_free Free = true
@@ -19,6 +21,13 @@ is_free Setup = false
 is_free Primed = false
 is_free Running = false
 is_free (Draining _) = false
+
+abbrev pub is_setup : State → Bool
+is_setup Free = false
+is_setup Setup = true
+is_setup Primed = false
+is_setup Running = false
+is_setup (Draining _) = false
 
 abbrev pub is_draining : State → Bool
 is_draining Free = false
@@ -42,13 +51,21 @@ frames_written book = whole_frames book.settings book.written
 abbrev pub fill_of : Book → ℕ
 fill_of book = book.written - book.eaten * frame_bytes book.settings
 
+-- the bytes of a fragment
+abbrev pub fragment_bytes : Book → ℕ
+fragment_bytes book = fragment_size book.fragments
+
 -- the bytes that the ring holds at most
 abbrev pub ring_bytes : Book → ℕ
-ring_bytes book = FRAGMENTS * FRAGMENT_BYTES
+ring_bytes book = ring_size book.fragments
 
 -- the bytes that fit
 abbrev pub free_of : Book → ℕ
 free_of book = ring_bytes book - fill_of book
+
+-- the bytes that the device has taken since the opening or its last halt
+abbrev pub played_of : Book → ℕ
+played_of book = book.done + book.eaten * frame_bytes book.settings
 
 -- Counts of frames on the side of the mix stand to those of the client's side by the rate between the two.
 
@@ -71,11 +88,31 @@ pub record BookTurn : Type 0 where
 
 -- an opening begins
 abbrev pub begun : Settings → Book
-begun settings = record { settings = settings; state = Setup; written = 0; eaten = 0; given = 0; underruns = 0 }
+begun settings = record {
+  settings = settings;
+  fragments = FRAGMENTS;
+  trigger = true;
+  volume = VOLUME;
+  state = Setup;
+  written = 0;
+  eaten = 0;
+  given = 0;
+  done = 0;
+  told = 0;
+  underruns = 0;
+}
 
--- a run ends: nothing of it is left
+-- nothing of a run is left
 abbrev pub emptied : State → Book → Book
 emptied state book = record book { state = state; written = 0; eaten = 0; given = 0 }
+
+-- a run ends that was played whole
+abbrev pub finished : State → Book → Book
+finished state book = record (emptied state book) { done = book.done + frames_written book * frame_bytes book.settings }
+
+-- all bytes are dropped, and positions begin anew
+abbrev pub dropped : Book → Book
+dropped book = record (emptied Setup book) { done = 0; told = 0 }
 
 -- a book with bytes in it isn't in Setup
 abbrev pub primed_in : State → Book → Book
@@ -85,11 +122,15 @@ primed_in Primed book = book
 primed_in Running book = book
 primed_in (Draining closed) book = book
 
--- a primed book starts at a full fragment
+-- the trigger is on, and a full fragment waits
+abbrev pub may_start : Book → Bool
+may_start book = book.trigger && nat_le (fragment_bytes book) (fill_of book)
+
+-- a primed book that may start does so
 abbrev pub started_in : State → Book → Book
 started_in Free book = book
 started_in Setup book = book
-started_in Primed book = if nat_le FRAGMENT_BYTES (fill_of book) then record book { state = Running } else book
+started_in Primed book = if may_start book then record book { state = Running } else book
 started_in Running book = book
 started_in (Draining closed) book = book
 
@@ -114,7 +155,7 @@ settled_in rate Setup book = book
 settled_in rate Primed book = book
 settled_in rate Running book = book
 settled_in rate (Draining closed) book =
-    if book.given == len rate (frames_written book) then emptied (if closed then Free else Setup) book else book
+    if book.given == len rate (frames_written book) then finished (if closed then Free else Setup) book else book
 
 -- No more comes: what was written plays to its end, and a part of a frame alone is dropped.
 abbrev pub drained_in : Rate → State → Book → Book

@@ -1,13 +1,14 @@
 -- The desk: the books by slot, who holds which, and how far the device is. An event gives a new desk and a reply.
 use Rattle.std.specs.Prelude.{ℕ, zero, suc, ◌+◌, Option, Some, None, is_some, if◌then◌else◌, List, map, position, replicate, slice_index_or, slice_set, Result, Ok, Err}
 use Rattle.pcm_format.specs.declared.settings.Settings.{Settings}
-use Rattle.pcm_format.specs.declared.event.Event.{Event}
-use Rattle.pcm_format.specs.declared.event.Event.TheVariants.{Open, Write, Close, Intr}
-use Rattle.pcm_format.specs.declared.event.Way.{Way}
-use Rattle.pcm_format.specs.declared.reply.Answer.{Answer}
-use Rattle.pcm_format.specs.declared.reply.Answer.TheVariants.{Done, Number}
-use Rattle.pcm_format.specs.declared.reply.Errno.{Errno}
-use Rattle.pcm_format.specs.declared.reply.Errno.TheVariants.{BadF, Busy, Exist}
+use Rattle.pcm_oss.specs.declared.event.Event.{Event}
+use Rattle.pcm_oss.specs.declared.event.Event.TheVariants.{Open, Write, Ioctl, Close, Intr}
+use Rattle.pcm_oss.specs.declared.event.Way.{Way}
+use Rattle.pcm_oss.specs.declared.request.Request.{Request}
+use Rattle.pcm_oss.specs.declared.reply.Answer.{Answer}
+use Rattle.pcm_oss.specs.declared.reply.Answer.TheVariants.{Done, Number}
+use Rattle.pcm_oss.specs.declared.reply.Errno.{Errno}
+use Rattle.pcm_oss.specs.declared.reply.Errno.TheVariants.{BadF, Busy, Exist}
 use Rattle.pcm_rate.specs.declared.rate.Rate.{Rate}
 use Rattle.pcm_desk.specs.declared.book.Book.{Book}
 use Rattle.pcm_desk.specs.declared.book.State.TheVariants.{Free}
@@ -15,6 +16,7 @@ use Rattle.pcm_desk.specs.declared.device.Held.{Held}
 use Rattle.pcm_desk.specs.declared.limits.TheConstants.{DESCRIPTORS}
 use Rattle.pcm_desk.specs.Device.{DeviceSeen, mix_settings, play_slots, rate_between}
 use Rattle.pcm_desk.specs.Books.{BookTurn, is_free, begun, write_turn, close_turn, refilled}
+use Rattle.pcm_desk.specs.Requests.{ask_turn}
 
 pub record Desk : Type 0 where
   -- by slot
@@ -79,16 +81,28 @@ abbrev pub open_turn : Desk → ℕ → Way → Settings → DeskTurn
 open_turn desk fd way settings =
     if is_some (held_by desk fd) then refusing desk Exist else open_in (least_free desk.play) desk fd way settings
 
--- a write to a descriptor, whose book alone changes
+-- an event of a descriptor, whose book alone changes
+abbrev pub turning : DeviceSeen → (Book → BookTurn) → Option Held → Desk → DeskTurn
+turning device turn None desk = refusing desk BadF
+turning device turn (Some held) desk =
+    let turned : BookTurn = turn (book_at device desk held.slot) in
+    record { desk = with_book desk held.slot turned.book; reply = turned.reply }
+
+-- a write
 abbrev pub write_on : DeviceSeen → Option Held → Desk → ℕ → DeskTurn
-write_on device None desk length = refusing desk BadF
-write_on device (Some held) desk length =
-    let turn : BookTurn = write_turn length (book_at device desk held.slot) in
-    record { desk = with_book desk held.slot turn.book; reply = turn.reply }
+write_on device held desk length = turning device (write_turn length) held desk
 
 -- the rate between a book and the mix
 abbrev pub rate_at : DeviceSeen → Book → Rate
 rate_at device book = rate_between device book.settings
+
+-- the book after a request, and the reply
+abbrev pub asking : DeviceSeen → Request → Book → BookTurn
+asking device request book = ask_turn (rate_at device book) request book
+
+-- a request
+abbrev pub ioctl_on : DeviceSeen → Option Held → Desk → Request → DeskTurn
+ioctl_on device held desk request = turning device (asking device request) held desk
 
 -- the book after a close
 abbrev pub closing : DeviceSeen → Book → Book
@@ -124,5 +138,6 @@ interrupt_turn device desk n =
 abbrev pub after : DeviceSeen → Desk → Event → DeskTurn
 after device desk (Open fd way settings) = open_turn desk fd way settings
 after device desk (Write fd at length) = write_on device (held_by desk fd) desk length
+after device desk (Ioctl fd request) = ioctl_on device (held_by desk fd) desk request
 after device desk (Close fd) = close_on device (held_by desk fd) desk fd
 after device desk (Intr frames) = interrupt_turn device desk frames

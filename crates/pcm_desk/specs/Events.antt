@@ -1,8 +1,8 @@
 -- Lists of events: which fit, how many frames they take, and the desk after them.
 use Rattle.std.specs.Prelude.{ℕ, ◌+◌, ◌*◌, ◌<◌, ◌≤◌, List, [], ◌∷◌, length}
 use Rattle.std.specs.List.{sum_by}
-use Rattle.pcm_format.specs.declared.event.Event.{Event}
-use Rattle.pcm_format.specs.declared.event.Event.TheVariants.{Open, Write, Close, Intr}
+use Rattle.pcm_oss.specs.declared.event.Event.{Event}
+use Rattle.pcm_oss.specs.declared.event.Event.TheVariants.{Open, Write, Ioctl, Close, Intr}
 use Rattle.pcm_format.specs.declared.pool.Pool.{Pool}
 use Rattle.pcm_feeder.specs.Limits.{IsRate}
 use Rattle.pcm_desk.specs.declared.limits.TheConstants.{DESCRIPTORS, WRITE_BYTES}
@@ -14,6 +14,7 @@ abbrev pub Fits : DeviceSeen → Pool → Event → Type 0
 Fits device pool (Open fd way settings) = (fd < DESCRIPTORS) × IsRate settings.rate
 Fits device pool (Write fd at count) =
     (fd < DESCRIPTORS) × (count ≤ WRITE_BYTES) × (at + count ≤ length pool.inline_bytes)
+Fits device pool (Ioctl fd request) = fd < DESCRIPTORS
 Fits device pool (Close fd) = fd < DESCRIPTORS
 Fits device pool (Intr frames) = (0 < frames) × (frames ≤ ring_frames device)
 
@@ -21,6 +22,7 @@ Fits device pool (Intr frames) = (0 < frames) × (frames ≤ ring_frames device)
 abbrev pub frames_taken : Event → ℕ
 frames_taken (Open fd way settings) = 0
 frames_taken (Write fd at count) = 0
+frames_taken (Ioctl fd request) = 0
 frames_taken (Close fd) = 0
 frames_taken (Intr frames) = frames
 

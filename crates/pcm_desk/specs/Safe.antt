@@ -1,11 +1,13 @@
 -- What holds of the counts of a book at every moment.
-use Rattle.std.specs.Prelude.{◌≡◌, ℕ, ◌+◌, ◌-◌, ◌<◌, ◌≤◌, min, max}
+use Rattle.std.specs.Prelude.{◌≡◌, ℕ, ◌+◌, ◌-◌, ◌<◌, ◌≤◌, true, min, max}
+use Rattle.pcm_oss.specs.Fragments.{AreFragments}
+use Rattle.pcm_oss.specs.Volumes.{is_volume}
 use Rattle.pcm_rate.specs.declared.rate.Rate.{Rate}
 use Rattle.pcm_rate.specs.Rates.{need, can, len}
 use Rattle.pcm_desk.specs.declared.book.Book.{Book}
 use Rattle.pcm_desk.specs.declared.book.State.{State}
 use Rattle.pcm_desk.specs.declared.book.State.TheVariants.{Free, Setup, Primed, Running, Draining}
-use Rattle.pcm_desk.specs.Books.{frames_written, fill_of, ring_bytes}
+use Rattle.pcm_desk.specs.Books.{frames_written, fill_of, played_of, ring_bytes}
 
 -- Of the frames written in a run, how many were eaten, and how many frames of the mix were given for them.
 
@@ -39,7 +41,11 @@ IsInOrder rate Primed book = (0 < book.written) × IsUnstarted book.eaten book.g
 IsInOrder rate Running book = IsRunning rate (frames_written book) book.eaten book.given
 IsInOrder rate (Draining closed) book = IsDraining rate (frames_written book) book.eaten book.given
 
--- the counts of a book are in order, and no more waits than its ring holds
+-- the counts of a book are in order, no more waits than its ring holds, and what a client may set is within its limits
 pub record BookIsSafe (rate : Rate) (book : Book) : Type 0 where
   pub order : IsInOrder rate book.state book
   pub fill : fill_of book ≤ ring_bytes book
+  pub fragments : AreFragments book.fragments
+  pub volume : is_volume book.volume ≡ true
+  -- no position was told that wasn't reached
+  pub told : book.told ≤ played_of book

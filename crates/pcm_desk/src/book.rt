@@ -1,12 +1,7 @@
 //! The book of a play opening.
 
 use pcm_format::Settings;
-
-/// The bytes of a fragment, the part of a ring that must be there before a channel starts by itself.
-pub const FRAGMENT_BYTES: u32 = 4096;
-
-/// How many fragments a ring holds.
-pub const FRAGMENTS: u32 = 4;
+use pcm_oss::Fragments;
 
 /// Where a channel stands in its life.
 #[derive(Clone, Copy, Debug, PartialEq, Eq)]
@@ -27,6 +22,12 @@ pub enum State {
 #[derive(Clone, Copy, Debug, PartialEq, Eq)]
 pub struct Book {
     pub settings: Settings,
+    /// How the ring is cut.
+    pub fragments: Fragments,
+    /// Whether the channel may start by itself, or by a post.
+    pub trigger: bool,
+    /// The volume that is set.
+    pub volume: u32,
     pub state: State,
     /// Bytes accepted in this run.
     pub written: u64,
@@ -34,6 +35,10 @@ pub struct Book {
     pub eaten: u64,
     /// Frames handed to the mix in this run.
     pub given: u64,
-    /// Interrupts that found too few frames.
+    /// Bytes of the runs before this one that were played whole, since the opening or its last halt.
+    pub done: u64,
+    /// The position that was told last, in bytes.
+    pub told: u64,
+    /// Interrupts that found too few frames, since they were told last.
     pub underruns: u32,
 }

@@ -2,7 +2,8 @@
 
 ghost use Rattle.std.specs.Prelude.{◌≡◌};
 
-use pcm_format::{Format, Layout, Settings, Way};
+use pcm_format::{Format, Layout, Settings};
+use pcm_oss::Way;
 
 /// What an open without settings means.
 pub const OPENING: Settings = Settings {

@@ -1,11 +1,13 @@
 //! What holds of all books: the function here has no work, and its contract is the law.
 
-ghost use Rattle.std.specs.Prelude.{ℕ};
+ghost use Rattle.std.specs.Prelude.{◌≡◌, ℕ, false};
 ghost use Rattle.pcm_format.specs.declared.settings.Settings.{Settings};
+ghost use Rattle.pcm_oss.specs.declared.request.Request.{Request};
 ghost use Rattle.pcm_rate.specs.declared.rate.Rate.{Rate};
 ghost use Rattle.pcm_rate.specs.Rates.{IsRatio};
 ghost use Rattle.pcm_desk.specs.declared.book.Book.{Book};
-ghost use Rattle.pcm_desk.specs.Books.{begun, write_turn, close_turn, refilled};
+ghost use Rattle.pcm_desk.specs.Books.{begun, is_setup, write_turn, close_turn, refilled};
+ghost use Rattle.pcm_desk.specs.Requests.{ask_turn};
 ghost use Rattle.pcm_desk.specs.Safe.{BookIsSafe};
 
 /// The counts of a book stay in order through every event, for every rate between its client and the mix.
@@ -13,6 +15,10 @@ pub fn books_stay_in_order()
     ensures begun { (rate : Rate) (settings : Settings) → BookIsSafe rate (begun settings) }
     ensures written { (rate : Rate) (length : ℕ) (book : Book) → IsRatio rate
         → BookIsSafe rate book → BookIsSafe rate (write_turn length book).book }
+    // A request may change the rate, of a book that has nothing written.
+    ensures asked { (rate now : Rate) (request : Request) (book : Book) → IsRatio rate
+        → (is_setup book.state ≡ false → now ≡ rate)
+        → BookIsSafe rate book → BookIsSafe now (ask_turn rate request book).book }
     ensures closed { (rate : Rate) (book : Book) → IsRatio rate
         → BookIsSafe rate book → BookIsSafe rate (close_turn rate book) }
     ensures refilled { (rate : Rate) (n : ℕ) (book : Book) → IsRatio rate

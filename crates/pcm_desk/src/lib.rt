@@ -6,9 +6,12 @@ mod book;
 mod device;
 mod laws;
 mod limits;
+mod requests;
+mod turn;
 mod turns;
 
-pub use book::{Book, FRAGMENT_BYTES, FRAGMENTS, State};
+pub use book::{Book, State};
 pub use device::{Device, Held, OPENING, QUALITY};
 pub use laws::books_stay_in_order;
 pub use limits::{DESCRIPTORS, DEVICE_BYTES, EVENTS, RING_FRAMES, SLOTS, WRITE_BYTES};
+pub use turn::{ALL_FORMATS, CAPABILITIES, PLAY_BIT, Turn};

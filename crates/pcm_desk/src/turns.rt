@@ -2,11 +2,13 @@
 
 ghost use Rattle.std.specs.Prelude.{◌≡◌, ◌+◌, ◌*◌, ◌^◌, ◌<◌, ◌≤◌};
 ghost use Rattle.pcm_format.specs.Frames.{frame_bytes};
+ghost use Rattle.pcm_oss.specs.Fragments.{AreFragments};
 ghost use Rattle.pcm_rate.specs.Rates.{IsRatio};
-ghost use Rattle.pcm_desk.specs.Books.{is_free, is_draining, is_started, frames_written, fill_of, giving, begun, accepting, close_turn, emptied, refilled, primed_in, started_in, settled_in, drained_in, gives, underruns_after};
+ghost use Rattle.pcm_desk.specs.Books.{is_free, is_draining, is_started, may_start, frames_written, fill_of, giving, begun, accepting, close_turn, emptied, finished, dropped, refilled, primed_in, started_in, settled_in, drained_in, gives, underruns_after};
 
-use crate::{Book, FRAGMENT_BYTES, State};
+use crate::{Book, State};
 use pcm_format::Settings;
+use pcm_oss::{FRAGMENTS, VOLUME};
 use pcm_rate::Rate;
 
 impl Book {
@@ -16,10 +18,15 @@ impl Book {
     {
         Book {
             settings,
+            fragments: FRAGMENTS,
+            trigger: true,
+            volume: VOLUME,
             state: State::Setup,
             written: 0,
             eaten: 0,
             given: 0,
+            done: 0,
+            told: 0,
             underruns: 0,
         }
     }
@@ -64,6 +71,7 @@ impl Book {
     pub fn accepting(self, accepted: u64) -> Book
         requires count { self.written + accepted < 2 ^ 64 }
         requires eaten { self.eaten * frame_bytes self.settings ≤ self.written }
+        requires fragments { AreFragments self.fragments }
         ensures { result ≡ accepting accepted self }
     {
         let more = Book {
@@ -86,13 +94,14 @@ impl Book {
         }
     }
 
-    // A primed book starts at a full fragment.
+    // A primed book that may start does so at a full fragment.
     fn started(self) -> Book
-        requires { self.eaten * frame_bytes self.settings ≤ self.written }
+        requires eaten { self.eaten * frame_bytes self.settings ≤ self.written }
+        requires fragments { AreFragments self.fragments }
         ensures { result ≡ started_in self.state self }
     {
         match self.state {
-            State::Primed if self.fill() >= u64::from(FRAGMENT_BYTES) => Book {
+            State::Primed if self.may_start() => Book {
                 state: State::Running,
                 ..self
             },
@@ -100,9 +109,19 @@ impl Book {
         }
     }
 
+    // Whether the trigger is on, and a full fragment waits.
+    fn may_start(&self) -> bool
+        requires eaten { self.now.eaten * frame_bytes self.now.settings ≤ self.now.written }
+        requires fragments { AreFragments self.now.fragments }
+        ensures { result ≡ may_start self.now }
+    {
+        self.trigger && self.fill() >= u64::from(self.fragments.bytes())
+    }
+
     /// The book after a close.
     pub fn closed(self, rate: Rate) -> Book
-        requires { IsRatio rate }
+        requires rate { IsRatio rate }
+        requires count { self.done + self.written < 2 ^ 64 }
         ensures { result ≡ close_turn rate self }
     {
         let drained = self.drained(rate);
@@ -120,8 +139,9 @@ impl Book {
     }
 
     // No more comes. A part of a frame alone is dropped.
-    fn drained(self, rate: Rate) -> Book
-        requires { IsRatio rate }
+    pub(crate) fn drained(self, rate: Rate) -> Book
+        requires rate { IsRatio rate }
+        requires count { self.done + self.written < 2 ^ 64 }
         ensures { result ≡ drained_in rate self.state self }
     {
         let draining = Book {
@@ -136,7 +156,7 @@ impl Book {
         }
     }
 
-    // A run ends: nothing of it is left.
+    // Nothing of a run is left.
     fn emptied(self, state: State) -> Book
         ensures { result ≡ emptied state self }
     {
@@ -149,15 +169,38 @@ impl Book {
         }
     }
 
+    // A run ends that was played whole.
+    fn finished(self, state: State) -> Book
+        requires { self.done + self.written < 2 ^ 64 }
+        ensures { result ≡ finished state self }
+    {
+        Book {
+            done: self.done + self.frames_written() * self.settings.frame_bytes() as u64,
+            ..self.emptied(state)
+        }
+    }
+
+    // All bytes are dropped, and positions begin anew.
+    pub(crate) fn dropped(self) -> Book
+        ensures { result ≡ dropped self }
+    {
+        Book {
+            done: 0,
+            told: 0,
+            ..self.emptied(State::Setup)
+        }
+    }
+
     // A draining book that has given its last frame is over.
     fn settled(self, rate: Rate) -> Book
-        requires { IsRatio rate }
+        requires rate { IsRatio rate }
+        requires count { self.done + self.written < 2 ^ 64 }
         ensures { result ≡ settled_in rate self.state self }
     {
         match self.state {
             State::Draining { closed }
                 if u128::from(self.given) == rate.len(self.frames_written()) => {
-                self.emptied(if closed { State::Free } else { State::Setup })
+                self.finished(if closed { State::Free } else { State::Setup })
             }
             _ => self,
         }
@@ -181,6 +224,7 @@ impl Book {
     pub fn refilled(self, rate: Rate, n: u64) -> Book
         requires rate { IsRatio rate }
         requires count { self.given + n < 2 ^ 64 }
+        requires played { self.done + self.written < 2 ^ 64 }
         ensures { result ≡ refilled rate n self }
     {
         match self.state {

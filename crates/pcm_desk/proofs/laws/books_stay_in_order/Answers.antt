@@ -1,4 +1,5 @@
 use Rattle.pcm_desk.proofs.Safe.{safe-begun, safe-write, safe-close, safe-refilled}
+use Rattle.pcm_desk.proofs.Asking.{safe-ask}
 use Rattle.pcm_desk.proofs.laws.books_stay_in_order.Goals as goal
 
 pub returns-clause-begun : goal.returns-clause-begun
@@ -12,3 +13,6 @@ returns-clause-closed c = safe-close
 
 pub returns-clause-refilled : goal.returns-clause-refilled
 returns-clause-refilled c = safe-refilled
+
+pub returns-clause-asked : goal.returns-clause-asked
+returns-clause-asked c = λ rate now request book ratio same safe. safe-ask rate now request book ratio safe same

@@ -1,0 +1,300 @@
+-- What a close or a request leaves of a book: its counts, or nothing of its run.
+use Rattle.std.proofs.Common.{◌≡◌, ℕ, ◌+◌, ◌*◌, ◌<◌, ◌≤◌, Bool, true, false, cond, eqb, Option, Some, None, ◌⊎◌, inl, inr, Ok, Err, refl, sym, ap, ◌∙◌, arith}
+use Rattle.std.specs.Prelude.{nat_lt, nat_le, ◌&&◌, option_map}
+use Rattle.std.proofs.lemmas.Bool.Decides.{nat_tests}
+use Rattle.pcm_format.specs.declared.settings.Settings.{Settings}
+use Rattle.pcm_format.specs.Formats.{code_of, format_with_code}
+use Rattle.pcm_format.specs.Frames.{frame_bytes}
+use Rattle.pcm_format.specs.Layouts.{channels_of, layout_of}
+use Rattle.pcm_format.proofs.Whole.{bytes_above, frames_fit}
+use Rattle.pcm_oss.specs.declared.reply.Errno.TheVariants.{Busy, Inval}
+use Rattle.pcm_oss.specs.declared.request.Request.{Request}
+use Rattle.pcm_oss.specs.declared.request.Request.TheVariants.{SetFmt, Speed, Channels, GetFmts, GetCaps, GetBlkSize, SetFragment, GetOSpace, GetISpace, GetOPtr, GetIPtr, GetODelay, GetError, SetTrigger, GetTrigger, SetPlayVol, GetPlayVol, Post, Sync, Halt}
+use Rattle.pcm_oss.specs.Volumes.{is_volume}
+use Rattle.pcm_rate.specs.declared.rate.Rate.{Rate}
+use Rattle.pcm_rate.specs.Rates.{len}
+use Rattle.pcm_desk.specs.declared.book.Book.{Book}
+use Rattle.pcm_desk.specs.declared.book.State.{State}
+use Rattle.pcm_desk.specs.declared.book.State.TheVariants.{Free, Setup, Primed, Running, Draining}
+use Rattle.pcm_desk.specs.Books.{accepting, closed_in, close_turn, drained_in, dropped, emptied, fill_of, finished, fragment_bytes, frames_written, is_draining, is_setup, is_started, started_in}
+use Rattle.pcm_desk.specs.Requests.{ask_turn, at_format, at_layout, at_rate, doing, has_play_bit, roused_in, set_fragments, set_volume, stopped_in, telling_of, triggered, book_turn, with_settings}
+use Rattle.pcm_desk.specs.Safe.{BookIsSafe, IsInOrder}
+
+-- the counts stay, what started or drains goes on so, and what starts has bytes
+pub record Stays (old new : Book) : Type 0 where
+  pub settings : new.settings ≡ old.settings
+  pub fragments : new.fragments ≡ old.fragments
+  pub written : new.written ≡ old.written
+  pub eaten : new.eaten ≡ old.eaten
+  pub given : new.given ≡ old.given
+  pub done : new.done ≡ old.done
+  pub plays : is_started old.state ≡ true → is_started new.state ≡ true
+  pub drains : is_draining old.state ≡ true → is_draining new.state ≡ true
+  pub starts : (is_started old.state ≡ true → 0 < old.written) → is_started new.state ≡ true → 0 < new.written
+
+-- nothing is left of a run, which may have had other settings; what was played of it counts no more bytes than it had
+pub record Ends (old new : Book) : Type 0 where
+  pub written : new.written ≡ 0
+  pub stopped : is_started new.state ≡ false
+  pub done : new.done ≤ old.done + old.written
+
+pub record Leaves (old new : Book) : Type 0 where
+  pub counts : Stays old new ⊎ Ends old new
+
+-- ---- a state alone
+
+-- the counts of a book in another state
+in_state : (state was : State) (book : Book) → (is_started was ≡ true → is_started state ≡ true) → (is_draining was ≡ true → is_draining state ≡ true)
+    → ((is_started was ≡ true → 0 < book.written) → is_started state ≡ true → 0 < book.written) → Stays (record book { state = was }) (record book { state = state })
+in_state state was book plays drains starts =
+    record { settings = refl; fragments = refl; written = refl; eaten = refl; given = refl; done = refl; plays = plays; drains = drains; starts = starts }
+
+pub stays-same : (book : Book) → Stays book book
+stays-same book = in_state book.state book.state book (λ h. h) (λ h. h) (λ h. h)
+
+same : (book : Book) → Leaves book book
+same book = record { counts = inl (stays-same book) }
+
+-- where a whole frame was written, there are bytes
+framed : (book : Book) → nat_lt 0 (frames_written book) ≡ true → 0 < book.written
+framed book e = bytes_above book.settings book.written (grind (arith, nat_tests))
+
+ended : (old new : Book) → new.written ≡ 0 → is_started new.state ≡ false → new.done ≤ old.done + old.written → Leaves old new
+ended old new written stopped done = record { counts = inr (record { written = written; stopped = stopped; done = done }) }
+
+-- what is played to its end counts all whole frames
+finished_done : (book : Book) → book.done + frames_written book * frame_bytes book.settings ≤ book.done + book.written
+finished_done book = let fits = frames_fit book.settings book.written (frames_written book) (omega arith) in omega arith
+
+-- ---- a drain, a close
+
+drain_primed : (b : Bool) (book : Book) → nat_lt 0 (frames_written book) ≡ b → Leaves (record book { state = Primed }) (cond b (record book { state = Draining false }) (emptied Setup book))
+drain_primed true book e = record { counts = inl (in_state (Draining false) Primed book (λ h. cc) (λ h. cc) (λ h s. framed book e)) }
+drain_primed false book e = ended (record book { state = Primed }) (emptied Setup book) refl refl (omega arith)
+
+drain_running : (b : Bool) (book : Book) → Leaves (record book { state = Running }) (cond b (finished Setup book) (record book { state = Draining false }))
+drain_running true book = ended (record book { state = Running }) (finished Setup book) refl refl (finished_done book)
+drain_running false book = record { counts = inl (in_state (Draining false) Running book (λ h. refl) (λ h. cc) (λ h s. h refl)) }
+
+drain_at : (state : State) (rate : Rate) (book : Book) → Leaves (record book { state = state }) (drained_in rate state (record book { state = state }))
+drain_at Free rate book = same (record book { state = Free })
+drain_at Setup rate book = same (record book { state = Setup })
+drain_at Primed rate book = drain_primed (nat_lt 0 (frames_written book)) book refl
+drain_at Running rate book = drain_running (eqb book.given (len rate (frames_written book))) book
+drain_at (Draining closed) rate book = same (record book { state = Draining closed })
+
+-- no more comes
+pub drain-leaves : (rate : Rate) (book : Book) → Leaves book (drained_in rate book.state book)
+drain-leaves rate book = drain_at book.state rate book
+
+close_at : (state : State) (book : Book) → Stays (record book { state = state }) (closed_in state (record book { state = state }))
+close_at Free book = stays-same (record book { state = Free })
+close_at Setup book = in_state Free Setup book (λ h. cc) (λ h. cc) (λ h s. cc)
+close_at Primed book = stays-same (record book { state = Primed })
+close_at Running book = stays-same (record book { state = Running })
+close_at (Draining was) book = in_state (Draining true) (Draining was) book (λ h. refl) (λ h. refl) (λ h s. h refl)
+
+close_stopped : (state : State) (book : Book) → is_started state ≡ false → is_started (closed_in state (record book { state = state })).state ≡ false
+close_stopped Free book e = refl
+close_stopped Setup book e = refl
+close_stopped Primed book e = refl
+close_stopped Running book e = cc
+close_stopped (Draining was) book e = cc
+
+-- a close
+pub close-leaves : (rate : Rate) (book : Book) → Leaves book (close_turn rate book)
+close-leaves rate book =
+    let between : Book = drained_in rate book.state book in
+    let last = close_at between.state between in
+    elim (drain-leaves rate book).counts [
+      | inl kept ↦ record {
+        counts = inl (record {
+          settings = last.settings ∙ kept.settings;
+          fragments = last.fragments ∙ kept.fragments;
+          written = last.written ∙ kept.written;
+          eaten = last.eaten ∙ kept.eaten;
+          given = last.given ∙ kept.given;
+          done = last.done ∙ kept.done;
+          plays = λ h. last.plays (kept.plays h);
+          drains = λ h. last.drains (kept.drains h);
+          starts = λ h s. last.starts (kept.starts h) s;
+        });
+      }
+      | inr none ↦ ended book (close_turn rate book) (last.written ∙ none.written) (close_stopped between.state between none.stopped) (let done = none.done in omega (arith, last.done))
+    ]
+
+-- a close leaves the settings and the fragments
+pub record Keeps (old new : Book) : Type 0 where
+  pub settings : new.settings ≡ old.settings
+  pub fragments : new.fragments ≡ old.fragments
+
+kept : (book : Book) → Keeps book book
+kept book = record { settings = refl; fragments = refl }
+
+keep_drain_primed : (b : Bool) (book : Book) → Keeps book (cond b (record book { state = Draining false }) (emptied Setup book))
+keep_drain_primed true book = record { settings = refl; fragments = refl }
+keep_drain_primed false book = record { settings = refl; fragments = refl }
+
+keep_drain_running : (b : Bool) (book : Book) → Keeps book (cond b (finished Setup book) (record book { state = Draining false }))
+keep_drain_running true book = record { settings = refl; fragments = refl }
+keep_drain_running false book = record { settings = refl; fragments = refl }
+
+keep_drain_at : (state : State) (rate : Rate) (book : Book) → Keeps (record book { state = state }) (drained_in rate state (record book { state = state }))
+keep_drain_at Free rate book = kept (record book { state = Free })
+keep_drain_at Setup rate book = kept (record book { state = Setup })
+keep_drain_at Primed rate book = let k = keep_drain_primed (nat_lt 0 (frames_written book)) book in record { settings = k.settings; fragments = k.fragments }
+keep_drain_at Running rate book = let k = keep_drain_running (eqb book.given (len rate (frames_written book))) book in record { settings = k.settings; fragments = k.fragments }
+keep_drain_at (Draining closed) rate book = kept (record book { state = Draining closed })
+
+pub close-keeps : (rate : Rate) (book : Book) → Keeps book (close_turn rate book)
+close-keeps rate book =
+    let between : Book = drained_in rate book.state book in
+    let first = keep_drain_at book.state rate book in
+    let last = close_at between.state between in
+    record { settings = last.settings ∙ first.settings; fragments = last.fragments ∙ first.fragments }
+
+-- ---- requests
+
+setup_stopped : (state : State) → is_setup state ≡ true → is_started state ≡ false
+setup_stopped Free e = cc
+setup_stopped Setup e = refl
+setup_stopped Primed e = cc
+setup_stopped Running e = cc
+setup_stopped (Draining closed) e = cc
+
+-- in Setup nothing is written
+setup_none : (state : State) (rate : Rate) (book : Book) → is_setup state ≡ true → IsInOrder rate state book → book.written ≡ 0
+setup_none Free rate book e o = cc
+setup_none Setup rate book e o = o.0
+setup_none Primed rate book e o = cc
+setup_none Running rate book e o = cc
+setup_none (Draining closed) rate book e o = cc
+
+-- a book that took what it takes in Setup alone
+set_up : (rate : Rate) (old new : Book) → BookIsSafe rate old → is_setup old.state ≡ true → new.state ≡ old.state → new.written ≡ old.written → new.done ≡ old.done → Leaves old new
+set_up rate old new s e state written done =
+    ended old new (written ∙ setup_none old.state rate old e s.order) (ap is_started state ∙ setup_stopped old.state e) (omega (arith, done))
+
+reset_in : (b : Bool) (number : Settings → ℕ) (settings : Settings) (rate : Rate) (book : Book) → BookIsSafe rate book → is_setup book.state ≡ b
+    → Leaves book (book_turn book (telling_of number (cond b (Ok (record book { settings = settings })) (Err Busy)))).book
+reset_in true number settings rate book s e = set_up rate book (record book { settings = settings }) s e refl refl refl
+reset_in false number settings rate book s e = same book
+
+reset : (asks : Bool) (number : Settings → ℕ) (found : Option Settings) (rate : Rate) (book : Book) → BookIsSafe rate book
+    → Leaves book (book_turn book (telling_of number (cond asks (Ok book) (with_settings found book)))).book
+reset true number found rate book s = same book
+reset false number None rate book s = same book
+reset false number (Some settings) rate book s = reset_in (is_setup book.state) number settings rate book s refl
+
+cut_in : (b : Bool) (arg : ℕ) (rate : Rate) (book : Book) → BookIsSafe rate book → is_setup book.state ≡ b → Leaves book (book_turn book (set_fragments arg book)).book
+cut_in true arg rate book s e = rw e (set_up rate book _ s e refl refl refl)
+cut_in false arg rate book s e = rw e (same book)
+
+-- what changes neither state nor counts
+noted : (old new : Book) → new.state ≡ old.state → new.settings ≡ old.settings → new.fragments ≡ old.fragments → new.written ≡ old.written → new.eaten ≡ old.eaten → new.given ≡ old.given → new.done ≡ old.done → Leaves old new
+noted old new state settings fragments written eaten given done = record {
+  counts = inl (record {
+    settings = settings;
+    fragments = fragments;
+    written = written;
+    eaten = eaten;
+    given = given;
+    done = done;
+    plays = λ h. ap is_started state ∙ h;
+    drains = λ h. ap is_draining state ∙ h;
+    starts = λ h s. let some = h (sym (ap is_started state) ∙ s) in omega (arith, written);
+  });
+}
+
+volume_in : (b : Bool) (volume : ℕ) (book : Book) → is_volume volume ≡ b → Leaves book (book_turn book (set_volume volume book)).book
+volume_in true volume book e = rw e (noted book (record book { volume = volume }) refl refl refl refl refl refl refl)
+volume_in false volume book e = rw e (same book)
+
+rouse_primed : (b trigger : Bool) (book : Book) → nat_lt 0 (frames_written book) ≡ b
+    → Leaves (record book { state = Primed }) (cond b (record book { state = Running; trigger = trigger }) (record book { state = Primed; trigger = trigger }))
+rouse_primed true trigger book e = record {
+  counts = inl (record { settings = refl; fragments = refl; written = refl; eaten = refl; given = refl; done = refl; plays = λ h. cc; drains = λ h. cc; starts = λ h s. framed book e });
+}
+rouse_primed false trigger book e = noted (record book { state = Primed }) _ refl refl refl refl refl refl refl
+
+rouse_at : (state : State) (trigger : Bool) (book : Book) → Leaves (record book { state = state }) (roused_in state (record book { state = state; trigger = trigger }))
+rouse_at Free trigger book = noted _ _ refl refl refl refl refl refl refl
+rouse_at Setup trigger book = noted _ _ refl refl refl refl refl refl refl
+rouse_at Primed trigger book = rouse_primed (nat_lt 0 (frames_written book)) trigger book refl
+rouse_at Running trigger book = noted _ _ refl refl refl refl refl refl refl
+rouse_at (Draining closed) trigger book = noted _ _ refl refl refl refl refl refl refl
+
+post_in : (b : Bool) (book : Book) → Leaves book (cond b (roused_in book.state book) book)
+post_in true book = rouse_at book.state book.trigger book
+post_in false book = same book
+
+-- what is dropped counts nothing
+drop_in : (book : Book) (trigger : Bool) → Leaves book (dropped (record book { trigger = trigger }))
+drop_in book trigger = ended book (dropped (record book { trigger = trigger })) refl refl (omega arith)
+
+stop_at : (state : State) (book : Book) → Leaves (record book { state = state }) (stopped_in state (record book { state = state; trigger = false }))
+stop_at Free book = noted _ _ refl refl refl refl refl refl refl
+stop_at Setup book = noted _ _ refl refl refl refl refl refl refl
+stop_at Primed book = drop_in (record book { state = Primed }) false
+stop_at Running book = drop_in (record book { state = Running }) false
+stop_at (Draining closed) book = noted _ _ refl refl refl refl refl refl refl
+
+trigger_in : (b : Bool) (book : Book) → Leaves book (triggered b book)
+trigger_in true book = rouse_at book.state true book
+trigger_in false book = stop_at book.state book
+
+set_trigger_in : (wrong busy : Bool) (bits : ℕ) (book : Book) → Leaves book (book_turn book (cond wrong (Err Inval) (cond busy (Err Busy) (doing (triggered (has_play_bit bits) book))))).book
+set_trigger_in true busy bits book = same book
+set_trigger_in false true bits book = same book
+set_trigger_in false false bits book = trigger_in (has_play_bit bits) book
+
+-- A request leaves the counts of a book, or nothing of its run. What it takes in Setup alone leaves nothing, since there is nothing.
+pub ask-leaves : (rate : Rate) (request : Request) (book : Book) → BookIsSafe rate book → Leaves book (ask_turn rate request book).book
+ask-leaves rate (SetFmt code) book s = reset (eqb code 0) (λ settings. code_of settings.format) (option_map (at_format book.settings) (format_with_code code)) rate book s
+ask-leaves rate (Speed speed) book s = reset (eqb speed 0) (λ settings. settings.rate) (at_rate book.settings speed) rate book s
+ask-leaves rate (Channels channels) book s = reset (eqb channels 0) (λ settings. channels_of settings.layout) (option_map (at_layout book.settings) (layout_of channels)) rate book s
+ask-leaves rate GetFmts book s = same book
+ask-leaves rate GetCaps book s = same book
+ask-leaves rate GetBlkSize book s = same book
+ask-leaves rate (SetFragment arg) book s = cut_in (is_setup book.state) arg rate book s refl
+ask-leaves rate GetOSpace book s = same book
+ask-leaves rate GetISpace book s = same book
+ask-leaves rate GetOPtr book s = noted book _ refl refl refl refl refl refl refl
+ask-leaves rate GetIPtr book s = same book
+ask-leaves rate GetODelay book s = same book
+ask-leaves rate GetError book s = noted book _ refl refl refl refl refl refl refl
+ask-leaves rate (SetTrigger bits) book s = set_trigger_in (nat_lt 3 bits) (is_draining book.state) bits book
+ask-leaves rate GetTrigger book s = same book
+ask-leaves rate (SetPlayVol volume) book s = volume_in (is_volume volume) volume book refl
+ask-leaves rate GetPlayVol book s = same book
+ask-leaves rate Post book s = post_in book.trigger book
+ask-leaves rate Sync book s = drain-leaves rate book
+ask-leaves rate Halt book s = drop_in book book.trigger
+
+-- ---- writes
+
+-- a write leaves the fragments, and the bytes of the runs before
+pub record Adds (old new : Book) : Type 0 where
+  pub fragments : new.fragments ≡ old.fragments
+  pub done : new.done ≡ old.done
+
+start_adds : (b : Bool) (more : Book) → Adds more (cond b (record more { state = Running }) (record more { state = Primed }))
+start_adds true more = record { fragments = refl; done = refl }
+start_adds false more = record { fragments = refl; done = refl }
+
+prime_adds : (b : Bool) (more : Book) → Adds more (let primed : Book = cond b (record more { state = Primed }) (record more { state = Setup }) in started_in primed.state primed)
+prime_adds true more = let a = start_adds (more.trigger && nat_le (fragment_bytes more) (fill_of more)) more in record { fragments = a.fragments; done = a.done }
+prime_adds false more = record { fragments = refl; done = refl }
+
+accept_at : (state : State) (accepted : ℕ) (book : Book) → Adds (record book { state = state }) (accepting accepted (record book { state = state }))
+accept_at Free accepted book = record { fragments = refl; done = refl }
+accept_at Setup accepted book = let a = prime_adds (nat_lt 0 (book.written + accepted)) (record book { written = book.written + accepted }) in record { fragments = a.fragments; done = a.done }
+accept_at Primed accepted book =
+    let more : Book = record book { written = book.written + accepted } in
+    let a = start_adds (more.trigger && nat_le (fragment_bytes more) (fill_of more)) more in
+    record { fragments = a.fragments; done = a.done }
+accept_at Running accepted book = record { fragments = refl; done = refl }
+accept_at (Draining closed) accepted book = record { fragments = refl; done = refl }
+
+pub accepting-adds : (accepted : ℕ) (book : Book) → Adds book (accepting accepted book)
+accepting-adds accepted book = accept_at book.state accepted book
