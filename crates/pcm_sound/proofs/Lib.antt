@@ -1,4 +1,5 @@
 pub mod Sounding
+pub mod Rates
 pub mod Slots
 pub mod Stories
 pub mod Blocks

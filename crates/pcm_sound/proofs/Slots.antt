@@ -1,15 +1,16 @@
 -- A slot's book and runs stay valid through every event.
-use Rattle.std.proofs.Common.{◌≡◌, ℕ, suc, zero, ◌+◌, ◌-◌, ◌<◌, ◌≤◌, Bool, true, false, cond, eqb, List, [], ◌∷◌, ◌++◌, length, min, Ok, Err, refl, sym, ap, ◌∙◌, subst, arith, All, length-append}
+use Rattle.std.proofs.Common.{◌≡◌, ℕ, suc, zero, ◌+◌, ◌-◌, ◌<◌, ◌≤◌, Bool, true, false, cond, eqb, List, [], ◌∷◌, ◌++◌, length, min, inl, inr, Ok, Err, refl, sym, ap, ◌∙◌, subst, arith, All, length-append}
 use Rattle.std.specs.Prelude.{nat_lt, nat_le, ◌&&◌, ◌||◌, not}
 use Rattle.std.proofs.lemmas.List.Elements.{All-head, All-tail, All-cons, All-nil, All-weaker}
 use Rattle.std.proofs.lemmas.Bool.{and_parts}
 use Rattle.std.proofs.lemmas.Bool.Decides.{nat_tests}
+use Rattle.std.proofs.lemmas.Nat.{pow_pos}
 use Rattle.pcm_format.specs.declared.settings.Settings.{Settings}
-use Rattle.pcm_format.specs.declared.event.Event.{Event}
-use Rattle.pcm_format.specs.declared.reply.Answer.TheVariants.{Number}
-use Rattle.pcm_format.specs.declared.reply.Errno.TheVariants.{Again, Busy}
+use Rattle.pcm_oss.specs.declared.event.Event.{Event}
+use Rattle.pcm_oss.specs.declared.reply.Answer.TheVariants.{Number}
+use Rattle.pcm_oss.specs.declared.reply.Errno.TheVariants.{Again, Busy}
 use Rattle.pcm_format.specs.Frames.{whole_frames}
-use Rattle.pcm_format.proofs.Whole.{whole_frames-mono, bytes_above}
+use Rattle.pcm_format.proofs.Whole.{whole_frames-mono}
 use Rattle.pcm_rate.specs.declared.rate.Rate.{Rate}
 use Rattle.pcm_rate.specs.Rates.{IsRatio, can, len}
 use Rattle.pcm_rate.proofs.Counts.{can-le-len, len_grows}
@@ -18,10 +19,11 @@ use Rattle.pcm_desk.specs.declared.book.Book.{Book}
 use Rattle.pcm_desk.specs.declared.book.State.{State}
 use Rattle.pcm_desk.specs.declared.book.State.TheVariants.{Free, Setup, Primed, Running, Draining}
 use Rattle.pcm_desk.specs.Device.{DeviceSeen, IsDevice, rate_between}
-use Rattle.pcm_desk.specs.Books.{BookTurn, is_draining, is_started, allowed_in, free_of, frames_written, fill_of, giving, gives, emptied, accepting, started_in, write_turn, closed_in, refilled}
+use Rattle.pcm_desk.specs.Books.{BookTurn, is_draining, is_started, allowed_in, free_of, fragment_bytes, frames_written, fill_of, giving, gives, finished, accepting, started_in, write_turn, refilled}
 use Rattle.pcm_desk.specs.Safe.{BookIsSafe}
-use Rattle.pcm_desk.specs.Desk.{closing, mixing, rate_at}
-use Rattle.pcm_desk.proofs.Safe.{grown, given-allowed}
+use Rattle.pcm_desk.specs.Desk.{mixing, rate_at}
+use Rattle.pcm_desk.proofs.Safe.{full_at, grown, given-allowed}
+use Rattle.pcm_desk.proofs.Leaves.{Leaves, Stays, stays-same}
 use Rattle.pcm_desk.proofs.Ratios.{ratio-between}
 use Rattle.pcm_sound.specs.Runs.{Piece, Run, begun_run, piece_of, taking, playing, drops, ends, marked, marking, newest_bytes}
 use Rattle.pcm_sound.specs.Valid.{PieceIsValid, RunIsValid, HasRate, IsNewest, SlotIsValid, frames_given, given_in}
@@ -63,23 +65,27 @@ accepts_grown : (accepted : ℕ) (state : State) (old : Book) → ((is_started o
     → Accepts accepted old (grown accepted state old)
 accepts_grown accepted state old h on = record { settings = refl; eaten = refl; given = omega arith; given_same = omega arith; written = refl; started = h; goes_on = on }
 
-filled : (book : Book) → nat_le 4096 (fill_of book) ≡ true → 0 < book.written
-filled book e = grind (arith, nat_tests)
+-- a fragment that waits was written, and no fragment is empty
+filled : (book : Book) → nat_le (fragment_bytes book) (fill_of book) ≡ true → 0 < book.written
+filled book e = let some = pow_pos book.fragments.log in grind (arith, nat_tests)
 
-accepts_primed : (b : Bool) (accepted : ℕ) (old : Book) → is_started old.state ≡ false → nat_le 4096 (fill_of (grown accepted Primed old)) ≡ b
+accepts_primed : (b : Bool) (accepted : ℕ) (old : Book) → is_started old.state ≡ false → full_at accepted old ≡ b
     → Accepts accepted old (cond b (grown accepted Running old) (grown accepted Primed old))
-accepts_primed true accepted old stopped e = accepts_grown accepted Running old (λ h s. filled (grown accepted Primed old) e) (goes_on_unstarted old (grown accepted Running old) stopped)
+accepts_primed true accepted old stopped e =
+    let more : Book = grown accepted Primed old in
+    let full = and_parts old.trigger (nat_le (fragment_bytes more) (fill_of more)) e in
+    accepts_grown accepted Running old (λ h s. filled more full.1) (goes_on_unstarted old (grown accepted Running old) stopped)
 accepts_primed false accepted old stopped e = accepts_grown accepted Primed old (λ h s. cc) (goes_on_unstarted old (grown accepted Primed old) stopped)
 
 accepts_setup : (b : Bool) (accepted : ℕ) (old : Book) → is_started old.state ≡ false
     → Accepts accepted old (let primed : Book = cond b (grown accepted Primed old) (grown accepted Setup old) in started_in primed.state primed)
-accepts_setup true accepted old stopped = accepts_primed (nat_le 4096 (fill_of (grown accepted Primed old))) accepted old stopped refl
+accepts_setup true accepted old stopped = accepts_primed (full_at accepted old) accepted old stopped refl
 accepts_setup false accepted old stopped = accepts_grown accepted Setup old (λ h s. cc) (goes_on_unstarted old (grown accepted Setup old) stopped)
 
 accepts_at : (accepted : ℕ) (state : State) (book : Book) → Accepts accepted (record book { state = state }) (accepting accepted (record book { state = state }))
 accepts_at accepted Free book = let old : Book = record book { state = Free } in accepts_grown accepted Free old (λ h s. cc) (goes_on_same old (grown accepted Free old) refl)
 accepts_at accepted Setup book = accepts_setup (nat_lt 0 (book.written + accepted)) accepted (record book { state = Setup }) refl
-accepts_at accepted Primed book = accepts_primed (nat_le 4096 (fill_of (grown accepted Primed (record book { state = Primed })))) accepted (record book { state = Primed }) refl refl
+accepts_at accepted Primed book = accepts_primed (full_at accepted (record book { state = Primed })) accepted (record book { state = Primed }) refl refl
 accepts_at accepted Running book =
     let old : Book = record book { state = Running } in
     accepts_grown accepted Running old (λ h s. let p = h refl in omega arith) (goes_on_same old (grown accepted Running old) refl)
@@ -170,20 +176,24 @@ pub record IsUntold (device : DeviceSeen) (mixed : ℕ) (old new : Book) (runs :
   pub pieces : All (RunIsValid device mixed) runs
   pub own : All HasRate runs
 
-carried_newest : (book : Book) (runs : List Run) → IsNewest book runs → IsCarried (is_draining book.state) book runs
-carried_newest book [] h = h
-carried_newest book (run ∷ runs) h = h
+carried_newest : (old new : Book) (runs : List Run) → new.settings ≡ old.settings → new.written ≡ old.written → IsNewest old runs → IsCarried (is_draining old.state) new runs
+carried_newest old new [] settings written h = h
+carried_newest old new (run ∷ runs) settings written h = (h.0 ∙ sym settings, h.1 ∙ sym written, h.2)
 
--- an event that leaves the book
-pub untold-same : (device : DeviceSeen) (mixed : ℕ) (book : Book) (runs : List Run) → SlotIsValid device mixed book runs → IsUntold device mixed book book runs
-untold-same device mixed book runs v = record {
-  settings = v.settings;
-  started = v.started;
-  goes_on = λ h. goes_on_same book book refl;
-  newest = λ h. carried_newest book runs (v.newest h);
+-- a book whose counts stay
+untold_stays : (device : DeviceSeen) (mixed : ℕ) (old new : Book) (runs : List Run) → Stays old new → IsRate new.settings.rate → SlotIsValid device mixed old runs → IsUntold device mixed old new runs
+untold_stays device mixed old new runs s rate v = record {
+  settings = rate;
+  started = s.starts v.started;
+  goes_on = λ h. record { plays = s.plays; drains = s.drains };
+  newest = λ h. carried_newest old new runs s.settings s.written (v.newest (let written = s.written in omega arith));
   pieces = v.pieces;
   own = v.own;
 }
+
+-- an event that leaves the book
+pub untold-same : (device : DeviceSeen) (mixed : ℕ) (book : Book) (runs : List Run) → SlotIsValid device mixed book runs → IsUntold device mixed book book runs
+untold-same device mixed book runs v = untold_stays device mixed book book runs (stays-same book) v.settings v
 
 -- a book with nothing written is valid over any runs of the past
 pub untold-empty : (device : DeviceSeen) (mixed : ℕ) (old new : Book) (runs : List Run) → new.written ≡ 0 → is_started new.state ≡ false → IsRate new.settings.rate → All (RunIsValid device mixed) runs → All HasRate runs
@@ -318,46 +328,15 @@ untold-taking device mixed bytes old new runs d a more v = record {
   own = taking-own bytes old runs v.settings v.own;
 }
 
--- ---- a close
+-- ---- a close, a request
 
--- a change of the state alone
-untold_state : (device : DeviceSeen) (mixed : ℕ) (state : State) (book : Book) (runs : List Run) → (is_started state ≡ true → 0 < book.written) → GoesOn book (record book { state = state }) → SlotIsValid device mixed book runs
-    → IsUntold device mixed book (record book { state = state }) runs
-untold_state device mixed state book runs started on v = record {
-  settings = v.settings;
-  started = started;
-  goes_on = λ h. on;
-  newest = λ h. carried_newest book runs (v.newest h);
-  pieces = v.pieces;
-  own = v.own;
-}
-
-untold_close_running : (b : Bool) (device : DeviceSeen) (mixed : ℕ) (book : Book) (runs : List Run) → SlotIsValid device mixed (record book { state = Running }) runs
-    → IsUntold device mixed (record book { state = Running }) (let drained : Book = cond b (emptied Setup (record book { state = Draining false })) (record book { state = Draining false }) in closed_in drained.state drained) runs
-untold_close_running true device mixed book runs v = untold-empty device mixed (record book { state = Running }) (emptied Free book) runs refl refl v.settings v.pieces v.own
-untold_close_running false device mixed book runs v =
-    untold_state device mixed (Draining true) (record book { state = Running }) runs (λ e. v.started refl) (record { plays = λ e. refl; drains = λ e. refl }) v
-
-untold_close_primed : (b : Bool) (device : DeviceSeen) (mixed : ℕ) (book : Book) (runs : List Run) → nat_lt 0 (frames_written book) ≡ b → SlotIsValid device mixed (record book { state = Primed }) runs
-    → IsUntold device mixed (record book { state = Primed }) (let drained : Book = cond b (record book { state = Draining false }) (emptied Setup book) in closed_in drained.state drained) runs
-untold_close_primed true device mixed book runs e v =
-    untold_state device mixed (Draining true) (record book { state = Primed }) runs (λ s. bytes_above book.settings book.written (grind (arith, nat_tests)))
-    (goes_on_unstarted (record book { state = Primed }) (record book { state = Draining true }) refl) v
-untold_close_primed false device mixed book runs e v = untold-empty device mixed (record book { state = Primed }) (emptied Free book) runs refl refl v.settings v.pieces v.own
-
-untold_close_at : (state : State) (device : DeviceSeen) (mixed : ℕ) (book : Book) (runs : List Run) → SlotIsValid device mixed (record book { state = state }) runs
-    → IsUntold device mixed (record book { state = state }) (closing device (record book { state = state })) runs
-untold_close_at Free device mixed book runs v = untold-same device mixed (record book { state = Free }) runs v
-untold_close_at Setup device mixed book runs v =
-    untold_state device mixed Free (record book { state = Setup }) runs (λ e. cc) (goes_on_unstarted (record book { state = Setup }) (record book { state = Free }) refl) v
-untold_close_at Primed device mixed book runs v = untold_close_primed (nat_lt 0 (frames_written (record book { state = Primed }))) device mixed book runs refl v
-untold_close_at Running device mixed book runs v = untold_close_running (eqb book.given (len (rate_at device book) (frames_written book))) device mixed book runs v
-untold_close_at (Draining closed) device mixed book runs v =
-    untold_state device mixed (Draining true) (record book { state = Draining closed }) runs (λ e. v.started refl) (record { plays = λ e. refl; drains = λ e. refl }) v
-
--- a slot stays valid through a close
-pub untold-close : (device : DeviceSeen) (mixed : ℕ) (book : Book) (runs : List Run) → SlotIsValid device mixed book runs → IsUntold device mixed book (closing device book) runs
-untold-close device mixed book runs v = untold_close_at book.state device mixed book runs v
+-- a slot stays valid where the counts of its book stay, or nothing of its run
+pub untold-leaves : (device : DeviceSeen) (mixed : ℕ) (old new : Book) (runs : List Run) → Leaves old new → IsRate new.settings.rate → SlotIsValid device mixed old runs → IsUntold device mixed old new runs
+untold-leaves device mixed old new runs l rate v =
+    elim l.counts [
+      | inl kept ↦ untold_stays device mixed old new runs kept rate v
+      | inr over ↦ untold-empty device mixed old new runs over.written over.stopped rate v.pieces v.own
+    ]
 
 -- ---- an interrupt
 
@@ -445,13 +424,13 @@ untold_ended device mixed n old new runs d safe v settings none stopped =
 untold_refilled_draining : (b closed : Bool) (device : DeviceSeen) (mixed n : ℕ) (book : Book) (runs : List Run) → IsDevice device → BookIsSafe (rate_at device book) (record book { state = Draining closed })
     → SlotIsValid device mixed (record book { state = Draining closed }) runs
     → (let old : Book = record book { state = Draining closed } in let given : Book = gives (rate_at device book) n old in
-    IsUntold device (mixed + n) old (cond b (emptied (cond closed Free Setup) given) given) (playing device mixed n old runs))
+    IsUntold device (mixed + n) old (cond b (finished (cond closed Free Setup) given) given) (playing device mixed n old runs))
 untold_refilled_draining true true device mixed n book runs d safe v =
     let old : Book = record book { state = Draining true } in
-    untold_ended device mixed n old (emptied Free (gives (rate_at device book) n old)) runs d safe v refl refl refl
+    untold_ended device mixed n old (finished Free (gives (rate_at device book) n old)) runs d safe v refl refl refl
 untold_refilled_draining true false device mixed n book runs d safe v =
     let old : Book = record book { state = Draining false } in
-    untold_ended device mixed n old (emptied Setup (gives (rate_at device book) n old)) runs d safe v refl refl refl
+    untold_ended device mixed n old (finished Setup (gives (rate_at device book) n old)) runs d safe v refl refl refl
 untold_refilled_draining false closed device mixed n book runs d safe v =
     let old : Book = record book { state = Draining closed } in
     let given : Book = gives (rate_at device book) n old in

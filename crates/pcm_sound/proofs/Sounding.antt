@@ -5,15 +5,13 @@ use Rattle.std.specs.List.{range_with_len}
 use Rattle.std.proofs.lemmas.List.Elements.{All-head, All-tail}
 use Rattle.std.proofs.lemmas.Bool.Decides.{nat_tests}
 use Rattle.pcm_format.specs.declared.settings.Settings.{Settings}
-use Rattle.pcm_format.specs.declared.event.Event.{Event}
-use Rattle.pcm_format.specs.declared.event.Event.TheVariants.{Open, Write, Close, Intr}
+use Rattle.pcm_oss.specs.declared.event.Event.{Event}
 use Rattle.pcm_format.specs.Frames.{Frame, frame_at, frames, whole_frames}
 use Rattle.pcm_format.proofs.Ranges.{map-range-same, map-range-add}
 use Rattle.pcm_format.proofs.Streams.{frame_at-append, length-frames}
 use Rattle.pcm_format.proofs.Whole.{frame_fits, whole_frames-mono}
 use Rattle.pcm_rate.specs.Rates.{can}
 use Rattle.pcm_feeder.specs.declared.stage.Gain.{Gain}
-use Rattle.pcm_feeder.specs.Layouts.{unity}
 use Rattle.pcm_feeder.specs.Limits.{IsRate}
 use Rattle.pcm_plan.proofs.Through.{out-append}
 use Rattle.pcm_desk.proofs.Ratios.{plan-between-fits}
@@ -22,7 +20,7 @@ use Rattle.pcm_desk.specs.Device.{DeviceSeen, IsDevice, filters_of, plan_between
 use Rattle.pcm_desk.specs.Books.{giving, is_draining, is_started}
 use Rattle.pcm_desk.specs.Desk.{rate_at}
 use Rattle.pcm_sound.specs.Plans.{given_frame}
-use Rattle.pcm_sound.specs.Gains.{GainSet, begins, gains_after, last_gain}
+use Rattle.pcm_sound.specs.Gains.{GainSet, book_gain, gains_after, last_gain, sets_volume}
 use Rattle.pcm_sound.specs.Runs.{Piece, Run, begun_run, piece_of, taking, playing, marking, covers, run_frames, piece_frame, first_of, sounding}
 use Rattle.pcm_sound.specs.Valid.{PieceIsValid, RunIsValid, SlotIsValid, HasRate, frames_given, given_in}
 
@@ -177,13 +175,10 @@ sounding-playing_none device gain position n k book (run ∷ runs) v h =
     ]
 
 -- a gain that is set later doesn't count at a position of the past
-pub last_gain-later : (position p : ℕ) (event : Event) (old new : Book) (gains : List GainSet) → p < position → last_gain (gains_after position event old new gains) p ≡ last_gain gains p
-last_gain-later position p (Open fd way settings) old new gains h =
+pub last_gain-later : (position p : ℕ) (old new : Book) (gains : List GainSet) → p < position → last_gain (gains_after position old new gains) p ≡ last_gain gains p
+last_gain-later position p old new gains h =
     let later : nat_le position p ≡ false = grind (arith, nat_tests) in
-    elim (begins old new) as (λ (b : Bool). last_gain (cond b (record { position = position; gain = unity } ∷ gains) gains) p ≡ last_gain gains p) [
+    elim (sets_volume old new) as (λ (b : Bool). last_gain (cond b (record { position = position; gain = book_gain new } ∷ gains) gains) p ≡ last_gain gains p) [
       | true ↦ rw later refl
       | false ↦ refl
     ]
-last_gain-later position p (Write fd at count) old new gains h = refl
-last_gain-later position p (Close fd) old new gains h = refl
-last_gain-later position p (Intr n) old new gains h = refl

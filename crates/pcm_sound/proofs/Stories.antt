@@ -1,35 +1,41 @@
 -- A story stays valid through every event that fits, and what was mixed stays as it was.
 use Rattle.std.proofs.Common.{◌≡◌, ℕ, suc, zero, ◌+◌, ◌-◌, ◌<◌, ◌≤◌, Bool, true, false, cond, List, [], ◌∷◌, ◌++◌, length, get_or, map, drop, replicate, Option, Some, None, ◌⊎◌, inl, inr, refl, sym, ap, ◌∙◌, subst, arith, length-take, length-drop, get_or-set_same, get_or-set_other}
-use Rattle.std.specs.Prelude.{is_some, nat_le}
+use Rattle.std.specs.Prelude.{is_some, nat_le, not, eqb}
 use Rattle.std.proofs.lemmas.List.{get_or-map, get_or_past, get_or-replicate, length-replicate, set_past, length-map}
-use Rattle.std.proofs.lemmas.Bool.{cases_lt, cases_eq}
+use Rattle.std.proofs.lemmas.Bool.{cases_lt, cases_eq, eqb-true, not-false, or_parts}
+use Rattle.std.proofs.lemmas.Bool.Decides.{nat_tests}
 use Rattle.std.proofs.lemmas.List.Elements.{All-nil}
 use Rattle.pcm_format.specs.declared.settings.Settings.{Settings}
-use Rattle.pcm_format.specs.declared.event.Event.{Event}
-use Rattle.pcm_format.specs.declared.event.Event.TheVariants.{Open, Write, Close, Intr}
-use Rattle.pcm_format.specs.declared.event.Way.{Way}
+use Rattle.pcm_oss.specs.declared.event.Event.{Event}
+use Rattle.pcm_oss.specs.declared.event.Event.TheVariants.{Open, Write, Ioctl, Close, Intr}
+use Rattle.pcm_oss.specs.declared.event.Way.{Way}
+use Rattle.pcm_oss.specs.declared.request.Request.{Request}
 use Rattle.pcm_format.specs.declared.pool.Pool.{Pool}
-use Rattle.pcm_format.specs.declared.reply.Errno.TheVariants.{Exist}
+use Rattle.pcm_oss.specs.declared.reply.Errno.TheVariants.{Exist}
+use Rattle.pcm_oss.specs.Volumes.{gain_of}
+use Rattle.pcm_oss.proofs.Limits.{usual-fragments}
 use Rattle.pcm_format.specs.Pools.{bytes_at}
 use Rattle.pcm_feeder.specs.declared.stage.Gain.{Gain}
-use Rattle.pcm_feeder.specs.Layouts.{unity}
 use Rattle.pcm_feeder.specs.Limits.{IsRate}
 use Rattle.pcm_desk.specs.declared.book.Book.{Book}
 use Rattle.pcm_desk.specs.declared.device.Held.{Held}
 use Rattle.pcm_desk.specs.Device.{DeviceSeen, IsDevice, play_slots, rate_between}
 use Rattle.pcm_desk.specs.Books.{begun, is_draining, write_turn}
 use Rattle.pcm_desk.specs.Safe.{BookIsSafe}
-use Rattle.pcm_desk.specs.Desk.{Desk, DeskTurn, unopened, held_by, least_free, book_at, with_book, refusing, open_in, open_turn, write_on, close_on, closing, mixing, interrupt_turn, after, rate_at}
+use Rattle.pcm_desk.specs.Desk.{Desk, DeskTurn, unopened, held_by, least_free, book_at, with_book, with_descriptor, refusing, open_in, open_turn, write_on, asking, ioctl_on, close_on, closing, mixing, interrupt_turn, after, rate_at}
 use Rattle.pcm_desk.specs.Events.{Fits, frames_taken}
-use Rattle.pcm_desk.proofs.Safe.{unstarted, safe-begun, safe-write, safe-close, safe-refilled, settings-close, settings-refilled}
+use Rattle.pcm_desk.proofs.Safe.{unstarted, safe-begun, safe-write, safe-close, safe-refilled, settings-refilled}
+use Rattle.pcm_desk.proofs.Asking.{safe-ask}
+use Rattle.pcm_desk.proofs.Leaves.{ask-leaves, close-leaves, close-keeps}
 use Rattle.pcm_desk.proofs.Ratios.{ratio-between}
-use Rattle.pcm_sound.specs.Gains.{GainSet, begins, gains_after, last_gain}
+use Rattle.pcm_sound.specs.Gains.{GainSet, begins, book_gain, last_gain, sets_volume}
 use Rattle.pcm_sound.specs.Runs.{Run, taking, playing, carrying, marking, sounding}
 use Rattle.pcm_sound.specs.Story.{Story, story_at_start, told, told_all}
 use Rattle.pcm_sound.specs.DeviceList.{table_of}
 use Rattle.pcm_sound.specs.Valid.{RunIsValid, HasRate, SlotIsValid, StoryIsValid}
+use Rattle.pcm_sound.proofs.Rates.{ask-rate, ask-settings}
 use Rattle.pcm_sound.proofs.Sounding.{sounding-taking, sounding-playing, sounding-marking, last_gain-later}
-use Rattle.pcm_sound.proofs.Slots.{Accepts, WritesSome, IsUntold, writes-nothing, write_turn-writes, untold-same, untold-empty, untold-taking, untold-close, untold-mixing, valid-marking}
+use Rattle.pcm_sound.proofs.Slots.{Accepts, WritesSome, IsUntold, writes-nothing, write_turn-writes, untold-same, untold-empty, untold-taking, untold-leaves, untold-mixing, valid-marking}
 
 -- ---- the counts of a book
 
@@ -46,10 +52,16 @@ safe-written device length book d s safe =
     safe_settings device book (write_turn length book).book (write_turn-writes length book).accepts.settings
     (safe-write (rate_at device book) length book (ratio-between device book.settings d s) safe)
 
+-- through a request, which may change the rate in Setup alone
+pub safe-asking : (device : DeviceSeen) (request : Request) (book : Book) → IsDevice device → IsRate book.settings.rate → IsSafeAt device book → IsSafeAt device (asking device request book).book
+safe-asking device request book d s safe =
+    safe-ask (rate_at device book) (rate_at device (asking device request book).book) request book (ratio-between device book.settings d s) safe
+    (λ e. ap (rate_between device) (ask-settings (rate_at device book) request book s e))
+
 -- through a close
 pub safe-closing : (device : DeviceSeen) (book : Book) → IsDevice device → IsRate book.settings.rate → IsSafeAt device book → IsSafeAt device (closing device book)
 safe-closing device book d s safe =
-    safe_settings device book (closing device book) (settings-close (rate_at device book) book)
+    safe_settings device book (closing device book) (close-keeps (rate_at device book) book).settings
     (safe-close (rate_at device book) book (ratio-between device book.settings d s) safe)
 
 -- and through an interrupt
@@ -113,45 +125,68 @@ untold_with device mixed desk at slot book runs old new =
       | inr same ↦ subst (λ (b : Book). IsUntold device mixed (book_at device desk slot) b runs) (sym same) (untold-same device mixed (book_at device desk slot) runs old)
     ]
 
--- an open or a close leaves the slots valid, and the counts of the device
-pub record Opens (device : DeviceSeen) (mixed : ℕ) (old new : Desk) : Type 0 where
+-- an event that brings no bytes and takes no frames leaves the slots valid, and the counts of the device
+pub record LeavesSlots (device : DeviceSeen) (mixed : ℕ) (old new : Desk) : Type 0 where
   pub safe : (slot : ℕ) → IsSafeAt device (book_at device old slot) → IsSafeAt device (book_at device new slot)
-  pub slots : (slot : ℕ) (runs : List Run) → SlotIsValid device mixed (book_at device old slot) runs → SlotIsUntold device mixed old new slot runs
+  pub slots : (slot : ℕ) (runs : List Run) → IsSafeAt device (book_at device old slot) → SlotIsValid device mixed (book_at device old slot) runs → SlotIsUntold device mixed old new slot runs
   pub handed_same : new.handed ≡ old.handed
   pub mixed_same : new.mixed ≡ old.mixed
 
-stays : (device : DeviceSeen) (mixed : ℕ) (desk : Desk) → Opens device mixed desk desk
-stays device mixed desk = record { safe = λ slot s. s; slots = λ slot runs v. untold-same device mixed (book_at device desk slot) runs v; handed_same = refl; mixed_same = refl }
+stays : (device : DeviceSeen) (mixed : ℕ) (desk : Desk) → LeavesSlots device mixed desk desk
+stays device mixed desk = record { safe = λ slot s. s; slots = λ slot runs s v. untold-same device mixed (book_at device desk slot) runs v; handed_same = refl; mixed_same = refl }
 
-pub opens-open_in : (device : DeviceSeen) (mixed : ℕ) (found : Option ℕ) (desk : Desk) (fd : ℕ) (way : Way) (settings : Settings) → IsRate settings.rate → Opens device mixed desk (open_in found desk fd way settings).desk
-opens-open_in device mixed None desk fd way settings rate = stays device mixed desk
-opens-open_in device mixed (Some at) desk fd way settings rate = record {
-  safe = λ slot s. safe-with device desk at slot (begun settings) s (λ _. safe-begun (rate_between device settings) settings);
-  slots = λ slot runs v. untold_with device mixed desk at slot (begun settings) runs v (λ _. untold-empty device mixed (book_at device desk slot) (begun settings) runs refl refl rate v.pieces v.own);
+-- one book is set
+leaves-with : (device : DeviceSeen) (mixed : ℕ) (desk : Desk) (at : ℕ) (book : Book) → (IsSafeAt device (book_at device desk at) → IsSafeAt device book)
+    → ((runs : List Run) → IsSafeAt device (book_at device desk at) → SlotIsValid device mixed (book_at device desk at) runs → IsUntold device mixed (book_at device desk at) book runs)
+    → LeavesSlots device mixed desk (with_book desk at book)
+leaves-with device mixed desk at book safe valid = record {
+  safe = λ slot s. safe-with device desk at slot book s (λ e. safe (subst (λ (k : ℕ). IsSafeAt device (book_at device desk k)) e s));
+  slots = λ slot runs s v. untold_with device mixed desk at slot book runs v
+      (λ e. subst (λ (k : ℕ). IsUntold device mixed (book_at device desk k) book runs) (sym e)
+      (valid runs (subst (λ (k : ℕ). IsSafeAt device (book_at device desk k)) e s) (subst (λ (k : ℕ). SlotIsValid device mixed (book_at device desk k) runs) e v)));
   handed_same = refl;
   mixed_same = refl;
 }
 
-pub opens-open_turn : (device : DeviceSeen) (mixed : ℕ) (desk : Desk) (fd : ℕ) (way : Way) (settings : Settings) → IsRate settings.rate → Opens device mixed desk (open_turn desk fd way settings).desk
-opens-open_turn device mixed desk fd way settings rate =
-    elim (is_some (held_by desk fd)) as (λ (b : Bool). Opens device mixed desk (cond {A = DeskTurn} b (refusing desk Exist) (open_in (least_free desk.play) desk fd way settings)).desk) [
+-- a descriptor is set besides
+leaves-descriptor : (device : DeviceSeen) (mixed : ℕ) (old new : Desk) (fd : ℕ) (held : Option Held) → LeavesSlots device mixed old new → LeavesSlots device mixed old (with_descriptor new fd held)
+leaves-descriptor device mixed old new fd held l = record { safe = l.safe; slots = l.slots; handed_same = l.handed_same; mixed_same = l.mixed_same }
+
+-- an open sets the book of the least free slot
+pub leaves-open_in : (device : DeviceSeen) (mixed : ℕ) (found : Option ℕ) (desk : Desk) (fd : ℕ) (way : Way) (settings : Settings) → IsRate settings.rate → LeavesSlots device mixed desk (open_in found desk fd way settings).desk
+leaves-open_in device mixed None desk fd way settings rate = stays device mixed desk
+leaves-open_in device mixed (Some at) desk fd way settings rate =
+    leaves-descriptor device mixed desk (with_book desk at (begun settings)) fd (Some (record { way = way; slot = at }))
+    (leaves-with device mixed desk at (begun settings) (λ s. safe-begun (rate_between device settings) settings)
+    (λ runs s v. untold-empty device mixed (book_at device desk at) (begun settings) runs refl refl rate v.pieces v.own))
+
+-- or is refused
+pub leaves-open_turn : (device : DeviceSeen) (mixed : ℕ) (desk : Desk) (fd : ℕ) (way : Way) (settings : Settings) → IsRate settings.rate → LeavesSlots device mixed desk (open_turn desk fd way settings).desk
+leaves-open_turn device mixed desk fd way settings rate =
+    elim (is_some (held_by desk fd)) as (λ (b : Bool). LeavesSlots device mixed desk (cond {A = DeskTurn} b (refusing desk Exist) (open_in (least_free desk.play) desk fd way settings)).desk) [
       | true ↦ stays device mixed desk
-      | false ↦ opens-open_in device mixed (least_free desk.play) desk fd way settings rate
+      | false ↦ leaves-open_in device mixed (least_free desk.play) desk fd way settings rate
     ]
 
-pub opens-close_on : (device : DeviceSeen) (mixed : ℕ) (held : Option Held) (desk : Desk) (fd : ℕ) → IsDevice device → HaveRates device desk → Opens device mixed desk (close_on device held desk fd).desk
-opens-close_on device mixed None desk fd d rates = stays device mixed desk
-opens-close_on device mixed (Some held) desk fd d rates =
+-- a request leaves the counts of its book, or nothing of its run
+pub leaves-ioctl_on : (device : DeviceSeen) (mixed : ℕ) (held : Option Held) (desk : Desk) (request : Request) → IsDevice device → HaveRates device desk → LeavesSlots device mixed desk (ioctl_on device held desk request).desk
+leaves-ioctl_on device mixed None desk request d rates = stays device mixed desk
+leaves-ioctl_on device mixed (Some held) desk request d rates =
     let book : Book = book_at device desk held.slot in
-    record {
-      safe = λ slot s. safe-with device desk held.slot slot (closing device book) s
-          (λ e. safe-closing device book d (rates held.slot) (subst (λ (k : ℕ). IsSafeAt device (book_at device desk k)) e s));
-      slots = λ slot runs v. untold_with device mixed desk held.slot slot (closing device book) runs v
-          (λ e. subst (λ (k : ℕ). IsUntold device mixed (book_at device desk k) (closing device book) runs) (sym e)
-          (untold-close device mixed book runs (subst (λ (k : ℕ). SlotIsValid device mixed (book_at device desk k) runs) e v)));
-      handed_same = refl;
-      mixed_same = refl;
-    }
+    let asked : Book = (asking device request book).book in
+    leaves-with device mixed desk held.slot asked (safe-asking device request book d (rates held.slot))
+    (λ runs s v. untold-leaves device mixed book asked runs (ask-leaves (rate_at device book) request book s) (ask-rate (rate_at device book) request book v.settings) v)
+
+-- and so does a close
+pub leaves-close_on : (device : DeviceSeen) (mixed : ℕ) (held : Option Held) (desk : Desk) (fd : ℕ) → IsDevice device → HaveRates device desk → LeavesSlots device mixed desk (close_on device held desk fd).desk
+leaves-close_on device mixed None desk fd d rates = stays device mixed desk
+leaves-close_on device mixed (Some held) desk fd d rates =
+    let book : Book = book_at device desk held.slot in
+    let closed : Book = closing device book in
+    leaves-descriptor device mixed desk (with_book desk held.slot closed) fd None
+    (leaves-with device mixed desk held.slot closed (safe-closing device book d (rates held.slot))
+    (λ runs s v. untold-leaves device mixed book closed runs (close-leaves (rate_at device book) book)
+    (subst (λ (settings : Settings). IsRate settings.rate) (sym (close-keeps (rate_at device book) book).settings) v.settings) v))
 
 -- a write leaves each slot's book with some of its bytes, or as it was
 pub record Writes (device : DeviceSeen) (length : ℕ) (old new : Desk) : Type 0 where
@@ -219,10 +254,19 @@ pub record Keeps (device : DeviceSeen) (pool : Pool) (story : Story) (event : Ev
 rates_of : (device : DeviceSeen) (story : Story) → StoryIsValid device story → HaveRates device story.desk
 rates_of device story v slot = (v.slots slot).settings
 
+-- an event that leaves the slots valid, and their runs as they are
+keeps-left : (device : DeviceSeen) (pool : Pool) (story : Story) (event : Event) → LeavesSlots device story.desk.mixed story.desk (after device story.desk event).desk
+    → ((slot : ℕ) → story.runs slot ≡ carried_at device pool story event slot) → StoryIsValid device story → Keeps device pool story event
+keeps-left device pool story event l same v = record {
+  safe = λ slot. l.safe slot (v.safe slot);
+  slots = λ slot. subst (SlotIsUntold device story.desk.mixed story.desk (after device story.desk event).desk slot) (same slot) (l.slots slot (story.runs slot) (v.safe slot) (v.slots slot));
+  handed_same = l.handed_same;
+  mixed_same = l.mixed_same;
+}
+
 keeps-open : (device : DeviceSeen) (pool : Pool) (story : Story) (fd : ℕ) (way : Way) (settings : Settings) → IsRate settings.rate → StoryIsValid device story → Keeps device pool story (Open fd way settings)
 keeps-open device pool story fd way settings rate v =
-    let o = opens-open_turn device story.desk.mixed story.desk fd way settings rate in
-    record { safe = λ slot. o.safe slot (v.safe slot); slots = λ slot. o.slots slot (story.runs slot) (v.slots slot); handed_same = o.handed_same; mixed_same = o.mixed_same }
+    keeps-left device pool story (Open fd way settings) (leaves-open_turn device story.desk.mixed story.desk fd way settings rate) (λ slot. refl) v
 
 keeps-write : (device : DeviceSeen) (pool : Pool) (story : Story) (fd at count : ℕ) → at + count ≤ length pool.inline_bytes → StoryIsValid device story → Keeps device pool story (Write fd at count)
 keeps-write device pool story fd at count h v =
@@ -235,32 +279,40 @@ keeps-write device pool story fd at count h v =
       mixed_same = w.mixed_same;
     }
 
+keeps-ioctl : (device : DeviceSeen) (pool : Pool) (story : Story) (fd : ℕ) (request : Request) → StoryIsValid device story → Keeps device pool story (Ioctl fd request)
+keeps-ioctl device pool story fd request v =
+    keeps-left device pool story (Ioctl fd request) (leaves-ioctl_on device story.desk.mixed (held_by story.desk fd) story.desk request v.limits (rates_of device story v)) (λ slot. refl) v
+
 keeps-close : (device : DeviceSeen) (pool : Pool) (story : Story) (fd : ℕ) → StoryIsValid device story → Keeps device pool story (Close fd)
 keeps-close device pool story fd v =
-    let o = opens-close_on device story.desk.mixed (held_by story.desk fd) story.desk fd v.limits (rates_of device story v) in
-    record { safe = λ slot. o.safe slot (v.safe slot); slots = λ slot. o.slots slot (story.runs slot) (v.slots slot); handed_same = o.handed_same; mixed_same = o.mixed_same }
+    keeps-left device pool story (Close fd) (leaves-close_on device story.desk.mixed (held_by story.desk fd) story.desk fd v.limits (rates_of device story v)) (λ slot. refl) v
 
 -- such an event leaves the counts of the device
 pub keeps : (device : DeviceSeen) (pool : Pool) (story : Story) (event : Event) → Fits device pool event → frames_taken event ≡ 0 → StoryIsValid device story → Keeps device pool story event
 keeps device pool story (Open fd way settings) fits none v = keeps-open device pool story fd way settings fits.1 v
 keeps device pool story (Write fd at count) fits none v = keeps-write device pool story fd at count fits.2 v
+keeps device pool story (Ioctl fd request) fits none v = keeps-ioctl device pool story fd request v
 keeps device pool story (Close fd) fits none v = keeps-close device pool story fd v
 keeps device pool story (Intr n) fits none v = absurd (let some = fits.0 in omega arith)
 
--- every gain is still one
-ones-set : (b : Bool) (position p : ℕ) (gains : List GainSet) → last_gain gains p ≡ unity → last_gain (cond b (record { position = position; gain = unity } ∷ gains) gains) p ≡ unity
-ones-set false position p gains h = h
-ones-set true position p gains h = elim (nat_le position p) as (λ (b : Bool). cond b unity (last_gain gains p) ≡ unity) [ true ↦ refl | false ↦ h ]
+-- a volume that isn't set stays
+same_volume : (old new : Book) → sets_volume old new ≡ false → new.volume ≡ old.volume
+same_volume old new e = eqb-true new.volume old.volume (not-false (eqb new.volume old.volume) (or_parts (begins old new) (not (eqb new.volume old.volume)) e).1)
 
-ones-after : (position p : ℕ) (event : Event) (old new : Book) (gains : List GainSet) → last_gain gains p ≡ unity → last_gain (gains_after position event old new gains) p ≡ unity
-ones-after position p (Open fd way settings) old new gains h = ones-set (begins old new) position p gains h
-ones-after position p (Write fd at count) old new gains h = h
-ones-after position p (Close fd) old new gains h = h
-ones-after position p (Intr n) old new gains h = h
+-- from its position on a gain counts that was set, else the last one
+gain_set : (b : Bool) (position p : ℕ) (old new : Book) (gains : List GainSet) → sets_volume old new ≡ b → position ≤ p → last_gain gains p ≡ book_gain old
+    → last_gain (cond b (record { position = position; gain = book_gain new } ∷ gains) gains) p ≡ book_gain new
+gain_set true position p old new gains e later h = let here : nat_le position p ≡ true = grind (arith, nat_tests) in rw here refl
+gain_set false position p old new gains e later h = h ∙ ap gain_of (sym (same_volume old new e))
 
-gains-told : (device : DeviceSeen) (pool : Pool) (story : Story) (event : Event) → StoryIsValid device story → (slot position : ℕ) → last_gain ((told device pool story event).gains slot) position ≡ unity
-gains-told device pool story event v slot position =
-    ones-after story.desk.mixed position event (book_at device story.desk slot) (book_at device (after device story.desk event).desk slot) (story.gains slot) (v.gains slot position)
+-- from now on each slot has the gain of its book's volume
+gains-told : (device : DeviceSeen) (pool : Pool) (story : Story) (event : Event) → story.desk.mixed ≤ (after device story.desk event).desk.mixed → StoryIsValid device story
+    → (slot position : ℕ) → (after device story.desk event).desk.mixed ≤ position
+    → last_gain ((told device pool story event).gains slot) position ≡ book_gain (book_at device (after device story.desk event).desk slot)
+gains-told device pool story event grows v slot position later =
+    let old : Book = book_at device story.desk slot in
+    let new : Book = book_at device (after device story.desk event).desk slot in
+    gain_set (sets_volume old new) story.desk.mixed position old new (story.gains slot) refl (omega arith) (v.gains slot position (omega arith))
 
 -- a slot of the next desk is valid once its newest run was told of the event
 valid-at : (device : DeviceSeen) (pool : Pool) (story : Story) (event : Event) (mixed slot : ℕ) → IsDevice device → (after device story.desk event).desk.mixed ≡ mixed
@@ -278,7 +330,7 @@ valid-kept device pool story event k v = record {
   limits = v.limits;
   slots = λ slot. valid-at device pool story event story.desk.mixed slot v.limits k.mixed_same (k.slots slot);
   safe = k.safe;
-  gains = gains-told device pool story event v;
+  gains = gains-told device pool story event (let same = k.mixed_same in omega arith) v;
   mixed = k.mixed_same ∙ v.mixed ∙ sym k.handed_same;
 }
 
@@ -291,7 +343,7 @@ valid-interrupted device pool story n v = record {
       (subst (λ (b : Book). IsUntold device (story.desk.mixed + n) old b (playing device story.desk.mixed n old (story.runs slot))) (sym (book_at-mixing device story.desk n slot))
       (untold-mixing device story.desk.mixed n old (story.runs slot) v.limits (v.safe slot) (v.slots slot)));
   safe = λ slot. subst (IsSafeAt device) (sym (book_at-mixing device story.desk n slot)) (safe-mixing device n (book_at device story.desk slot) v.limits (v.slots slot).settings (v.safe slot));
-  gains = gains-told device pool story (Intr n) v;
+  gains = gains-told device pool story (Intr n) (omega arith) v;
   mixed = ap (λ frames. frames + n) v.mixed;
 }
 
@@ -299,6 +351,7 @@ valid-interrupted device pool story n v = record {
 pub valid-told : (device : DeviceSeen) (pool : Pool) (story : Story) (event : Event) → Fits device pool event → StoryIsValid device story → StoryIsValid device (told device pool story event)
 valid-told device pool story (Open fd way settings) fits v = valid-kept device pool story (Open fd way settings) (keeps-open device pool story fd way settings fits.1 v) v
 valid-told device pool story (Write fd at count) fits v = valid-kept device pool story (Write fd at count) (keeps-write device pool story fd at count fits.2 v) v
+valid-told device pool story (Ioctl fd request) fits v = valid-kept device pool story (Ioctl fd request) (keeps-ioctl device pool story fd request v) v
 valid-told device pool story (Close fd) fits v = valid-kept device pool story (Close fd) (keeps-close device pool story fd v) v
 valid-told device pool story (Intr n) fits v = valid-interrupted device pool story n v
 
@@ -321,8 +374,8 @@ valid-start device d = record {
     pieces = All-nil (RunIsValid device 0);
     own = All-nil HasRate;
   });
-  safe = λ slot. subst (IsSafeAt device) (sym (get_or-same (play_slots device) slot (unopened device))) (record { order = unstarted; fill = omega arith });
-  gains = λ slot position. refl;
+  safe = λ slot. subst (IsSafeAt device) (sym (get_or-same (play_slots device) slot (unopened device))) (record { order = unstarted; fill = omega arith; fragments = usual-fragments; volume = refl; told = omega arith });
+  gains = λ slot position l. ap book_gain (sym (get_or-same (play_slots device) slot (unopened device)));
   mixed = refl;
 }
 
@@ -335,6 +388,7 @@ sounding-carrying device pool story (Write fd at count) gain slot position v h =
     let new : Book = book_at device (after device story.desk (Write fd at count)).desk slot in
     sounding-taking device gain story.desk.mixed position (bytes_at pool at (new.written - old.written)) old (story.runs slot) v.limits (v.slots slot)
     (written_undrained pool at count old new ((writes-write_on device (held_by story.desk fd) story.desk count).slots slot))
+sounding-carrying device pool story (Ioctl fd request) gain slot position v h = refl
 sounding-carrying device pool story (Close fd) gain slot position v h = refl
 sounding-carrying device pool story (Intr n) gain slot position v h = sounding-playing device gain story.desk.mixed n position (book_at device story.desk slot) (story.runs slot) h
 
@@ -344,7 +398,7 @@ table_of-told device pool story event slot position v h =
     let old : Book = book_at device story.desk slot in
     let new : Book = book_at device (after device story.desk event).desk slot in
     let carried : List Run = carried_at device pool story event slot in
-    ap (λ (gain : Gain). sounding device gain (marking story.desk.mixed event old new carried) position) (last_gain-later story.desk.mixed position event old new (story.gains slot) h)
+    ap (λ (gain : Gain). sounding device gain (marking story.desk.mixed event old new carried) position) (last_gain-later story.desk.mixed position old new (story.gains slot) h)
     ∙ sounding-marking device (last_gain (story.gains slot) position) story.desk.mixed event old new carried position
     ∙ sounding-carrying device pool story event (last_gain (story.gains slot) position) slot position v h
 

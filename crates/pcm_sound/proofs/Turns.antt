@@ -14,6 +14,7 @@ use Rattle.pcm_desk.specs.Device.{DeviceSeen, IsDevice, mix_settings}
 use Rattle.pcm_desk.specs.Books.{giving, is_started}
 use Rattle.pcm_desk.specs.Desk.{rate_at}
 use Rattle.pcm_desk.proofs.Safe.{allowed-started}
+use Rattle.pcm_sound.specs.Gains.{book_gain}
 use Rattle.pcm_sound.specs.Plans.{given_frame, given_samples}
 use Rattle.pcm_sound.specs.Runs.{Run, run_frames, sounding, playing, newest_bytes}
 use Rattle.pcm_sound.specs.Mix.{adding}
@@ -36,15 +37,15 @@ given_samples-joined device gain settings bytes from count =
     ∙ ap (λ start. flat_map given (range_with_len start count)) (add-zero from)
     ∙ sym (flat_map-elements given (range_with_len from count))
 
--- the block of an interrupt with one slot more, whose gain is one gain at all of its positions
-abbrev pub SlotTurn : DeviceSeen → ℕ → ℕ → Gain → Book → List Run → (ℕ → Gain) → List ℕ → (ℕ → Frame) → Type 0
-SlotTurn device position n gain book runs gains bytes sum =
+-- the block of an interrupt with one slot more, which has the gain of its book's volume at all of its positions
+abbrev pub SlotTurn : DeviceSeen → ℕ → ℕ → Book → List Run → (ℕ → Gain) → List ℕ → (ℕ → Frame) → Type 0
+SlotTurn device position n book runs gains bytes sum =
     flat_map (λ k. adding (bits_of (mix_settings device).format) (sum k) (sounding device (gains k) (playing device position n book runs) (position + k))) (range_with_len 0 n)
-    ≡ turned device n gain book bytes (flat_map sum (range_with_len 0 n))
+    ≡ turned device n book bytes (flat_map sum (range_with_len 0 n))
 
-turn-silent : (device : DeviceSeen) (position n : ℕ) (gain : Gain) (book : Book) (runs : List Run) (gains : ℕ → Gain) (bytes : List ℕ) (sum : ℕ → Frame) → giving (rate_at device book) n book ≡ 0 → SlotIsValid device position book runs
-    → ((k : ℕ) → k < n → IsDeviceFrame device (sum k)) → SlotTurn device position n gain book runs gains bytes sum
-turn-silent device position n gain book runs gains bytes sum none v s =
+turn-silent : (device : DeviceSeen) (position n : ℕ) (book : Book) (runs : List Run) (gains : ℕ → Gain) (bytes : List ℕ) (sum : ℕ → Frame) → giving (rate_at device book) n book ≡ 0 → SlotIsValid device position book runs
+    → ((k : ℕ) → k < n → IsDeviceFrame device (sum k)) → SlotTurn device position n book runs gains bytes sum
+turn-silent device position n book runs gains bytes sum none v s =
     let size : ℕ = channels_of (mix_settings device).layout in
     let bits : ℕ = bits_of (mix_settings device).format in
     let given : ℕ → Option Frame = λ k. sounding device (gains k) (playing device position n book runs) (position + k) in
@@ -52,41 +53,41 @@ turn-silent device position n gain book runs gains bytes sum none v s =
     (λ k l h. sounding-playing_none device (gains k) position n k book runs v.pieces (omega arith)) in
     rw none block
 
-turn-started : (device : DeviceSeen) (position n : ℕ) (gain : Gain) (book : Book) (run : Run) (runs : List Run) (gains : ℕ → Gain) (bytes : List ℕ) (sum : ℕ → Frame) → IsDevice device → is_started book.state ≡ true
-    → SlotIsValid device position book (run ∷ runs) → bytes ≡ run.bytes → ((k : ℕ) → k < n → gains k ≡ gain)
-    → ((k : ℕ) → k < n → IsDeviceFrame device (sum k)) → SlotTurn device position n gain book (run ∷ runs) gains bytes sum
-turn-started device position n gain book run runs gains bytes sum d started v is one s =
+turn-started : (device : DeviceSeen) (position n : ℕ) (book : Book) (run : Run) (runs : List Run) (gains : ℕ → Gain) (bytes : List ℕ) (sum : ℕ → Frame) → IsDevice device → is_started book.state ≡ true
+    → SlotIsValid device position book (run ∷ runs) → bytes ≡ run.bytes → ((k : ℕ) → k < n → gains k ≡ book_gain book)
+    → ((k : ℕ) → k < n → IsDeviceFrame device (sum k)) → SlotTurn device position n book (run ∷ runs) gains bytes sum
+turn-started device position n book run runs gains bytes sum d started v is one s =
     let size : ℕ = channels_of (mix_settings device).layout in
     let bits : ℕ = bits_of (mix_settings device).format in
     let count : ℕ = giving (rate_at device book) n book in
     let newest = v.newest (v.started started) in
     let given : ℕ → Option Frame = λ k. sounding device (gains k) (playing device position n book (run ∷ runs)) (position + k) in
-    let add : ℕ → Frame = λ k. given_frame device book.settings (frames book.settings bytes) (book.given + k) gain in
+    let add : ℕ → Frame = λ k. given_frame device book.settings (frames book.settings bytes) (book.given + k) (book_gain book) in
     let add_is : (k : ℕ) → k < count → given k ≡ Some (add k) = λ k l.
     sounding-playing_given device (gains k) position n k book run runs started l
     ∙ ap (λ (g : Gain). Some (given_frame device run.settings (run_frames run) (book.given + k) g)) (one k (omega arith))
-    ∙ ap (λ (settings : Settings). Some (given_frame device settings (frames settings run.bytes) (book.given + k) gain)) newest.0
-    ∙ ap (λ (b : List ℕ). Some (given_frame device book.settings (frames book.settings b) (book.given + k) gain)) (sym is) in
+    ∙ ap (λ (settings : Settings). Some (given_frame device settings (frames settings run.bytes) (book.given + k) (book_gain book))) newest.0
+    ∙ ap (λ (b : List ℕ). Some (given_frame device book.settings (frames book.settings b) (book.given + k) (book_gain book))) (sym is) in
     let block = adding-block bits size count n sum given add (omega arith) s
-    (λ k l. length-given_frame device book.settings bytes (book.given + k) gain d v.settings)
+    (λ k l. length-given_frame device book.settings bytes (book.given + k) (book_gain book) d v.settings)
     add_is
     (λ k l h. sounding-playing_none device (gains k) position n k book (run ∷ runs) v.pieces l) in
     block
     ∙ ap (λ (xs : List ℤ). mixed bits (take (count * size) (flat_map sum (range_with_len 0 n))) xs ++ drop (count * size) (flat_map sum (range_with_len 0 n)))
-    (given_samples-joined device gain book.settings bytes book.given count)
+    (given_samples-joined device (book_gain book) book.settings bytes book.given count)
 
-turn-with : (device : DeviceSeen) (position n : ℕ) (gain : Gain) (book : Book) (runs : List Run) (gains : ℕ → Gain) (bytes : List ℕ) (sum : ℕ → Frame) → IsDevice device → is_started book.state ≡ true
-    → SlotIsValid device position book runs → (0 < book.written → bytes ≡ newest_bytes runs) → ((k : ℕ) → k < n → gains k ≡ gain)
-    → ((k : ℕ) → k < n → IsDeviceFrame device (sum k)) → SlotTurn device position n gain book runs gains bytes sum
-turn-with device position n gain book [] gains bytes sum d started v is one s = absurd (v.newest (v.started started))
-turn-with device position n gain book (run ∷ runs) gains bytes sum d started v is one s = turn-started device position n gain book run runs gains bytes sum d started v (is (v.started started)) one s
+turn-with : (device : DeviceSeen) (position n : ℕ) (book : Book) (runs : List Run) (gains : ℕ → Gain) (bytes : List ℕ) (sum : ℕ → Frame) → IsDevice device → is_started book.state ≡ true
+    → SlotIsValid device position book runs → (0 < book.written → bytes ≡ newest_bytes runs) → ((k : ℕ) → k < n → gains k ≡ book_gain book)
+    → ((k : ℕ) → k < n → IsDeviceFrame device (sum k)) → SlotTurn device position n book runs gains bytes sum
+turn-with device position n book [] gains bytes sum d started v is one s = absurd (v.newest (v.started started))
+turn-with device position n book (run ∷ runs) gains bytes sum d started v is one s = turn-started device position n book run runs gains bytes sum d started v (is (v.started started)) one s
 
 -- What a slot adds to the block of an interrupt is what its plan makes of the bytes of its run, and no more.
-pub turn : (device : DeviceSeen) (position n : ℕ) (gain : Gain) (book : Book) (runs : List Run) (gains : ℕ → Gain) (bytes : List ℕ) (sum : ℕ → Frame) → IsDevice device
-    → SlotIsValid device position book runs → (0 < book.written → bytes ≡ newest_bytes runs) → ((k : ℕ) → k < n → gains k ≡ gain)
-    → ((k : ℕ) → k < n → IsDeviceFrame device (sum k)) → SlotTurn device position n gain book runs gains bytes sum
-turn device position n gain book runs gains bytes sum d v is one s =
+pub turn : (device : DeviceSeen) (position n : ℕ) (book : Book) (runs : List Run) (gains : ℕ → Gain) (bytes : List ℕ) (sum : ℕ → Frame) → IsDevice device
+    → SlotIsValid device position book runs → (0 < book.written → bytes ≡ newest_bytes runs) → ((k : ℕ) → k < n → gains k ≡ book_gain book)
+    → ((k : ℕ) → k < n → IsDeviceFrame device (sum k)) → SlotTurn device position n book runs gains bytes sum
+turn device position n book runs gains bytes sum d v is one s =
     elim (cases_lt 0 (giving (rate_at device book) n book)) [
-      | inl some ↦ turn-with device position n gain book runs gains bytes sum d (allowed-started book.state (rate_at device book) book (omega arith)) v is one s
-      | inr none ↦ turn-silent device position n gain book runs gains bytes sum (omega arith) v s
+      | inl some ↦ turn-with device position n book runs gains bytes sum d (allowed-started book.state (rate_at device book) book (omega arith)) v is one s
+      | inr none ↦ turn-silent device position n book runs gains bytes sum (omega arith) v s
     ]

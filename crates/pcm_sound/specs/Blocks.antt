@@ -2,18 +2,18 @@
 use Rattle.std.specs.Prelude.{ℕ, ◌*◌, List, ◌++◌, take, drop, ℤ}
 use Rattle.pcm_format.specs.Formats.{bits_of}
 use Rattle.pcm_format.specs.Layouts.{channels_of}
-use Rattle.pcm_feeder.specs.declared.stage.Gain.{Gain}
 use Rattle.pcm_mix.specs.Mix.{mixed}
 use Rattle.pcm_desk.specs.declared.book.Book.{Book}
 use Rattle.pcm_desk.specs.Device.{DeviceSeen, mix_settings}
 use Rattle.pcm_desk.specs.Books.{giving}
 use Rattle.pcm_desk.specs.Desk.{rate_at}
+use Rattle.pcm_sound.specs.Gains.{book_gain}
 use Rattle.pcm_sound.specs.Plans.{given_samples}
 
--- a block of the mix once a channel gave its next frames to the front of it, at a gain: its book counts the bytes of its run
-abbrev pub turned : DeviceSeen → ℕ → Gain → Book → List ℕ → List ℤ → List ℤ
-turned device n gain book bytes sum =
+-- a block of the mix once a channel gave its next frames to the front of it, at its volume: its book counts the bytes of its run
+abbrev pub turned : DeviceSeen → ℕ → Book → List ℕ → List ℤ → List ℤ
+turned device n book bytes sum =
     let count : ℕ = giving (rate_at device book) n book in
     let size : ℕ = channels_of (mix_settings device).layout in
-    mixed (bits_of (mix_settings device).format) (take (count * size) sum) (given_samples device gain book.settings bytes book.given count)
+    mixed (bits_of (mix_settings device).format) (take (count * size) sum) (given_samples device (book_gain book) book.settings bytes book.given count)
     ++ drop (count * size) sum

@@ -1,9 +1,8 @@
 -- The gain of a slot at each position: what was set last, by the frames mixed when it was set.
-use Rattle.std.specs.Prelude.{ℕ, Bool, ◌&&◌, not, nat_le, if◌then◌else◌, List, [], ◌∷◌}
-use Rattle.pcm_format.specs.declared.event.Event.{Event}
-use Rattle.pcm_format.specs.declared.event.Event.TheVariants.{Open, Write, Close, Intr}
+use Rattle.std.specs.Prelude.{ℕ, Bool, ◌&&◌, ◌||◌, not, nat_le, ◌==◌, if◌then◌else◌, List, [], ◌∷◌}
 use Rattle.pcm_feeder.specs.declared.stage.Gain.{Gain}
 use Rattle.pcm_feeder.specs.Layouts.{unity}
+use Rattle.pcm_oss.specs.Volumes.{gain_of}
 use Rattle.pcm_desk.specs.declared.book.Book.{Book}
 use Rattle.pcm_desk.specs.Books.{is_free}
 
@@ -12,17 +11,22 @@ pub record GainSet : Type 0 where
   pub position : ℕ
   pub gain : Gain
 
+-- the gain of a book's volume
+abbrev pub book_gain : Book → Gain
+book_gain book = gain_of book.volume
+
 -- a slot that was free is open
 abbrev pub begins : Book → Book → Bool
 begins old new = is_free old.state && not (is_free new.state)
 
--- The gains of a slot after an event, the newest first, from its book before and after. An opening begins with one on both sides.
-abbrev pub gains_after : ℕ → Event → Book → Book → List GainSet → List GainSet
-gains_after position (Open fd way settings) old new gains =
-    if begins old new then record { position = position; gain = unity } ∷ gains else gains
-gains_after position (Write fd at count) old new gains = gains
-gains_after position (Close fd) old new gains = gains
-gains_after position (Intr n) old new gains = gains
+-- the volume of a slot is set: an opening begins with one, or it changes
+abbrev pub sets_volume : Book → Book → Bool
+sets_volume old new = begins old new || not (new.volume == old.volume)
+
+-- the gains of a slot after an event, the newest first, from its book before and after
+abbrev pub gains_after : ℕ → Book → Book → List GainSet → List GainSet
+gains_after position old new gains =
+    if sets_volume old new then record { position = position; gain = book_gain new } ∷ gains else gains
 
 -- the gain at a position: the last one that was set there or before
 abbrev pub last_gain : List GainSet → ℕ → Gain

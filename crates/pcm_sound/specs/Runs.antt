@@ -1,8 +1,10 @@
 -- A run is what a client wrote from an empty ring to the end of its drain, and where its frames were mixed.
-use Rattle.std.specs.Prelude.{ℕ, ◌+◌, ◌-◌, Bool, false, not, ◌&&◌, ◌||◌, nat_lt, nat_le, ◌==◌, if◌then◌else◌, List, [], ◌∷◌, ◌++◌, Option, Some, None, find}
+use Rattle.std.specs.Prelude.{ℕ, ◌+◌, ◌-◌, Bool, true, false, not, ◌&&◌, ◌||◌, nat_lt, nat_le, ◌==◌, if◌then◌else◌, List, [], ◌∷◌, ◌++◌, Option, Some, None, find}
 use Rattle.pcm_format.specs.declared.settings.Settings.{Settings}
-use Rattle.pcm_format.specs.declared.event.Event.{Event}
-use Rattle.pcm_format.specs.declared.event.Event.TheVariants.{Open, Write, Close, Intr}
+use Rattle.pcm_oss.specs.declared.event.Event.{Event}
+use Rattle.pcm_oss.specs.declared.event.Event.TheVariants.{Open, Write, Ioctl, Close, Intr}
+use Rattle.pcm_oss.specs.declared.request.Request.{Request}
+use Rattle.pcm_oss.specs.declared.request.Request.TheVariants.{SetFmt, Speed, Channels, GetFmts, GetCaps, GetBlkSize, SetFragment, GetOSpace, GetISpace, GetOPtr, GetIPtr, GetODelay, GetError, SetTrigger, GetTrigger, SetPlayVol, GetPlayVol, Post, Sync, Halt}
 use Rattle.pcm_format.specs.declared.pool.Pool.{Pool}
 use Rattle.pcm_format.specs.Frames.{Frame, frames}
 use Rattle.pcm_format.specs.Pools.{bytes_at}
@@ -12,6 +14,7 @@ use Rattle.pcm_desk.specs.declared.book.State.{State}
 use Rattle.pcm_desk.specs.declared.book.State.TheVariants.{Free, Setup, Primed, Running, Draining}
 use Rattle.pcm_desk.specs.Device.{DeviceSeen}
 use Rattle.pcm_desk.specs.Books.{giving, is_draining, is_started}
+use Rattle.pcm_desk.specs.Requests.{has_play_bit}
 use Rattle.pcm_desk.specs.Desk.{Desk, mixed_by, rate_at}
 use Rattle.pcm_sound.specs.Plans.{given_frame}
 
@@ -79,10 +82,34 @@ starts old new = not (is_started old.state) && is_started new.state
 abbrev pub ends : Book → Book → Bool
 ends old new = is_started old.state && not (is_started new.state)
 
--- whether an event drops what it ends; so far a run ends by its drain alone
+-- whether a request drops what it ends: a halt does, and a trigger that is set off
+abbrev pub asks_drop : Request → Bool
+asks_drop (SetFmt code) = false
+asks_drop (Speed rate) = false
+asks_drop (Channels channels) = false
+asks_drop GetFmts = false
+asks_drop GetCaps = false
+asks_drop GetBlkSize = false
+asks_drop (SetFragment arg) = false
+asks_drop GetOSpace = false
+asks_drop GetISpace = false
+asks_drop GetOPtr = false
+asks_drop GetIPtr = false
+asks_drop GetODelay = false
+asks_drop GetError = false
+asks_drop (SetTrigger bits) = not (has_play_bit bits)
+asks_drop GetTrigger = false
+asks_drop (SetPlayVol volume) = false
+asks_drop GetPlayVol = false
+asks_drop Post = false
+asks_drop Sync = false
+asks_drop Halt = true
+
+-- whether an event drops what it ends; what else ends a run is its drain
 abbrev pub drops : Event → Bool
 drops (Open fd way settings) = false
 drops (Write fd at count) = false
+drops (Ioctl fd request) = asks_drop request
 drops (Close fd) = false
 drops (Intr n) = false
 
@@ -103,6 +130,7 @@ marking position event old new (run ∷ runs) = marked position event old new ru
 abbrev pub carrying : DeviceSeen → Pool → Desk → Event → Book → Book → List Run → List Run
 carrying device pool desk (Open fd way settings) old new runs = runs
 carrying device pool desk (Write fd at count) old new runs = taking (bytes_at pool at (new.written - old.written)) old runs
+carrying device pool desk (Ioctl fd request) old new runs = runs
 carrying device pool desk (Close fd) old new runs = runs
 carrying device pool desk (Intr n) old new runs = playing device desk.mixed (mixed_by device desk n) old runs
 

@@ -1,6 +1,6 @@
 -- What a list of events comes to: the desk, and for each slot its runs and its gains.
 use Rattle.std.specs.Prelude.{ℕ, List, [], ◌∷◌}
-use Rattle.pcm_format.specs.declared.event.Event.{Event}
+use Rattle.pcm_oss.specs.declared.event.Event.{Event}
 use Rattle.pcm_format.specs.declared.pool.Pool.{Pool}
 use Rattle.pcm_desk.specs.Device.{DeviceSeen}
 use Rattle.pcm_desk.specs.Desk.{Desk, desk_at_start, book_at, after}
@@ -25,7 +25,7 @@ told device pool story event =
     record {
       desk = new;
       runs = λ slot. runs_after device pool story.desk event (book_at device story.desk slot) (book_at device new slot) (story.runs slot);
-      gains = λ slot. gains_after story.desk.mixed event (book_at device story.desk slot) (book_at device new slot) (story.gains slot);
+      gains = λ slot. gains_after story.desk.mixed (book_at device story.desk slot) (book_at device new slot) (story.gains slot);
     }
 
 -- a list of events

@@ -4,14 +4,13 @@ use Rattle.std.specs.Prelude.{◌≡◌, ℕ, ◌+◌, ◌<◌, ◌≤◌, Bool,
 use Rattle.pcm_format.specs.Frames.{whole_frames}
 use Rattle.pcm_rate.specs.declared.rate.Rate.{Rate}
 use Rattle.pcm_rate.specs.Rates.{can, len}
-use Rattle.pcm_feeder.specs.Layouts.{unity}
 use Rattle.pcm_feeder.specs.Limits.{IsRate}
 use Rattle.pcm_desk.specs.declared.book.Book.{Book}
 use Rattle.pcm_desk.specs.Device.{DeviceSeen, IsDevice, rate_between}
 use Rattle.pcm_desk.specs.Books.{is_draining, is_started}
 use Rattle.pcm_desk.specs.Safe.{BookIsSafe}
 use Rattle.pcm_desk.specs.Desk.{book_at, rate_at}
-use Rattle.pcm_sound.specs.Gains.{last_gain}
+use Rattle.pcm_sound.specs.Gains.{book_gain, last_gain}
 use Rattle.pcm_sound.specs.Runs.{Piece, Run}
 use Rattle.pcm_sound.specs.Story.{Story}
 
@@ -54,7 +53,7 @@ pub record StoryIsValid (device : DeviceSeen) (story : Story) : Type 0 where
   pub limits : IsDevice device
   pub slots : (slot : ℕ) → SlotIsValid device story.desk.mixed (book_at device story.desk slot) (story.runs slot)
   pub safe : (slot : ℕ) → BookIsSafe (rate_at device (book_at device story.desk slot)) (book_at device story.desk slot)
-  -- every gain is one so far
-  pub gains : (slot position : ℕ) → last_gain (story.gains slot) position ≡ unity
+  -- from now on each slot has the gain of its book's volume
+  pub gains : (slot position : ℕ) → story.desk.mixed ≤ position → last_gain (story.gains slot) position ≡ book_gain (book_at device story.desk slot)
   -- what stands for all frames that were handed over is mixed
   pub mixed : story.desk.mixed ≡ story.desk.handed
