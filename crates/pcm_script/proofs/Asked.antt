@@ -11,12 +11,13 @@ use Rattle.pcm_feeder.specs.Limits.{IsRate}
 use Rattle.pcm_desk.specs.declared.limits.TheConstants.{DESCRIPTORS, WRITE_BYTES}
 use Rattle.pcm_desk.specs.Device.{DeviceSeen, block_frames, ring_frames}
 use Rattle.pcm_script.specs.declared.fault.ScriptKind.{ScriptKind}
-use Rattle.pcm_script.specs.declared.fault.ScriptKind.TheVariants.{Word, Unbuilt}
+use Rattle.pcm_script.specs.declared.fault.ScriptKind.TheVariants.{Word, Name, Unbuilt}
 use Rattle.pcm_script.specs.declared.fault.LineFault.{LineFault}
 use Rattle.pcm_script.specs.declared.line_event.LineEvent.{LineEvent}
-use Rattle.pcm_script.specs.declared.line_event.LineEvent.TheVariants.{Open, Write, Close, Intr}
+use Rattle.pcm_script.specs.declared.line_event.LineEvent.TheVariants.{Open, Write, Ioctl, Close, Intr}
 use Rattle.pcm_script.specs.Numbers.{number_in, within, number_within}
-use Rattle.pcm_script.specs.Commands.{descriptor_in, plays_in, format_in, layout_in, rate_in, short_bytes, bytes_in, open_line, write_line, close_line, interrupt_line, command_line, line_event}
+use Rattle.pcm_script.specs.Requests.{as_full, as_plain, request_named}
+use Rattle.pcm_script.specs.Commands.{descriptor_in, plays_in, or_fault, format_in, layout_in, rate_in, short_bytes, bytes_in, argument_in, open_line, write_line, ioctl_line, close_line, interrupt_line, command_line, line_event}
 use Rattle.pcm_script.specs.Answers.{Asks}
 use Rattle.pcm_script.specs.Collecting.{own_bytes}
 use Rattle.pcm_script.proofs.Judgements.{IfOk-then, IfOk-after, IfOk-either}
@@ -29,6 +30,7 @@ pub record HasBlocks (device : DeviceSeen) : Type 0 where
 abbrev pub IsWithin : DeviceSeen → LineEvent → Type 0
 IsWithin device (Open fd plays settings) = (fd < DESCRIPTORS) × IsRate settings.rate
 IsWithin device (Write fd bytes) = (fd < DESCRIPTORS) × (length bytes ≤ WRITE_BYTES)
+IsWithin device (Ioctl fd request) = fd < DESCRIPTORS
 IsWithin device (Close fd) = fd < DESCRIPTORS
 IsWithin device (Intr frames) = HasBlocks device → (0 < frames) × (frames ≤ ring_frames device)
 
@@ -81,6 +83,21 @@ write_line-within device (d ∷ h ∷ []) =
     (λ fd low. IfOk-then (bytes_in h) _ _ (IsWithin device) (bytes_in-room h) (λ bytes short. (low, short)))
 write_line-within device (d ∷ h ∷ x ∷ more) = tt
 
+ioctl_line-within : (device : DeviceSeen) (arguments : List (List ℕ)) → IfOk (ioctl_line arguments) (IsWithin device)
+unfolding ioctl_line
+ioctl_line-within device [] = tt
+ioctl_line-within device (d ∷ []) = tt
+ioctl_line-within device (d ∷ name ∷ []) =
+    IfOk-after (as_plain (request_named name)) _ (IsWithin device)
+    (λ named. IfOk-then (descriptor_in d) _ _ (IsWithin device) (descriptor-range d)
+    (λ fd low. IfOk-after (or_fault named Name) _ (IsWithin device) (λ request. low)))
+ioctl_line-within device (d ∷ name ∷ a ∷ []) =
+    IfOk-after (as_full (request_named name)) _ (IsWithin device)
+    (λ named. IfOk-then (descriptor_in d) _ _ (IsWithin device) (descriptor-range d)
+    (λ fd low. IfOk-after (or_fault named Name) _ (IsWithin device)
+    (λ setter. IfOk-after (argument_in setter a) _ (IsWithin device) (λ argument. low))))
+ioctl_line-within device (d ∷ name ∷ a ∷ x ∷ more) = tt
+
 close_line-within : (device : DeviceSeen) (arguments : List (List ℕ)) → IfOk (close_line arguments) (IsWithin device)
 unfolding close_line
 close_line-within device [] = tt
@@ -112,11 +129,11 @@ unfolding command_line
 command_line-within device word arguments =
     (either device (bytes_eq word (codes "open")) (record { kept = open_line-within device arguments })
     (either device (bytes_eq word (codes "write")) (record { kept = write_line-within device arguments })
+    (either device (bytes_eq word (codes "ioctl")) (record { kept = ioctl_line-within device arguments })
     (either device (bytes_eq word (codes "close")) (record { kept = close_line-within device arguments })
     (either device (bytes_eq word (codes "intr")) (record { kept = interrupt_line-within device arguments })
     (either device (bytes_eq word (codes "send")) (refused device Unbuilt)
-    (either device (bytes_eq word (codes "read")) (refused device Unbuilt)
-    (either device (bytes_eq word (codes "ioctl")) (refused device Unbuilt) (refused device Word)))))))).kept
+    (either device (bytes_eq word (codes "read")) (refused device Unbuilt) (refused device Word)))))))).kept
 
 -- what each line asks for is within
 pub line_event-within : (device : DeviceSeen) (words : List (List ℕ))
@@ -130,6 +147,7 @@ line_event-within device (word ∷ arguments) =
 own_bytes-room : (device : DeviceSeen) (line : LineEvent) → IsWithin device line → length (own_bytes line) ≤ WRITE_BYTES
 own_bytes-room device (Open fd plays settings) within = omega arith
 own_bytes-room device (Write fd bytes) within = within.1
+own_bytes-room device (Ioctl fd request) within = omega arith
 own_bytes-room device (Close fd) within = omega arith
 own_bytes-room device (Intr frames) within = omega arith
 

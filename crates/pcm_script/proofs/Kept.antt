@@ -6,8 +6,8 @@ use Rattle.std.proofs.lemmas.List.{length-append}
 use Rattle.std.proofs.lemmas.List.Elements.{All-nil, All-push, All-weaker}
 use Rattle.std.proofs.lemmas.List.Sums.{sum_by-append}
 use Rattle.pcm_format.specs.declared.pool.Pool.{Pool}
-use Rattle.pcm_format.specs.declared.event.Event.{Event}
-use Rattle.pcm_format.specs.declared.event.Event.TheVariants as events
+use Rattle.pcm_oss.specs.declared.event.Event.{Event}
+use Rattle.pcm_oss.specs.declared.event.Event.TheVariants as events
 use Rattle.pcm_desk.specs.declared.limits.TheConstants.{DEVICE_BYTES, EVENTS}
 use Rattle.pcm_desk.specs.Device.{DeviceSeen, device_frame_bytes}
 use Rattle.pcm_desk.specs.Events.{Fits, all_frames_taken, frames_taken}
@@ -15,7 +15,7 @@ use Rattle.pcm_script.specs.declared.fault.ScriptKind.{ScriptKind}
 use Rattle.pcm_script.specs.declared.fault.ScriptKind.TheVariants.{Long}
 use Rattle.pcm_script.specs.declared.limits.TheConstants.{TEXT_BYTES}
 use Rattle.pcm_script.specs.declared.line_event.LineEvent.{LineEvent}
-use Rattle.pcm_script.specs.declared.line_event.LineEvent.TheVariants.{Open, Write, Close, Intr}
+use Rattle.pcm_script.specs.declared.line_event.LineEvent.TheVariants.{Open, Write, Ioctl, Close, Intr}
 use Rattle.pcm_script.specs.declared.script.Script.{Script}
 use Rattle.pcm_script.specs.Words.{lines_of, words_of}
 use Rattle.pcm_script.specs.Commands.{line_event}
@@ -36,6 +36,7 @@ Fits-more : (device : DeviceSeen) (few many : Pool) (event : Event) → length f
     → Fits device few event → Fits device many event
 Fits-more device few many (events.Open fd way settings) more fits = fits
 Fits-more device few many (events.Write fd at len) more fits = (fits.0, fits.1, omega arith)
+Fits-more device few many (events.Ioctl fd request) more fits = fits
 Fits-more device few many (events.Close fd) more fits = fits
 Fits-more device few many (events.Intr frames) more fits = fits
 
@@ -44,6 +45,7 @@ event_at-fits : (device : DeviceSeen) (script : Script) (line : LineEvent) → H
     → Fits device (pool_of (script_with script line)) (event_at (length script.inline_bytes) line)
 event_at-fits device script (Open fd plays settings) blocks within = within
 event_at-fits device script (Write fd bytes) blocks within = (within.0, within.1, omega (arith, length-append script.inline_bytes bytes))
+event_at-fits device script (Ioctl fd request) blocks within = within
 event_at-fits device script (Close fd) blocks within = within
 event_at-fits device script (Intr frames) blocks within = within blocks
 
@@ -51,6 +53,7 @@ event_at-fits device script (Intr frames) blocks within = within blocks
 frames_taken-event_at : (place : ℕ) (line : LineEvent) → frames_taken (event_at place line) ≡ frames_asked line
 frames_taken-event_at place (Open fd plays settings) = refl
 frames_taken-event_at place (Write fd bytes) = refl
+frames_taken-event_at place (Ioctl fd request) = refl
 frames_taken-event_at place (Close fd) = refl
 frames_taken-event_at place (Intr frames) = refl
 

@@ -1,21 +1,22 @@
 -- How the events of lines are collected: where their bytes stand, and what limits a script has.
 use Rattle.std.specs.Prelude.{ℕ, ◌+◌, ◌*◌, Bool, true, not, ◌&&◌, nat_le, nat_lt, if◌then◌else◌, List, [], ◌∷◌, ◌++◌, length, Option, Some, None, Result, Ok, Err}
-use Rattle.pcm_format.specs.declared.event.Event.{Event}
-use Rattle.pcm_format.specs.declared.event.Event.TheVariants as events
-use Rattle.pcm_format.specs.declared.event.Way.TheVariants.{Play}
+use Rattle.pcm_oss.specs.declared.event.Event.{Event}
+use Rattle.pcm_oss.specs.declared.event.Event.TheVariants as events
+use Rattle.pcm_oss.specs.declared.event.Way.TheVariants.{Play}
 use Rattle.pcm_desk.specs.declared.limits.TheConstants.{DEVICE_BYTES, EVENTS}
 use Rattle.pcm_desk.specs.Device.{DeviceSeen, device_frame_bytes}
 use Rattle.pcm_desk.specs.Events.{frames_taken}
 use Rattle.pcm_script.specs.declared.fault.ScriptKind.{ScriptKind}
 use Rattle.pcm_script.specs.declared.fault.ScriptKind.TheVariants.{Long, Unbuilt}
 use Rattle.pcm_script.specs.declared.line_event.LineEvent.{LineEvent}
-use Rattle.pcm_script.specs.declared.line_event.LineEvent.TheVariants.{Open, Write, Close, Intr}
+use Rattle.pcm_script.specs.declared.line_event.LineEvent.TheVariants.{Open, Write, Ioctl, Close, Intr}
 use Rattle.pcm_script.specs.declared.script.Script.{Script}
 
 -- the bytes that a line names
 abbrev pub own_bytes : LineEvent → List ℕ
 own_bytes (Open fd plays settings) = []
 own_bytes (Write fd bytes) = bytes
+own_bytes (Ioctl fd request) = []
 own_bytes (Close fd) = []
 own_bytes (Intr frames) = []
 
@@ -23,6 +24,7 @@ own_bytes (Intr frames) = []
 abbrev pub event_at : ℕ → LineEvent → Event
 event_at place (Open fd plays settings) = events.Open fd Play settings
 event_at place (Write fd bytes) = events.Write fd place (length bytes)
+event_at place (Ioctl fd request) = events.Ioctl fd request
 event_at place (Close fd) = events.Close fd
 event_at place (Intr frames) = events.Intr frames
 
@@ -39,6 +41,7 @@ has_room device script frames =
 abbrev pub is_built : LineEvent → Bool
 is_built (Open fd plays settings) = plays
 is_built (Write fd bytes) = true
+is_built (Ioctl fd request) = true
 is_built (Close fd) = true
 is_built (Intr frames) = true
 

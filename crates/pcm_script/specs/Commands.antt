@@ -1,12 +1,13 @@
 -- What each command asks of its words, one judgement after another from left to right, and the event that it gives.
 use Rattle.std.specs.Prelude.{ℕ, ◌-◌, Bool, true, false, nat_le, if◌then◌else◌, List, [], ◌∷◌, length, Option, Some, None, Result, Ok, Err, codes}
+use Rattle.std.specs.Result.{result_ok}
 use Rattle.std.specs.Str.{bytes_eq}
 use Rattle.hex.specs.Hex.{decode_of}
 use Rattle.hex.specs.declared.error.FromHexError.{FromHexError}
 use Rattle.pcm_format.specs.declared.format.Format.{Format}
 use Rattle.pcm_format.specs.declared.layout.Layout.{Layout}
 use Rattle.pcm_format.specs.declared.settings.TheConstants.{RATE_LEAST, RATE_MOST}
-use Rattle.pcm_format.specs.Formats.{format_named}
+use Rattle.pcm_format.specs.Formats.{code_of, format_named}
 use Rattle.pcm_format.specs.Layouts.{layout_of}
 use Rattle.pcm_desk.specs.declared.device.TheConstants.{OPENING}
 use Rattle.pcm_desk.specs.declared.limits.TheConstants.{DESCRIPTORS, WRITE_BYTES}
@@ -14,9 +15,12 @@ use Rattle.pcm_desk.specs.Device.{DeviceSeen, block_frames, ring_frames}
 use Rattle.pcm_script.specs.declared.fault.ScriptKind.{ScriptKind}
 use Rattle.pcm_script.specs.declared.fault.ScriptKind.TheVariants.{Word, Count, Name, Hex, Range, Unbuilt}
 use Rattle.pcm_script.specs.declared.line_event.LineEvent.{LineEvent}
-use Rattle.pcm_script.specs.declared.line_event.LineEvent.TheVariants.{Open, Write, Close, Intr}
+use Rattle.pcm_script.specs.declared.line_event.LineEvent.TheVariants.{Open, Write, Ioctl, Close, Intr}
+use Rattle.pcm_script.specs.declared.request.Setter.{Setter}
+use Rattle.pcm_script.specs.declared.request.Setter.TheVariants.{SetFmt, Speed, Channels, SetFragment, SetTrigger, SetPlayVol}
 use Rattle.pcm_script.specs.Steps.{◌>>=◌}
-use Rattle.pcm_script.specs.Numbers.{number_in, number_within}
+use Rattle.pcm_script.specs.Numbers.{number_in, number_within, within}
+use Rattle.pcm_script.specs.Requests.{as_full, as_plain, request_named, request_with}
 
 -- a descriptor
 abbrev pub descriptor_in : List ℕ → Result ℕ ScriptKind
@@ -56,6 +60,30 @@ short_bytes (Err fault) = Err Hex
 abbrev pub bytes_in : List ℕ → Result (List ℕ) ScriptKind
 bytes_in word = if bytes_eq word (codes "-") then Ok [] else short_bytes (decode_of word)
 
+-- the greatest argument of a request
+abbrev pub most_argument : ℕ
+most_argument = 4294967295
+
+-- the code of the format that a word names; a word that names none must be a number, and is no name if it isn't one
+abbrev pub code_or_number : Option Format → List ℕ → Result ℕ ScriptKind
+code_or_number (Some format) word = Ok (code_of format)
+code_or_number None word = do
+  number ← or_fault (result_ok (number_in word)) Name
+  within 0 most_argument number
+
+-- the code of a format, by the format's name or as a number
+abbrev pub code_in : List ℕ → Result ℕ ScriptKind
+code_in word = code_or_number (format_named word) word
+
+-- the argument of a request: any number, and for a format its name as well
+abbrev pub argument_in : Setter → List ℕ → Result ℕ ScriptKind
+argument_in SetFmt word = code_in word
+argument_in Speed word = number_within 0 most_argument word
+argument_in Channels word = number_within 0 most_argument word
+argument_in SetFragment word = number_within 0 most_argument word
+argument_in SetTrigger word = number_within 0 most_argument word
+argument_in SetPlayVol word = number_within 0 most_argument word
+
 -- `open D WAY` and `open D WAY FORMAT CHANNELS RATE`
 unfoldable pub open_line : List (List ℕ) → Result LineEvent ScriptKind
 open_line (d ∷ way ∷ []) = do
@@ -79,6 +107,21 @@ write_line (d ∷ h ∷ []) = do
   Ok (Write fd bytes)
 write_line arguments = Err Count
 
+-- `ioctl D NAME` and `ioctl D NAME A`. The name says how many words there are. Whether it is one is judged in its turn.
+unfoldable pub ioctl_line : List (List ℕ) → Result LineEvent ScriptKind
+ioctl_line (d ∷ name ∷ []) = do
+  named ← as_plain (request_named name)
+  fd ← descriptor_in d
+  request ← or_fault named Name
+  Ok (Ioctl fd request)
+ioctl_line (d ∷ name ∷ a ∷ []) = do
+  named ← as_full (request_named name)
+  fd ← descriptor_in d
+  setter ← or_fault named Name
+  argument ← argument_in setter a
+  Ok (Ioctl fd (request_with setter argument))
+ioctl_line arguments = Err Count
+
 -- `close D`
 unfoldable pub close_line : List (List ℕ) → Result LineEvent ScriptKind
 close_line (d ∷ []) = do
@@ -94,16 +137,16 @@ interrupt_line device (n ∷ []) = do
   Ok (Intr frames)
 interrupt_line device arguments = Err Count
 
--- A command by its first word. The last three commands aren't built yet.
+-- A command by its first word. The last two commands aren't built yet.
 unfoldable pub command_line : DeviceSeen → List ℕ → List (List ℕ) → Result LineEvent ScriptKind
 command_line device word arguments =
     if bytes_eq word (codes "open") then open_line arguments
     else if bytes_eq word (codes "write") then write_line arguments
+    else if bytes_eq word (codes "ioctl") then ioctl_line arguments
     else if bytes_eq word (codes "close") then close_line arguments
     else if bytes_eq word (codes "intr") then interrupt_line device arguments
     else if bytes_eq word (codes "send") then Err Unbuilt
     else if bytes_eq word (codes "read") then Err Unbuilt
-    else if bytes_eq word (codes "ioctl") then Err Unbuilt
     else Err Word
 
 -- What a line of these words asks for, judged by itself: nothing if it has none, else the event of its command.

@@ -2,11 +2,12 @@
 
 ghost use Rattle.std.specs.Prelude.{◌≡◌};
 ghost use Rattle.pcm_script.specs.Answers.{Gives};
-ghost use Rattle.pcm_script.specs.Commands.{bytes_in, descriptor_in, format_in, layout_in, plays_in, rate_in};
+ghost use Rattle.pcm_script.specs.Commands.{argument_in, bytes_in, code_in, descriptor_in, format_in, layout_in, plays_in, rate_in};
 
 use crate::ScriptKind;
 use crate::fault::LineFault;
 use crate::number::{number_in, number_within};
+use crate::request::Setter;
 use hex::FromHexError;
 use pcm_desk::{DESCRIPTORS, WRITE_BYTES};
 use pcm_format::{Format, Layout, RATE_LEAST, RATE_MOST};
@@ -55,6 +56,31 @@ pub(crate) fn rate_in(word: &[u8]) -> Result<u32, ScriptKind>
     ensures { result ≡ rate_in word.now }
 {
     number_within(RATE_LEAST, RATE_MOST, word)
+}
+
+// The argument of a request: any number, and for a format its name as well.
+pub(crate) fn argument_in(setter: Setter, word: &[u8]) -> Result<u32, ScriptKind>
+    ensures { result ≡ argument_in setter word.now }
+{
+    match setter {
+        Setter::SetFmt => code_in(word),
+        Setter::Speed
+        | Setter::Channels
+        | Setter::SetFragment
+        | Setter::SetTrigger
+        | Setter::SetPlayVol => number_within(0, u32::MAX, word),
+    }
+}
+
+// The code of a format, by the format's name or as a number.
+fn code_in(word: &[u8]) -> Result<u32, ScriptKind>
+    ensures { result ≡ code_in word.now }
+{
+    if let Some(format) = Format::from_name(word) {
+        return Ok(format.code());
+    }
+    let code = number_in(word).ok().ok_or(ScriptKind::Name)?;
+    u32::try_from(code).ok().ok_or(ScriptKind::Range)
 }
 
 // The bytes of a write.

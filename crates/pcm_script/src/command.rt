@@ -3,14 +3,17 @@
 ghost use Rattle.std.specs.Prelude.{◌≡◌, ◌∷◌, []};
 ghost use Rattle.pcm_desk.specs.Device.{seen};
 ghost use Rattle.pcm_script.specs.Answers.{Asks};
-ghost use Rattle.pcm_script.specs.Commands.{close_line, command_line, interrupt_line, line_event, open_line, write_line};
+ghost use Rattle.pcm_script.specs.Commands.{close_line, command_line, interrupt_line, ioctl_line, line_event, open_line, write_line};
 ghost use Rattle.pcm_script.specs.Words.{lent};
 
 use crate::ScriptKind;
-use crate::argument::{bytes_in, descriptor_in, format_in, layout_in, plays_in, rate_in};
+use crate::argument::{
+    argument_in, bytes_in, descriptor_in, format_in, layout_in, plays_in, rate_in,
+};
 use crate::fault::LineFault;
 use crate::line_event::LineEvent;
 use crate::number::number_within;
+use crate::request::{full_request, plain_request};
 use pcm_desk::{Device, OPENING};
 use pcm_format::{Bytes, Settings};
 use std::alloc::Global;
@@ -43,14 +46,13 @@ fn command_line(
         Ok(open_line(arguments)?)
     } else if word == b"write".as_slice() {
         write_line(alloc, arguments)
+    } else if word == b"ioctl".as_slice() {
+        Ok(ioctl_line(arguments)?)
     } else if word == b"close".as_slice() {
         Ok(close_line(arguments)?)
     } else if word == b"intr".as_slice() {
         Ok(interrupt_line(device, arguments)?)
-    } else if word == b"send".as_slice()
-        || word == b"read".as_slice()
-        || word == b"ioctl".as_slice()
-    {
+    } else if word == b"send".as_slice() || word == b"read".as_slice() {
         Err(LineFault::Refused(ScriptKind::Unbuilt))
     } else {
         Err(LineFault::Refused(ScriptKind::Word))
@@ -120,6 +122,41 @@ fn full_write(alloc: Global, d: &[u8], h: &[u8]) -> Result<LineEvent, LineFault>
     let fd = descriptor_in(d)?;
     let bytes = Bytes::new(bytes_in(alloc, h)?);
     Ok(LineEvent::Write { fd, bytes })
+}
+
+#[tactic(auto, unfolding(crate::specs::Commands::ioctl_line))]
+fn ioctl_line(arguments: &[&[u8]]) -> Result<LineEvent, ScriptKind>
+    ensures { result ≡ ioctl_line (lent arguments.now) }
+{
+    match arguments {
+        [d, name] => plain_ioctl(d, name),
+        [d, name, a] => full_ioctl(d, name, a),
+        _ => Err(ScriptKind::Count),
+    }
+}
+
+// A request without an argument.
+#[tactic(auto, unfolding(crate::specs::Commands::ioctl_line))]
+fn plain_ioctl(d: &[u8], name: &[u8]) -> Result<LineEvent, ScriptKind>
+    ensures { result ≡ ioctl_line (d.now ∷ name.now ∷ []) }
+{
+    let named = plain_request(name)?;
+    let fd = descriptor_in(d)?;
+    let request = named.ok_or(ScriptKind::Name)?;
+    Ok(LineEvent::Ioctl { fd, request })
+}
+
+// A request with an argument.
+#[tactic(auto, unfolding(crate::specs::Commands::ioctl_line))]
+fn full_ioctl(d: &[u8], name: &[u8], a: &[u8]) -> Result<LineEvent, ScriptKind>
+    ensures { result ≡ ioctl_line (d.now ∷ name.now ∷ a.now ∷ []) }
+{
+    let named = full_request(name)?;
+    let fd = descriptor_in(d)?;
+    let setter = named.ok_or(ScriptKind::Name)?;
+    let argument = argument_in(setter, a)?;
+    let request = setter.with(argument);
+    Ok(LineEvent::Ioctl { fd, request })
 }
 
 #[tactic(auto, unfolding(crate::specs::Commands::close_line))]

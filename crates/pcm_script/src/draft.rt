@@ -11,7 +11,8 @@ use crate::fault::LineFault;
 use crate::line_event::LineEvent;
 use crate::{Events, Script, ScriptKind};
 use pcm_desk::{DEVICE_BYTES, Device, EVENTS};
-use pcm_format::{Bytes, Event};
+use pcm_format::Bytes;
+use pcm_oss::Event;
 use std::alloc::Global;
 use std::marker::Model;
 

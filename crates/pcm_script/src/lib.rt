@@ -10,6 +10,7 @@ mod limits;
 mod line_event;
 mod number;
 mod reader;
+mod request;
 mod script;
 mod words;
 

@@ -3,7 +3,8 @@
 ghost use Rattle.std.specs.Prelude.{◌≡◌, ◌≤◌, length};
 ghost use Rattle.pcm_desk.specs.declared.limits.TheConstants.{WRITE_BYTES};
 
-use pcm_format::{Bytes, Event, Settings, Way};
+use pcm_format::{Bytes, Settings};
+use pcm_oss::{Event, Request, Way};
 
 // An event with the bytes that the line names, and not yet a place for them.
 #[derive(Drop)]
@@ -16,6 +17,10 @@ pub(crate) enum LineEvent {
     Write {
         fd: u8,
         bytes: Bytes,
+    },
+    Ioctl {
+        fd: u8,
+        request: Request,
     },
     Close {
         fd: u8,
@@ -73,6 +78,10 @@ impl LineEvent {
                 fd: *fd,
                 at: place,
                 len: bytes.as_slice().len() as u32,
+            },
+            LineEvent::Ioctl { fd, request } => Event::Ioctl {
+                fd: *fd,
+                request: *request,
             },
             LineEvent::Close { fd } => Event::Close { fd: *fd },
             LineEvent::Intr { frames } => Event::Intr { frames: *frames },

@@ -2,7 +2,8 @@
 
 ghost use Rattle.std.specs.Prelude.{◌≡◌, List};
 
-use pcm_format::{Bytes, Event};
+use pcm_format::Bytes;
+use pcm_oss::Event;
 use std::marker::Model;
 
 /// A list of events.
@@ -13,7 +14,7 @@ pub struct Events {
 
 impl Model for Events {
     ghost use Rattle.std.specs.Prelude.{List};
-    ghost use Rattle.pcm_format.specs.declared.event.Event.{Event};
+    ghost use Rattle.pcm_oss.specs.declared.event.Event.{Event};
 
     ghost Value = { List Event };
 
