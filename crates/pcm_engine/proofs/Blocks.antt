@@ -1,21 +1,26 @@
 -- The block of an interrupt, folded over the slots, is the mix of its positions.
-use Rattle.std.proofs.Common.{◌≡◌, ℕ, zero, suc, ◌+◌, ◌*◌, ◌<◌, length, List, [], ◌∷◌, ◌++◌, get_or, replicate, fold, ℤ, pos, refl, sym, ap, ◌∙◌, arith, zero-add}
-use Rattle.std.specs.Prelude.{IfSome}
+use Rattle.std.proofs.Common.{◌≡◌, ℕ, zero, suc, ◌+◌, ◌*◌, Bool, true, false, cond, eqb, List, [], ◌∷◌, ◌++◌, replicate, fold, ℤ, pos, refl, sym, ap, ◌∙◌, subst, arith, zero-add}
+use Rattle.std.specs.Prelude.{IfSome, ◌&&◌, ◌||◌, not}
 use Rattle.std.specs.List.{range_with_len, flat_map}
-use Rattle.std.proofs.lemmas.List.{replicate-append-replicate, get_or_default}
+use Rattle.std.proofs.lemmas.Bool.Decides.{nat_tests}
+use Rattle.std.proofs.lemmas.List.{replicate-append-replicate}
 use Rattle.std.proofs.lemmas.List.Sums.{fold-append}
-use Rattle.pcm_format.specs.declared.event.Event.TheVariants.{Intr}
+use Rattle.pcm_oss.specs.declared.event.Event.TheVariants.{Intr}
 use Rattle.pcm_format.specs.declared.pool.Pool.{Pool}
 use Rattle.pcm_format.specs.Formats.{bits_of}
 use Rattle.pcm_format.specs.Layouts.{channels_of}
 use Rattle.pcm_format.specs.Frames.{Frame}
 use Rattle.pcm_format.proofs.Ranges.{flat_map-range-same, flat_map-range-shift, range-add}
-use Rattle.pcm_feeder.specs.Layouts.{unity}
+use Rattle.pcm_rate.specs.declared.rate.Rate.{Rate}
+use Rattle.pcm_rate.specs.Rates.{len}
 use Rattle.pcm_desk.specs.declared.book.Book.{Book}
+use Rattle.pcm_desk.specs.declared.book.State.{State}
+use Rattle.pcm_desk.specs.declared.book.State.TheVariants.{Free, Setup, Primed, Running, Draining}
+use Rattle.pcm_desk.specs.Books.{finished, frames_written, gives, is_free, refilled}
 use Rattle.pcm_desk.specs.Device.{DeviceSeen, mix_settings, play_slots}
-use Rattle.pcm_desk.specs.Desk.{book_at, unopened}
-use Rattle.pcm_sound.specs.Gains.{last_gain}
-use Rattle.pcm_sound.specs.Runs.{playing, sounding}
+use Rattle.pcm_desk.specs.Desk.{book_at, mixing, rate_at}
+use Rattle.pcm_sound.specs.Gains.{GainSet, book_gain, last_gain}
+use Rattle.pcm_sound.specs.Runs.{Run, marking, playing, sounding}
 use Rattle.pcm_sound.specs.Story.{Story, told}
 use Rattle.pcm_sound.specs.Mix.{Table, adding, mix_of}
 use Rattle.pcm_sound.specs.DeviceList.{table_of, silence_in, mix_at, device_frame}
@@ -24,11 +29,9 @@ use Rattle.pcm_sound.specs.Valid.{StoryIsValid}
 use Rattle.pcm_sound.proofs.DeviceLists.{IsDeviceFrame, mix_of-same, mix_of-more, mix_of-frame, sounding-frame, new_block}
 use Rattle.pcm_sound.proofs.Slots.{playing-own}
 use Rattle.pcm_sound.proofs.Sounding.{sounding-marking}
+use Rattle.pcm_sound.proofs.Stories.{book_at-mixing}
 use Rattle.pcm_sound.proofs.Turns.{turn}
-use Rattle.pcm_engine.specs.declared.channel.ChannelOf.{ChannelOf}
-use Rattle.pcm_engine.specs.Channels.{books_of}
-use Rattle.pcm_engine.proofs.Channels.{book_at-channel}
-use Rattle.pcm_engine.specs.Steps.{silent_block, mixed_onto, block_of}
+use Rattle.pcm_vchan.specs.Blocks.{silent_block, mixed_onto, block_of}
 use Rattle.pcm_engine.specs.Stands.{bytes_counted}
 use Rattle.pcm_engine.proofs.Counted.{counted-newest}
 
@@ -60,28 +63,70 @@ fold-front device story n zero v = sym (silence-joined (channels_of (mix_setting
 fold-front device story n (suc j) v =
     let book : Book = book_at device story.desk j in
     let bytes : List ℕ = bytes_counted device story j in
-    let onto : List ℤ → ℕ → List ℤ = λ sum slot. turned device n unity (book_at device story.desk slot) (bytes_counted device story slot) sum in
+    let onto : List ℤ → ℕ → List ℤ = λ sum slot. turned device n (book_at device story.desk slot) (bytes_counted device story slot) sum in
     let sum : ℕ → Frame = front_mix device story n j in
     let next : suc j ≡ j + 1 = omega arith in
-    let added = turn device story.desk.mixed n unity book (story.runs j) (λ k. last_gain (story.gains j) (story.desk.mixed + k)) bytes sum v.limits (v.slots j)
+    let added = turn device story.desk.mixed n book (story.runs j) (λ k. last_gain (story.gains j) (story.desk.mixed + k)) bytes sum v.limits (v.slots j)
     (λ some. counted-newest device story.desk.mixed book (story.runs j) (v.slots j) some)
-    (λ k l. v.gains j (story.desk.mixed + k))
+    (λ k l. v.gains j (story.desk.mixed + k) (omega arith))
     (λ k l. mix_of-frame device (bits_of (mix_settings device).format) (next_table device story n) j (story.desk.mixed + k) (λ slot. next_frames device story n v slot (story.desk.mixed + k))) in
     ap (λ m. fold onto (silent_block device n) (range_with_len 0 m)) next
     ∙ ap (fold onto (silent_block device n)) (range-add 0 j 1 ∙ ap (λ a. range_with_len 0 j ++ a ∷ []) (zero-add j))
     ∙ fold-append onto (silent_block device n) (range_with_len 0 j) (j ∷ [])
-    ∙ ap (turned device n unity book bytes) (fold-front device story n j v)
+    ∙ ap (turned device n book bytes) (fold-front device story n j v)
     ∙ sym added
     ∙ flat_map-range-same (λ k. adding (bits_of (mix_settings device).format) (sum k) (next_table device story n j (story.desk.mixed + k))) (front_mix device story n (suc j)) 0 n
     (λ k l. sym (ap (λ slots. mix_of (bits_of (mix_settings device).format) (silence_in (mix_settings device)) (next_table device story n) slots (story.desk.mixed + (0 + k))) next
     ∙ mix_of-more (bits_of (mix_settings device).format) (silence_in (mix_settings device)) (next_table device story n) j (story.desk.mixed + (0 + k))))
+
+-- ---- gains
+
+-- no volume is set where it stays and nothing begins
+quiet : (free begun : Bool) (volume now : ℕ) → (free ≡ true → begun ≡ true) → now ≡ volume → (free && not begun || not (eqb now volume)) ≡ false
+quiet true true volume now h same = grind (arith, nat_tests)
+quiet true false volume now h same = absurd (let not_so : false ≡ true = h refl in cc)
+quiet false begun volume now h same = grind (arith, nat_tests)
+
+-- what an interrupt leaves of a book: its volume, and a free one free
+record Quiet (old new : Book) : Type 0 where
+  free : is_free old.state ≡ true → is_free new.state ≡ true
+  volume : new.volume ≡ old.volume
+
+quiet_settled : (b closed : Bool) (given : Book) → is_free given.state ≡ false → Quiet given (cond {A = Book} b (finished (cond closed Free Setup) given) given)
+quiet_settled true closed given h = record { free = λ e. absurd (let not_so : true ≡ false = sym e ∙ h in cc); volume = refl }
+quiet_settled false closed given h = record { free = λ e. e; volume = refl }
+
+quiet_refilled : (state : State) (rate : Rate) (n : ℕ) (book : Book) → Quiet (record book { state = state }) (refilled rate n (record book { state = state }))
+quiet_refilled Free rate n book = record { free = λ e. e; volume = refl }
+quiet_refilled Setup rate n book = record { free = λ e. e; volume = refl }
+quiet_refilled Primed rate n book = record { free = λ e. e; volume = refl }
+quiet_refilled Running rate n book = record { free = λ e. e; volume = refl }
+quiet_refilled (Draining closed) rate n book =
+    let given : Book = gives rate n (record book { state = Draining closed }) in
+    let q = quiet_settled (eqb given.given (len rate (frames_written given))) closed given refl in
+    record { free = λ e. cc; volume = q.volume }
+
+quiet_mixing : (device : DeviceSeen) (n : ℕ) (book : Book) → Quiet book (mixing device n book)
+quiet_mixing device zero book = record { free = λ e. e; volume = refl }
+quiet_mixing device (suc n) book = quiet_refilled book.state (rate_at device book) (suc n) book
+
+-- an interrupt sets no gain
+gains-kept : (device : DeviceSeen) (pool : Pool) (story : Story) (n slot : ℕ) → (told device pool story (Intr n)).gains slot ≡ story.gains slot
+gains-kept device pool story n slot =
+    let old : Book = book_at device story.desk slot in
+    let new : Book = book_at device (told device pool story (Intr n)).desk slot in
+    let q : Quiet old new = subst (Quiet old) (sym (book_at-mixing device story.desk n slot)) (quiet_mixing device n old) in
+    ap (λ (b : Bool). cond b (record { position = story.desk.mixed; gain = book_gain new } ∷ story.gains slot) (story.gains slot))
+    (quiet (is_free old.state) (is_free new.state) old.volume new.volume q.free q.volume)
 
 -- what the slots give once the story is told
 told_table : (device : DeviceSeen) (pool : Pool) (story : Story) (n slot position : ℕ) → table_of device (told device pool story (Intr n)) slot position ≡ next_table device story n slot position
 told_table device pool story n slot position =
     let old : Book = book_at device story.desk slot in
     let new : Book = book_at device (told device pool story (Intr n)).desk slot in
-    sounding-marking device (last_gain (story.gains slot) position) story.desk.mixed (Intr n) old new (playing device story.desk.mixed n old (story.runs slot)) position
+    let runs : List Run = playing device story.desk.mixed n old (story.runs slot) in
+    ap (λ (gains : List GainSet). sounding device (last_gain gains position) (marking story.desk.mixed (Intr n) old new runs) position) (gains-kept device pool story n slot)
+    ∙ sounding-marking device (last_gain (story.gains slot) position) story.desk.mixed (Intr n) old new runs position
 
 -- the block of an interrupt is the mix of its positions
 pub block-mixed : (device : DeviceSeen) (pool : Pool) (story : Story) (n : ℕ) → StoryIsValid device story
@@ -95,11 +140,3 @@ block-mixed device pool story n v =
     ∙ sym (mix_of-same (bits_of (mix_settings device).format) (silence_in (mix_settings device)) table (next_table device story n) (play_slots device) (story.desk.handed + (0 + k)) (λ slot. told_table device pool story n slot (story.desk.handed + (0 + k)))))
     ∙ flat_map-range-shift made story.desk.handed 0 n
     ∙ ap (λ a. flat_map made (range_with_len a n)) (let e : story.desk.handed + 0 ≡ story.desk.handed = omega arith in e)
-
--- a block of the mix once one slot more gave its frames
-pub mixed-more : {B : Type 0} (device : DeviceSeen) (n : ℕ) (channels : List (ChannelOf B)) (streams : ℕ → List ℕ) (slot : ℕ) (channel other : ChannelOf B) → slot < length channels → channel ≡ get_or channels slot other → (sum : List ℤ)
-    → turned device n unity channel.book (streams slot) (mixed_onto device n (books_of channels) streams slot sum) ≡ mixed_onto device n (books_of channels) streams (slot + 1) sum
-mixed-more {B = B} device n channels streams slot channel other there is sum =
-    let onto : List ℤ → ℕ → List ℤ = λ sum at. turned device n unity (get_or (books_of channels) at (unopened device)) (streams at) sum in
-    ap (λ (book : Book). turned device n unity book (streams slot) (mixed_onto device n (books_of channels) streams slot sum)) (book_at-channel channels slot channel (unopened device) there (is ∙ get_or_default channels slot other channel there))
-    ∙ sym (ap (fold onto sum) (range-add 0 slot 1 ∙ ap (λ a. range_with_len 0 slot ++ a ∷ []) (zero-add slot)) ∙ fold-append onto sum (range_with_len 0 slot) (slot ∷ []))

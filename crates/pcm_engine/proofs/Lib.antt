@@ -1,11 +1,7 @@
-pub mod Frames
-pub mod Channels
 pub mod Counted
-pub mod Refills
-pub mod Stands
+pub mod Desks
+pub mod Own
+pub mod Turning
 pub mod Blocks
-pub mod Closes
-pub mod Moving
-pub mod Refilling
 pub mod Standing
 pub mod Starting

@@ -3,8 +3,8 @@ use Rattle.std.proofs.Common.{◌≡◌, ℕ, ◌+◌, ◌*◌, ◌<◌, ◌≤�
 use Rattle.std.proofs.lemmas.List.{append-nil, take-append-le, drop-append-le, drop-drop, get_or-map}
 use Rattle.std.proofs.Math.Seq.{take-add}
 use Rattle.std.proofs.Math.Nat.{mul-le-mul_right}
-use Rattle.pcm_format.specs.declared.event.Event.{Event}
-use Rattle.pcm_format.specs.declared.event.Event.TheVariants.{Open, Write, Close, Intr}
+use Rattle.pcm_oss.specs.declared.event.Event.{Event}
+use Rattle.pcm_oss.specs.declared.event.Event.TheVariants.{Open, Write, Ioctl, Close, Intr}
 use Rattle.pcm_format.specs.declared.pool.Pool.{Pool}
 use Rattle.pcm_feeder.specs.declared.kind.Kind.{Kind}
 use Rattle.pcm_feeder.specs.Kept.{Kept}
@@ -19,20 +19,22 @@ use Rattle.pcm_sound.specs.Valid.{StoryIsValid}
 use Rattle.pcm_sound.proofs.Slots.{newest_bytes-marking, newest_bytes-playing}
 use Rattle.pcm_sound.proofs.Stories.{keeps, valid-told, writes-write_on}
 use Rattle.pcm_sound.proofs.DeviceLists.{length-device_bytes, device_body-bytes, device_bytes-same, device_bytes-interrupt, new_block}
-use Rattle.pcm_engine.specs.declared.channel.ChannelOf.{ChannelOf}
-use Rattle.pcm_engine.specs.Channels.{books_of, ChannelStands, AllStand}
-use Rattle.pcm_engine.specs.Steps.{bytes_brought, ChannelsMove, ring_after, block_bytes, block_of}
+use Rattle.pcm_play.specs.declared.channel.PlayChannelOf.{PlayChannelOf}
+use Rattle.pcm_vchan.specs.Slots.{books_of, AllStand}
+use Rattle.pcm_play.specs.Channels.{ChannelStands}
+use Rattle.pcm_engine.specs.Steps.{bytes_brought, ChannelsMove, ring_after}
+use Rattle.pcm_vchan.specs.Blocks.{block_bytes, block_of}
 use Rattle.pcm_engine.specs.Stands.{bytes_counted, PartsStand}
 use Rattle.pcm_engine.proofs.Counted.{counted-kept, counted-written}
 use Rattle.pcm_engine.proofs.Blocks.{block-mixed}
 
 -- the book of a slot is that of its channel
-pub book_at-books : {B : Type 0} (device : DeviceSeen) (desk : Desk) (channels : List (ChannelOf B)) (slot : ℕ) (other : ChannelOf B) → desk.play ≡ books_of channels → slot < length channels → book_at device desk slot ≡ (get_or channels slot other).book
+pub book_at-books : {B : Type 0} (device : DeviceSeen) (desk : Desk) (channels : List (PlayChannelOf B)) (slot : ℕ) (other : PlayChannelOf B) → desk.play ≡ books_of channels → slot < length channels → book_at device desk slot ≡ (get_or channels slot other).book
 book_at-books {B = B} device desk channels slot other play there =
-    ap (λ (books : List Book). get_or books slot (unopened device)) play ∙ get_or-map (λ (c : ChannelOf B). c.book) channels slot other (unopened device) there
+    ap (λ (books : List Book). get_or books slot (unopened device)) play ∙ get_or-map (λ (c : PlayChannelOf B). c.book) channels slot other (unopened device) there
 
 -- what a desk, channels and a ring are to each other before and after an event
-pub record Stepped {B : Type 0} (kind : B → Kind) (kept : B → Kept) (device : DeviceSeen) (pool : Pool) (event : Event) (old new : Desk) (before now : List (ChannelOf B)) (ring_before ring_now : List ℕ) : Type 0 where
+pub record Stepped {B : Type 0} (kind : B → Kind) (kept : B → Kept) (device : DeviceSeen) (pool : Pool) (event : Event) (old new : Desk) (before now : List (PlayChannelOf B)) (ring_before ring_now : List ℕ) : Type 0 where
   pub desk : new ≡ (after device old event).desk
   pub play_before : old.play ≡ books_of before
   pub play_now : new.play ≡ books_of now
@@ -42,7 +44,7 @@ pub record Stepped {B : Type 0} (kind : B → Kind) (kept : B → Kept) (device 
   pub ring : (streams : ℕ → List ℕ) → AllStand kept before streams → ring_now ≡ ring_after device event (books_of before) streams (length before) ring_before
 
 -- the part of a step that is about a story: its own desks stand at both ends
-abbrev StoryStep : {B : Type 0} → (B → Kind) → (B → Kept) → DeviceSeen → Pool → Story → Event → List (ChannelOf B) → List (ChannelOf B) → List ℕ → List ℕ → Type 0
+abbrev StoryStep : {B : Type 0} → (B → Kind) → (B → Kept) → DeviceSeen → Pool → Story → Event → List (PlayChannelOf B) → List (PlayChannelOf B) → List ℕ → List ℕ → Type 0
 StoryStep kind kept device pool story event before now ring_before ring_now =
     Stepped kind kept device pool event story.desk (told device pool story event).desk before now ring_before ring_now
 
@@ -76,6 +78,10 @@ counts_told device pool story (Write fd at count) slot fits v more =
           ∙ counted-written device story.desk.mixed pool at count w.accepted (book_at device story.desk slot) (book_at device (told device pool story (Write fd at count)).desk slot).written (story.runs slot)
           (v.slots slot) fits.2 w.accepts.written w.within;
     }
+counts_told device pool story (Ioctl fd request) slot fits v more = record {
+  are = marks device pool story (Ioctl fd request) slot
+      ∙ counted-kept (book_at device story.desk slot) (book_at device (told device pool story (Ioctl fd request)).desk slot).written (newest_bytes (story.runs slot)) (omega arith);
+}
 counts_told device pool story (Close fd) slot fits v more = record {
   are = marks device pool story (Close fd) slot
       ∙ counted-kept (book_at device story.desk slot) (book_at device (told device pool story (Close fd)).desk slot).written (newest_bytes (story.runs slot)) (omega arith);
@@ -90,9 +96,9 @@ counts_told device pool story (Intr n) slot fits v more =
     }
 
 -- each channel stands for its slot after an event
-slots_stand : {B : Type 0} (kind : B → Kind) (kept : B → Kept) (device : DeviceSeen) (pool : Pool) (story : Story) (event : Event) (before now : List (ChannelOf B)) (ring_before ring_now : List ℕ)
+slots_stand : {B : Type 0} (kind : B → Kind) (kept : B → Kept) (device : DeviceSeen) (pool : Pool) (story : Story) (event : Event) (before now : List (PlayChannelOf B)) (ring_before ring_now : List ℕ)
     → Fits device pool event → StoryStep kind kept device pool story event before now ring_before ring_now → PartsStand kept device story.desk before ring_before story
-    → (slot : ℕ) (other : ChannelOf B) → slot < length now → ChannelStands kept (get_or now slot other) (book_at device (told device pool story event).desk slot) (bytes_counted device (told device pool story event) slot)
+    → (slot : ℕ) (other : PlayChannelOf B) → slot < length now → ChannelStands kept (get_or now slot other) (book_at device (told device pool story event).desk slot) (bytes_counted device (told device pool story event) slot)
 slots_stand kind kept device pool story event before now ring_before ring_now fits st s slot other within =
     let same = st.slots in
     let there : slot < length before = omega arith in
@@ -107,7 +113,7 @@ slots_stand kind kept device pool story event before now ring_before ring_now fi
     (subst (λ (b : Book). ChannelStands kept (get_or now slot other) b (take b.written (bytes_counted device story slot ++ bytes_brought pool event))) (sym is) stands)
 
 -- each channel stands for its book and the bytes that its slot counts
-all_stand : {B : Type 0} (kept : B → Kept) (device : DeviceSeen) (story : Story) (channels : List (ChannelOf B)) (ring : List ℕ) → story.desk.play ≡ books_of channels → PartsStand kept device story.desk channels ring story
+all_stand : {B : Type 0} (kept : B → Kept) (device : DeviceSeen) (story : Story) (channels : List (PlayChannelOf B)) (ring : List ℕ) → story.desk.play ≡ books_of channels → PartsStand kept device story.desk channels ring story
     → AllStand kept channels (bytes_counted device story)
 all_stand kept device story channels ring play s = λ slot other there.
     subst (λ (b : Book). ChannelStands kept (get_or channels slot other) b (bytes_counted device story slot)) (book_at-books device story.desk channels slot other play there) (s.slots slot other there)
@@ -125,13 +131,15 @@ ring_kept device pool story event ring_before ring_now fits none same v is =
     ∙ ap (drop ((told device pool story event).desk.handed * device_frame_bytes device)) (sym (device_bytes-same device pool story event v k.handed_same))
 
 -- the device's ring after an event
-ring_told : {B : Type 0} (kind : B → Kind) (kept : B → Kept) (device : DeviceSeen) (pool : Pool) (story : Story) (event : Event) (before now : List (ChannelOf B)) (ring_before ring_now : List ℕ)
+ring_told : {B : Type 0} (kind : B → Kind) (kept : B → Kept) (device : DeviceSeen) (pool : Pool) (story : Story) (event : Event) (before now : List (PlayChannelOf B)) (ring_before ring_now : List ℕ)
     → Fits device pool event → StoryStep kind kept device pool story event before now ring_before ring_now → PartsStand kept device story.desk before ring_before story
     → ring_now ≡ drop ((told device pool story event).desk.handed * device_frame_bytes device) (device_bytes device (told device pool story event))
 ring_told kind kept device pool story (Open fd way settings) before now ring_before ring_now fits st s =
     ring_kept device pool story (Open fd way settings) ring_before ring_now fits refl (st.ring (bytes_counted device story) (all_stand kept device story before ring_before st.play_before s)) s.valid s.ring_is
 ring_told kind kept device pool story (Write fd at count) before now ring_before ring_now fits st s =
     ring_kept device pool story (Write fd at count) ring_before ring_now fits refl (st.ring (bytes_counted device story) (all_stand kept device story before ring_before st.play_before s)) s.valid s.ring_is
+ring_told kind kept device pool story (Ioctl fd request) before now ring_before ring_now fits st s =
+    ring_kept device pool story (Ioctl fd request) ring_before ring_now fits refl (st.ring (bytes_counted device story) (all_stand kept device story before ring_before st.play_before s)) s.valid s.ring_is
 ring_told kind kept device pool story (Close fd) before now ring_before ring_now fits st s =
     ring_kept device pool story (Close fd) ring_before ring_now fits refl (st.ring (bytes_counted device story) (all_stand kept device story before ring_before st.play_before s)) s.valid s.ring_is
 ring_told kind kept device pool story (Intr n) before now ring_before ring_now fits st s =
@@ -153,7 +161,7 @@ ring_told kind kept device pool story (Intr n) before now ring_before ring_now f
 
 -- ---- all parts
 
-stands_on : {B : Type 0} (kind : B → Kind) (kept : B → Kept) (device : DeviceSeen) (pool : Pool) (story : Story) (event : Event) (before now : List (ChannelOf B)) (ring_before ring_now : List ℕ)
+stands_on : {B : Type 0} (kind : B → Kind) (kept : B → Kept) (device : DeviceSeen) (pool : Pool) (story : Story) (event : Event) (before now : List (PlayChannelOf B)) (ring_before ring_now : List ℕ)
     → Fits device pool event → StoryStep kind kept device pool story event before now ring_before ring_now → PartsStand kept device story.desk before ring_before story
     → PartsStand kept device (told device pool story event).desk now ring_now (told device pool story event)
 stands_on kind kept device pool story event before now ring_before ring_now fits st s = record {
@@ -164,7 +172,7 @@ stands_on kind kept device pool story event before now ring_before ring_now fits
 }
 
 -- What stood for a story stands, one step on, for the story with one event more.
-pub stands-told : {B : Type 0} (kind : B → Kind) (kept : B → Kept) (device : DeviceSeen) (pool : Pool) (story : Story) (event : Event) (old new : Desk) (before now : List (ChannelOf B)) (ring_before ring_now : List ℕ)
+pub stands-told : {B : Type 0} (kind : B → Kind) (kept : B → Kept) (device : DeviceSeen) (pool : Pool) (story : Story) (event : Event) (old new : Desk) (before now : List (PlayChannelOf B)) (ring_before ring_now : List ℕ)
     → Fits device pool event → Stepped kind kept device pool event old new before now ring_before ring_now → PartsStand kept device old before ring_before story
     → PartsStand kept device new now ring_now (told device pool story event)
 stands-told kind kept device pool story event old new before now ring_before ring_now fits st s =
@@ -188,10 +196,11 @@ body_kept device pool story event ring fits none v =
     ∙ ap (λ n. device_body device story ++ take n ring) (sym no_bytes)
 
 -- what an event hands over is the front of the device's ring
-pub body-told : {B : Type 0} (kept : B → Kept) (device : DeviceSeen) (pool : Pool) (story : Story) (event : Event) (desk : Desk) (channels : List (ChannelOf B)) (ring : List ℕ) → Fits device pool event → PartsStand kept device desk channels ring story
+pub body-told : {B : Type 0} (kept : B → Kept) (device : DeviceSeen) (pool : Pool) (story : Story) (event : Event) (desk : Desk) (channels : List (PlayChannelOf B)) (ring : List ℕ) → Fits device pool event → PartsStand kept device desk channels ring story
     → device_body device (told device pool story event) ≡ device_body device story ++ take (bytes_handed device event) ring
 body-told kept device pool story (Open fd way settings) desk channels ring fits s = body_kept device pool story (Open fd way settings) ring fits refl s.valid
 body-told kept device pool story (Write fd at count) desk channels ring fits s = body_kept device pool story (Write fd at count) ring fits refl s.valid
+body-told kept device pool story (Ioctl fd request) desk channels ring fits s = body_kept device pool story (Ioctl fd request) ring fits refl s.valid
 body-told kept device pool story (Close fd) desk channels ring fits s = body_kept device pool story (Close fd) ring fits refl s.valid
 body-told kept device pool story (Intr n) desk channels ring fits s =
     let z : ℕ = device_frame_bytes device in

@@ -19,14 +19,16 @@ use Rattle.pcm_desk.specs.Desk.{Desk, book_at, unopened, desk_at_start}
 use Rattle.pcm_sound.specs.Story.{story_at_start}
 use Rattle.pcm_sound.specs.DeviceList.{silence_in, spelled_frames}
 use Rattle.pcm_sound.proofs.Stories.{valid-start, get_or-same}
-use Rattle.pcm_engine.specs.declared.channel.ChannelOf.{ChannelOf}
-use Rattle.pcm_engine.specs.declared.parent.ParentOf.{ParentOf}
+use Rattle.pcm_play.specs.declared.channel.PlayChannelOf.{PlayChannelOf}
+use Rattle.pcm_vchan.specs.declared.parent.ParentOf.{ParentOf}
 use Rattle.pcm_engine.specs.Holds.{HoldWithin}
-use Rattle.pcm_engine.specs.Channels.{books_of, ChannelStands, IsReady, IsUnopened}
-use Rattle.pcm_engine.specs.Steps.{silent_block, block_bytes}
-use Rattle.pcm_engine.specs.Parents.{desk_with, parent_books}
+use Rattle.pcm_vchan.specs.Slots.{books_of}
+use Rattle.pcm_play.specs.Channels.{ChannelStands, IsReady, IsUnopened}
+use Rattle.pcm_vchan.specs.Blocks.{silent_block, block_bytes}
+use Rattle.pcm_engine.specs.Desks.{desk_with}
+use Rattle.pcm_vchan.specs.Parents.{parent_books}
 use Rattle.pcm_engine.specs.Stands.{bytes_counted, PartsStand}
-use Rattle.pcm_engine.proofs.Channels.{some_channel}
+use Rattle.pcm_vchan.proofs.Channels.{some_channel}
 
 -- where no descriptor is open, none holds a slot
 pub hold_within-none : (slots : ℕ) (descriptors : List (Option Held)) (count : ℕ) → descriptors ≡ replicate count None → HoldWithin slots descriptors
@@ -45,24 +47,24 @@ spelled-silence format settings (suc n) =
     ∙ ap (flat_map (spelled format)) (replicate-append-replicate (channels_of settings.layout) (n * channels_of settings.layout) (pos 0) ∙ ap (λ k. replicate k (pos 0)) (sym more))
 
 -- channels that nobody has opened are ready
-pub ready-unopened : {B : Type 0} (kind : B → Kind) (kept : B → Kept) (device : Device) (channels : List (ChannelOf B)) → All (IsUnopened kind kept device) channels → All (IsReady kind kept) channels
+pub ready-unopened : {B : Type 0} (kind : B → Kind) (kept : B → Kept) (device : Device) (channels : List (PlayChannelOf B)) → All (IsUnopened kind kept device) channels → All (IsReady kind kept) channels
 ready-unopened kind kept device channels each = λ slot other there.
     let u = each slot other there in
     record { kinds = u.kinds; stands = record { bytes = []; stands = u.stands } }
 
 -- the books of channels that nobody has opened
-pub books_of-unopened : {B : Type 0} (kind : B → Kind) (kept : B → Kept) (device : Device) (channels : List (ChannelOf B)) → length channels ≡ device.play_slots → All (IsUnopened kind kept device) channels
+pub books_of-unopened : {B : Type 0} (kind : B → Kind) (kept : B → Kept) (device : Device) (channels : List (PlayChannelOf B)) → length channels ≡ device.play_slots → All (IsUnopened kind kept device) channels
     → books_of channels ≡ replicate device.play_slots (unopened (seen device))
 books_of-unopened {B = B} kind kept device channels slots each =
     same_lists (books_of channels) (replicate device.play_slots (unopened (seen device)))
-    (length-map channels (λ (c : ChannelOf B). c.book) ∙ slots ∙ sym (length-replicate device.play_slots (unopened (seen device))))
+    (length-map channels (λ (c : PlayChannelOf B). c.book) ∙ slots ∙ sym (length-replicate device.play_slots (unopened (seen device))))
     (λ k d within.
-    let there : k < length channels = omega (arith, length-map channels (λ (c : ChannelOf B). c.book)) in
-    let other : ChannelOf B = some_channel channels k there in
-    get_or-map (λ (c : ChannelOf B). c.book) channels k other d there ∙ (each k other there).book ∙ sym (get_or-replicate device.play_slots k (unopened (seen device)) d (omega arith)))
+    let there : k < length channels = omega (arith, length-map channels (λ (c : PlayChannelOf B). c.book)) in
+    let other : PlayChannelOf B = some_channel channels k there in
+    get_or-map (λ (c : PlayChannelOf B). c.book) channels k other d there ∙ (each k other there).book ∙ sym (get_or-replicate device.play_slots k (unopened (seen device)) d (omega arith)))
 
 -- free channels and a silent ring stand for the beginning
-pub stands-start : {B : Type 0} (kind : B → Kind) (kept : B → Kept) (device : Device) (desk : Desk) (channels : List (ChannelOf B)) (descriptors : List (Option Held)) (ring : List ℕ) → IsDevice (seen device)
+pub stands-start : {B : Type 0} (kind : B → Kind) (kept : B → Kept) (device : Device) (desk : Desk) (channels : List (PlayChannelOf B)) (descriptors : List (Option Held)) (ring : List ℕ) → IsDevice (seen device)
     → length channels ≡ device.play_slots → All (IsUnopened kind kept device) channels
     → descriptors ≡ replicate DESCRIPTORS None → ring ≡ block_bytes (seen device) (silent_block (seen device) device.ring_frames)
     → desk ≡ record { play = books_of channels; descriptors = descriptors; handed = 0; mixed = 0 } → PartsStand kept (seen device) desk channels ring (story_at_start (seen device))

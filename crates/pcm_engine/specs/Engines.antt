@@ -1,6 +1,6 @@
 -- What an engine stands for.
 use Rattle.std.specs.Prelude.{◌≡◌, List, All}
-use Rattle.pcm_format.specs.declared.event.Event.{Event}
+use Rattle.pcm_oss.specs.declared.event.Event.{Event}
 use Rattle.pcm_format.specs.declared.pool.Pool.{Pool}
 use Rattle.pcm_feeder.specs.declared.kind.Kind.{Kind}
 use Rattle.pcm_feeder.specs.Kept.{Kept}
@@ -8,8 +8,8 @@ use Rattle.pcm_desk.specs.Device.{DeviceSeen, seen}
 use Rattle.pcm_desk.specs.Desk.{Desk}
 use Rattle.pcm_sound.specs.Story.{story_of}
 use Rattle.pcm_engine.specs.declared.engine.EngineOf.{EngineOf}
-use Rattle.pcm_engine.specs.Channels.{IsReady}
-use Rattle.pcm_engine.specs.Parents.{desk_with}
+use Rattle.pcm_play.specs.Channels.{IsReady}
+use Rattle.pcm_engine.specs.Desks.{desk_with}
 use Rattle.pcm_engine.specs.Stands.{PartsStand}
 
 -- the engine's device

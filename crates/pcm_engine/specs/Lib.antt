@@ -1,6 +1,5 @@
 pub mod Holds
-pub mod Channels
+pub mod Desks
 pub mod Steps
-pub mod Parents
 pub mod Stands
 pub mod Engines

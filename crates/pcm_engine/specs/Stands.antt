@@ -7,8 +7,8 @@ use Rattle.pcm_sound.specs.Runs.{newest_bytes}
 use Rattle.pcm_sound.specs.Story.{Story}
 use Rattle.pcm_sound.specs.DeviceList.{device_bytes}
 use Rattle.pcm_sound.specs.Valid.{StoryIsValid}
-use Rattle.pcm_engine.specs.declared.channel.ChannelOf.{ChannelOf}
-use Rattle.pcm_engine.specs.Channels.{ChannelStands}
+use Rattle.pcm_play.specs.declared.channel.PlayChannelOf.{PlayChannelOf}
+use Rattle.pcm_play.specs.Channels.{ChannelStands}
 
 -- the bytes that a slot's book counts: those of its newest run, unless it is over
 abbrev pub bytes_counted : DeviceSeen → Story → ℕ → List ℕ
@@ -16,9 +16,9 @@ bytes_counted device story slot = take (book_at device story.desk slot).written 
 
 -- A desk, channels and a device's ring stand for a story: the desk is the story's, each channel stands for its slot's book
 -- and the bytes that it counts, and the device's ring holds what was not handed over.
-pub record PartsStand {B : Type 0} (kept : B → Kept) (device : DeviceSeen) (desk : Desk) (channels : List (ChannelOf B)) (ring : List ℕ) (story : Story) : Type 0 where
+pub record PartsStand {B : Type 0} (kept : B → Kept) (device : DeviceSeen) (desk : Desk) (channels : List (PlayChannelOf B)) (ring : List ℕ) (story : Story) : Type 0 where
   pub desk_is : desk ≡ story.desk
-  pub slots : (slot : ℕ) (other : ChannelOf B) → slot < length channels
+  pub slots : (slot : ℕ) (other : PlayChannelOf B) → slot < length channels
       → ChannelStands kept (slice_index_or channels slot other) (book_at device story.desk slot) (bytes_counted device story slot)
   pub ring_is : ring ≡ drop (story.desk.handed * device_frame_bytes device) (device_bytes device story)
   pub valid : StoryIsValid device story

@@ -3,20 +3,24 @@
 ghost use Rattle.std.specs.Prelude.{◌≡◌, ◌+◌, ◌^◌, ◌<◌, ◌≤◌, [], length, vec_len, All, OnErr, None, slice_index_or};
 ghost use Rattle.pcm_feeder.specs.Limits.{IsRate};
 ghost use Rattle.pcm_desk.specs.declared.limits.TheConstants.{DESCRIPTORS, WRITE_BYTES};
-ghost use Rattle.pcm_desk.specs.Device.{seen};
-ghost use Rattle.pcm_desk.specs.Desk.{close_on, held_by, open_turn, write_on};
-ghost use Rattle.pcm_engine.specs.Channels.{Each, IsReady, Moves};
+ghost use Rattle.pcm_desk.specs.Device.{filters_of, seen};
+ghost use Rattle.pcm_desk.specs.Desk.{close_on, held_by, ioctl_on, open_turn, write_on};
+ghost use Rattle.pcm_vchan.specs.Slots.{AreOf, Each};
+ghost use Rattle.pcm_play.specs.Channels.{IsReady, Moves};
 ghost use Rattle.pcm_engine.specs.Holds.{HoldWithin};
-ghost use Rattle.pcm_engine.specs.Parents.{KeepsOutput, desk_with};
+ghost use Rattle.pcm_vchan.specs.Parents.{KeepsOutput};
+ghost use Rattle.pcm_engine.specs.Desks.{desk_with};
 
-use crate::parent::ParentOf;
 use pcm_desk::Held;
-use pcm_feeder::Feeder;
-use pcm_format::{Answer, Errno, Settings, Way};
+use pcm_feeder::{Feeder, Tables};
+use pcm_format::Settings;
+use pcm_oss::{Answer, Errno, Request, Way};
+use pcm_vchan::ParentOf;
 
 /// Opens a descriptor on the least free slot.
 pub fn open<B: Feeder>(
     parent: &mut ParentOf<B>,
+    tables: &Tables,
     descriptors: &mut [Option<Held>],
     fd: u8,
     way: Way,
@@ -24,12 +28,15 @@ pub fn open<B: Feeder>(
 ) -> Result<Answer, Errno>
     requires fd { fd < DESCRIPTORS }
     requires rate { IsRate settings.rate }
+    requires tables { tables.now ≡ filters_of (seen parent.old.device) }
+    requires own { AreOf parent.old.device parent.old.channels.items }
     requires size { length descriptors.old ≡ DESCRIPTORS }
     requires held { HoldWithin (vec_len parent.old.channels) descriptors.old }
     requires ready { All (IsReady B.kind B.kept) parent.old.channels.items }
     ensures held { HoldWithin (vec_len parent.new.channels) descriptors.new }
     ensures size { length descriptors.new ≡ length descriptors.old }
     ensures slots { length parent.new.channels.items ≡ length parent.old.channels.items }
+    ensures own { AreOf parent.new.device parent.new.channels.items }
     ensures output { KeepsOutput parent.old parent.new }
     ensures refused { OnErr result (parent.new ≡ parent.old) }
     ensures shut { OnErr result (descriptors.new ≡ descriptors.old) }
@@ -43,7 +50,7 @@ pub fn open<B: Feeder>(
     if held(descriptors, fd).is_some() {
         return Err(Errno::Exist);
     }
-    let slot = parent.open_slot(settings)?;
+    let slot = parent.open_slot(tables, settings)?;
     descriptors[usize::from(fd)] = Some(Held { way, slot });
     Ok(Answer::Number(slot as u32))
 }
@@ -58,10 +65,12 @@ pub fn write<B: Feeder>(
     requires fd { fd < DESCRIPTORS }
     requires size { length descriptors.now ≡ DESCRIPTORS }
     requires held { HoldWithin (vec_len parent.old.channels) descriptors.now }
+    requires own { AreOf parent.old.device parent.old.channels.items }
     requires length { length bytes.now ≤ WRITE_BYTES }
     requires count { All (λ channel. channel.book.written + WRITE_BYTES
         < 2 ^ 64) parent.old.channels.items }
     ensures slots { length parent.new.channels.items ≡ length parent.old.channels.items }
+    ensures own { AreOf parent.new.device parent.new.channels.items }
     ensures output { KeepsOutput parent.old parent.new }
     ensures refused { OnErr result (parent.new ≡ parent.old) }
     ensures desk { let desk = desk_with parent.old descriptors.now in
@@ -76,7 +85,41 @@ pub fn write<B: Feeder>(
     let Some(held) = held(descriptors, fd) else {
         return Err(Errno::BadF);
     };
-    parent.write(held.slot, bytes)
+    parent.play(held.slot).write(bytes)
+}
+
+/// Asks something of the channel that a descriptor holds.
+pub fn ioctl<B: Feeder>(
+    parent: &mut ParentOf<B>,
+    tables: &Tables,
+    descriptors: &[Option<Held>],
+    fd: u8,
+    request: Request,
+) -> Result<Answer, Errno>
+    requires fd { fd < DESCRIPTORS }
+    requires size { length descriptors.now ≡ DESCRIPTORS }
+    requires held { HoldWithin (vec_len parent.old.channels) descriptors.now }
+    requires tables { tables.now ≡ filters_of (seen parent.old.device) }
+    requires own { AreOf parent.old.device parent.old.channels.items }
+    requires ready { All (IsReady B.kind B.kept) parent.old.channels.items }
+    requires count { All (λ channel. channel.book.done + channel.book.written
+        < 2 ^ 64) parent.old.channels.items }
+    ensures slots { length parent.new.channels.items ≡ length parent.old.channels.items }
+    ensures own { AreOf parent.new.device parent.new.channels.items }
+    ensures output { KeepsOutput parent.old parent.new }
+    ensures refused { OnErr result (parent.new ≡ parent.old) }
+    ensures desk { let desk = desk_with parent.old descriptors.now in
+        desk_with parent.new descriptors.now
+        ≡ (ioctl_on (seen parent.old.device) (held_by desk fd) desk request).desk }
+    ensures reply { let desk = desk_with parent.old descriptors.now in
+        result ≡ (ioctl_on (seen parent.old.device) (held_by desk fd) desk request).reply }
+    ensures channels { Each (Moves B.kind B.kept [] 0)
+        parent.old.channels.items parent.new.channels.items }
+{
+    let Some(held) = held(descriptors, fd) else {
+        return Err(Errno::BadF);
+    };
+    parent.play(held.slot).ioctl(tables, request)
 }
 
 /// Closes a descriptor, which others may open then.
@@ -88,10 +131,14 @@ pub fn close<B: Feeder>(
     requires fd { fd < DESCRIPTORS }
     requires size { length descriptors.old ≡ DESCRIPTORS }
     requires held { HoldWithin (vec_len parent.old.channels) descriptors.old }
+    requires own { AreOf parent.old.device parent.old.channels.items }
     requires ready { All (IsReady B.kind B.kept) parent.old.channels.items }
+    requires count { All (λ channel. channel.book.done + channel.book.written
+        < 2 ^ 64) parent.old.channels.items }
     ensures held { HoldWithin (vec_len parent.new.channels) descriptors.new }
     ensures size { length descriptors.new ≡ length descriptors.old }
     ensures slots { length parent.new.channels.items ≡ length parent.old.channels.items }
+    ensures own { AreOf parent.new.device parent.new.channels.items }
     ensures output { KeepsOutput parent.old parent.new }
     ensures refused { OnErr result (parent.new ≡ parent.old) }
     ensures shut { OnErr result (descriptors.new ≡ descriptors.old) }
@@ -106,7 +153,7 @@ pub fn close<B: Feeder>(
     let Some(held) = held(descriptors, fd) else {
         return Err(Errno::BadF);
     };
-    parent.close(held.slot);
+    parent.play(held.slot).close();
     descriptors[usize::from(fd)] = None;
     Ok(Answer::Done)
 }

@@ -3,40 +3,47 @@
 ghost use Rattle.std.specs.Prelude.{◌≡◌, [], ◌∷◌, ◌++◌, ◌+◌, ◌*◌, ◌<◌, ◌≤◌, length, vec_len, take, drop, All, List, ℕ, IfOk, IsErr};
 ghost use Rattle.pcm_desk.specs.declared.limits.TheConstants.{DESCRIPTORS, EVENTS, RING_FRAMES, WRITE_BYTES};
 ghost use Rattle.pcm_desk.specs.Events.{Fits, bytes_handed};
+ghost use Rattle.pcm_desk.specs.Device.{filters_of, seen};
+ghost use Rattle.pcm_vchan.specs.Slots.{AreOf};
 ghost use Rattle.pcm_engine.specs.Holds.{HoldWithin};
 
-use crate::clients::{close, open, write};
-use crate::parent::ParentOf;
+use crate::clients::{close, ioctl, open, write};
 use pcm_desk::{DESCRIPTORS, Device, Held};
-use pcm_feeder::{Feeder, RacksOf};
-use pcm_format::{Answer, Event, Pool, ReplyBuf};
+use pcm_feeder::{Feeder, RacksOf, Tables};
+use pcm_format::Pool;
+use pcm_oss::{Answer, Event, ReplyBuf};
+use pcm_vchan::ParentOf;
 use std::alloc::{AllocError, Global};
 
 /// The descriptors of clients, and the parent whose channels they hold.
 #[derive(Drop)]
 pub struct EngineOf<B> {
     parent: ParentOf<B>,
+    tables: Tables,
     descriptors: [Option<Held>; DESCRIPTORS],
     steps: u32,
+    ghost tables_are: { tables ≡ filters_of (seen parent.device) },
+    ghost own: { AreOf parent.device parent.channels.items },
     ghost held: { HoldWithin (vec_len parent.channels) descriptors },
-    ghost written: { All (λ channel. channel.book.written ≤ WRITE_BYTES * steps) parent.channels.items },
+    ghost counted: { All (λ channel. channel.book.done + channel.book.written ≤ WRITE_BYTES * steps) parent.channels.items },
     ghost given: { All (λ channel. channel.book.given ≤ RING_FRAMES * steps) parent.channels.items },
     ghost mixed_within: { parent.mixed ≤ RING_FRAMES * steps },
     ghost handed_within: { parent.handed ≤ RING_FRAMES * steps },
 }
 
 impl<B: Feeder> EngineOf<B> {
-    ghost use Rattle.pcm_format.specs.declared.event.Event.{Event};
+    ghost use Rattle.pcm_oss.specs.declared.event.Event.{Event};
     ghost use Rattle.pcm_format.specs.declared.pool.Pool.{Pool};
     ghost use Rattle.pcm_desk.specs.Usual.{usual_device};
     ghost use Rattle.pcm_desk.specs.Desk.{after, book_at, rate_at};
+    ghost use Rattle.pcm_desk.specs.Own.{IsIsolated};
     ghost use Rattle.pcm_desk.specs.Safe.{BookIsSafe};
     ghost use Rattle.pcm_sound.specs.Story.{story_of};
     ghost use Rattle.pcm_sound.specs.Replies.{reply_to};
     ghost use Rattle.pcm_sound.specs.DeviceList.{device_text};
     ghost use Rattle.pcm_feeder.specs.Racks.{AreRacks, list_of};
-    ghost use Rattle.pcm_engine.specs.Channels.{AllStand};
-    ghost use Rattle.pcm_engine.specs.Parents.{parent_books};
+    ghost use Rattle.pcm_vchan.specs.Slots.{AllStand};
+    ghost use Rattle.pcm_vchan.specs.Parents.{parent_books};
     ghost use Rattle.pcm_engine.specs.Steps.{ChannelsMove, ring_after};
     ghost use Rattle.pcm_engine.specs.Engines.{device_of, desk_of, AreReady, Stands, IsUnchanged};
 
@@ -50,9 +57,12 @@ impl<B: Feeder> EngineOf<B> {
         ensures stands { IfOk result (λ engine. (pool : Pool) → Stands B.kept engine pool []) }
     {
         let device = Device::usual();
-        let parent = ParentOf::new(alloc, device, racks)?;
+        // No filter can be chosen so far.
+        let tables = Tables::new(Vec::new(alloc));
+        let parent = ParentOf::new(alloc, device, &tables, racks)?;
         Ok(EngineOf {
             parent,
+            tables,
             descriptors: [None; DESCRIPTORS],
             steps: 0,
         })
@@ -92,6 +102,10 @@ impl<B: Feeder> EngineOf<B> {
             BookIsSafe (rate_at (device_of self.new) book) book }
         ensures refused { IsErr reply.new.result → IsUnchanged self.old self.new }
 
+        // No client sees what others do, but that a slot is taken.
+        ensures isolated { IsIsolated (device_of self.old) event.now
+            (desk_of self.old) (desk_of self.new) reply.new.result }
+
         ensures count { result ≡ bytes_handed (device_of self.old) event.now }
         ensures rest { drop result out.new ≡ drop result out.old }
     {
@@ -126,25 +140,30 @@ impl<B: Feeder> EngineOf<B> {
         ensures rest { drop result out.new ≡ drop result out.old }
     {
         self.steps += 1;
+        let parent = &mut self.parent;
+        let tables = &self.tables;
         match *event {
             Event::Open { fd, way, settings } => {
-                let answer = open(&mut self.parent, &mut self.descriptors, fd, way, settings);
+                let answer = open(parent, tables, &mut self.descriptors, fd, way, settings);
                 reply.keep(answer, &[]);
                 0
             }
             Event::Write { fd, at, len } => {
                 let bytes = pool.bytes_at(at, len);
-                reply.keep(write(&mut self.parent, &self.descriptors, fd, bytes), &[]);
+                reply.keep(write(parent, &self.descriptors, fd, bytes), &[]);
+                0
+            }
+            Event::Ioctl { fd, request } => {
+                reply.keep(ioctl(parent, tables, &self.descriptors, fd, request), &[]);
                 0
             }
             Event::Close { fd } => {
-                let answer = close(&mut self.parent, &mut self.descriptors, fd);
-                reply.keep(answer, &[]);
+                reply.keep(close(parent, &mut self.descriptors, fd), &[]);
                 0
             }
             Event::Intr { frames } => {
-                let size = frames as usize * self.parent.device.settings.frame_bytes();
-                self.parent.interrupt(frames as usize, &mut out[..size]);
+                let size = frames as usize * parent.device.settings.frame_bytes();
+                parent.interrupt(tables, frames as usize, &mut out[..size]);
                 reply.keep(Ok(Answer::Number(frames)), &[]);
                 size
             }

@@ -2,10 +2,7 @@
 //! After any list of events it stands for them: its books, rings, chains and bytes are those of their story.
 #![tactic(auto)]
 
-mod channel;
 mod clients;
 mod engine;
-mod mixer;
-mod parent;
 
 pub use engine::{Engine, EngineOf};

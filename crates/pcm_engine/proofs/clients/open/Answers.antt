@@ -1,5 +1,5 @@
 use Rattle.std.proofs.Common.{[], get_or}
-use Rattle.pcm_engine.proofs.Channels.{moves-nothing}
+use Rattle.pcm_play.proofs.Moving.{moves-nothing}
 use Rattle.pcm_engine.proofs.clients.open.Goals as goal
 
 pub returns-then-is_some-clause-channels : goal.returns-then-is_some-clause-channels

@@ -1,10 +1,16 @@
-use Rattle.std.proofs.Common.{ℕ, sym, ap, ◌∙◌, arith}
-use Rattle.pcm_format.specs.declared.event.Event.{Event}
+use Rattle.std.proofs.Common.{ℕ, ◌+◌, List, length, sym, ap, ◌∙◌, subst, arith}
+use Rattle.pcm_oss.specs.declared.event.Event.{Event}
 use Rattle.pcm_desk.specs.declared.book.Book.{Book}
+use Rattle.pcm_desk.specs.declared.device.Device.{Device}
+use Rattle.pcm_desk.specs.Device.{filters_of, seen}
 use Rattle.pcm_desk.specs.declared.limits.TheConstants.{RING_FRAMES, WRITE_BYTES}
 use Rattle.pcm_desk.specs.Desk.{after}
+use Rattle.pcm_play.specs.Channels.{Moves}
+use Rattle.pcm_vchan.specs.Slots.{Each}
 use Rattle.pcm_engine.specs.Engines.{device_of, desk_of}
-use Rattle.pcm_engine.proofs.Channels.{books_of-mixed, desk_with-mixed, count-within}
+use Rattle.pcm_engine.specs.Steps.{ChannelsMove}
+use Rattle.pcm_vchan.proofs.Channels.{books_of-mixed}
+use Rattle.pcm_engine.proofs.Desks.{desk_with-mixed, count-within}
 use Rattle.pcm_engine.proofs.engine.EngineOf.apply.Goals as goal
 
 pub invariant_of-self-in-Write : goal.invariant_of-self-in-Write
@@ -15,26 +21,48 @@ invariant_of-self-in-Write g c =
     let same = c.write.ensures.slots in
     let output = c.write.ensures.output in
     record {
+      tables_are = old.tables_are ∙ ap (λ (d : Device). filters_of (seen d)) (sym output.device_same);
+      own = c.write.ensures.own;
       held = λ fd held e. omega (arith, old.held fd held e, old.parent.channels.ok.0, new.channels.ok.0);
-      written = count-within (λ (b : Book). b.written) WRITE_BYTES old.steps old.parent.channels.items new.channels.items same
-          (λ slot other there. let more = (c.write.ensures.channels slot other there).written in omega (arith, more, c.bytes_at-bytes.ensures.length, fits.1)) old.written;
+      counted = count-within (λ (b : Book). b.done + b.written) WRITE_BYTES old.steps old.parent.channels.items new.channels.items same
+          (λ slot other there. let more = (c.write.ensures.channels slot other there).counted in omega (arith, more, c.bytes_at-bytes.ensures.length, fits.1)) old.counted;
       given = count-within (λ (b : Book). b.given) RING_FRAMES old.steps old.parent.channels.items new.channels.items same
           (λ slot other there. let more = (c.write.ensures.channels slot other there).given in omega (arith, more)) old.given;
       mixed_within = omega (arith, output.mixed_same, old.mixed_within);
       handed_within = omega (arith, output.handed_same, old.handed_within);
     }
 
-pub invariant_of-self-in-Intr-2 : goal.invariant_of-self-in-Intr-2
-invariant_of-self-in-Intr-2 g c =
+pub invariant_of-self-in-Ioctl : goal.invariant_of-self-in-Ioctl
+invariant_of-self-in-Ioctl g c =
+    let old = c.args.self.now in
+    let new = c.ioctl.new.parent in
+    let same = c.ioctl.ensures.slots in
+    let output = c.ioctl.ensures.output in
+    record {
+      tables_are = old.tables_are ∙ ap (λ (d : Device). filters_of (seen d)) (sym output.device_same);
+      own = c.ioctl.ensures.own;
+      held = λ fd held e. omega (arith, old.held fd held e, old.parent.channels.ok.0, new.channels.ok.0);
+      counted = count-within (λ (b : Book). b.done + b.written) WRITE_BYTES old.steps old.parent.channels.items new.channels.items same
+          (λ slot other there. let more = (c.ioctl.ensures.channels slot other there).counted in omega (arith, more)) old.counted;
+      given = count-within (λ (b : Book). b.given) RING_FRAMES old.steps old.parent.channels.items new.channels.items same
+          (λ slot other there. let more = (c.ioctl.ensures.channels slot other there).given in omega (arith, more)) old.given;
+      mixed_within = omega (arith, output.mixed_same, old.mixed_within);
+      handed_within = omega (arith, output.handed_same, old.handed_within);
+    }
+
+pub invariant_of-self-in-Intr : goal.invariant_of-self-in-Intr
+invariant_of-self-in-Intr g c =
     let old = c.args.self.now in
     let new = c.interrupt.new.self in
     let fits = rw c.in-Intr.is at c.requires.fits in
     let same = c.interrupt.ensures.slots in
     let within = old.parent.within in
     record {
+      tables_are = old.tables_are ∙ ap (λ (d : Device). filters_of (seen d)) (sym c.interrupt.ensures.device);
+      own = c.interrupt.ensures.own;
       held = λ fd held e. omega (arith, old.held fd held e, old.parent.channels.ok.0, new.channels.ok.0);
-      written = count-within (λ (b : Book). b.written) WRITE_BYTES old.steps old.parent.channels.items new.channels.items same
-          (λ slot other there. let more = (c.interrupt.ensures.channels slot other there).written in omega (arith, more)) old.written;
+      counted = count-within (λ (b : Book). b.done + b.written) WRITE_BYTES old.steps old.parent.channels.items new.channels.items same
+          (λ slot other there. let more = (c.interrupt.ensures.channels slot other there).counted in omega (arith, more)) old.counted;
       given = count-within (λ (b : Book). b.given) RING_FRAMES old.steps old.parent.channels.items new.channels.items same
           (λ slot other there. let more = (c.interrupt.ensures.channels slot other there).given in omega (arith, more, fits.1)) old.given;
       mixed_within = omega (arith, c.interrupt.ensures.mixed, old.mixed_within, fits.1);
@@ -49,3 +77,15 @@ returns-in-Intr-clause-desk g c =
     let books = books_of-mixed old.parent.device n old.parent.channels.items new.channels.items c.interrupt.ensures.slots c.interrupt.ensures.books in
     desk_with-mixed old.parent new old.descriptors n books c.interrupt.ensures.handed c.interrupt.ensures.mixed
     ∙ sym (ap (λ (event : Event). (after (device_of old) (desk_of old) event).desk) c.in-Intr.is)
+
+pub returns-in-Write-clause-channels : goal.returns-in-Write-clause-channels
+returns-in-Write-clause-channels g c =
+    let before = c.args.self.now.parent.channels.items in
+    let now = c.write.new.parent.channels.items in
+    subst (λ (event : Event). ChannelsMove g.B.Feeder.kind g.B.Feeder.kept c.args.pool.now event before now) (sym c.in-Write.is)
+    (subst (λ (bytes : List ℕ). Each (Moves g.B.Feeder.kind g.B.Feeder.kept bytes 0) before now) c.bytes_at-bytes.ensures.bytes c.write.ensures.channels)
+
+pub returns-in-Intr-clause-channels : goal.returns-in-Intr-clause-channels
+returns-in-Intr-clause-channels g c =
+    subst (λ (event : Event). ChannelsMove g.B.Feeder.kind g.B.Feeder.kept c.args.pool.now event c.args.self.now.parent.channels.items c.interrupt.new.self.channels.items) (sym c.in-Intr.is)
+    c.interrupt.ensures.channels

@@ -1,5 +1,9 @@
-use Rattle.std.proofs.Common.{refl, ap, arith}
+use Rattle.std.proofs.Common.{List, refl, sym, ap, ◌∙◌, arith}
+use Rattle.pcm_feeder.specs.declared.table.Table.{Table}
+use Rattle.pcm_feeder.specs.Filters.{Filters}
 use Rattle.pcm_desk.specs.declared.book.Book.{Book}
+use Rattle.pcm_desk.specs.declared.device.Device.{Device}
+use Rattle.pcm_desk.specs.Device.{filters_of, seen}
 use Rattle.pcm_engine.proofs.Starting.{hold_within-none, parent-starts, ready-unopened}
 use Rattle.pcm_engine.proofs.engine.EngineOf.new.Goals as goal
 
@@ -7,8 +11,15 @@ pub invariant_of-result : goal.invariant_of-result
 invariant_of-result g c =
     let parent = c.in_ok-parent.parent in
     record {
+      tables_are = ap (λ (list : List Table). let filters : Filters = record { list = list } in filters) (c.new-tables.ensures ∙ c.new.ensures.items)
+          ∙ ap (λ (d : Device). filters_of (seen d)) (sym c.in_ok-parent.ensures.device);
+      own = λ slot other there. (c.in_ok-parent.ensures.channels slot other there).device_is ∙ sym c.in_ok-parent.ensures.device;
       held = hold_within-none parent.channels.len _ 64 refl;
-      written = λ slot other there. let none = ap (λ (b : Book). b.written) (c.in_ok-parent.ensures.channels slot other there).book in omega arith;
+      counted = λ slot other there.
+          let book = (c.in_ok-parent.ensures.channels slot other there).book in
+          let none = ap (λ (b : Book). b.written) book in
+          let before = ap (λ (b : Book). b.done) book in
+          omega arith;
       given = λ slot other there. let none = ap (λ (b : Book). b.given) (c.in_ok-parent.ensures.channels slot other there).book in omega arith;
       mixed_within = omega (arith, c.in_ok-parent.ensures.mixed);
       handed_within = omega (arith, c.in_ok-parent.ensures.handed);

@@ -1,16 +1,20 @@
-use Rattle.std.proofs.Common.{ℕ, List, [], ◌∷◌, ◌++◌, take, refl, sym, ap, ◌∙◌, subst}
+use Rattle.std.proofs.Common.{ℕ, List, [], ◌∷◌, ◌++◌, take, refl, sym, ap, ◌∙◌, subst, arith}
+use Rattle.std.proofs.lemmas.List.{length-map}
 use Rattle.pcm_desk.specs.declared.device.Device.{Device}
 use Rattle.pcm_desk.specs.Device.{seen}
-use Rattle.pcm_desk.specs.Desk.{Desk, book_at, rate_at}
+use Rattle.pcm_desk.specs.Desk.{Desk, after, book_at, rate_at}
 use Rattle.pcm_desk.specs.Events.{frames_taken}
+use Rattle.pcm_desk.specs.Own.{IsIsolated}
 use Rattle.pcm_desk.specs.Safe.{BookIsSafe}
 use Rattle.pcm_sound.specs.Story.{story_of, story_at_start}
 use Rattle.pcm_sound.specs.DeviceList.{device_body}
 use Rattle.pcm_sound.proofs.Stories.{told_all-push}
+use Rattle.pcm_play.specs.declared.channel.PlayChannelOf.{PlayChannelOf}
 use Rattle.pcm_engine.specs.Stands.{PartsStand}
 use Rattle.pcm_engine.specs.Steps.{bytes_brought}
 use Rattle.pcm_engine.specs.Engines.{device_of, desk_of}
-use Rattle.pcm_engine.proofs.Channels.{ready-after}
+use Rattle.pcm_vchan.proofs.Channels.{ready-after}
+use Rattle.pcm_engine.proofs.Own.{isolated}
 use Rattle.pcm_engine.proofs.Standing.{Stepped, stands-told, body-told}
 use Rattle.pcm_engine.proofs.engine.EngineOf.step.Goals as goal
 
@@ -60,3 +64,13 @@ returns-clause-safe g c = λ events s slot.
     let stood = returns-clause-stands g c events s in
     let device = device_of c.apply.new.self in
     subst (λ (desk : Desk). BookIsSafe (rate_at device (book_at device desk slot)) (book_at device desk slot)) (sym stood.desk_is) (stood.valid.safe slot)
+
+pub returns-clause-isolated : goal.returns-clause-isolated
+returns-clause-isolated g c =
+    let old = c.args.self.now in
+    let device = device_of old in
+    let desk = desk_of old in
+    let slots = length-map old.parent.channels.items (λ (channel : PlayChannelOf _). channel.book) in
+    let alone = isolated device c.args.event.now desk (λ fd held e. let within = old.held fd held e in omega (arith, old.parent.channels.ok.0, slots)) in
+    subst (λ (new : Desk). IsIsolated device c.args.event.now desk new c.apply.new.reply.result) (sym c.apply.ensures.desk)
+    (subst (IsIsolated device c.args.event.now desk (after device desk c.args.event.now).desk) (sym c.apply.ensures.reply) alone)

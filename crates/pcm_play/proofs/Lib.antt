@@ -1,0 +1,5 @@
+pub mod Frames
+pub mod Refills
+pub mod Stands
+pub mod Moving
+pub mod Refilling

@@ -1,0 +1,43 @@
+//! How the parts of a channel begin with its book.
+
+ghost use Rattle.std.specs.Prelude.{◌≡◌, []};
+ghost use Rattle.pcm_ring.specs.Ring.{empty_ring};
+ghost use Rattle.pcm_feeder.specs.Filters.{Filters};
+ghost use Rattle.pcm_feeder.specs.Limits.{IsRate};
+ghost use Rattle.pcm_feeder.specs.Racks.{HaveKinds};
+ghost use Rattle.pcm_oss.specs.declared.fragments.TheConstants.{RING_BYTES};
+ghost use Rattle.pcm_oss.specs.Fragments.{AreFragments};
+ghost use Rattle.pcm_chain.specs.Chains.{ChainStands, boxes_in, plan_in};
+ghost use Rattle.pcm_desk.specs.Books.{ring_bytes};
+ghost use Rattle.pcm_desk.specs.Device.{IsDevice, filters_of, plan_between, seen};
+
+use pcm_chain::ChainOf;
+use pcm_desk::{Book, Device, QUALITY};
+use pcm_feeder::{Feeder, Tables};
+use pcm_plan::plan_play;
+use pcm_ring::ByteRing;
+
+/// Empties a ring, which gets the size of the book, and begins a chain by the plan of the book's settings.
+pub fn begin_anew<B: Feeder>(
+    device: &Device,
+    tables: &Tables,
+    book: &Book,
+    ring: &mut ByteRing,
+    chain: &mut ChainOf<B>,
+)
+    requires device { IsDevice (seen device.now) }
+    requires tables { tables.now ≡ filters_of (seen device.now) }
+    requires rate { IsRate book.now.settings.rate }
+    requires fragments { AreFragments book.now.fragments }
+    requires room { ring.old.max ≡ RING_BYTES }
+    requires kinds { HaveKinds B.kind (boxes_in chain.old) }
+    ensures ring { ring.new ≡ record (empty_ring RING_BYTES) { size = ring_bytes book.now } }
+    ensures plan { plan_in chain.new ≡ plan_between (seen device.now) book.now.settings }
+    ensures kinds { HaveKinds B.kind (boxes_in chain.new) }
+    ensures begins { (tables : Filters) → ChainStands B.kept tables chain.new [] 0 0 }
+{
+    ring.clear();
+    ring.set_size(book.fragments.size() as usize);
+    let plan = plan_play(&book.settings, &device.settings, QUALITY, tables);
+    chain.reset(&plan);
+}

@@ -1,0 +1,212 @@
+//! A channel that plays: its book, the ring with the bytes that wait, and the chain that they go through.
+
+ghost use Rattle.std.specs.Prelude.{◌≡◌, ◌+◌, ◌*◌, ◌^◌, ◌<◌, ◌≤◌, [], ℕ, List, length, IfOk, OnErr, All};
+ghost use Rattle.pcm_format.specs.Formats.{bits_of};
+ghost use Rattle.pcm_format.specs.Layouts.{channels_of};
+ghost use Rattle.pcm_format.specs.Frames.{frame_bytes};
+ghost use Rattle.pcm_num.specs.Limit.{FitsBits};
+ghost use Rattle.pcm_oss.specs.declared.fragments.TheConstants.{RING_BYTES};
+ghost use Rattle.pcm_feeder.specs.Limits.{IsRate};
+ghost use Rattle.pcm_feeder.specs.Racks.{HaveKinds, IsRack};
+ghost use Rattle.pcm_chain.specs.Chains.{boxes_in, plan_in};
+ghost use Rattle.pcm_desk.specs.declared.limits.TheConstants.{WRITE_BYTES};
+ghost use Rattle.pcm_desk.specs.Device.{IsDevice, filters_of, plan_between, seen};
+ghost use Rattle.pcm_desk.specs.Books.{is_free, fill_of, ring_bytes, begun, write_turn};
+ghost use Rattle.pcm_desk.specs.Safe.{BookIsSafe};
+ghost use Rattle.pcm_desk.proofs.Props.{book_props};
+ghost use Rattle.pcm_desk.specs.Desk.{asking, closing, mixing, rate_at, unopened};
+ghost use Rattle.pcm_sound.specs.Blocks.{turned};
+
+use crate::anew::begin_anew;
+use pcm_chain::ChainOf;
+use pcm_desk::{Book, Device, State};
+use pcm_feeder::{Feeder, RackOf, Tables};
+use pcm_format::Settings;
+use pcm_mix::mix_into;
+use pcm_oss::{Answer, Errno, RING_BYTES, Request, gain_of};
+use pcm_ring::ByteRing;
+use std::alloc::{AllocError, Global};
+
+/// A channel of the device that plays.
+#[derive(Drop)]
+pub struct PlayChannelOf<B> {
+    pub device: Device,
+    pub book: Book,
+    pub ring: ByteRing,
+    pub chain: ChainOf<B>,
+    ghost device_is: { IsDevice (seen device) },
+    ghost rate: { IsRate book.settings.rate },
+    ghost plan: { plan_in chain ≡ plan_between (seen device) book.settings },
+    ghost room: { ring.max ≡ RING_BYTES },
+    ghost size: { ring.size ≡ ring_bytes book },
+    ghost fill: { length ring.bytes ≡ fill_of book },
+    ghost within: { book.eaten * frame_bytes book.settings ≤ book.written },
+    ghost safe: { BookIsSafe (rate_at (seen device) book) book } by { Prim.hlevel book_props },
+}
+
+impl<B: Feeder> PlayChannelOf<B> {
+    ghost use Rattle.pcm_play.specs.Channels.{ChannelStands, Moves, StandsForSome};
+
+    /// A channel of a device that nobody has opened.
+    pub fn new(
+        alloc: Global,
+        device: Device,
+        tables: &Tables,
+        rack: RackOf<B>,
+    ) -> Result<PlayChannelOf<B>, AllocError>
+        requires device { IsDevice (seen device) }
+        requires tables { tables.now ≡ filters_of (seen device) }
+        requires kinds { IsRack B.kind rack }
+        ensures book { IfOk result (λ made. made.book ≡ unopened (seen device)) }
+        ensures device { IfOk result (λ made. made.device ≡ device) }
+        ensures kinds { IfOk result (λ made. HaveKinds B.kind (boxes_in made.chain)) }
+        ensures stands { IfOk result (λ made. ChannelStands B.kept made made.book []) }
+    {
+        let mut ring = ByteRing::new(alloc, RING_BYTES as usize)?;
+        let mut chain = ChainOf::new(alloc, rack)?;
+        let book = Book {
+            state: State::Free,
+            ..Book::begun(device.settings)
+        };
+        begin_anew(&device, tables, &book, &mut ring, &mut chain);
+        Ok(PlayChannelOf {
+            device,
+            book,
+            ring,
+            chain,
+        })
+    }
+
+    /// Whether nobody has the channel, and nothing of it is left to play.
+    pub fn is_free(&self) -> bool
+        ensures { result ≡ is_free self.now.book.state }
+    {
+        self.book.is_free()
+    }
+
+    /// A new opening begins, whose sound goes through the plan of its settings.
+    pub fn begin(&mut self, tables: &Tables, settings: Settings)
+        requires rate { IsRate settings.rate }
+        requires tables { tables.now ≡ filters_of (seen self.old.device) }
+        requires kinds { HaveKinds B.kind (boxes_in self.old.chain) }
+        ensures book { self.new.book ≡ begun settings }
+        ensures device { self.new.device ≡ self.old.device }
+        ensures moves { Moves B.kind B.kept [] 0 self.old self.new }
+    {
+        self.book = Book::begun(settings);
+        begin_anew(
+            &self.device,
+            tables,
+            &self.book,
+            &mut self.ring,
+            &mut self.chain,
+        );
+    }
+
+    /// Takes the front of `bytes`, as much as fits.
+    pub fn write(&mut self, bytes: &[u8]) -> Result<Answer, Errno>
+        requires length { length bytes.now ≤ WRITE_BYTES }
+        requires count { self.old.book.written + WRITE_BYTES < 2 ^ 64 }
+        ensures book { self.new.book ≡ (write_turn (length bytes.now) self.old.book).book }
+        ensures reply { result ≡ (write_turn (length bytes.now) self.old.book).reply }
+        ensures device { self.new.device ≡ self.old.device }
+        ensures refused { OnErr result (self.new ≡ self.old) }
+        ensures moves { Moves B.kind B.kept bytes.now 0 self.old self.new }
+    {
+        if self.book.is_draining() {
+            return Err(Errno::Busy);
+        }
+        if !bytes.is_empty() && self.ring.free() == 0 {
+            return Err(Errno::Again);
+        }
+        let accepted = self.ring.put(bytes);
+        self.book = self.book.accepting(accepted as u64);
+        Ok(Answer::Number(accepted as u32))
+    }
+
+    /// Does what a request asks. Where nothing of a run is left, the ring and the chain begin anew, as the book says.
+    pub fn ioctl(&mut self, tables: &Tables, request: Request) -> Result<Answer, Errno>
+        requires tables { tables.now ≡ filters_of (seen self.old.device) }
+        requires kinds { HaveKinds B.kind (boxes_in self.old.chain) }
+        requires count { self.old.book.done + self.old.book.written < 2 ^ 64 }
+        ensures book { self.new.book ≡ (asking (seen self.old.device) request self.old.book).book }
+        ensures reply { result ≡ (asking (seen self.old.device) request self.old.book).reply }
+        ensures device { self.new.device ≡ self.old.device }
+        ensures refused { OnErr result (self.new ≡ self.old) }
+        ensures moves { Moves B.kind B.kept [] 0 self.old self.new }
+    {
+        let turn = self.book.asked(self.chain.plan().rate(), request)?;
+        self.book = turn.book;
+        if self.book.written == 0 {
+            begin_anew(
+                &self.device,
+                tables,
+                &self.book,
+                &mut self.ring,
+                &mut self.chain,
+            );
+        }
+        Ok(turn.answer)
+    }
+
+    /// No descriptor has the channel any more: what was written plays to its end.
+    pub fn close(&mut self)
+        requires kinds { HaveKinds B.kind (boxes_in self.old.chain) }
+        requires count { self.old.book.done + self.old.book.written < 2 ^ 64 }
+        ensures book { self.new.book ≡ closing (seen self.old.device) self.old.book }
+        ensures device { self.new.device ≡ self.old.device }
+        ensures moves { Moves B.kind B.kept [] 0 self.old self.new }
+    {
+        let rate = self.chain.plan().rate();
+        self.book = self.book.closed(rate);
+        if self.book.written == 0 {
+            self.ring.clear();
+            self.chain.restart();
+        }
+    }
+
+    /// Adds the channel's frames to the front of a block of the mix, as many as an interrupt that mixes `n` frames gets.
+    /// `frames` holds them meanwhile.
+    pub fn refill(&mut self, tables: &Tables, n: usize, frames: &mut [i32], sum: &mut [i32])
+        requires some { 0 < n }
+        requires tables { tables.now ≡ filters_of (seen self.old.device) }
+        requires kinds { HaveKinds B.kind (boxes_in self.old.chain) }
+        requires stands { StandsForSome B.kept self.old }
+        requires frames { length frames.old ≡ n * channels_of self.old.device.settings.layout }
+        requires sum { length sum.old ≡ n * channels_of self.old.device.settings.layout }
+        requires fits { All (FitsBits (bits_of self.old.device.settings.format)) sum.old }
+        requires count { self.old.book.given + n < 2 ^ 64 }
+        requires counted { self.old.book.done + self.old.book.written < 2 ^ 64 }
+        ensures book { self.new.book ≡ mixing (seen self.old.device) n self.old.book }
+        ensures device { self.new.device ≡ self.old.device }
+        ensures moves { Moves B.kind B.kept [] n self.old self.new }
+        ensures sum { (bytes : List ℕ) → ChannelStands B.kept self.old self.old.book bytes
+            → sum.new ≡ turned (seen self.old.device) n self.old.book bytes sum.old }
+        ensures fits { All (FitsBits (bits_of self.old.device.settings.format)) sum.new }
+    {
+        if !self.book.is_started() {
+            return;
+        }
+        let settings = self.device.settings;
+        let format = self.book.settings.format;
+        let ended = self.book.is_draining();
+        let gain = gain_of(self.book.volume);
+        let pulled = self
+            .chain
+            .pull(tables, gain, &mut self.ring, format, ended, n, frames);
+        let samples = pulled.given * settings.layout.channels();
+        mix_into(
+            &mut sum[..samples],
+            &frames[..samples],
+            settings.format.bits(),
+        );
+        self.book = self.book.refilled(self.chain.plan().rate(), n as u64);
+        if self.book.written == 0 {
+            self.ring.clear();
+            self.chain.restart();
+        }
+    }
+}
+
+/// A channel whose rack holds boxes.
+pub type PlayChannel = PlayChannelOf<Box<dyn Feeder>>;

@@ -1,0 +1,134 @@
+-- The channels of a device, one of them changed or all refilled.
+use Rattle.std.proofs.Common.{◌≡◌, ℕ, ◌*◌, ◌+◌, ◌<◌, ◌≤◌, Bool, cond, List, [], ◌∷◌, ◌++◌, length, map, set, get_or, take, Some, None, All, refl, sym, ap, ◌∙◌, subst, inl, inr, arith, get_or-set_same, get_or-set_other}
+use Rattle.std.specs.Prelude.{Vec, not, nat_lt, position}
+use Rattle.std.specs.Vec.{with_item}
+use Rattle.std.proofs.Props.{props}
+use mathlib.Core.HLevel.{is_prop→PathP}
+use Rattle.pcm_format.specs.Frames.{frame_bytes}
+use Rattle.pcm_format.specs.Layouts.{channels_of}
+use Rattle.pcm_desk.specs.declared.limits.TheConstants.{RING_FRAMES, SLOTS}
+use Rattle.std.specs.List.{position_or_len, prefix_len}
+use Rattle.std.proofs.lemmas.List.{get_or-map, map-set, length-map, length-set, set-get_or, get_or_default, same_lists}
+use Rattle.std.proofs.lemmas.Bool.{cases_eq}
+use Rattle.pcm_feeder.specs.declared.kind.Kind.{Kind}
+use Rattle.pcm_feeder.specs.Kept.{Kept}
+use Rattle.pcm_desk.specs.declared.book.Book.{Book}
+use Rattle.pcm_desk.specs.declared.device.Device.{Device}
+use Rattle.pcm_desk.specs.Device.{seen}
+use Rattle.pcm_desk.specs.Books.{is_free}
+use Rattle.pcm_desk.specs.Desk.{least_free, mixing}
+use Rattle.pcm_play.specs.declared.channel.PlayChannelOf.{PlayChannelOf}
+use Rattle.pcm_vchan.specs.declared.parent.ParentOf.{ParentOf}
+use Rattle.pcm_vchan.specs.Slots.{books_of, Each}
+use Rattle.pcm_play.specs.Channels.{IsReady, Moves}
+
+prefix_len-map : {X Y : Type 0} (p : Y → Bool) (f : X → Y) (xs : List X) → prefix_len p (map f xs) ≡ prefix_len (λ x. p (f x)) xs
+prefix_len-map p f [] = refl
+prefix_len-map p f (x ∷ xs) = ap (λ rest. cond (p (f x)) (1 + rest) 0) (prefix_len-map p f xs)
+
+position-map : {X Y : Type 0} (p : Y → Bool) (f : X → Y) (xs : List X) → position p (map f xs) ≡ position (λ x. p (f x)) xs
+position-map p f xs =
+    ap (λ (at : ℕ). cond (nat_lt at (length (map f xs))) (Some at) None) (prefix_len-map (λ y. not (p y)) f xs)
+    ∙ ap (λ (n : ℕ). cond (nat_lt (position_or_len (λ x. p (f x)) xs) n) (Some (position_or_len (λ x. p (f x)) xs)) None) (length-map xs f)
+
+-- the least free slot of books is that of their channels
+pub least_free-books : {B : Type 0} (channels : List (PlayChannelOf B)) → least_free (books_of channels) ≡ position (λ (channel : PlayChannelOf B). is_free channel.book.state) channels
+least_free-books {B = B} channels = position-map (λ (book : Book). is_free book.state) (λ (channel : PlayChannelOf B). channel.book) channels
+
+-- the book of a channel
+pub book_at-channel : {B : Type 0} (channels : List (PlayChannelOf B)) (slot : ℕ) (old : PlayChannelOf B) (other : Book) → slot < length channels → old ≡ get_or channels slot old → old.book ≡ get_or (books_of channels) slot other
+book_at-channel {B = B} channels slot old other there is = ap (λ (channel : PlayChannelOf B). channel.book) is ∙ sym (get_or-map (λ (channel : PlayChannelOf B). channel.book) channels slot old other there)
+
+-- the books once one channel changed, whose book changed by `how`
+pub books_of-set : {B : Type 0} (how : Book → Book) (channels : List (PlayChannelOf B)) (slot : ℕ) (old new : PlayChannelOf B) (other : Book) → slot < length channels → old ≡ get_or channels slot old → new.book ≡ how old.book
+    → books_of (set channels slot new) ≡ set (books_of channels) slot (how (get_or (books_of channels) slot other))
+books_of-set {B = B} how channels slot old new other there is changed =
+    map-set (λ (channel : PlayChannelOf B). channel.book) channels slot new
+    ∙ ap (set (books_of channels) slot) (changed ∙ ap how (book_at-channel channels slot old other there is))
+
+-- what holds of each channel once one of them changed
+pub each_set : {B : Type 0} (how : PlayChannelOf B → PlayChannelOf B → Type 0) (channels : List (PlayChannelOf B)) (at : ℕ) (old new : PlayChannelOf B) → at < length channels → old ≡ get_or channels at old → how old new
+    → ((channel : PlayChannelOf B) → how channel channel) → Each how channels (set channels at new)
+each_set {B = B} how channels at old new there is changed stays = λ slot other within.
+    elim (cases_eq slot at) [
+      | inl same ↦ subst (λ (k : ℕ). how (get_or channels k other) (get_or (set channels at new) k other)) (sym same)
+          (subst (how (get_or channels at other)) (sym (get_or-set_same channels at new other there))
+          (subst (λ (c : PlayChannelOf B). how c new) (is ∙ get_or_default channels at old other there) changed))
+      | inr differ ↦ subst (how (get_or channels slot other)) (sym (get_or-set_other channels at slot new other differ)) (stays (get_or channels slot other))
+    ]
+
+-- each channel is of one device still, once one of them changed
+pub own_set : {B : Type 0} (device : Device) (channels : List (PlayChannelOf B)) (at : ℕ) (old new : PlayChannelOf B) → at < length channels → old ≡ get_or channels at old → new.device ≡ old.device
+    → All (λ (channel : PlayChannelOf B). channel.device ≡ device) channels → All (λ (channel : PlayChannelOf B). channel.device ≡ device) (set channels at new)
+own_set {B = B} device channels at old new there is same own = λ slot other within.
+    let before : slot < length channels = omega (arith, length-set channels at new) in
+    let How : PlayChannelOf B → PlayChannelOf B → Type 0 = λ a b. a.device ≡ device → b.device ≡ device in
+    each_set How channels at old new there is (λ e. same ∙ e) (λ channel e. e) slot other before (own slot other before)
+
+-- so channels that were ready are ready after an event
+ready-moved : {B : Type 0} (kind : B → Kind) (kept : B → Kept) (more : List ℕ) (frames : ℕ) (old new : PlayChannelOf B) → Moves kind kept more frames old new → IsReady kind kept old → IsReady kind kept new
+ready-moved kind kept more frames old new m r = record {
+  kinds = m.kinds r.kinds;
+  stands = record { bytes = take new.book.written (r.stands.bytes ++ more); stands = m.stands r.stands.bytes r.stands.stands };
+}
+
+pub ready-after : {B : Type 0} (kind : B → Kind) (kept : B → Kept) (more : List ℕ) (frames : ℕ) (old new : List (PlayChannelOf B)) → length new ≡ length old → Each (Moves kind kept more frames) old new
+    → All (IsReady kind kept) old → All (IsReady kind kept) new
+ready-after kind kept more frames old new same each ready = λ slot other within.
+    let there : slot < length old = omega arith in
+    ready-moved kind kept more frames (get_or old slot other) (get_or new slot other) (each slot other there) (ready slot other there)
+
+-- some element of a list that has one
+pub some_channel : {B : Type 0} (channels : List (PlayChannelOf B)) (k : ℕ) → k < length channels → PlayChannelOf B
+some_channel [] k h = absurd (omega arith)
+some_channel (channel ∷ channels) k h = channel
+
+-- the books after an interrupt
+pub books_of-mixed : {B : Type 0} (device : Device) (n : ℕ) (old new : List (PlayChannelOf B)) → length new ≡ length old → Each (λ (o : PlayChannelOf B) (c : PlayChannelOf B). c.book ≡ mixing (seen device) n o.book) old new
+    → books_of new ≡ map (mixing (seen device) n) (books_of old)
+books_of-mixed {B = B} device n old new same each =
+    same_lists (books_of new) (map (mixing (seen device) n) (books_of old))
+    (length-map new (λ (c : PlayChannelOf B). c.book) ∙ same ∙ sym (length-map (books_of old) (mixing (seen device) n) ∙ length-map old (λ (c : PlayChannelOf B). c.book)))
+    (λ k d within.
+    let there : k < length new = omega (arith, length-map new (λ (c : PlayChannelOf B). c.book)) in
+    let before : k < length old = omega arith in
+    let listed : k < length (books_of old) = omega (arith, length-map old (λ (c : PlayChannelOf B). c.book)) in
+    let other : PlayChannelOf B = some_channel old k before in
+    get_or-map (λ (c : PlayChannelOf B). c.book) new k other d there ∙ each k other before
+    ∙ ap (mixing (seen device) n) (sym (get_or-map (λ (c : PlayChannelOf B). c.book) old k other d before)) ∙ sym (get_or-map (mixing (seen device) n) (books_of old) k d d listed))
+
+-- an element that is written back changes nothing of a vector
+pub vec_same : {X Z : Type 0} (v : Vec X Z) (at : ℕ) (x d : X) → x ≡ get_or v.items at d → with_item v at x ≡ v
+vec_same v at x d is =
+    let items : set v.items at x ≡ v.items = ap (set v.items at) is ∙ set-get_or v.items at d in
+    λ i. record {
+      ptr = v.ptr;
+      len = v.len;
+      cap = v.cap;
+      alloc = v.alloc;
+      items = items i;
+      ok = is_prop→PathP (λ j. (v.len ≡ length (items j)) × (v.len ≤ v.cap)) (λ j. hlevel props) (with_item v at x).ok v.ok i;
+      small = v.small;
+    }
+
+-- a parent with other channels that are the old ones is the old one
+pub parent_same : {B : Type 0} (new old : ParentOf B) (device : new.device ≡ old.device) (channels : new.channels ≡ old.channels) (ring : new.ring ≡ old.ring) → new.handed ≡ old.handed → new.mixed ≡ old.mixed
+    → new.bytes ≡ old.bytes → new.frames ≡ old.frames → new.sum ≡ old.sum → new ≡ old
+parent_same {B = B} new old device channels ring handed mixed bytes frames sum = λ i. record {
+  device = device i;
+  channels = channels i;
+  ring = ring i;
+  handed = handed i;
+  mixed = mixed i;
+  bytes = bytes i;
+  frames = frames i;
+  sum = sum i;
+  within = is_prop→PathP (λ j. (device j).ring_frames ≤ RING_FRAMES) (λ j. hlevel props) new.within old.within i;
+  slots = is_prop→PathP (λ j. (channels j).len ≡ (device j).play_slots) (λ j. hlevel props) new.slots old.slots i;
+  slots_within = is_prop→PathP (λ j. (device j).play_slots ≤ SLOTS) (λ j. hlevel props) new.slots_within old.slots_within i;
+  size = is_prop→PathP (λ j. (ring j).size ≡ (device j).ring_frames * frame_bytes (device j).settings) (λ j. hlevel props) new.size old.size i;
+  full = is_prop→PathP (λ j. length (ring j).bytes ≡ (device j).ring_frames * frame_bytes (device j).settings) (λ j. hlevel props) new.full old.full i;
+  bytes_size = is_prop→PathP (λ j. (bytes j).len ≡ (device j).ring_frames * frame_bytes (device j).settings) (λ j. hlevel props) new.bytes_size old.bytes_size i;
+  frames_size = is_prop→PathP (λ j. (frames j).len ≡ (device j).ring_frames * channels_of (device j).settings.layout) (λ j. hlevel props) new.frames_size old.frames_size i;
+  sum_size = is_prop→PathP (λ j. (sum j).len ≡ (device j).ring_frames * channels_of (device j).settings.layout) (λ j. hlevel props) new.sum_size old.sum_size i;
+}

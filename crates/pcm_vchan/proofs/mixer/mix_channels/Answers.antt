@@ -1,0 +1,63 @@
+use Rattle.std.proofs.Common.{◌≡◌, ℕ, ◌+◌, ◌<◌, [], length, get_or, sym, ap, ◌∙◌, subst, inl, inr, arith}
+use Rattle.std.proofs.lemmas.Bool.{cases_lt, cases_eq}
+use Rattle.pcm_desk.specs.Device.{DeviceSeen, seen}
+use Rattle.pcm_desk.specs.Desk.{mixing}
+use Rattle.pcm_sound.specs.Blocks.{turned}
+use Rattle.pcm_play.specs.declared.channel.PlayChannelOf.{PlayChannelOf}
+use Rattle.pcm_play.specs.Channels.{ChannelStands, IsReady, Moves}
+use Rattle.pcm_vchan.proofs.Channels.{some_channel}
+use Rattle.pcm_vchan.proofs.Blocks.{mixed-more}
+use Rattle.pcm_vchan.proofs.mixer.mix_channels.Goals as goal
+
+pub mix_slot-requires-clause-ready : goal.mix_slot-requires-clause-ready
+mix_slot-requires-clause-ready g c = λ other.
+    subst (IsReady g.B.Feeder.kind g.B.Feeder.kept) (sym (c.loop-slot.invariant.rest c.loop-slot.slot other (omega arith))) (c.requires.ready c.loop-slot.slot other (omega arith))
+
+pub mix_slot-requires-clause-count : goal.mix_slot-requires-clause-count
+mix_slot-requires-clause-count g c = λ other.
+    subst (λ (n : PlayChannelOf _). n.book.given + c.args.n < 18446744073709551616) (sym (c.loop-slot.invariant.rest c.loop-slot.slot other (omega arith))) (c.requires.count c.loop-slot.slot other (omega arith))
+
+pub mix_slot-requires-clause-counted : goal.mix_slot-requires-clause-counted
+mix_slot-requires-clause-counted g c = λ other.
+    subst (λ (n : PlayChannelOf _). n.book.done + n.book.written < 18446744073709551616) (sym (c.loop-slot.invariant.rest c.loop-slot.slot other (omega arith))) (c.requires.counted c.loop-slot.slot other (omega arith))
+
+pub loop-slot-preserved : goal.loop-slot-preserved
+loop-slot-preserved g c =
+    let n = c.args.n in
+    let i = c.loop-slot.slot in
+    let device : DeviceSeen = seen c.args.device in
+    let before = c.args.channels.now in
+    let there : i < length before = omega arith in
+    let first = some_channel before i there in
+    let was = c.loop-slot.invariant.rest i first (omega arith) in
+    record {
+      own = λ at other h. elim (cases_eq at i) [
+        | inl here ↦ subst (λ (k : ℕ). (get_or c.mix_slot.new.channels k other).device ≡ c.args.device) (sym here) (c.mix_slot.ensures.own other)
+        | inr differ ↦ ap (λ (channel : PlayChannelOf _). channel.device) (c.mix_slot.ensures.others at other differ) ∙ c.loop-slot.invariant.own at other h
+      ];
+      moved = λ at other h. elim (cases_lt at i) [
+        | inl below ↦ subst (Moves g.B.Feeder.kind g.B.Feeder.kept [] n (get_or before at other)) (sym (c.mix_slot.ensures.others at other (omega arith))) (c.loop-slot.invariant.moved at other below)
+        | inr above ↦ (
+            let here : at ≡ i = omega arith in
+            subst (λ (k : ℕ). Moves g.B.Feeder.kind g.B.Feeder.kept [] n (get_or before k other) (get_or c.mix_slot.new.channels k other)) (sym here)
+            (subst (λ (channel : PlayChannelOf _). Moves g.B.Feeder.kind g.B.Feeder.kept [] n channel (get_or c.mix_slot.new.channels i other)) (c.loop-slot.invariant.rest i other (omega arith)) (c.mix_slot.ensures.moves other)))
+      ];
+      mixed = λ at other h. elim (cases_lt at i) [
+        | inl below ↦ ap (λ (channel : PlayChannelOf _). channel.book) (c.mix_slot.ensures.others at other (omega arith)) ∙ c.loop-slot.invariant.mixed at other below
+        | inr above ↦ (
+            let here : at ≡ i = omega arith in
+            subst (λ (k : ℕ). (get_or c.mix_slot.new.channels k other).book ≡ mixing device n (get_or before k other).book) (sym here)
+            (c.mix_slot.ensures.book other ∙ ap (λ (channel : PlayChannelOf _). mixing device n channel.book) (c.loop-slot.invariant.rest i other (omega arith))))
+      ];
+      rest = λ at other h. c.mix_slot.ensures.others at other (omega arith) ∙ c.loop-slot.invariant.rest at other (omega arith);
+      sum = λ streams stand.
+          c.mix_slot.ensures.sum first (streams i) (subst (λ (channel : PlayChannelOf _). ChannelStands g.B.Feeder.kept channel channel.book (streams i)) (sym was) (stand i first there))
+          ∙ ap (turned device n (get_or c.loop-slot.channels i first).book (streams i)) (c.loop-slot.invariant.sum streams stand)
+          ∙ mixed-more device n before streams i (get_or c.loop-slot.channels i first) first there was c.args.sum.now;
+      fits = c.mix_slot.ensures.fits;
+    }
+
+pub returns-clause-sum : goal.returns-clause-sum
+returns-clause-sum g c = λ streams stand.
+    let last : c.loop-slot.slot ≡ length c.args.channels.now = omega arith in
+    rw last at (c.loop-slot.invariant.sum streams stand)

@@ -1,0 +1,54 @@
+use Rattle.std.proofs.Common.{◌*◌, All, get_or, sym, ap, ◌∙◌, subst, get_or-set_same}
+use Rattle.std.proofs.lemmas.List.{get_or_default}
+use Rattle.pcm_num.specs.Limit.{FitsBits}
+use Rattle.pcm_format.specs.Formats.{bits_of}
+use Rattle.pcm_format.specs.Layouts.{channels_of}
+use Rattle.pcm_desk.specs.declared.device.Device.{Device}
+use Rattle.pcm_desk.specs.Device.{seen}
+use Rattle.pcm_desk.specs.Desk.{mixing}
+use Rattle.pcm_sound.specs.Blocks.{turned}
+use Rattle.pcm_play.specs.declared.channel.PlayChannelOf.{PlayChannelOf}
+use Rattle.pcm_play.specs.Channels.{ChannelStands}
+use Rattle.pcm_vchan.proofs.mixer.mix_slot.Goals as goal
+
+pub refill-requires-clause-kinds : goal.refill-requires-clause-kinds
+refill-requires-clause-kinds g c = (c.requires.ready c.index-channels-slot.result).kinds
+
+pub refill-requires-clause-stands : goal.refill-requires-clause-stands
+refill-requires-clause-stands g c = (c.requires.ready c.index-channels-slot.result).stands
+
+pub refill-requires-clause-frames : goal.refill-requires-clause-frames
+refill-requires-clause-frames g c = c.requires.frames ∙ ap (λ (d : Device). c.args.n * channels_of d.settings.layout) (sym (c.requires.own c.index-channels-slot.result))
+
+pub refill-requires-clause-sum : goal.refill-requires-clause-sum
+refill-requires-clause-sum g c = c.requires.sum ∙ ap (λ (d : Device). c.args.n * channels_of d.settings.layout) (sym (c.requires.own c.index-channels-slot.result))
+
+pub refill-requires-clause-fits : goal.refill-requires-clause-fits
+refill-requires-clause-fits g c = subst (λ (d : Device). All (FitsBits (bits_of d.settings.format)) c.args.sum.now) (sym (c.requires.own c.index-channels-slot.result)) c.requires.fits
+
+pub returns-clause-own : goal.returns-clause-own
+returns-clause-own g c = λ other.
+    ap (λ (n : PlayChannelOf _). n.device) (get_or-set_same c.args.channels.now c.args.slot c.refill.new.self other c.requires.there)
+    ∙ c.refill.ensures.device
+    ∙ c.requires.own c.index-channels-slot.result
+
+pub returns-clause-book : goal.returns-clause-book
+returns-clause-book g c = λ other.
+    let held = c.index-channels-slot.result in
+    let old = c.args.channels.now in
+    ap (λ (n : PlayChannelOf _). n.book) (get_or-set_same old c.args.slot c.refill.new.self other c.requires.there)
+    ∙ c.refill.ensures.book
+    ∙ ap (λ (d : Device). mixing (seen d) c.args.n (get_or old c.args.slot held).book) (c.requires.own held)
+    ∙ ap (λ (n : PlayChannelOf _). mixing (seen c.args.device) c.args.n n.book) (get_or_default old c.args.slot held other c.requires.there)
+
+pub returns-clause-sum : goal.returns-clause-sum
+returns-clause-sum g c = λ other bytes stands.
+    let held = c.index-channels-slot.result in
+    let old = c.args.channels.now in
+    let same = get_or_default old c.args.slot held other c.requires.there in
+    c.refill.ensures.sum bytes (subst (λ (n : PlayChannelOf _). ChannelStands g.B.Feeder.kept n n.book bytes) (sym same) stands)
+    ∙ ap (λ (d : Device). turned (seen d) c.args.n (get_or old c.args.slot held).book bytes c.args.sum.now) (c.requires.own held)
+    ∙ ap (λ (n : PlayChannelOf _). turned (seen c.args.device) c.args.n n.book bytes c.args.sum.now) same
+
+pub returns-clause-fits : goal.returns-clause-fits
+returns-clause-fits g c = subst (λ (d : Device). All (FitsBits (bits_of d.settings.format)) c.refill.new.sum) (c.requires.own c.index-channels-slot.result) c.refill.ensures.fits

@@ -1,0 +1,213 @@
+//! What all clients share: the slots of a device, its ring, and the buffers in which a block is mixed.
+
+ghost use Rattle.std.specs.Borrow.{sem};
+ghost use Rattle.std.specs.Prelude.{◌≡◌, ◌+◌, ◌*◌, ◌^◌, ◌<◌, ◌≤◌, ◌++◌, [], ℕ, List, length, vec_len, All, OnErr, IfOk, IfSome, take, drop, position, slice_index_or};
+ghost use Rattle.pcm_format.specs.Frames.{frame_bytes};
+ghost use Rattle.pcm_format.specs.Layouts.{channels_of};
+ghost use Rattle.pcm_feeder.specs.Limits.{IsRate};
+ghost use Rattle.pcm_feeder.specs.Racks.{AreRacks, list_of};
+ghost use Rattle.pcm_desk.specs.declared.limits.TheConstants.{RING_FRAMES, SLOTS};
+ghost use Rattle.pcm_desk.specs.Device.{IsDevice, filters_of, seen};
+ghost use Rattle.pcm_desk.specs.Books.{is_free};
+ghost use Rattle.pcm_desk.specs.Desk.{least_free, mixing};
+ghost use Rattle.pcm_vchan.specs.Slots.{AllStand, AreOf, Each};
+ghost use Rattle.pcm_play.specs.Channels.{IsReady, IsUnopened, Moves};
+ghost use Rattle.pcm_vchan.specs.Blocks.{block_bytes, block_of, silent_block};
+
+use crate::mixer::mix_block;
+use pcm_desk::Device;
+use pcm_feeder::{Feeder, RackOf, RacksOf, Tables};
+use pcm_format::{Settings, spell_frames};
+use pcm_oss::Errno;
+use pcm_play::PlayChannelOf;
+use pcm_ring::ByteRing;
+use std::alloc::{AllocError, Global};
+
+/// The channels of a device by slot, its ring, which is always full, and how many frames were handed over and mixed.
+#[derive(Drop)]
+pub struct ParentOf<B> {
+    pub device: Device,
+    pub channels: Vec<PlayChannelOf<B>>,
+    pub ring: ByteRing,
+    pub handed: u64,
+    pub mixed: u64,
+    bytes: Vec<u8>,
+    frames: Vec<i32>,
+    sum: Vec<i32>,
+    ghost within: { device.ring_frames ≤ RING_FRAMES },
+    ghost slots: { vec_len channels ≡ device.play_slots },
+    ghost slots_within: { device.play_slots ≤ SLOTS },
+    ghost size: { ring.size ≡ device.ring_frames * frame_bytes device.settings },
+    ghost full: { length ring.bytes ≡ device.ring_frames * frame_bytes device.settings },
+    ghost bytes_size: { vec_len bytes ≡ device.ring_frames * frame_bytes device.settings },
+    ghost frames_size: { vec_len frames ≡ device.ring_frames * channels_of device.settings.layout },
+    ghost sum_size: { vec_len sum ≡ device.ring_frames * channels_of device.settings.layout },
+}
+
+impl<B: Feeder> ParentOf<B> {
+    ghost use Rattle.pcm_vchan.specs.Parents.{parent_books, slot_or_busy, books_begun, KeepsOutput};
+    ghost use Rattle.pcm_vchan.specs.Lending.{LendsChannel};
+
+    /// A device that nobody has opened, whose ring is full of silence. Each slot gets a rack.
+    pub fn new(
+        alloc: Global,
+        device: Device,
+        tables: &Tables,
+        racks: RacksOf<B>,
+    ) -> Result<ParentOf<B>, AllocError>
+        requires tables { tables.now ≡ filters_of (seen device) }
+        requires device { IsDevice (seen device) }
+        requires ring { device.ring_frames ≤ RING_FRAMES }
+        requires slots { device.play_slots ≤ SLOTS }
+        requires kinds { AreRacks B.kind (list_of racks) }
+        ensures device { IfOk result (λ made. made.device ≡ device) }
+        ensures slots { IfOk result (λ made. length made.channels.items ≡ device.play_slots) }
+        ensures channels { IfOk result
+            (λ made. All (IsUnopened B.kind B.kept device) made.channels.items) }
+        ensures ring { IfOk result (λ made. made.ring.bytes
+            ≡ block_bytes (seen device) (silent_block (seen device) device.ring_frames)) }
+        ensures handed { IfOk result (λ made. made.handed ≡ 0) }
+        ensures mixed { IfOk result (λ made. made.mixed ≡ 0) }
+    {
+        let channels = free_channels(alloc, device, tables, racks.into_list())?;
+        let size = device.ring_frames as usize * device.settings.frame_bytes();
+        let samples = device.ring_frames as usize * device.settings.layout.channels();
+        let mut bytes = vec![in alloc; 0u8; size]?;
+        let frames = vec![in alloc; 0i32; samples]?;
+        let sum = vec![in alloc; 0i32; samples]?;
+        spell_frames(device.settings.format, &sum, &mut bytes);
+        let mut ring = ByteRing::new(alloc, size)?;
+        ring.put(&bytes);
+        Ok(ParentOf {
+            device,
+            channels,
+            ring,
+            handed: 0,
+            mixed: 0,
+            bytes,
+            frames,
+            sum,
+        })
+    }
+
+    /// An opening begins in the least free slot.
+    pub fn open_slot(&mut self, tables: &Tables, settings: Settings) -> Result<usize, Errno>
+        requires rate { IsRate settings.rate }
+        requires tables { tables.now ≡ filters_of (seen self.old.device) }
+        requires own { AreOf self.old.device self.old.channels.items }
+        requires ready { All (IsReady B.kind B.kept) self.old.channels.items }
+        ensures found { result ≡ slot_or_busy (least_free (parent_books self.old)) }
+        ensures books { parent_books self.new
+            ≡ books_begun (least_free (parent_books self.old)) settings (parent_books self.old) }
+        ensures there { IfOk result (λ slot. slot < length self.old.channels.items) }
+        ensures own { AreOf self.new.device self.new.channels.items }
+        ensures slots { length self.new.channels.items ≡ length self.old.channels.items }
+        ensures output { KeepsOutput self.old self.new }
+        ensures refused { OnErr result (self.new ≡ self.old) }
+        ensures channels { Each (Moves B.kind B.kept [] 0)
+            self.old.channels.items self.new.channels.items }
+    {
+        let Some(slot) = self.least_free() else {
+            return Err(Errno::Busy);
+        };
+        self.channels[slot].begin(tables, settings);
+        Ok(slot)
+    }
+
+    /// Lends the channel of a slot.
+    pub fn play(&mut self, slot: usize) -> &mut PlayChannelOf<B>
+        requires { slot < vec_len self.old.channels }
+        ensures* writes_back { sem 𝓛 (LendsChannel B.row self.entry slot result) }
+        ensures value { result.now ≡ slice_index_or self.old.channels.items slot result.now }
+    {
+        &mut self.channels[slot]
+    }
+
+    /// The device's interrupt: hands the oldest `n` frames over, and mixes as many from all channels.
+    pub fn interrupt(&mut self, tables: &Tables, n: usize, out: &mut [u8])
+        requires tables { tables.now ≡ filters_of (seen self.old.device) }
+        requires own { AreOf self.old.device self.old.channels.items }
+        requires some { 0 < n }
+        requires within { n ≤ self.old.device.ring_frames }
+        requires out { length out.old ≡ n * frame_bytes self.old.device.settings }
+        requires ready { All (IsReady B.kind B.kept) self.old.channels.items }
+        requires count { All (λ channel. channel.book.given + n < 2 ^ 64) self.old.channels.items }
+        requires counted { All (λ channel. channel.book.done + channel.book.written
+            < 2 ^ 64) self.old.channels.items }
+        requires handed { self.old.handed + n < 2 ^ 64 }
+        requires mixed { self.old.mixed + n < 2 ^ 64 }
+        ensures device { self.new.device ≡ self.old.device }
+        ensures own { AreOf self.new.device self.new.channels.items }
+        ensures slots { length self.new.channels.items ≡ length self.old.channels.items }
+        ensures channels { Each (Moves B.kind B.kept [] n)
+            self.old.channels.items self.new.channels.items }
+        ensures books { Each (λ old new. new.book ≡ mixing (seen self.old.device) n old.book)
+            self.old.channels.items self.new.channels.items }
+        ensures handed { self.new.handed ≡ self.old.handed + n }
+        ensures mixed { self.new.mixed ≡ self.old.mixed + n }
+        ensures out { out.new
+            ≡ take (n * frame_bytes self.old.device.settings) self.old.ring.bytes }
+        ensures ring { (streams : ℕ → List ℕ) → AllStand B.kept self.old.channels.items streams
+            → self.new.ring.bytes
+            ≡ drop (n * frame_bytes self.old.device.settings) self.old.ring.bytes
+            ++ block_bytes (seen self.old.device) (block_of (seen self.old.device) n
+            (parent_books self.old) streams (length self.old.channels.items)) }
+    {
+        let size = n * self.device.settings.frame_bytes();
+        self.ring.take(out);
+        mix_block(
+            self.device,
+            tables,
+            &mut self.channels,
+            n,
+            &mut self.bytes,
+            &mut self.frames,
+            &mut self.sum,
+        );
+        self.ring.put(&self.bytes[..size]);
+        self.handed += n as u64;
+        self.mixed += n as u64;
+    }
+
+    /// How many frames were mixed so far.
+    pub fn mixed(&self) -> u64
+        ensures { result ≡ self.now.mixed }
+    {
+        self.mixed
+    }
+
+    // The least slot whose channel is free, if there is one.
+    fn least_free(&self) -> Option<usize>
+        ensures slot { result
+            ≡ position (λ channel. is_free channel.book.state) self.now.channels.items }
+        ensures within { IfSome result (λ slot. slot < vec_len self.now.channels) }
+    {
+        self.channels.iter().position(|channel| channel.is_free())
+    }
+}
+
+// The channels of a device, which nobody has opened, with the first racks.
+fn free_channels<B: Feeder>(
+    alloc: Global,
+    device: Device,
+    tables: &Tables,
+    racks: Vec<RackOf<B>>,
+) -> Result<Vec<PlayChannelOf<B>>, AllocError>
+    requires device { IsDevice (seen device) }
+    requires tables { tables.now ≡ filters_of (seen device) }
+    requires enough { device.play_slots ≤ vec_len racks }
+    requires kinds { AreRacks B.kind racks.items }
+    ensures slots { IfOk result (λ made. length made.items ≡ device.play_slots) }
+    ensures channels { IfOk result (λ made. All (IsUnopened B.kind B.kept device) made.items) }
+{
+    let mut racks = racks;
+    racks.truncate(device.play_slots as usize);
+    let mut channels = Vec::new(alloc);
+    for rack in racks {
+        channels.push(PlayChannelOf::new(alloc, device, tables, rack)?)?;
+    }
+    Ok(channels)
+}
+
+/// A parent whose channels have boxes.
+pub type Parent = ParentOf<Box<dyn Feeder>>;
