@@ -1,9 +1,9 @@
 -- A run by one event more.
-use Rattle.std.proofs.Common.{◌≡◌, ℕ, suc, ◌+◌, List, [], ◌∷◌, ◌++◌, ◌≤◌, length, take, refl, sym, ◌∙◌, ap, subst, string_bytes, vec_len, arith, append_assoc, append-nil, length-append}
+use Rattle.std.proofs.Common.{◌≡◌, ℕ, suc, ◌+◌, List, [], ◌∷◌, ◌++◌, ◌≤◌, length, take, refl, sym, ◌∙◌, ap, subst, vec_len, arith, append_assoc, append-nil, length-append}
 use Rattle.std.proofs.lemmas.List.{take-append-le, take_all}
-use Rattle.pcm_format.specs.declared.event.Event.{Event}
+use Rattle.pcm_oss.specs.declared.event.Event.{Event}
 use Rattle.pcm_format.specs.declared.pool.Pool.{Pool}
-use Rattle.pcm_format.specs.Replies.{Reply}
+use Rattle.pcm_oss.specs.Replies.{Reply}
 use Rattle.pcm_desk.specs.Device.{DeviceSeen}
 use Rattle.pcm_desk.specs.Usual.{usual_device}
 use Rattle.pcm_sound.specs.DeviceList.{device_text}
@@ -12,7 +12,8 @@ use Rattle.pcm_sound.specs.Story.{Story, story_at_start, story_of, told, told_al
 use Rattle.pcm_feeder.specs.declared.kind.Kind.{Kind}
 use Rattle.pcm_feeder.specs.Kept.{Kept}
 use Rattle.pcm_engine.specs.Engines.{AreReady, Stands, device_of}
-use Rattle.pcm_verdict.specs.Transcript.{lines_from, reply_line, transcript}
+use Rattle.pcm_report.specs.Lines.{reply_line}
+use Rattle.pcm_verdict.specs.Transcript.{lines_from, transcript}
 use Rattle.pcm_replay.specs.declared.replay.ReplayOf.{ReplayOf}
 use Rattle.pcm_replay.specs.Playing.{HasPlayed}
 
@@ -65,8 +66,9 @@ pub record Steps {B : Type 0} (kind : B → Kind) (kept : B → Kept) (old new :
       → reply ≡ reply_to (device_of old.engine) (story_of (device_of old.engine) pool events) event
   pub text : new.text.items ≡ old.text.items ++ piece
   pub counted : number ≡ length events + 1
-  pub lines : string_bytes new.lines ≡ string_bytes old.lines ++ reply_line number reply
+  pub lines : new.lines.items ≡ old.lines.items ++ reply_line number reply
   pub room : vec_len new.block ≡ vec_len old.block
+  pub line_room : vec_len new.line ≡ vec_len old.line
 
 -- one event more was run
 pub played : {B : Type 0} (kind : B → Kind) (kept : B → Kept) (old new : ReplayOf B) (pool : Pool) (events : List Event) (event : Event) (piece : List ℕ) (number : ℕ) (reply : Reply)
@@ -90,6 +92,7 @@ played kind kept old new pool events event piece number reply s h =
           ∙ ap (λ (reply : Reply). transcript usual_device pool events ++ reply_line (length events + 1) reply) replied
           ∙ sym (transcript-more usual_device pool events event);
       room = s.room ∙ h.room;
+      line_room = s.line_room ∙ h.line_room;
     }
 
 -- the front of joined lists

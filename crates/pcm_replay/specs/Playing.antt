@@ -1,6 +1,6 @@
 -- How far a run has come: what its engine stands for, and what it is to leave.
-use Rattle.std.specs.Prelude.{◌≡◌, ℕ, ◌*◌, List, length, string_bytes, vec_len}
-use Rattle.pcm_format.specs.declared.event.Event.{Event}
+use Rattle.std.specs.Prelude.{◌≡◌, ℕ, ◌*◌, List, length, vec_len}
+use Rattle.pcm_oss.specs.declared.event.Event.{Event}
 use Rattle.pcm_format.specs.declared.pool.Pool.{Pool}
 use Rattle.pcm_desk.specs.Device.{DeviceSeen, device_frame_bytes, ring_frames}
 use Rattle.pcm_desk.specs.Usual.{usual_device}
@@ -9,6 +9,7 @@ use Rattle.pcm_feeder.specs.declared.kind.Kind.{Kind}
 use Rattle.pcm_feeder.specs.Kept.{Kept}
 use Rattle.pcm_engine.specs.declared.engine.EngineOf.{EngineOf}
 use Rattle.pcm_engine.specs.Engines.{AreReady, Stands, device_of}
+use Rattle.pcm_report.specs.declared.line.TheConstants.{LINE_BYTES}
 use Rattle.pcm_verdict.specs.Transcript.{transcript}
 use Rattle.pcm_replay.specs.declared.replay.ReplayOf.{ReplayOf}
 
@@ -28,5 +29,6 @@ pub record HasPlayed {B : Type 0} (kind : B → Kind) (kept : B → Kept) (repla
   pub engine : RanThrough kept replay.engine pool events
   pub ready : AreReady kind kept replay.engine
   pub text : replay.text.items ≡ device_text usual_device pool events
-  pub lines : string_bytes replay.lines ≡ transcript usual_device pool events
+  pub lines : replay.lines.items ≡ transcript usual_device pool events
   pub room : vec_len replay.block ≡ ring_room usual_device
+  pub line_room : vec_len replay.line ≡ LINE_BYTES

@@ -7,7 +7,6 @@ mod fault_lines;
 mod reading;
 mod refusals;
 mod replay;
-mod reply_lines;
 mod top;
 mod words;
 mod writing;

@@ -13,13 +13,14 @@ ghost use Rattle.pcm_replay.specs.Playing.{HasPlayed, RanThrough};
 ghost use Rattle.pcm_replay.specs.Runs.{WritesRun, output_of};
 
 use crate::ending::Ending;
-use crate::reply_lines::reply_line;
 use crate::writing::write_run;
 use pcm_desk::Device;
 use pcm_engine::EngineOf;
 use pcm_feeder::{Feeder, RacksOf};
-use pcm_format::{Event, Pool, ReplyBuf};
+use pcm_format::Pool;
+use pcm_oss::{Event, ReplyBuf};
 use pcm_outside::{Files, Sink};
+use pcm_report::{LINE_BYTES, write_line};
 use pcm_script::Script;
 use std::alloc::{AllocError, Global};
 
@@ -29,8 +30,9 @@ pub struct ReplayOf<B> {
     engine: EngineOf<B>,
     reply: ReplyBuf,
     block: Vec<u8>,
+    line: Vec<u8>,
     text: Vec<u8>,
-    lines: String,
+    lines: Vec<u8>,
 }
 
 impl<B: Feeder> ReplayOf<B> {
@@ -46,19 +48,14 @@ impl<B: Feeder> ReplayOf<B> {
             engine: EngineOf::new(alloc, racks)?,
             reply: ReplyBuf::new(alloc)?,
             block: vec![in alloc; 0; room]?,
+            line: vec![in alloc; 0; LINE_BYTES]?,
             text: Vec::new(alloc),
-            lines: String::new(alloc),
+            lines: Vec::new(alloc),
         })
     }
 
     // Steps the engine through one event.
-    fn step_at(
-        &mut self,
-        alloc: Global,
-        events: &[Event],
-        pool: &Pool,
-        at: usize,
-    ) -> Result<(), AllocError>
+    fn step_at(&mut self, events: &[Event], pool: &Pool, at: usize) -> Result<(), AllocError>
         requires there { at < length events.now }
         requires fits { All (Fits usual_device pool.now) events.now }
         requires count { length events.now ≤ EVENTS }
@@ -69,8 +66,8 @@ impl<B: Feeder> ReplayOf<B> {
             .engine
             .step(&events[at], pool, &mut self.block, &mut self.reply);
         self.text.extend_from_slice(&self.block[..count])?;
-        let line = reply_line(alloc, at + 1, &self.reply)?;
-        self.lines.push_str(line.as_str())?;
+        let size = write_line((at + 1) as u32, &self.reply, &mut self.line);
+        self.lines.extend_from_slice(&self.line[..size])?;
         Ok(())
     }
 }
@@ -89,7 +86,7 @@ pub fn play<B: Feeder>(
 {
     let mut replay = ReplayOf::new(alloc, racks)?;
     for at in 0..events.len() {
-        replay.step_at(alloc, events, pool, at)?;
+        replay.step_at(events, pool, at)?;
     }
     Ok(replay)
 }
@@ -122,7 +119,7 @@ pub fn run_script<B: Feeder, F: Files, K: Sink>(
     let Ok(replay) = play(alloc, racks, events.as_slice(), &pool) else {
         return Err(Ending::NoMemory);
     };
-    let written = write_run(files, out, name, &replay.text, replay.lines.as_bytes());
+    let written = write_run(files, out, name, &replay.text, &replay.lines);
     let Ok(()) = written else {
         return Err(Ending::CannotWrite);
     };

@@ -10,12 +10,12 @@ pub returns-in_default-written-clause-err : goal.returns-in_default-written-clau
 returns-in_default-written-clause-err g c =
     cut_as _ _ _ _ _ _ _
     (c.deref.ensures.value ∙ c.in-Ok.ensures.text ∙ ap (device_text usual_device (pool_of c.args.script)) c.as_slice.ensures)
-    (c.as_bytes.ensures.value ∙ c.in-Ok.ensures.lines ∙ ap (transcript usual_device (pool_of c.args.script)) c.as_slice.ensures)
+    (c.deref-2.ensures.value ∙ c.in-Ok.ensures.lines ∙ ap (transcript usual_device (pool_of c.args.script)) c.as_slice.ensures)
     c.in_default-written.ensures.err
 
 pub returns-clause-ok : goal.returns-clause-ok
 returns-clause-ok g c =
     written_as _ _ _ _ _ _ _
     (c.deref.ensures.value ∙ c.in-Ok.ensures.text ∙ ap (device_text usual_device (pool_of c.args.script)) c.as_slice.ensures)
-    (c.as_bytes.ensures.value ∙ c.in-Ok.ensures.lines ∙ ap (transcript usual_device (pool_of c.args.script)) c.as_slice.ensures)
+    (c.deref-2.ensures.value ∙ c.in-Ok.ensures.lines ∙ ap (transcript usual_device (pool_of c.args.script)) c.as_slice.ensures)
     c.in-Ok-written.ensures.ok

@@ -7,7 +7,8 @@ returns g c = λ pool. record {
   engine = record { device = c.in_ok-new.ensures.device; stands = c.in_ok-new.ensures.stands pool; steps = c.in_ok-new.ensures.steps };
   ready = c.in_ok-new.ensures.ready;
   text = c.new-3.ensures.items;
-  lines = c.new-4.ensures.bytes;
+  lines = c.new-4.ensures.items;
+  line_room = c.in_ok-vec-2.ensures.len;
   room = c.in_ok-vec.ensures.len
       ∙ ap (λ (bytes : ℕ). c.usual-device.result.ring_frames * bytes) c.frame_bytes.ensures
       ∙ ap ring_room c.usual-device.ensures.value;

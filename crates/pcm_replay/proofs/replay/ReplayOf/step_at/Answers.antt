@@ -1,5 +1,6 @@
-use Rattle.std.proofs.Common.{◌≡◌, ℕ, ◌+◌, ◌≤◌, ◌++◌, List, take, length, refl, sym, ◌∙◌, ap, subst, arith, string_bytes, length-take-le}
+use Rattle.std.proofs.Common.{◌≡◌, ℕ, ◌+◌, ◌≤◌, ◌++◌, List, take, length, refl, sym, ◌∙◌, ap, subst, arith, length-take-le}
 use Rattle.std.proofs.lemmas.List.{take_more}
+use Rattle.pcm_report.specs.Lines.{reply_line}
 use Rattle.pcm_replay.specs.Playing.{HasPlayed}
 use Rattle.pcm_replay.proofs.Plays.{front, played}
 use Rattle.pcm_replay.proofs.replay.ReplayOf.step_at.Goals as goal
@@ -18,7 +19,10 @@ returns g c =
     c.deref.ensures.value ∙ front _ c.step-count.new.out _ (c.step-count.auto.out ∙ c.deref_mut.ensures.len) in
     let text : c.extend_from_slice.new.self.items ≡ replay.text.items ++ piece =
     c.in_ok-extend_from_slice.ensures.items ∙ ap (λ (bytes : List ℕ). replay.text.items ++ take c.step-count.result bytes) block in
-    let line = c.as_str.ensures.value ∙ c.in_ok-line.ensures in
+    let shown : c.deref-2.result.now ≡ c.write_line-size.new.out =
+    c.deref-2.ensures.value ∙ front _ c.write_line-size.new.out _ (c.write_line-size.auto.out ∙ c.deref_mut-2.ensures.len) in
+    let line : take c.write_line-size.result c.deref-2.result.now ≡ reply_line (c.args.at + 1) c.step-count.new.reply =
+    ap (take c.write_line-size.result) shown ∙ c.write_line-size.ensures.line in
     subst (HasPlayed g.B.Feeder.kind g.B.Feeder.kept _ pool) (sym (take_more xs c.args.at _ c.requires.there))
     (played g.B.Feeder.kind g.B.Feeder.kept replay _ pool events _ piece (c.args.at + 1) c.step-count.new.reply
     (record {
@@ -30,7 +34,8 @@ returns g c =
       replied = step.reply events;
       text = text;
       counted = ap (λ n. n + 1) (sym (length-take-le c.args.at xs within));
-      lines = c.in_ok-push_str.ensures.bytes ∙ ap (λ (more : List ℕ). string_bytes replay.lines ++ more) line;
+      lines = c.in_ok-extend_from_slice-2.ensures.items ∙ ap (λ (more : List ℕ). replay.lines.items ++ more) line;
       room = refl;
+      line_room = refl;
     })
     c.requires.played)
