@@ -4,8 +4,8 @@ use Rattle.std.specs.Fmt.{digits}
 use Rattle.hex.specs.Hex.{decode_pairs, encode_with}
 use Rattle.pcm_feeder.specs.Stages.{conv}
 use Rattle.pcm_script.specs.Lines.{script_read, collected}
-use Rattle.pcm_script.specs.Commands.{line_event, command_line, open_line, write_line, close_line, interrupt_line}
+use Rattle.pcm_script.specs.Commands.{line_event, command_line, open_line, write_line, ioctl_line, close_line, interrupt_line}
 
 unfoldable pub row : ⊤
-unfolding digits decode_pairs encode_with conv script_read collected line_event command_line open_line write_line close_line interrupt_line
+unfolding digits decode_pairs encode_with conv script_read collected line_event command_line open_line write_line ioctl_line close_line interrupt_line
 row = tt

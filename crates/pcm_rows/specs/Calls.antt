@@ -1,10 +1,12 @@
 -- The call that the rows make, and the devices that they make it on.
-use Rattle.std.specs.Prelude.{ℕ, zero, suc, List, [], ◌∷◌, ◌++◌, codes, Option, Some, None, if◌then◌else◌}
+use Rattle.std.specs.Prelude.{ℕ, zero, suc, List, [], ◌∷◌, ◌++◌, codes, true, Option, Some, None, if◌then◌else◌}
 use Rattle.std.specs.Str.{bytes_eq}
-use Rattle.pcm_format.specs.declared.event.Event.{Event}
-use Rattle.pcm_format.specs.declared.event.Event.TheVariants.{Open}
-use Rattle.pcm_format.specs.declared.event.Way.TheVariants.{Play}
+use Rattle.pcm_oss.specs.declared.event.Event.{Event}
+use Rattle.pcm_oss.specs.declared.event.Event.TheVariants.{Open}
+use Rattle.pcm_oss.specs.declared.event.Way.TheVariants.{Play}
+use Rattle.pcm_format.specs.declared.settings.Settings.{Settings}
 use Rattle.pcm_desk.specs.declared.book.Book.{Book}
+use Rattle.pcm_desk.specs.declared.book.State.{State}
 use Rattle.pcm_desk.specs.Desk.{desk_at_start, book_at}
 use Rattle.pcm_desk.specs.Device.{DeviceSeen}
 use Rattle.pcm_desk.specs.Events.{after_all}
@@ -72,6 +74,22 @@ piece position index count short = record { position = position; index = index; 
 -- a gain of one on both sides, set at a position
 abbrev pub unity_from : ℕ → GainSet
 unity_from position = record { position = position; gain = unity }
+
+-- a book with the counts of a run, and all else as an opening begins: four fragments of 4096 bytes, the trigger on, 100 on both sides
+abbrev pub book_in : Settings → State → ℕ → ℕ → ℕ → Book
+book_in settings state written eaten given = record {
+  settings = settings;
+  fragments = record { log = 12; count = 4 };
+  trigger = true;
+  volume = 0x6464;
+  state = state;
+  written = written;
+  eaten = eaten;
+  given = given;
+  done = 0;
+  told = 0;
+  underruns = 0;
+}
 
 -- the first slot's book after events
 abbrev pub book_after : DeviceSeen → List Event → Book

@@ -1,7 +1,7 @@
 -- Scripts with one client in other settings than the device's.
 use Rattle.std.specs.Prelude.{ℕ, ◌+◌, List, [], ◌∷◌, ◌++◌, codes, length}
-use Rattle.pcm_format.specs.declared.event.Event.TheVariants.{Open, Write, Close, Intr}
-use Rattle.pcm_format.specs.declared.event.Way.TheVariants.{Play}
+use Rattle.pcm_oss.specs.declared.event.Event.TheVariants.{Open, Write, Close, Intr}
+use Rattle.pcm_oss.specs.declared.event.Way.TheVariants.{Play}
 use Rattle.pcm_format.specs.declared.format.Format.{Format}
 use Rattle.pcm_format.specs.declared.format.Format.TheVariants.{U8, S16Le, U16Le, S24Be}
 use Rattle.pcm_format.specs.declared.layout.Layout.{Layout}

@@ -1,8 +1,8 @@
 -- Scripts with one client at another rate than the device's.
 use Rattle.std.specs.Prelude.{ℕ, List, [], ◌∷◌, codes, Some, None, true}
-use Rattle.pcm_format.specs.declared.event.Event.{Event}
-use Rattle.pcm_format.specs.declared.event.Event.TheVariants.{Open, Write, Close, Intr}
-use Rattle.pcm_format.specs.declared.event.Way.TheVariants.{Play}
+use Rattle.pcm_oss.specs.declared.event.Event.{Event}
+use Rattle.pcm_oss.specs.declared.event.Event.TheVariants.{Open, Write, Close, Intr}
+use Rattle.pcm_oss.specs.declared.event.Way.TheVariants.{Play}
 use Rattle.pcm_format.specs.declared.format.Format.TheVariants.{S16Le, S32Le}
 use Rattle.pcm_format.specs.declared.layout.Layout.TheVariants.{One, Two, Eight}
 use Rattle.pcm_format.specs.declared.settings.Settings.{Settings}
@@ -12,7 +12,7 @@ use Rattle.pcm_desk.specs.declared.device.TheConstants.{OPENING}
 use Rattle.pcm_desk.specs.Device.{DeviceSeen}
 use Rattle.pcm_sound.specs.Runs.{Run}
 use Rattle.pcm_script.specs.declared.script.Script.{Script}
-use Rattle.pcm_rows.specs.Calls.{joined, piece, small_device}
+use Rattle.pcm_rows.specs.Calls.{book_in, joined, piece, small_device}
 use Rattle.pcm_rows.specs.ClientFormats.{client_script}
 
 -- an open without settings, which is 8000 frames of one byte each second: 0, 6 and -6
@@ -61,11 +61,11 @@ tail_lines = joined (
 
 -- its book while the last frame fades to silence: both frames are eaten, and one output is left
 abbrev pub tail_book : Book
-tail_book = record { settings = half_settings; state = Draining true; written = 8; eaten = 2; given = 3; underruns = 0 }
+tail_book = book_in half_settings (Draining true) 8 2 3
 
--- and after that
+-- and after that: its two frames were played
 abbrev pub tail_over_book : Book
-tail_over_book = record { settings = half_settings; state = Free; written = 0; eaten = 0; given = 0; underruns = 0 }
+tail_over_book = record (book_in half_settings Free 0 0 0) { done = 8 }
 
 -- its run: pieces count frames of the mix
 abbrev pub tail_run : Run
@@ -111,11 +111,4 @@ wide_events = Open 0 Play wide_settings ∷ Write 0 0 4096 ∷ Intr 254 ∷ Intr
 
 -- its book while it runs
 abbrev pub wide_book : ℕ → ℕ → ℕ → ℕ → Book
-wide_book written eaten given underruns = record {
-  settings = wide_settings;
-  state = Running;
-  written = written;
-  eaten = eaten;
-  given = given;
-  underruns = underruns;
-}
+wide_book written eaten given underruns = record (book_in wide_settings Running written eaten given) { underruns = underruns }

@@ -1,16 +1,16 @@
 -- Writes of whole fragments to the usual device, and what is counted of them.
 use Rattle.std.specs.Prelude.{ℕ, List, [], ◌∷◌, ◌++◌, codes, replicate, Some, None, false}
-use Rattle.pcm_format.specs.declared.event.Event.TheVariants.{Write, Intr}
+use Rattle.pcm_oss.specs.declared.event.Event.TheVariants.{Write, Intr}
 use Rattle.pcm_desk.specs.declared.book.Book.{Book}
 use Rattle.pcm_desk.specs.declared.book.State.TheVariants.{Running}
 use Rattle.pcm_desk.specs.Usual.{usual_settings}
 use Rattle.pcm_sound.specs.Runs.{Piece, Run}
 use Rattle.pcm_script.specs.declared.script.Script.{Script}
-use Rattle.pcm_rows.specs.Calls.{joined, opens, piece, times}
+use Rattle.pcm_rows.specs.Calls.{book_in, joined, opens, piece, times}
 
 -- a fragment, which is 1024 frames
-abbrev pub fragment_bytes : List ℕ
-fragment_bytes = times 1024 (1 ∷ 0 ∷ 2 ∷ 0 ∷ [])
+abbrev pub full_fragment : List ℕ
+full_fragment = times 1024 (1 ∷ 0 ∷ 2 ∷ 0 ∷ [])
 
 -- the frame that comes after it
 abbrev pub late_frame : List ℕ
@@ -31,12 +31,12 @@ starved_text = joined (
 abbrev pub starved_script : Script
 starved_script = record {
   events = opens 0 ∷ Write 0 0 4096 ∷ Intr 1024 ∷ Intr 4 ∷ Write 0 4096 4 ∷ Intr 4 ∷ Intr 1016 ∷ Intr 8 ∷ [];
-  inline_bytes = fragment_bytes ++ late_frame;
+  inline_bytes = full_fragment ++ late_frame;
   device_frames = 2056;
 }
 
 abbrev pub starved_bytes : List ℕ
-starved_bytes = replicate 4096 0 ++ fragment_bytes ++ replicate 16 0 ++ late_frame ++ replicate 12 0
+starved_bytes = replicate 4096 0 ++ full_fragment ++ replicate 16 0 ++ late_frame ++ replicate 12 0
 
 abbrev pub starved_lines : List ℕ
 starved_lines = joined (
@@ -45,7 +45,7 @@ starved_lines = joined (
 
 -- four interrupts were short
 abbrev pub starved_book : Book
-starved_book = record { settings = usual_settings; state = Running; written = 4100; eaten = 1025; given = 1025; underruns = 4 }
+starved_book = record (book_in usual_settings Running 4100 1025 1025) { underruns = 4 }
 
 -- what the interrupts took of the stream, the newest first: frame 1024 is mixed at 1028
 abbrev pub starved_pieces : List Piece

@@ -8,5 +8,7 @@ pub mod SeveralClients
 pub mod ClientFormats
 pub mod ClientRates
 pub mod Samples
+pub mod Requests
+pub mod RequestTable
 pub mod Stages
 pub mod PlanRows

@@ -1,12 +1,12 @@
 -- Scripts with one client at most.
 use Rattle.std.specs.Prelude.{ℕ, List, [], ◌∷◌, codes, Some, None, true}
-use Rattle.pcm_format.specs.declared.event.Event.TheVariants.{Write, Close, Intr}
+use Rattle.pcm_oss.specs.declared.event.Event.TheVariants.{Write, Close, Intr}
 use Rattle.pcm_desk.specs.declared.book.Book.{Book}
 use Rattle.pcm_desk.specs.declared.book.State.TheVariants.{Free}
 use Rattle.pcm_desk.specs.Usual.{usual_settings}
 use Rattle.pcm_sound.specs.Runs.{Run}
 use Rattle.pcm_script.specs.declared.script.Script.{Script}
-use Rattle.pcm_rows.specs.Calls.{joined, opens, piece}
+use Rattle.pcm_rows.specs.Calls.{book_in, joined, opens, piece}
 
 abbrev pub silent_script : Script
 silent_script = record { events = Intr 1024 ∷ []; inline_bytes = []; device_frames = 1024 }
@@ -90,9 +90,9 @@ short_drain_run = record {
   pieces = piece 0 0 2 0 ∷ [];
 }
 
--- a slot whose run is over
+-- a slot whose run is over, of which two frames were played
 abbrev pub over_book : Book
-over_book = record { settings = usual_settings; state = Free; written = 0; eaten = 0; given = 0; underruns = 0 }
+over_book = record (book_in usual_settings Free 0 0 0) { done = 8 }
 
 -- three bytes of a frame of four
 abbrev pub part_text : List ℕ

@@ -1,7 +1,7 @@
 -- Lines that are refused, and a device with a ring as large as all that a device may get.
 use Rattle.std.specs.Prelude.{ℕ, [], ◌∷◌}
-use Rattle.pcm_format.specs.declared.event.Event.TheVariants.{Open, Intr}
-use Rattle.pcm_format.specs.declared.event.Way.TheVariants.{Play}
+use Rattle.pcm_oss.specs.declared.event.Event.TheVariants.{Open, Intr}
+use Rattle.pcm_oss.specs.declared.event.Way.TheVariants.{Play}
 use Rattle.pcm_format.specs.declared.format.Format.TheVariants.{U32Be}
 use Rattle.pcm_format.specs.declared.layout.Layout.TheVariants.{Eight}
 use Rattle.pcm_format.specs.declared.settings.Settings.{Settings}

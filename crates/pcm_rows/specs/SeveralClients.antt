@@ -1,7 +1,7 @@
 -- Scripts with several clients.
 use Rattle.std.specs.Prelude.{ℕ, List, [], ◌∷◌, ◌++◌, codes}
-use Rattle.pcm_format.specs.declared.event.Event.{Event}
-use Rattle.pcm_format.specs.declared.event.Event.TheVariants.{Write, Close, Intr}
+use Rattle.pcm_oss.specs.declared.event.Event.{Event}
+use Rattle.pcm_oss.specs.declared.event.Event.TheVariants.{Write, Close, Intr}
 use Rattle.pcm_desk.specs.Device.{DeviceSeen}
 use Rattle.pcm_script.specs.declared.script.Script.{Script}
 use Rattle.pcm_desk.specs.Usual.{usual_device}

@@ -1,6 +1,8 @@
 -- Texts that say the same in other words.
-use Rattle.std.specs.Prelude.{ℕ, List, [], ◌∷◌, ◌++◌, codes}
-use Rattle.pcm_format.specs.declared.event.Event.TheVariants.{Write, Close, Intr}
+use Rattle.std.specs.Prelude.{ℕ, List, [], ◌∷◌, ◌++◌, codes, map}
+use Rattle.pcm_oss.specs.declared.event.Event.TheVariants.{Write, Ioctl, Close, Intr}
+use Rattle.pcm_oss.specs.declared.request.Request.{Request}
+use Rattle.pcm_oss.specs.declared.request.Request.TheVariants.{SetFmt, Speed, Channels, GetFmts, GetCaps, GetBlkSize, SetFragment, GetOSpace, GetISpace, GetOPtr, GetIPtr, GetODelay, GetError, SetTrigger, GetTrigger, SetPlayVol, GetPlayVol, Post, Sync, Halt}
 use Rattle.pcm_script.specs.declared.script.Script.{Script}
 use Rattle.pcm_rows.specs.Calls.{opens, joined}
 
@@ -31,3 +33,34 @@ interrupts_text = codes "intr 3\nintr"
 
 abbrev pub interrupts_script : Script
 interrupts_script = record { events = Intr 3 ∷ Intr 256 ∷ []; inline_bytes = []; device_frames = 259 }
+
+-- a line of descriptor 3 for each of these words
+abbrev pub request_lines : List (List ℕ) → List ℕ
+request_lines words = joined (map (λ word. codes "ioctl 3 " ++ word) words)
+
+-- requests of descriptor 3, and no other event
+abbrev pub requests_script : List Request → Script
+requests_script requests = record { events = map (λ request. Ioctl 3 request) requests; inline_bytes = []; device_frames = 0 }
+
+-- the requests that have no number
+abbrev pub plain_words : List (List ℕ)
+plain_words =
+    codes "getfmts" ∷ codes "getcaps" ∷ codes "getblksize" ∷ codes "getospace" ∷ codes "getispace" ∷
+    codes "getoptr" ∷ codes "getiptr" ∷ codes "getodelay" ∷ codes "geterror" ∷ codes "gettrigger" ∷
+    codes "getplayvol" ∷ codes "post" ∷ codes "sync" ∷ codes "halt" ∷ []
+
+abbrev pub plain_requests : List Request
+plain_requests =
+    GetFmts ∷ GetCaps ∷ GetBlkSize ∷ GetOSpace ∷ GetISpace ∷ GetOPtr ∷ GetIPtr ∷ GetODelay ∷ GetError ∷ GetTrigger ∷
+    GetPlayVol ∷ Post ∷ Sync ∷ Halt ∷ []
+
+-- those that have one, with the least and the greatest number among them; a format has its name or its code
+abbrev pub numbered_words : List (List ℕ)
+numbered_words =
+    codes "setfmt s24be" ∷ codes "setfmt 0x20000" ∷ codes "setfmt 3" ∷ codes "speed 44100" ∷ codes "channels 0" ∷
+    codes "setfragment 0xffffffff" ∷ codes "settrigger 4294967295" ∷ codes "setplayvol 0x6464" ∷ []
+
+abbrev pub numbered_requests : List Request
+numbered_requests =
+    SetFmt 131072 ∷ SetFmt 131072 ∷ SetFmt 3 ∷ Speed 44100 ∷ Channels 0 ∷ SetFragment 4294967295 ∷ SetTrigger 4294967295 ∷
+    SetPlayVol 25700 ∷ []

@@ -1,4 +1,4 @@
-//! Worked rows: scripts with the bytes that the device gets and the lines that are printed, samples, and stages.
+//! Worked rows: scripts with the bytes that the device gets and the lines that are printed, requests, samples, and stages.
 //! Each is a function that does nothing, whose contract says that the definitions give the values that a hand worked out.
 #![tactic(auto)]
 
@@ -9,6 +9,9 @@ mod one_client;
 mod plans;
 mod rates;
 mod refusals;
+mod request_numbers;
+mod request_table;
+mod requests;
 mod samples;
 mod several_clients;
 mod stages;
@@ -34,8 +37,25 @@ pub use rates::{
     downmix_at_half_the_rate, drain_gives_its_tail, shortage_at_half_the_rate, six_frames_for_each,
 };
 pub use refusals::{
-    device_bytes_at_the_limit, each_kind_of_fault, interrupt_above_the_ring, rates_at_their_limits,
-    recordings_unbuilt,
+    device_bytes_at_the_limit, each_kind_of_fault, faults_of_requests, interrupt_above_the_ring,
+    rates_at_their_limits, recordings_unbuilt,
+};
+pub use request_numbers::{
+    codes_of_all_formats, fragments_by_number, gains_of_volumes, volumes_at_their_limits,
+};
+pub use request_table::{
+    close_in_each_state, each_request_in_setup, each_request_on_a_full_ring,
+    each_request_when_primed, each_request_while_draining, each_request_while_running,
+    no_request_of_a_closed_descriptor, part_of_a_frame_starts_nothing, requests_in_every_state,
+    what_is_not_faded_drains, what_is_played_is_over_at_once, write_in_each_state,
+    write_of_no_bytes_in_each_state,
+};
+pub use requests::{
+    cut_behind_a_post, draining_refuses_busy, fragments_at_both_ends, full_ring_refuses_again,
+    half_a_frame_fills_a_fragment, halt_drops_and_counts, marks_of_a_run, opening_begins_anew,
+    refusals_change_nothing, requests_of_the_wrong_way, settings_between_two_runs,
+    shortage_is_told_once, sync_gives_its_tail, sync_plays_what_is_there,
+    volume_from_the_next_frame,
 };
 pub use samples::{
     edges_of_8_bits, edges_of_16_bits, edges_of_24_bits, edges_of_32_bits, fewer_bits_round_down,
@@ -48,5 +68,7 @@ pub use stages::{
     a_line_waits_for_its_end, depth_rounds_down, hold_doubles, linear_doubles, linear_from_44100,
     linear_halves, six_channels_fold_to_two, two_taps_double, volume_halves_the_right_side,
 };
-pub use texts::{comments_and_empty_lines, hex_of_either_case, interrupt_without_a_number};
+pub use texts::{
+    comments_and_empty_lines, hex_of_either_case, interrupt_without_a_number, line_for_each_request,
+};
 pub use verdicts::{script_not_there, words_of_no_form};

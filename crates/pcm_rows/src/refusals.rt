@@ -52,5 +52,20 @@ pub fn each_kind_of_fault()
     ensures name { judged usual_device (codes "open 0 both") ≡ refused_at 1 Name }
     ensures hex { judged usual_device (codes "write 0 012") ≡ refused_at 1 Hex }
     ensures range { judged usual_device (codes "close 64") ≡ refused_at 1 Range }
-    ensures unbuilt { judged usual_device (codes "ioctl 0 sync") ≡ refused_at 1 Unbuilt }
+    ensures unbuilt { judged usual_device (codes "send 0 song 0 4096") ≡ refused_at 1 Unbuilt }
+{}
+
+/// The words of a request that is known are counted first. Then come the descriptor, the name and
+/// the number.
+pub fn faults_of_requests()
+    ensures few { judged usual_device (codes "ioctl 64 setfmt") ≡ refused_at 1 Count }
+    ensures many { judged usual_device (codes "ioctl 64 sync 0") ≡ refused_at 1 Count }
+    ensures none { judged usual_device (codes "ioctl 0") ≡ refused_at 1 Count }
+    ensures descriptor { judged usual_device (codes "ioctl 64 nosuch 0") ≡ refused_at 1 Range }
+    ensures name { judged usual_device (codes "ioctl 0 nosuch x") ≡ refused_at 1 Name }
+    ensures number { judged usual_device (codes "ioctl 0 speed u8") ≡ refused_at 1 Number }
+    ensures range { judged usual_device (codes "ioctl 0 speed 4294967296") ≡ refused_at 1 Range }
+    ensures format { judged usual_device (codes "ioctl 0 setfmt s20le") ≡ refused_at 1 Name }
+    ensures code { judged usual_device (codes "ioctl 0 setfmt 4294967296") ≡ refused_at 1 Range }
+    ensures long { judged usual_device (codes "ioctl 0 setfmt 42949672960") ≡ refused_at 1 Name }
 {}
