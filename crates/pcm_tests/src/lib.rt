@@ -19,6 +19,8 @@ mod numbers;
 #[cfg(test)]
 mod real_forms;
 #[cfg(test)]
+mod requests;
+#[cfg(test)]
 mod rings;
 #[cfg(test)]
 mod transfers;
