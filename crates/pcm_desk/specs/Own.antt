@@ -1,5 +1,5 @@
 -- What a client is told, and what becomes of its book, is a matter of that book and its own events alone.
-use Rattle.std.specs.Prelude.{◌≡◌, ◌≢◌, ℕ, Option, Some, None, Result, Ok, Err}
+use Rattle.std.specs.Prelude.{◌≡◌, ◌≢◌, ◌<◌, ℕ, Bool, true, false, not, Option, Some, None, Result, Ok, Err, length, slice_index_or}
 use Rattle.pcm_oss.specs.declared.event.Event.{Event}
 use Rattle.pcm_oss.specs.declared.event.Event.TheVariants.{Open, Write, Ioctl, Close, Intr}
 use Rattle.pcm_oss.specs.declared.reply.Answer.{Answer}
@@ -7,6 +7,8 @@ use Rattle.pcm_oss.specs.declared.reply.Answer.TheVariants.{Done, Number}
 use Rattle.pcm_oss.specs.declared.reply.Errno.{Errno}
 use Rattle.pcm_oss.specs.declared.reply.Errno.TheVariants.{Exist}
 use Rattle.pcm_desk.specs.declared.book.Book.{Book}
+use Rattle.pcm_desk.specs.declared.book.State.{State}
+use Rattle.pcm_desk.specs.declared.book.State.TheVariants.{Free, Setup, Primed, Running, Draining}
 use Rattle.pcm_desk.specs.declared.device.Held.{Held}
 use Rattle.pcm_desk.specs.Device.{DeviceSeen}
 use Rattle.pcm_desk.specs.Books.{BookTurn, write_turn}
@@ -27,6 +29,20 @@ own_turn device (Write fd at count) book = write_turn count book
 own_turn device (Ioctl fd request) book = asking device request book
 own_turn device (Close fd) book = record { book = closing device book; reply = Ok Done }
 own_turn device (Intr n) book = record { book = mixing device n book; reply = Ok (Number n) }
+
+-- a channel that a descriptor may hold: it isn't free, and doesn't drain behind a close
+abbrev pub is_held : State → Bool
+is_held Free = false
+is_held Setup = true
+is_held Primed = true
+is_held Running = true
+is_held (Draining closed) = not closed
+
+-- Each open descriptor holds a slot that is there and a channel that may be held, and no two hold one.
+pub record HoldApart (desk : Desk) : Type 0 where
+  pub within : (fd : ℕ) (held : Held) → held_by desk fd ≡ Some held → held.slot < length desk.play
+  pub taken : (fd : ℕ) (held : Held) (other : Book) → held_by desk fd ≡ Some held → is_held (slice_index_or desk.play held.slot other).state ≡ true
+  pub apart : (fd other : ℕ) (held theirs : Held) → held_by desk fd ≡ Some held → held_by desk other ≡ Some theirs → held.slot ≡ theirs.slot → fd ≡ other
 
 -- What an event leaves of the books of a desk, and its reply: no book looks at another.
 pub record IsIsolated (device : DeviceSeen) (event : Event) (old new : Desk) (reply : Result Answer Errno) : Type 0 where

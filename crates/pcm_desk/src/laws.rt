@@ -1,7 +1,8 @@
-//! What holds of all books: the function here has no work, and its contract is the law.
+//! What holds of all books and desks: the functions here have no work, and their contracts are the laws.
 
 ghost use Rattle.std.specs.Prelude.{◌≡◌, ℕ, false};
 ghost use Rattle.pcm_format.specs.declared.settings.Settings.{Settings};
+ghost use Rattle.pcm_oss.specs.declared.event.Event.{Event};
 ghost use Rattle.pcm_oss.specs.declared.request.Request.{Request};
 ghost use Rattle.pcm_rate.specs.declared.rate.Rate.{Rate};
 ghost use Rattle.pcm_rate.specs.Rates.{IsRatio};
@@ -9,6 +10,9 @@ ghost use Rattle.pcm_desk.specs.declared.book.Book.{Book};
 ghost use Rattle.pcm_desk.specs.Books.{begun, is_setup, write_turn, close_turn, refilled};
 ghost use Rattle.pcm_desk.specs.Requests.{ask_turn};
 ghost use Rattle.pcm_desk.specs.Safe.{BookIsSafe};
+ghost use Rattle.pcm_desk.specs.Device.{DeviceSeen};
+ghost use Rattle.pcm_desk.specs.Desk.{Desk, after, desk_at_start};
+ghost use Rattle.pcm_desk.specs.Own.{HoldApart};
 
 /// The counts of a book stay in order through every event, for every rate between its client and the mix.
 pub fn books_stay_in_order()
@@ -23,4 +27,11 @@ pub fn books_stay_in_order()
         → BookIsSafe rate book → BookIsSafe rate (close_turn rate book) }
     ensures refilled { (rate : Rate) (n : ℕ) (book : Book) → IsRatio rate
         → BookIsSafe rate book → BookIsSafe rate (refilled rate n book) }
+{}
+
+/// Two open descriptors never hold one slot, from the start on and through every event.
+pub fn descriptors_hold_apart()
+    ensures start { (device : DeviceSeen) → HoldApart (desk_at_start device) }
+    ensures after { (device : DeviceSeen) (desk : Desk) (event : Event) → HoldApart desk
+        → HoldApart (after device desk event).desk }
 {}

@@ -12,6 +12,6 @@ mod turns;
 
 pub use book::{Book, State};
 pub use device::{Device, Held, OPENING, QUALITY};
-pub use laws::books_stay_in_order;
+pub use laws::{books_stay_in_order, descriptors_hold_apart};
 pub use limits::{DESCRIPTORS, DEVICE_BYTES, EVENTS, RING_FRAMES, SLOTS, WRITE_BYTES};
 pub use turn::{ALL_FORMATS, CAPABILITIES, PLAY_BIT, Turn};
