@@ -10,7 +10,7 @@ use Rattle.pcm_desk.specs.declared.device.Held.{Held}
 use Rattle.pcm_desk.specs.Device.{DeviceSeen}
 use Rattle.pcm_desk.specs.Books.{BookTurn, write_turn}
 use Rattle.pcm_desk.specs.Desk.{Desk, DeskTurn, after, asking, book_at, close_on, closing, held_by, open_turn, turning, unopened}
-use Rattle.pcm_desk.specs.Own.{IsIsolated, descriptor_of, own_turn}
+use Rattle.pcm_desk.specs.Own.{HoldApart, IsIsolated, descriptor_of, own_turn}
 use Rattle.pcm_sound.proofs.Stories.{book_at-mixing}
 
 -- the number of a descriptor
@@ -20,10 +20,6 @@ number_of (Some fd) = fd
 
 named : (at fd : ℕ) → Some at ≡ Some fd → at ≡ fd
 named at fd e = ap number_of e
-
--- each open descriptor of a desk holds a slot that is there
-abbrev pub HoldSlots : Desk → Type 0
-HoldSlots desk = (fd : ℕ) (held : Held) → held_by desk fd ≡ Some held → held.slot < length desk.play
 
 -- the one slot of an event, and the others
 pub record TurnsOne (device : DeviceSeen) (turn : Book → BookTurn) (held : Held) (old : Desk) (new : DeskTurn) : Type 0 where
@@ -73,10 +69,10 @@ each_alone device (Close at) desk n slot = cc
 each_alone device (Intr frames) desk n slot = book_at-mixing device desk frames slot
 
 -- every event leaves the books of a desk to themselves
-pub isolated : (device : DeviceSeen) (event : Event) (desk : Desk) → HoldSlots desk → IsIsolated device event desk (after device desk event).desk (after device desk event).reply
+pub isolated : (device : DeviceSeen) (event : Event) (desk : Desk) → HoldApart desk → IsIsolated device event desk (after device desk event).desk (after device desk event).reply
 isolated device event desk hold = record {
-  own = λ fd held n e. (turns device event held desk fd n e (hold fd held e)).own;
-  answer = λ fd held n e. (turns device event held desk fd n e (hold fd held e)).reply;
-  others = λ fd slot held n e differ. (turns device event held desk fd n e (hold fd held e)).others slot differ;
+  own = λ fd held n e. (turns device event held desk fd n e (hold.within fd held e)).own;
+  answer = λ fd held n e. (turns device event held desk fd n e (hold.within fd held e)).reply;
+  others = λ fd slot held n e differ. (turns device event held desk fd n e (hold.within fd held e)).others slot differ;
   each = each_alone device event desk;
 }

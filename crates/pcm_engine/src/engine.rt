@@ -4,7 +4,9 @@ ghost use Rattle.std.specs.Prelude.{◌≡◌, [], ◌∷◌, ◌++◌, ◌+◌,
 ghost use Rattle.pcm_desk.specs.declared.limits.TheConstants.{DESCRIPTORS, EVENTS, RING_FRAMES, WRITE_BYTES};
 ghost use Rattle.pcm_desk.specs.Events.{Fits, bytes_handed};
 ghost use Rattle.pcm_desk.specs.Device.{filters_of, seen};
+ghost use Rattle.pcm_desk.specs.Own.{HoldApart};
 ghost use Rattle.pcm_vchan.specs.Slots.{AreOf};
+ghost use Rattle.pcm_engine.specs.Desks.{desk_with};
 ghost use Rattle.pcm_engine.specs.Holds.{HoldWithin};
 
 use crate::clients::{close, ioctl, open, write};
@@ -25,6 +27,7 @@ pub struct EngineOf<B> {
     ghost tables_are: { tables ≡ filters_of (seen parent.device) },
     ghost own: { AreOf parent.device parent.channels.items },
     ghost held: { HoldWithin (vec_len parent.channels) descriptors },
+    ghost apart: { HoldApart (desk_with parent descriptors) },
     ghost counted: { All (λ channel. channel.book.done + channel.book.written ≤ WRITE_BYTES * steps) parent.channels.items },
     ghost given: { All (λ channel. channel.book.given ≤ RING_FRAMES * steps) parent.channels.items },
     ghost mixed_within: { parent.mixed ≤ RING_FRAMES * steps },
@@ -102,7 +105,8 @@ impl<B: Feeder> EngineOf<B> {
             BookIsSafe (rate_at (device_of self.new) book) book }
         ensures refused { IsErr reply.new.result → IsUnchanged self.old self.new }
 
-        // No client sees what others do, but that a slot is taken.
+        // No client sees what others do, but that a slot is taken: no two descriptors hold one, and no book looks at another.
+        ensures apart { HoldApart (desk_of self.new) }
         ensures isolated { IsIsolated (device_of self.old) event.now
             (desk_of self.old) (desk_of self.new) reply.new.result }
 

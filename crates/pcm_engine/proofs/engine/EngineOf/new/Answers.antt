@@ -1,9 +1,11 @@
-use Rattle.std.proofs.Common.{List, refl, sym, ap, ◌∙◌, arith}
+use Rattle.std.proofs.Common.{◌≡◌, List, None, Some, refl, sym, ap, ◌∙◌, arith}
 use Rattle.pcm_feeder.specs.declared.table.Table.{Table}
 use Rattle.pcm_feeder.specs.Filters.{Filters}
 use Rattle.pcm_desk.specs.declared.book.Book.{Book}
 use Rattle.pcm_desk.specs.declared.device.Device.{Device}
 use Rattle.pcm_desk.specs.Device.{filters_of, seen}
+use Rattle.pcm_desk.proofs.Apart.{apart-shut}
+use Rattle.pcm_sound.proofs.Stories.{get_or-same}
 use Rattle.pcm_engine.proofs.Starting.{hold_within-none, parent-starts, ready-unopened}
 use Rattle.pcm_engine.proofs.engine.EngineOf.new.Goals as goal
 
@@ -14,6 +16,7 @@ invariant_of-result g c =
       tables_are = ap (λ (list : List Table). let filters : Filters = record { list = list } in filters) (c.new-tables.ensures ∙ c.new.ensures.items)
           ∙ ap (λ (d : Device). filters_of (seen d)) (sym c.in_ok-parent.ensures.device);
       own = λ slot other there. (c.in_ok-parent.ensures.channels slot other there).device_is ∙ sym c.in_ok-parent.ensures.device;
+      apart = apart-shut _ (λ fd held e. let none : None ≡ Some held = sym (get_or-same 64 fd None) ∙ e in cc);
       held = hold_within-none parent.channels.len _ 64 refl;
       counted = λ slot other there.
           let book = (c.in_ok-parent.ensures.channels slot other there).book in

@@ -1,5 +1,4 @@
-use Rattle.std.proofs.Common.{ℕ, List, [], ◌∷◌, ◌++◌, take, refl, sym, ap, ◌∙◌, subst, arith}
-use Rattle.std.proofs.lemmas.List.{length-map}
+use Rattle.std.proofs.Common.{ℕ, List, [], ◌∷◌, ◌++◌, take, refl, sym, ap, ◌∙◌, subst}
 use Rattle.pcm_desk.specs.declared.device.Device.{Device}
 use Rattle.pcm_desk.specs.Device.{seen}
 use Rattle.pcm_desk.specs.Desk.{Desk, after, book_at, rate_at}
@@ -9,7 +8,6 @@ use Rattle.pcm_desk.specs.Safe.{BookIsSafe}
 use Rattle.pcm_sound.specs.Story.{story_of, story_at_start}
 use Rattle.pcm_sound.specs.DeviceList.{device_body}
 use Rattle.pcm_sound.proofs.Stories.{told_all-push}
-use Rattle.pcm_play.specs.declared.channel.PlayChannelOf.{PlayChannelOf}
 use Rattle.pcm_engine.specs.Stands.{PartsStand}
 use Rattle.pcm_engine.specs.Steps.{bytes_brought}
 use Rattle.pcm_engine.specs.Engines.{device_of, desk_of}
@@ -70,7 +68,6 @@ returns-clause-isolated g c =
     let old = c.args.self.now in
     let device = device_of old in
     let desk = desk_of old in
-    let slots = length-map old.parent.channels.items (λ (channel : PlayChannelOf _). channel.book) in
-    let alone = isolated device c.args.event.now desk (λ fd held e. let within = old.held fd held e in omega (arith, old.parent.channels.ok.0, slots)) in
+    let alone = isolated device c.args.event.now desk old.apart in
     subst (λ (new : Desk). IsIsolated device c.args.event.now desk new c.apply.new.reply.result) (sym c.apply.ensures.desk)
     (subst (IsIsolated device c.args.event.now desk (after device desk c.args.event.now).desk) (sym c.apply.ensures.reply) alone)
