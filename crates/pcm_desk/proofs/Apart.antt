@@ -1,20 +1,16 @@
 -- Two open descriptors never hold one slot, whatever events come.
 use Rattle.std.proofs.Common.{◌≡◌, ℕ, zero, suc, ◌+◌, ◌<◌, ◌≤◌, Bool, true, false, cond, eqb, List, length, set, get_or, map, replicate, min, Option, Some, None, Ok, Err, ◌⊎◌, inl, inr, refl, sym, ap, ◌∙◌, subst, arith, get_or-set_same, get_or-set_other}
-use Rattle.std.specs.Prelude.{is_some, nat_lt, ◌&&◌, option_map}
+use Rattle.std.specs.Prelude.{is_some, nat_lt, ◌&&◌}
 use Rattle.std.proofs.lemmas.Bool.{cases_lt, cases_eq}
 use Rattle.std.proofs.lemmas.List.{get_or-map, get_or_past, get_or-replicate, length-map, length-replicate, length-set, set_past}
 use Rattle.std.proofs.lemmas.List.Quantifiers.{position-Some}
 use Rattle.pcm_format.specs.declared.settings.Settings.{Settings}
-use Rattle.pcm_format.specs.Formats.{code_of, format_with_code}
-use Rattle.pcm_format.specs.Layouts.{channels_of, layout_of}
 use Rattle.pcm_oss.specs.declared.event.Event.{Event}
 use Rattle.pcm_oss.specs.declared.event.Event.TheVariants.{Open, Write, Ioctl, Close, Intr}
 use Rattle.pcm_oss.specs.declared.event.Way.{Way}
 use Rattle.pcm_oss.specs.declared.reply.Answer.TheVariants.{Number}
-use Rattle.pcm_oss.specs.declared.reply.Errno.TheVariants.{Again, Busy, Exist, Inval}
+use Rattle.pcm_oss.specs.declared.reply.Errno.TheVariants.{Again, Busy, Exist}
 use Rattle.pcm_oss.specs.declared.request.Request.{Request}
-use Rattle.pcm_oss.specs.declared.request.Request.TheVariants.{SetFmt, Speed, Channels, GetFmts, GetCaps, GetBlkSize, SetFragment, GetOSpace, GetISpace, GetOPtr, GetIPtr, GetODelay, GetError, SetTrigger, GetTrigger, SetPlayVol, GetPlayVol, Post, Sync, Halt}
-use Rattle.pcm_oss.specs.Volumes.{is_volume}
 use Rattle.pcm_rate.specs.declared.rate.Rate.{Rate}
 use Rattle.pcm_rate.specs.Rates.{len}
 use Rattle.pcm_desk.specs.declared.book.Book.{Book}
@@ -23,10 +19,11 @@ use Rattle.pcm_desk.specs.declared.book.State.TheVariants.{Free, Setup, Primed, 
 use Rattle.pcm_desk.specs.declared.device.Held.{Held}
 use Rattle.pcm_desk.specs.declared.limits.TheConstants.{DESCRIPTORS}
 use Rattle.pcm_desk.specs.Device.{DeviceSeen}
-use Rattle.pcm_desk.specs.Books.{BookTurn, accepting, begun, drained_in, emptied, finished, frames_written, free_of, gives, is_draining, is_free, is_setup, may_start, refilled, started_in, write_turn}
-use Rattle.pcm_desk.specs.Requests.{ask_turn, at_format, at_layout, at_rate, book_turn, doing, has_play_bit, roused_in, set_fragments, set_volume, stopped_in, telling_of, triggered, with_settings}
+use Rattle.pcm_desk.specs.Books.{BookTurn, accepting, begun, drained_in, emptied, finished, frames_written, free_of, gives, is_draining, is_free, may_start, refilled, started_in, write_turn}
+use Rattle.pcm_desk.specs.Requests.{ask_turn, roused_in, stopped_in}
 use Rattle.pcm_desk.specs.Desk.{Desk, DeskTurn, after, asking, book_at, close_on, closing, desk_at_start, held_by, interrupt_turn, least_free, mixing, open_in, rate_at, refusing, turning, unopened, with_book}
 use Rattle.pcm_desk.specs.Own.{HoldApart, is_held}
+use Rattle.pcm_desk.proofs.States.{Lasts, ask-lasts}
 
 -- ---- a channel that is held stays so
 
@@ -55,24 +52,6 @@ held_write false false count book e = held_accepting book.state (min count (free
 pub held-write : (count : ℕ) (book : Book) → is_held book.state ≡ true → is_held (write_turn count book).book.state ≡ true
 held-write count book e = held_write (is_draining book.state) (nat_lt 0 count && eqb (free_of book) 0) count book e
 
-held_reset_in : (b : Bool) (number : Settings → ℕ) (settings : Settings) (book : Book) → is_held book.state ≡ true → is_held (book_turn book (telling_of number (cond b (Ok (record book { settings = settings })) (Err Busy)))).book.state ≡ true
-held_reset_in true number settings book e = e
-held_reset_in false number settings book e = e
-
-held_reset : (asks : Bool) (number : Settings → ℕ) (found : Option Settings) (book : Book) → is_held book.state ≡ true
-    → is_held (book_turn book (telling_of number (cond asks (Ok book) (with_settings found book)))).book.state ≡ true
-held_reset true number found book e = e
-held_reset false number None book e = e
-held_reset false number (Some settings) book e = held_reset_in (is_setup book.state) number settings book e
-
-held_cut : (b : Bool) (arg : ℕ) (book : Book) → is_setup book.state ≡ b → is_held book.state ≡ true → is_held (book_turn book (set_fragments arg book)).book.state ≡ true
-held_cut true arg book is e = rw is e
-held_cut false arg book is e = rw is e
-
-held_volume : (b : Bool) (volume : ℕ) (book : Book) → is_volume volume ≡ b → is_held book.state ≡ true → is_held (book_turn book (set_volume volume book)).book.state ≡ true
-held_volume true volume book is e = rw is e
-held_volume false volume book is e = rw is e
-
 held_roused : (state : State) (book : Book) → is_held state ≡ true → is_held (roused_in state (record book { state = state })).state ≡ true
 held_roused Free book e = cc
 held_roused Setup book e = refl
@@ -80,26 +59,12 @@ held_roused Primed book e = held_started (nat_lt 0 (frames_written book)) book
 held_roused Running book e = refl
 held_roused (Draining closed) book e = e
 
-held_posted : (b : Bool) (book : Book) → is_held book.state ≡ true → is_held (cond b (roused_in book.state book) book).state ≡ true
-held_posted true book e = held_roused book.state book e
-held_posted false book e = e
-
 held_stopped : (state : State) (book : Book) → is_held state ≡ true → is_held (stopped_in state (record book { state = state })).state ≡ true
 held_stopped Free book e = cc
 held_stopped Setup book e = refl
 held_stopped Primed book e = refl
 held_stopped Running book e = refl
 held_stopped (Draining closed) book e = e
-
-held_triggered : (b : Bool) (book : Book) → is_held book.state ≡ true → is_held (triggered b book).state ≡ true
-held_triggered true book e = held_roused book.state (record book { trigger = true }) e
-held_triggered false book e = held_stopped book.state (record book { trigger = false }) e
-
-held_set_trigger : (wrong busy : Bool) (bits : ℕ) (book : Book) → is_held book.state ≡ true
-    → is_held (book_turn book (cond wrong (Err Inval) (cond busy (Err Busy) (doing (triggered (has_play_bit bits) book))))).book.state ≡ true
-held_set_trigger true busy bits book e = e
-held_set_trigger false true bits book e = e
-held_set_trigger false false bits book e = held_triggered (has_play_bit bits) book e
 
 held_drain_primed : (b : Bool) (book : Book) → is_held (cond b (record book { state = Draining false }) (emptied Setup book)).state ≡ true
 held_drain_primed true book = refl
@@ -116,28 +81,12 @@ held_drained Primed rate book e = held_drain_primed (nat_lt 0 (frames_written bo
 held_drained Running rate book e = held_drain_running (eqb book.given (len rate (frames_written book))) book
 held_drained (Draining closed) rate book e = e
 
+held_lasts : Lasts is_held
+held_lasts = record { roused = held_roused; stopped = held_stopped; drained = held_drained; dropped = refl }
+
 -- a request
 pub held-ask : (rate : Rate) (request : Request) (book : Book) → is_held book.state ≡ true → is_held (ask_turn rate request book).book.state ≡ true
-held-ask rate (SetFmt code) book e = held_reset (eqb code 0) (λ settings. code_of settings.format) (option_map (at_format book.settings) (format_with_code code)) book e
-held-ask rate (Speed speed) book e = held_reset (eqb speed 0) (λ settings. settings.rate) (at_rate book.settings speed) book e
-held-ask rate (Channels channels) book e = held_reset (eqb channels 0) (λ settings. channels_of settings.layout) (option_map (at_layout book.settings) (layout_of channels)) book e
-held-ask rate GetFmts book e = e
-held-ask rate GetCaps book e = e
-held-ask rate GetBlkSize book e = e
-held-ask rate (SetFragment arg) book e = held_cut (is_setup book.state) arg book refl e
-held-ask rate GetOSpace book e = e
-held-ask rate GetISpace book e = e
-held-ask rate GetOPtr book e = e
-held-ask rate GetIPtr book e = e
-held-ask rate GetODelay book e = e
-held-ask rate GetError book e = e
-held-ask rate (SetTrigger bits) book e = held_set_trigger (nat_lt 3 bits) (is_draining book.state) bits book e
-held-ask rate GetTrigger book e = e
-held-ask rate (SetPlayVol volume) book e = held_volume (is_volume volume) volume book refl e
-held-ask rate GetPlayVol book e = e
-held-ask rate Post book e = held_posted book.trigger book e
-held-ask rate Sync book e = held_drained book.state rate book e
-held-ask rate Halt book e = refl
+held-ask rate request book e = ask-lasts is_held held_lasts rate request book e
 
 held_settled : (b closed : Bool) (given : Book) → is_held given.state ≡ true → is_held (Draining closed) ≡ true → is_held (cond {A = Book} b (finished (cond closed Free Setup) given) given).state ≡ true
 held_settled true true given e stays = cc

@@ -19,6 +19,7 @@ use Rattle.pcm_desk.specs.declared.book.State.TheVariants.{Free, Setup, Primed, 
 use Rattle.pcm_desk.specs.Books.{dropped, drained_in, frames_written, is_draining, is_setup, played_of}
 use Rattle.pcm_desk.specs.Requests.{ask_turn, at_format, at_layout, at_rate, doing, has_play_bit, roused_in, set_fragments, set_volume, stopped_in, telling_of, triggered, book_turn, with_settings}
 use Rattle.pcm_desk.specs.Safe.{BookIsSafe, IsInOrder}
+use Rattle.pcm_desk.proofs.States.{Lasts, ask-lasts}
 use Rattle.pcm_desk.proofs.Safe.{safe-drained, safe-state, unstarted, unstarted_running}
 
 -- ---- in Setup
@@ -151,80 +152,29 @@ safe_ask rate Halt book r s = drop rate book s
 
 -- ---- a book in Setup stays there
 
-reset_stays_in : (b : Bool) (number : Settings → ℕ) (settings : Settings) (book : Book) → is_setup book.state ≡ true → is_setup (book_turn book (telling_of number (cond b (Ok (record book { settings = settings })) (Err Busy)))).book.state ≡ true
-reset_stays_in true number settings book e = e
-reset_stays_in false number settings book e = e
+setup_roused : (state : State) (book : Book) → is_setup state ≡ true → is_setup (roused_in state (record book { state = state })).state ≡ true
+setup_roused Free book e = cc
+setup_roused Setup book e = refl
+setup_roused Primed book e = cc
+setup_roused Running book e = cc
+setup_roused (Draining closed) book e = cc
 
-reset_stays : (asks : Bool) (number : Settings → ℕ) (found : Option Settings) (book : Book) → is_setup book.state ≡ true
-    → is_setup (book_turn book (telling_of number (cond asks (Ok book) (with_settings found book)))).book.state ≡ true
-reset_stays true number found book e = e
-reset_stays false number None book e = e
-reset_stays false number (Some settings) book e = reset_stays_in (is_setup book.state) number settings book e
+setup_stopped : (state : State) (book : Book) → is_setup state ≡ true → is_setup (stopped_in state (record book { state = state })).state ≡ true
+setup_stopped Free book e = cc
+setup_stopped Setup book e = refl
+setup_stopped Primed book e = cc
+setup_stopped Running book e = cc
+setup_stopped (Draining closed) book e = cc
 
-cut_stays : (b : Bool) (arg : ℕ) (book : Book) → is_setup book.state ≡ b → is_setup book.state ≡ true → is_setup (book_turn book (set_fragments arg book)).book.state ≡ true
-cut_stays true arg book is e = rw is (rw e refl)
-cut_stays false arg book is e = rw is e
+setup_drained : (state : State) (rate : Rate) (book : Book) → is_setup state ≡ true → is_setup (drained_in rate state (record book { state = state })).state ≡ true
+setup_drained Free rate book e = cc
+setup_drained Setup rate book e = refl
+setup_drained Primed rate book e = cc
+setup_drained Running rate book e = cc
+setup_drained (Draining closed) rate book e = cc
 
-volume_stays : (b : Bool) (volume : ℕ) (book : Book) → is_volume volume ≡ b → is_setup book.state ≡ true → is_setup (book_turn book (set_volume volume book)).book.state ≡ true
-volume_stays true volume book is e = rw is e
-volume_stays false volume book is e = rw is e
-
-rouse_stays : (state : State) (book : Book) → is_setup state ≡ true → is_setup (roused_in state (record book { state = state })).state ≡ true
-rouse_stays Free book e = cc
-rouse_stays Setup book e = refl
-rouse_stays Primed book e = cc
-rouse_stays Running book e = cc
-rouse_stays (Draining closed) book e = cc
-
-post_stays : (b : Bool) (book : Book) → is_setup book.state ≡ true → is_setup (cond b (roused_in book.state book) book).state ≡ true
-post_stays true book e = rouse_stays book.state book e
-post_stays false book e = e
-
-stop_stays : (state : State) (book : Book) → is_setup state ≡ true → is_setup (stopped_in state (record book { state = state })).state ≡ true
-stop_stays Free book e = cc
-stop_stays Setup book e = refl
-stop_stays Primed book e = cc
-stop_stays Running book e = cc
-stop_stays (Draining closed) book e = cc
-
-trigger_stays : (b : Bool) (book : Book) → is_setup book.state ≡ true → is_setup (triggered b book).state ≡ true
-trigger_stays true book e = rouse_stays book.state (record book { trigger = true }) e
-trigger_stays false book e = stop_stays book.state (record book { trigger = false }) e
-
-set_trigger_stays : (wrong busy : Bool) (bits : ℕ) (book : Book) → is_setup book.state ≡ true
-    → is_setup (book_turn book (cond wrong (Err Inval) (cond busy (Err Busy) (doing (triggered (has_play_bit bits) book))))).book.state ≡ true
-set_trigger_stays true busy bits book e = e
-set_trigger_stays false true bits book e = e
-set_trigger_stays false false bits book e = trigger_stays (has_play_bit bits) book e
-
-sync_stays : (state : State) (rate : Rate) (book : Book) → is_setup state ≡ true → is_setup (drained_in rate state (record book { state = state })).state ≡ true
-sync_stays Free rate book e = cc
-sync_stays Setup rate book e = refl
-sync_stays Primed rate book e = cc
-sync_stays Running rate book e = cc
-sync_stays (Draining closed) rate book e = cc
-
-ask_stays : (rate : Rate) (request : Request) (book : Book) → is_setup book.state ≡ true → is_setup (ask_turn rate request book).book.state ≡ true
-ask_stays rate (SetFmt code) book e = reset_stays (eqb code 0) (λ settings. code_of settings.format) (option_map (at_format book.settings) (format_with_code code)) book e
-ask_stays rate (Speed speed) book e = reset_stays (eqb speed 0) (λ settings. settings.rate) (at_rate book.settings speed) book e
-ask_stays rate (Channels channels) book e = reset_stays (eqb channels 0) (λ settings. channels_of settings.layout) (option_map (at_layout book.settings) (layout_of channels)) book e
-ask_stays rate GetFmts book e = e
-ask_stays rate GetCaps book e = e
-ask_stays rate GetBlkSize book e = e
-ask_stays rate (SetFragment arg) book e = cut_stays (is_setup book.state) arg book refl e
-ask_stays rate GetOSpace book e = e
-ask_stays rate GetISpace book e = e
-ask_stays rate GetOPtr book e = e
-ask_stays rate GetIPtr book e = e
-ask_stays rate GetODelay book e = e
-ask_stays rate GetError book e = e
-ask_stays rate (SetTrigger bits) book e = set_trigger_stays (nat_lt 3 bits) (is_draining book.state) bits book e
-ask_stays rate GetTrigger book e = e
-ask_stays rate (SetPlayVol volume) book e = volume_stays (is_volume volume) volume book refl e
-ask_stays rate GetPlayVol book e = e
-ask_stays rate Post book e = post_stays book.trigger book e
-ask_stays rate Sync book e = sync_stays book.state rate book e
-ask_stays rate Halt book e = refl
+setup_lasts : Lasts is_setup
+setup_lasts = record { roused = setup_roused; stopped = setup_stopped; drained = setup_drained; dropped = refl }
 
 -- ---- any request
 
@@ -239,5 +189,5 @@ safe-ask rate now request book r s same = at (is_setup book.state) refl
     safe = safe_ask rate request book r s
 
     at : (b : Bool) → is_setup book.state ≡ b → BookIsSafe now after
-    at true e = anew rate now after after.settings after.fragments (ask_stays rate request book e) safe.fragments safe
+    at true e = anew rate now after after.settings after.fragments (ask-lasts is_setup setup_lasts rate request book e) safe.fragments safe
     at false e = subst (λ (between : Rate). BookIsSafe between after) (sym (same e)) safe

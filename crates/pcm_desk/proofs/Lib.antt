@@ -1,4 +1,5 @@
 pub mod Safe
+pub mod States
 pub mod Asking
 pub mod Leaves
 pub mod Apart
