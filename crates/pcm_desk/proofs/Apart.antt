@@ -171,12 +171,12 @@ shut device (Some held) desk fd e h = record {
     ]
 
 -- what is free isn't held
-free_unheld : (state : State) → is_free state ≡ true → is_held state ≡ true → ⊥
-free_unheld Free e held = cc
-free_unheld Setup e held = cc
-free_unheld Primed e held = cc
-free_unheld Running e held = cc
-free_unheld (Draining closed) e held = cc
+pub free-unheld : (state : State) → is_free state ≡ true → is_held state ≡ true → ⊥
+free-unheld Free e held = cc
+free-unheld Setup e held = cc
+free-unheld Primed e held = cc
+free-unheld Running e held = cc
+free-unheld (Draining closed) e held = cc
 
 -- an open that found a free slot
 opened : (found : Option ℕ) (desk : Desk) (fd : ℕ) (way : Way) (settings : Settings) → least_free desk.play ≡ found → HoldApart desk → HoldApart (open_in found desk fd way settings).desk
@@ -213,7 +213,7 @@ opened (Some slot) desk fd way settings e h = record {
     free = let is = position-Some (λ (book : Book). is_free book.state) desk.play slot other_book e in (is.0, is.1)
 
     differ : (d : ℕ) (mine : Held) → held_by desk d ≡ Some mine → mine.slot ≡ slot → ⊥
-    differ d mine there same = free_unheld (get_or desk.play slot other_book).state free.1 (subst (λ (k : ℕ). is_held (get_or desk.play k other_book).state ≡ true) same (h.taken d mine other_book there))
+    differ d mine there same = free-unheld (get_or desk.play slot other_book).state free.1 (subst (λ (k : ℕ). is_held (get_or desk.play k other_book).state ≡ true) same (h.taken d mine other_book there))
 
     slot_at : Option Held → ℕ
     slot_at None = 0

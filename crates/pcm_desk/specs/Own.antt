@@ -51,8 +51,12 @@ pub record IsIsolated (device : DeviceSeen) (event : Event) (old new : Desk) (re
       → book_at device new held.slot ≡ (own_turn device event (book_at device old held.slot)).book
   pub answer : (fd : ℕ) (held : Held) → descriptor_of event ≡ Some fd → held_by old fd ≡ Some held
       → reply ≡ (own_turn device event (book_at device old held.slot)).reply
-  -- and leaves every other
+  -- and leaves every other book
   pub others : (fd slot : ℕ) (held : Held) → descriptor_of event ≡ Some fd → held_by old fd ≡ Some held → slot ≢ held.slot
       → book_at device new slot ≡ book_at device old slot
+  -- any event of a descriptor leaves what every other one holds, and its book
+  pub holds : (fd other : ℕ) (theirs : Held) → descriptor_of event ≡ Some fd → other ≢ fd → held_by old other ≡ Some theirs → held_by new other ≡ Some theirs
+  pub strangers : (fd other : ℕ) (theirs : Held) → descriptor_of event ≡ Some fd → other ≢ fd → held_by old other ≡ Some theirs
+      → book_at device new theirs.slot ≡ book_at device old theirs.slot
   -- an interrupt goes by each book alone
   pub each : descriptor_of event ≡ None → (slot : ℕ) → book_at device new slot ≡ (own_turn device event (book_at device old slot)).book
