@@ -1,10 +1,11 @@
 -- A frame is one sample per channel, in the layout's order. A part of a frame is no frame.
 use Rattle.std.specs.Prelude.{ℕ, ◌+◌, ◌*◌, ◌/◌, List, length, map, ℤ}
-use Rattle.std.specs.List.{range_with_len}
+use Rattle.std.specs.List.{range_with_len, flat_map}
+use Rattle.pcm_format.specs.declared.format.Format.{Format}
 use Rattle.pcm_format.specs.declared.settings.Settings.{Settings}
 use Rattle.pcm_format.specs.Formats.{bytes_of}
 use Rattle.pcm_format.specs.Layouts.{channels_of}
-use Rattle.pcm_format.specs.Samples.{sample_at}
+use Rattle.pcm_format.specs.Samples.{sample_at, spelled}
 
 -- one sample per channel
 abbrev pub Frame : Type 0
@@ -27,3 +28,11 @@ frame_at settings bytes k =
 -- all whole frames of bytes, at 32 bits
 abbrev pub frames : Settings → List ℕ → List Frame
 frames settings bytes = map (frame_at settings bytes) (range_with_len 0 (whole_frames settings (length bytes)))
+
+-- the bytes of a frame
+abbrev pub spelled_frame : Format → Frame → List ℕ
+spelled_frame format frame = flat_map (spelled format) frame
+
+-- the bytes of frames
+abbrev pub spelled_frames : Format → List Frame → List ℕ
+spelled_frames format frames = flat_map (spelled_frame format) frames

@@ -2,4 +2,3 @@ pub mod Formats
 pub mod Layouts
 pub mod Samples
 pub mod Frames
-pub mod Pools

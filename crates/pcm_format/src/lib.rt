@@ -1,21 +1,21 @@
-//! The words that every layer speaks of sound: sample formats, channel layouts, settings, and where bytes are found.
+//! The words that every layer speaks of sound: sample formats, channel layouts, settings, and lists of bytes.
 //! A sample is told by its value and its one spelling, for all fourteen formats at once.
 #![tactic(auto)]
 
+mod bytes;
 mod depth;
 mod format;
 mod frame;
 mod laws;
 mod layout;
-mod pool;
 mod sample;
 mod settings;
 
+pub use bytes::Bytes;
 pub use depth::{at_depth, bring_to_depth};
 pub use format::Format;
 pub use frame::{load_frames, spell_frames};
 pub use laws::{load_loses_nothing, silence_is_zero, spelling_is_unique, tables_are_one_to_one};
 pub use layout::{Layout, Position};
-pub use pool::{Bytes, Pool};
 pub use sample::{load, spell, store};
 pub use settings::{RATE_LEAST, RATE_MOST, Settings};

@@ -1,4 +1,4 @@
-//! What a run reads from.
+//! Bytes as contracts see them.
 
 ghost use Rattle.std.specs.Prelude.{◌≡◌, List, ℕ};
 
@@ -36,26 +36,5 @@ impl Bytes {
         ensures { result.items ≡ self }
     {
         self.items
-    }
-}
-
-/// The bytes that the events of a script name by place and length.
-#[derive(Debug, Drop)]
-pub struct Pool {
-    pub inline_bytes: Bytes,
-}
-
-impl Pool {
-    ghost use Rattle.std.specs.Prelude.{◌≡◌, ◌+◌, ◌≤◌, length};
-    ghost use Rattle.pcm_format.specs.Pools.{bytes_at};
-
-    /// So many of the inline bytes, from byte `at` on.
-    pub fn bytes_at(&self, at: u32, len: u32) -> &[u8]
-        requires { at + len ≤ length self.now.inline_bytes }
-        ensures bytes { result.now ≡ bytes_at self.now at len }
-        ensures length { length result.now ≡ len }
-    {
-        let at = at as usize;
-        &self.inline_bytes.as_slice()[at..at + len as usize]
     }
 }
