@@ -1,6 +1,6 @@
 -- What the stages of a plan are: they fit each other, and their filters are there.
 use Rattle.std.specs.List.{position_or_len}
-use Rattle.std.proofs.Common.{subst, nat_lt, Bool, ◌≡◌, ◌≢◌, ◌≤◌, ◌<◌, ◌+◌, ◌/◌, ◌==◌, ℕ, zero, suc, nat_le, Option, Some, None, List, [], ◌∷◌, ◌++◌, length, refl, sym, ap, ◌∙◌, arith, cond}
+use Rattle.std.proofs.Common.{subst, nat_lt, Bool, ◌⊎◌, inl, inr, ◌≡◌, ◌≢◌, ◌≤◌, ◌<◌, ◌+◌, ◌/◌, ◌==◌, ℕ, zero, suc, nat_le, Option, Some, None, List, [], ◌∷◌, ◌++◌, length, refl, sym, ap, ◌∙◌, arith, cond}
 use Rattle.std.specs.Prelude.{IfSome, All, position}
 use Rattle.std.proofs.lemmas.Bool.{cond_both, eqb-true, eqb-false, ltb-true}
 use Rattle.std.proofs.lemmas.List.{append_assoc, length-append}
@@ -25,8 +25,8 @@ use Rattle.pcm_feeder.specs.Limits.{IsRate, AreTaps, AreFilters, AreChannels, Is
 use Rattle.pcm_feeder.specs.Racks.{HasBox}
 use Rattle.pcm_feeder.specs.Stages.{rate_of, channels_in, channels_out, table_at}
 use Rattle.pcm_feeder.proofs.Outputs.{src-above, dst-above}
-use Rattle.pcm_plan.specs.Plans.{PlanSeen, matrix_stages, is_for, or_else, filter_for, filter_or_line, converter_of, rate_stages, depth_stages, converting, plan_play, rate_among, rate_in_plan}
-use Rattle.pcm_plan.specs.Fits.{Follow, AreDistinct, IsUnrated, HaveOneRate, GainIsLate, IsPlan, HaveTables}
+use Rattle.pcm_plan.specs.Plans.{PlanSeen, matrix_stages, is_for, or_else, filter_for, filter_or_line, converter_of, rate_stages, depth_stages, converting, plan_play, plan_record, rate_among, rate_in_plan}
+use Rattle.pcm_plan.specs.Fits.{Follow, AreDistinct, IsUnrated, HaveOneRate, GainIsLate, IsPlan, HaveTables, HaveNoVolume}
 
 -- ---- the rate of stages
 
@@ -117,7 +117,7 @@ abbrev IsPlace : Filters → Option ℕ → Type 0
 IsPlace tables place = IfSome place (λ at. at < length tables.list)
 
 -- a fact of each converter, of a filter that is there too
-each-converter : (P : Spec → Type 0) (tables : Filters) (quality src dst channels : ℕ) → P (Hold src dst channels) → P (Linear src dst channels)
+pub each-converter : (P : Spec → Type 0) (tables : Filters) (quality src dst channels : ℕ) → P (Hold src dst channels) → P (Linear src dst channels)
     → ((place : ℕ) → place < length tables.list → P (Poly src dst channels place (table_at tables place).taps))
     → P (converter_of tables quality src dst channels)
 each-converter P tables quality src dst channels hold line filter =
@@ -139,38 +139,63 @@ each-converter P tables quality src dst channels hold line filter =
     found None below = line
     found (Some place) below = filter place below
 
+-- a fact of each stage that changes layout or rate
+pub each-converting : (P : Spec → Type 0) (tables : Filters) (quality : ℕ) (source target : Settings) → P (Matrix source.layout target.layout)
+    → ((layout : Layout) → source.rate ≢ target.rate → P (converter_of tables quality source.rate target.rate (channels_of layout)))
+    → All P (converting tables quality source target)
+each-converting P tables quality source target matrix converter =
+    let up = rate_stages tables quality source.rate target.rate (channels_of source.layout) in
+    let down = rate_stages tables quality source.rate target.rate (channels_of target.layout) in
+    let moved = matrix_stages source.layout target.layout in
+    cond_both (nat_le (channels_of target.layout) (channels_of source.layout)) (moved ++ down) (up ++ moved) (All P)
+    (λ fewer. All-append P moved down first (second target.layout)) (λ more. All-append P up moved (second source.layout) first)
+  where
+    one : (spec : Spec) → P spec → All P (spec ∷ [])
+    one spec has = All-cons P spec [] has (All-nil P)
+
+    first : All P (matrix_stages source.layout target.layout)
+    first =
+        cond_both (channels_of source.layout == channels_of target.layout) [] (Matrix source.layout target.layout ∷ []) (All P)
+        (λ same. All-nil P) (λ other. one (Matrix source.layout target.layout) matrix)
+
+    second : (layout : Layout) → All P (rate_stages tables quality source.rate target.rate (channels_of layout))
+    second layout =
+        let spec = converter_of tables quality source.rate target.rate (channels_of layout) in
+        cond_both (source.rate == target.rate) [] (spec ∷ []) (All P)
+        (λ same. All-nil P) (λ other. one spec (converter layout (λ same. eqb-false source.rate target.rate other same)))
+
+-- a fact of the stage to fewer bits
+pub each-depth : (P : Spec → Type 0) (bits channels : ℕ) → P (Depth bits channels) → All P (depth_stages bits channels)
+each-depth P bits channels depth =
+    cond_both (bits == 32) [] (Depth bits channels ∷ []) (All P) (λ whole. All-nil P) (λ fewer. All-cons P (Depth bits channels) [] depth (All-nil P))
+
 -- a fact of each stage that a plan may have
 each-stage : (P : Spec → Type 0) (tables : Filters) (quality : ℕ) (client device : Settings) → P (Matrix client.layout device.layout)
     → ((layout : Layout) → client.rate ≢ device.rate → P (converter_of tables quality client.rate device.rate (channels_of layout)))
     → P (Volume device.layout) → P (Depth (bits_of device.format) (channels_of device.layout))
     → All P (plan_play tables quality client device).stages
 each-stage P tables quality client device matrix converter volume depth =
-    let up = rate_stages tables quality client.rate device.rate (channels_of client.layout) in
-    let down = rate_stages tables quality client.rate device.rate (channels_of device.layout) in
-    let moved = matrix_stages client.layout device.layout in
-    All-append P (converting tables quality client device) (Volume device.layout ∷ depth_stages (bits_of device.format) (channels_of device.layout))
-    (cond_both (nat_le (channels_of device.layout) (channels_of client.layout)) (moved ++ down) (up ++ moved) (All P)
-    (λ fewer. All-append P moved down first (second device.layout)) (λ more. All-append P up moved (second client.layout) first))
-    (All-cons P (Volume device.layout) (depth_stages (bits_of device.format) (channels_of device.layout)) volume last)
+    let last = depth_stages (bits_of device.format) (channels_of device.layout) in
+    All-append P (converting tables quality client device) (Volume device.layout ∷ last)
+    (each-converting P tables quality client device matrix converter)
+    (All-cons P (Volume device.layout) last volume (each-depth P (bits_of device.format) (channels_of device.layout) depth))
+
+-- the plan of a client that records has the stages of one that plays from its device's settings to its own, but for the volume
+each-recorded : (P : Spec → Type 0) (tables : Filters) (quality : ℕ) (client device : Settings) → All P (plan_play tables quality device client).stages
+    → All P (plan_record tables quality client device).stages
+each-recorded P tables quality client device all =
+    let way = converting tables quality device client in
+    let last = depth_stages (bits_of client.format) (channels_of client.layout) in
+    All-append P way last (front way (Volume client.layout ∷ last) all)
+    (All-tail P (Volume client.layout) last (behind way (Volume client.layout ∷ last) all))
   where
-    one : (spec : Spec) → P spec → All P (spec ∷ [])
-    one spec has = All-cons P spec [] has (All-nil P)
+    front : (before after : List Spec) → All P (before ++ after) → All P before
+    front [] after have = All-nil P
+    front (spec ∷ before) after have = All-cons P spec before (All-head P spec (before ++ after) have) (front before after (All-tail P spec (before ++ after) have))
 
-    first : All P (matrix_stages client.layout device.layout)
-    first =
-        cond_both (channels_of client.layout == channels_of device.layout) [] (Matrix client.layout device.layout ∷ []) (All P)
-        (λ same. All-nil P) (λ other. one (Matrix client.layout device.layout) matrix)
-
-    second : (layout : Layout) → All P (rate_stages tables quality client.rate device.rate (channels_of layout))
-    second layout =
-        let spec = converter_of tables quality client.rate device.rate (channels_of layout) in
-        cond_both (client.rate == device.rate) [] (spec ∷ []) (All P)
-        (λ same. All-nil P) (λ other. one spec (converter layout (λ same. eqb-false client.rate device.rate other same)))
-
-    last : All P (depth_stages (bits_of device.format) (channels_of device.layout))
-    last =
-        let spec = Depth (bits_of device.format) (channels_of device.layout) in
-        cond_both (bits_of device.format == 32) [] (spec ∷ []) (All P) (λ whole. All-nil P) (λ fewer. one spec depth)
+    behind : (before after : List Spec) → All P (before ++ after) → All P after
+    behind [] after have = have
+    behind (spec ∷ before) after have = behind before after (All-tail P spec (before ++ after) have)
 
 -- ---- the limits of each stage
 
@@ -214,14 +239,16 @@ play-tables tables quality client device are from to =
     (λ layout differs. each-converter (λ spec. HasTable spec tables) tables quality client.rate device.rate (channels_of layout) tt tt
     (λ place below. has-table tables client.rate device.rate (channels_of layout) place below)) tt tt
 
--- a hold and a line have a box
-line-box : (tables : Filters) (quality src dst channels : ℕ) → quality ≤ 1 → HasBox (converter_of tables quality src dst channels)
-line-box tables zero src dst channels low = tt
-line-box tables (suc zero) src dst channels low = tt
-line-box tables (suc (suc quality)) src dst channels low = absurd (omega arith)
+-- a hold and a line have a box, and where there are no filters there are no other converters
+line-box : (tables : Filters) (quality src dst channels : ℕ) → (quality ≤ 1) ⊎ (tables.list ≡ []) → HasBox (converter_of tables quality src dst channels)
+line-box tables quality src dst channels (inr none) =
+    each-converter HasBox tables quality src dst channels tt tt (λ place below. let count : length tables.list ≡ 0 = ap length none in absurd (omega arith))
+line-box tables zero src dst channels (inl low) = tt
+line-box tables (suc zero) src dst channels (inl low) = tt
+line-box tables (suc (suc quality)) src dst channels (inl low) = absurd (omega arith)
 
 -- up to lines each stage has a box
-pub play-boxes : (tables : Filters) (quality : ℕ) (client device : Settings) → quality ≤ 1 → All HasBox (plan_play tables quality client device).stages
+pub play-boxes : (tables : Filters) (quality : ℕ) (client device : Settings) → (quality ≤ 1) ⊎ (tables.list ≡ []) → All HasBox (plan_play tables quality client device).stages
 play-boxes tables quality client device low =
     each-stage HasBox tables quality client device tt (λ layout differs. line-box tables quality client.rate device.rate (channels_of layout) low) tt tt
 
@@ -334,32 +361,32 @@ converting-way tables quality source target =
     (λ more. way-append c c d 1 0 up moved (omega arith) (omega arith) (omega arith) before matrix
     (one-rate-append up moved before.row.one_rate (matrix-unrated source.layout target.layout)))
 
--- the volume, and the depth behind it
-record IsEnd (channels : ℕ) (row : List Spec) : Type 0 where
-  part : IsPart channels channels 2 2 row
+-- the end of a plan: the depth, or the volume and the depth behind it
+record IsEnd (channels most : ℕ) (row : List Spec) : Type 0 where
+  part : IsPart channels channels most 2 row
   unrated : All IsUnrated row
 
-end-append : (layout : Layout) (rest : List Spec) → IsPart (channels_of layout) (channels_of layout) 1 2 rest → All (λ spec. kinds.Volume ≢ kind_of spec) rest → All IsUnrated rest
-    → IsEnd (channels_of layout) (Volume layout ∷ rest)
-end-append layout rest part other unrated =
-    let c = channels_of layout in
-    let Others : Spec → Type 0 = λ (spec : Spec). All (λ s. kind_of spec ≢ kind_of s) rest in
-    record {
-      part = record {
-        row = row-append c c c 1 1 (Volume layout ∷ []) rest (row-one (Volume layout)) part.row (All-cons Others (Volume layout) [] other (All-nil Others)) (one-rate-unrated rest unrated);
-        ranks = All-cons (λ spec. rank_of (kind_of spec) ≡ 2) (Volume layout) rest refl part.ranks;
-      };
-      unrated = All-cons IsUnrated (Volume layout) rest refl unrated;
-    }
+depth-end : (bits channels : ℕ) → IsEnd channels 1 (depth_stages bits channels)
+depth-end bits channels =
+    cond_both (bits == 32) [] (Depth bits channels ∷ []) (IsEnd channels 1)
+    (λ whole. record { part = part-none channels channels 2 refl; unrated = All-nil IsUnrated })
+    (λ fewer. record { part = part-one 2 (Depth bits channels) refl; unrated = All-cons IsUnrated (Depth bits channels) [] refl (All-nil IsUnrated) })
 
-volume-end : (layout : Layout) (bits : ℕ) → IsEnd (channels_of layout) (Volume layout ∷ depth_stages bits (channels_of layout))
+volume-end : (layout : Layout) (bits : ℕ) → IsEnd (channels_of layout) 2 (Volume layout ∷ depth_stages bits (channels_of layout))
 volume-end layout bits =
     let c = channels_of layout in
-    let other : kinds.Volume ≢ kinds.Depth = λ (same : kinds.Volume ≡ kinds.Depth). cc in
-    let Other : Spec → Type 0 = λ (spec : Spec). kinds.Volume ≢ kind_of spec in
-    cond_both (bits == 32) [] (Depth bits c ∷ []) (λ rest. IsEnd c (Volume layout ∷ rest))
-    (λ whole. end-append layout [] (part-none c c 2 refl) (All-nil Other) (All-nil IsUnrated))
-    (λ fewer. end-append layout (Depth bits c ∷ []) (part-one 2 (Depth bits c) refl) (All-cons Other (Depth bits c) [] other (All-nil Other)) (All-cons IsUnrated (Depth bits c) [] refl (All-nil IsUnrated)))
+    let rest = depth_stages bits c in
+    let last = depth-end bits c in
+    let Others : Spec → Type 0 = λ (spec : Spec). All (λ s. kind_of spec ≢ kind_of s) rest in
+    let differs : kinds.Volume ≢ kinds.Depth = λ (same : kinds.Volume ≡ kinds.Depth). cc in
+    let other = each-depth (λ spec. kinds.Volume ≢ kind_of spec) bits c differs in
+    record {
+      part = record {
+        row = row-append c c c 1 1 (Volume layout ∷ []) rest (row-one (Volume layout)) last.part.row (All-cons Others (Volume layout) [] other (All-nil Others)) (one-rate-unrated rest last.unrated);
+        ranks = All-cons (λ spec. rank_of (kind_of spec) ≡ 2) (Volume layout) rest refl last.part.ranks;
+      };
+      unrated = All-cons IsUnrated (Volume layout) rest refl last.unrated;
+    }
 
 -- the gain comes behind the converter
 late-matrix : (from to : Layout) (rest : List Spec) → GainIsLate rest → GainIsLate (matrix_stages from to ++ rest)
@@ -394,3 +421,58 @@ play-fits tables quality client device are from to =
     let last = volume-end device.layout (bits_of device.format) in
     let row = row-append c d d 2 2 way behind first.row last.part.row (first.other behind last.part.ranks) (one-rate-append way behind first.row.one_rate last.unrated) in
     record { follow = row.follow; specs = play-specs tables quality client device are from to; distinct = row.distinct; one_rate = row.one_rate; late_gain = late-converting tables quality client device behind (All-tail IsUnrated (Volume device.layout) (depth_stages (bits_of device.format) d) last.unrated); count = row.count }
+
+-- ---- the plan of a client that records
+
+-- the gain is late where there is none
+late-depth : (bits channels : ℕ) → GainIsLate (depth_stages bits channels)
+late-depth bits channels = cond_both (bits == 32) [] (Depth bits channels ∷ []) GainIsLate (λ whole. tt) (λ fewer. tt)
+
+-- its stages fit each other
+pub record-fits : (tables : Filters) (quality : ℕ) (client device : Settings) → AreFilters tables.list → IsRate client.rate → IsRate device.rate
+    → IsPlan (plan_record tables quality client device)
+record-fits tables quality client device are to from =
+    let c = channels_of device.layout in
+    let d = channels_of client.layout in
+    let bits = bits_of client.format in
+    let way = converting tables quality device client in
+    let first = converting-way tables quality device client in
+    let last = depth-end bits d in
+    let row = row-append c d d 2 1 way (depth_stages bits d) first.row last.part.row (first.other (depth_stages bits d) last.part.ranks) (one-rate-append way (depth_stages bits d) first.row.one_rate last.unrated) in
+    record {
+      follow = row.follow;
+      specs = each-recorded IsSpec tables quality client device (play-specs tables quality device client are from to);
+      distinct = row.distinct;
+      one_rate = row.one_rate;
+      late_gain = late-converting tables quality device client (depth_stages bits d) (late-depth bits d);
+      count = omega (arith, row.count);
+    }
+
+-- the tables have its filter
+pub record-tables : (tables : Filters) (quality : ℕ) (client device : Settings) → AreFilters tables.list → IsRate client.rate → IsRate device.rate
+    → HaveTables (plan_record tables quality client device).stages tables
+record-tables tables quality client device are to from =
+    each-recorded (λ spec. HasTable spec tables) tables quality client device (play-tables tables quality device client are from to)
+
+-- up to lines each stage has a box
+pub record-boxes : (tables : Filters) (quality : ℕ) (client device : Settings) → (quality ≤ 1) ⊎ (tables.list ≡ []) → All HasBox (plan_record tables quality client device).stages
+record-boxes tables quality client device low = each-recorded HasBox tables quality client device (play-boxes tables quality device client low)
+
+-- both rates of its converter are above 0
+pub record-ratio : (tables : Filters) (quality : ℕ) (client device : Settings) → AreFilters tables.list → IsRate client.rate → IsRate device.rate
+    → IsRatio (rate_in_plan (plan_record tables quality client device))
+record-ratio tables quality client device are to from = ratio-in (plan_record tables quality client device) (record-fits tables quality client device are to from)
+
+-- it has no volume
+pub record-volume : (tables : Filters) (quality : ℕ) (client device : Settings) → HaveNoVolume (plan_record tables quality client device).stages
+record-volume tables quality client device =
+    let P : Spec → Type 0 = λ spec. kind_of spec ≢ kinds.Volume in
+    let matrix : kinds.Matrix ≢ kinds.Volume = λ (same : kinds.Matrix ≡ kinds.Volume). cc in
+    let hold : kinds.Hold ≢ kinds.Volume = λ (same : kinds.Hold ≡ kinds.Volume). cc in
+    let line : kinds.Linear ≢ kinds.Volume = λ (same : kinds.Linear ≡ kinds.Volume). cc in
+    let filter : kinds.Poly ≢ kinds.Volume = λ (same : kinds.Poly ≡ kinds.Volume). cc in
+    let depth : kinds.Depth ≢ kinds.Volume = λ (same : kinds.Depth ≡ kinds.Volume). cc in
+    All-append P (converting tables quality device client) (depth_stages (bits_of client.format) (channels_of client.layout))
+    (each-converting P tables quality device client matrix
+    (λ layout differs. each-converter P tables quality device.rate client.rate (channels_of layout) hold line (λ place below. filter)))
+    (each-depth P (bits_of client.format) (channels_of client.layout) depth)

@@ -1,2 +1,4 @@
 pub mod Fits
 pub mod Through
+pub mod Gains
+pub mod Bits

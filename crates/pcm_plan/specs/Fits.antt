@@ -1,7 +1,10 @@
 -- What holds of every plan: its stages fit each other.
 use Rattle.std.specs.Prelude.{◌≡◌, ◌≢◌, ◌≤◌, ℕ, List, [], ◌∷◌, length, All}
+use Rattle.pcm_num.specs.Limit.{FitsBits}
+use Rattle.pcm_format.specs.Frames.{Frame}
 use Rattle.pcm_format.specs.Layouts.{channels_of}
 use Rattle.pcm_rate.specs.Rates.{unchanged}
+use Rattle.pcm_feeder.specs.declared.kind.Kind.TheVariants as kinds
 use Rattle.pcm_feeder.specs.declared.stage.Spec.{Spec}
 use Rattle.pcm_feeder.specs.declared.stage.Spec.TheVariants.{Matrix, Hold, Linear, Poly, Volume, Depth}
 use Rattle.pcm_feeder.specs.Filters.{Filters}
@@ -53,6 +56,14 @@ pub record IsPlan (plan : PlanSeen) : Type 0 where
   pub late_gain : GainIsLate plan.stages
   pub count : length plan.stages ≤ 4
 
+-- no stage has a gain
+abbrev pub HaveNoVolume : List Spec → Type 0
+HaveNoVolume specs = All (λ spec. kind_of spec ≢ kinds.Volume) specs
+
 -- the tables have the filter of each stage
 abbrev pub HaveTables : List Spec → Filters → Type 0
 HaveTables specs tables = All (λ spec. HasTable spec tables) specs
+
+-- each sample of frames has at most so many bits
+abbrev pub HaveBits : ℕ → List Frame → Type 0
+HaveBits bits frames = All (λ frame. All (FitsBits bits) frame) frames

@@ -76,6 +76,15 @@ plan_play tables quality client device = record {
       ++ Volume device.layout ∷ depth_stages (bits_of device.format) (channels_of device.layout);
 }
 
+-- a device's way to a client that records, which has no volume
+abbrev pub plan_record : Filters → ℕ → Settings → Settings → PlanSeen
+plan_record tables quality client device = record {
+  source = device.layout;
+  target = client.layout;
+  stages = converting tables quality device client
+      ++ depth_stages (bits_of client.format) (channels_of client.layout);
+}
+
 -- the rate of stages: that of the one that changes it
 abbrev pub rate_among : List Spec → Rate
 rate_among [] = unchanged

@@ -6,6 +6,7 @@ use Rattle.pcm_format.specs.Frames.{Frame}
 use Rattle.pcm_feeder.specs.declared.stage.Gain.{Gain}
 use Rattle.pcm_feeder.specs.declared.stage.Spec.{Spec}
 use Rattle.pcm_feeder.specs.Filters.{Filters}
+use Rattle.pcm_feeder.specs.Layouts.{unity}
 use Rattle.pcm_feeder.specs.Streams.{Stream, stream_of}
 use Rattle.pcm_feeder.specs.Stages.{all_outputs}
 use Rattle.pcm_plan.specs.Plans.{PlanSeen}
@@ -24,3 +25,11 @@ out plan tables frames k gain =
 abbrev pub outs : PlanSeen → Filters → Gain → List Frame → ℕ → ℕ → List Frame
 outs plan tables gain frames from count =
     map (λ k. out plan tables frames k gain) (range_with_len from count)
+
+-- frame k that a plan without a volume gives
+abbrev pub rec : PlanSeen → Filters → List Frame → ℕ → Frame
+rec plan tables frames k = out plan tables frames k unity
+
+-- so many of them, from frame `from` on
+abbrev pub recs : PlanSeen → Filters → List Frame → ℕ → ℕ → List Frame
+recs plan tables frames from count = map (rec plan tables frames) (range_with_len from count)

@@ -1,7 +1,8 @@
 //! What holds of all plans: each function here has no work, and its contract is a law.
 
-ghost use Rattle.std.specs.Prelude.{◌≡◌, ◌<◌, ◌≤◌, ◌+◌, ℕ, List, ◌++◌, All, length};
+ghost use Rattle.std.specs.Prelude.{◌≡◌, ◌<◌, ◌≤◌, ◌+◌, ◌⊎◌, ℕ, List, [], ◌++◌, All, length};
 ghost use Rattle.pcm_format.specs.declared.settings.Settings.{Settings};
+ghost use Rattle.pcm_format.specs.Formats.{bits_of};
 ghost use Rattle.pcm_format.specs.Frames.{Frame};
 ghost use Rattle.pcm_format.specs.Layouts.{channels_of};
 ghost use Rattle.pcm_rate.specs.Rates.{can, IsRatio};
@@ -10,12 +11,12 @@ ghost use Rattle.pcm_feeder.specs.Filters.{Filters};
 ghost use Rattle.pcm_feeder.specs.Limits.{IsRate, AreFilters};
 ghost use Rattle.pcm_feeder.specs.Racks.{HasBox};
 ghost use Rattle.pcm_feeder.specs.Streams.{HaveChannels};
-ghost use Rattle.pcm_plan.specs.Plans.{PlanSeen, plan_play, rate_in_plan};
-ghost use Rattle.pcm_plan.specs.Fits.{IsPlan, HaveTables};
-ghost use Rattle.pcm_plan.specs.Through.{out, outs};
+ghost use Rattle.pcm_plan.specs.Plans.{PlanSeen, plan_play, plan_record, rate_in_plan};
+ghost use Rattle.pcm_plan.specs.Fits.{IsPlan, HaveTables, HaveNoVolume, HaveBits};
+ghost use Rattle.pcm_plan.specs.Through.{out, outs, rec, recs};
 
 /// The stages of a client's plan fit each other, and the tables have its filter. Up to quality 1,
-/// which draws lines, a rack has a box for each of them.
+/// which draws lines, a rack has a box for each of them, and where there are no filters too.
 pub fn plans_fit()
     ensures fits { (tables : Filters) (quality : ℕ) (client device : Settings)
         → AreFilters tables.list → IsRate client.rate → IsRate device.rate
@@ -24,7 +25,19 @@ pub fn plans_fit()
         → AreFilters tables.list → IsRate client.rate → IsRate device.rate
         → HaveTables (plan_play tables quality client device).stages tables }
     ensures boxes { (tables : Filters) (quality : ℕ) (client device : Settings)
-        → quality ≤ 1 → All HasBox (plan_play tables quality client device).stages }
+        → (quality ≤ 1) ⊎ (tables.list ≡ [])
+        → All HasBox (plan_play tables quality client device).stages }
+    ensures record_fits { (tables : Filters) (quality : ℕ) (client device : Settings)
+        → AreFilters tables.list → IsRate client.rate → IsRate device.rate
+        → IsPlan (plan_record tables quality client device) }
+    ensures record_tables { (tables : Filters) (quality : ℕ) (client device : Settings)
+        → AreFilters tables.list → IsRate client.rate → IsRate device.rate
+        → HaveTables (plan_record tables quality client device).stages tables }
+    ensures record_boxes { (tables : Filters) (quality : ℕ) (client device : Settings)
+        → (quality ≤ 1) ⊎ (tables.list ≡ [])
+        → All HasBox (plan_record tables quality client device).stages }
+    ensures record_volume { (tables : Filters) (quality : ℕ) (client device : Settings)
+        → HaveNoVolume (plan_record tables quality client device).stages }
     ensures ratio { (plan : PlanSeen) → IsPlan plan → IsRatio (rate_in_plan plan) }
 {}
 
@@ -38,6 +51,25 @@ pub fn more_frames_change_no_output()
         → IsPlan plan → from + count ≤ can (rate_in_plan plan) (length frames)
         → outs plan tables gain (frames ++ more) from count
         ≡ outs plan tables gain frames from count }
+{}
+
+/// What a plan without a volume gives is the same at every gain.
+pub fn gain_changes_nothing_without_a_volume()
+    ensures one { (plan : PlanSeen) (tables : Filters) (frames : List Frame) (k : ℕ)
+        (gain : Gain) → HaveNoVolume plan.stages
+        → rec plan tables frames k ≡ out plan tables frames k gain }
+    ensures several { (plan : PlanSeen) (tables : Filters) (gain : Gain) (frames : List Frame)
+        (from count : ℕ) → HaveNoVolume plan.stages
+        → recs plan tables frames from count ≡ outs plan tables gain frames from count }
+{}
+
+/// What a client records is within the bits of its format.
+pub fn records_have_the_bits_of_the_client()
+    ensures { (tables : Filters) (quality : ℕ) (client device : Settings)
+        (frames : List Frame) (from count : ℕ)
+        → IsRate client.rate → HaveBits 32 frames
+        → HaveBits (bits_of client.format)
+        (recs (plan_record tables quality client device) tables frames from count) }
 {}
 
 /// A plan gives as many frames as it is asked for, with the channels of its target, and in parts

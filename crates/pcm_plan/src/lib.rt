@@ -3,9 +3,15 @@
 #![tactic(auto)]
 
 mod laws;
+mod parts;
 mod plan;
 mod play;
+mod record;
 
-pub use laws::{more_frames_change_no_output, outputs_have_the_channels_of_the_target, plans_fit};
+pub use laws::{
+    gain_changes_nothing_without_a_volume, more_frames_change_no_output,
+    outputs_have_the_channels_of_the_target, plans_fit, records_have_the_bits_of_the_client,
+};
 pub use plan::Plan;
 pub use play::plan_play;
+pub use record::plan_record;

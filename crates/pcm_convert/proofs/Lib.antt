@@ -1,0 +1,4 @@
+pub mod Bodies
+pub mod Reach
+pub mod Blocks
+pub mod Bytes

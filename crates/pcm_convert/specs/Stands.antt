@@ -1,0 +1,33 @@
+-- What a conversion stands for: the body that it began with, and how many frames it has given.
+use Rattle.std.specs.Prelude.{◌≡◌, ◌<◌, ◌≤◌, ℕ, ◌*◌, List, length, take, drop}
+use Rattle.pcm_format.specs.declared.settings.Settings.{Settings}
+use Rattle.pcm_format.specs.Frames.{frame_bytes, frames, whole_frames}
+use Rattle.pcm_feeder.specs.Kept.{Kept}
+use Rattle.pcm_chain.specs.Chains.{ChainStands}
+use Rattle.pcm_convert.specs.Conversions.{without_filters}
+use Rattle.pcm_convert.specs.declared.conversion.ConversionOf.{ConversionOf}
+
+-- the settings of the bytes that go in
+abbrev pub source_in : {B : Type 0} → ConversionOf B → Settings
+source_in conversion = conversion.source
+
+-- the settings of the bytes that come out
+abbrev pub target_in : {B : Type 0} → ConversionOf B → Settings
+target_in conversion = conversion.target
+
+-- A conversion has given so many frames of a body: its chain has eaten the first whole frames, and the bytes behind them, as
+-- far as they were read, wait in the ring. Silence is eaten only behind the last frame.
+pub record ConversionStands {B : Type 0} (kept : B → Kept) (conversion : ConversionOf B) (body : List ℕ) (given : ℕ)
+    : Type 0 where
+  pub eaten : ℕ
+  pub zeros : ℕ
+  pub read : conversion.entered ≤ length body
+  pub within : eaten * frame_bytes (source_in conversion) ≤ conversion.entered
+  pub ring_is : conversion.ring.bytes
+      ≡ drop (eaten * frame_bytes (source_in conversion)) (take conversion.entered body)
+  pub chain_is : ChainStands kept without_filters conversion.chain (take eaten (frames (source_in conversion) body)) zeros given
+  pub ended : 0 < zeros → (conversion.entered ≡ length body) × (eaten ≡ whole_frames (source_in conversion) (length body))
+
+-- a conversion has given some frames of a body
+abbrev pub IsUnderWay : {B : Type 0} → (B → Kept) → ConversionOf B → List ℕ → Type 0
+IsUnderWay kept conversion body = (given : ℕ) × ConversionStands kept conversion body given

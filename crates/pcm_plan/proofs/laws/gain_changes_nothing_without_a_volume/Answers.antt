@@ -1,0 +1,8 @@
+use Rattle.pcm_plan.proofs.Gains.{rec-out, recs-outs}
+use Rattle.pcm_plan.proofs.laws.gain_changes_nothing_without_a_volume.Goals as goal
+
+pub returns-clause-one : goal.returns-clause-one
+returns-clause-one c = rec-out
+
+pub returns-clause-several : goal.returns-clause-several
+returns-clause-several c = recs-outs
