@@ -239,7 +239,7 @@ mixed device n desk h = record {
 -- Two descriptors hold two slots after every event.
 pub apart-after : (device : DeviceSeen) (desk : Desk) (event : Event) → HoldApart desk → HoldApart (after device desk event).desk
 apart-after device desk (Open fd way settings) h = opened_or (is_some (held_by desk fd)) desk fd way settings h
-apart-after device desk (Write fd at count) h = turned device (write_turn count) (held_by desk fd) desk fd refl (held-write count) h
+apart-after device desk (Write fd source at count) h = turned device (write_turn count) (held_by desk fd) desk fd refl (held-write count) h
 apart-after device desk (Ioctl fd request) h = turned device (asking device request) (held_by desk fd) desk fd refl (λ book e. held-ask (rate_at device book) request book e) h
 apart-after device desk (Close fd) h = shut device (held_by desk fd) desk fd refl h
 apart-after device desk (Intr n) h = mixed device n desk h

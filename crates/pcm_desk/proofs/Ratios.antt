@@ -1,5 +1,5 @@
 -- The plan from a client to the mix fits the device, whatever rate the client has.
-use Rattle.std.proofs.Common.{arith}
+use Rattle.std.proofs.Common.{arith, inr, refl}
 use Rattle.std.specs.Prelude.{All}
 use Rattle.std.proofs.lemmas.List.Elements.{All-nil}
 use Rattle.pcm_format.specs.declared.settings.Settings.{Settings}
@@ -22,9 +22,9 @@ plan-between-fits device settings d s = play-fits (filters_of device) (quality_o
 pub tables-between : (device : DeviceSeen) (settings : Settings) → IsDevice device → IsRate settings.rate → HaveTables (plan_between device settings).stages (filters_of device)
 tables-between device settings d s = play-tables (filters_of device) (quality_of device) settings (mix_settings device) (filters-fit device) s d
 
--- a rack has a box for each of the stages, since the device's converters draw lines
+-- a rack has a box for each of the stages, since the device has no filters
 pub boxes-between : (device : DeviceSeen) (settings : Settings) → All HasBox (plan_between device settings).stages
-boxes-between device settings = play-boxes (filters_of device) (quality_of device) settings (mix_settings device) (omega arith)
+boxes-between device settings = play-boxes (filters_of device) (quality_of device) settings (mix_settings device) (inr refl)
 
 -- both rates between a client and the mix are above 0
 pub ratio-between : (device : DeviceSeen) (settings : Settings) → IsDevice device → IsRate settings.rate → IsRatio (rate_between device settings)

@@ -137,7 +137,7 @@ interrupt_turn device desk n =
 -- what an event does
 abbrev pub after : DeviceSeen → Desk → Event → DeskTurn
 after device desk (Open fd way settings) = open_turn desk fd way settings
-after device desk (Write fd at length) = write_on device (held_by desk fd) desk length
+after device desk (Write fd source at length) = write_on device (held_by desk fd) desk length
 after device desk (Ioctl fd request) = ioctl_on device (held_by desk fd) desk request
 after device desk (Close fd) = close_on device (held_by desk fd) desk fd
 after device desk (Intr frames) = interrupt_turn device desk frames

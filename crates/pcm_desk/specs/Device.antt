@@ -1,5 +1,5 @@
 -- What the rules read of a device. Whatever a device has beside it is read by one more word here.
-use Rattle.std.specs.Prelude.{ℕ, []}
+use Rattle.std.specs.Prelude.{ℕ, [], ◌<◌, ◌≤◌}
 use Rattle.pcm_format.specs.declared.settings.Settings.{Settings}
 use Rattle.pcm_format.specs.Frames.{frame_bytes}
 use Rattle.pcm_rate.specs.declared.rate.Rate.{Rate}
@@ -7,13 +7,15 @@ use Rattle.pcm_feeder.specs.Filters.{Filters}
 use Rattle.pcm_feeder.specs.Limits.{IsRate}
 use Rattle.pcm_plan.specs.Plans.{PlanSeen, plan_play, rate_in_plan}
 use Rattle.pcm_desk.specs.declared.device.Device.{Device}
-use Rattle.pcm_desk.specs.declared.device.TheConstants.{QUALITY}
+use Rattle.pcm_desk.specs.declared.device.TheConstants.{QUALITY_MOST}
+use Rattle.pcm_desk.specs.declared.limits.TheConstants.{RING_FRAMES, SLOTS}
 
 pub record DeviceSeen : Type 0 where
   pub settings : Settings
   pub slots : ℕ
   pub ring : ℕ
   pub block : ℕ
+  pub quality : ℕ
 
 -- what a device is seen as
 abbrev pub seen : Device → DeviceSeen
@@ -22,6 +24,7 @@ seen device = record {
   slots = device.play_slots;
   ring = device.ring_frames;
   block = device.block_frames;
+  quality = device.quality;
 }
 
 -- the settings of the frames that are handed over
@@ -48,9 +51,9 @@ block_frames device = device.block
 abbrev pub device_frame_bytes : DeviceSeen → ℕ
 device_frame_bytes device = frame_bytes (device_settings device)
 
--- the quality of the device's converters, which is the usual one so far
+-- the quality of the device's converters
 abbrev pub quality_of : DeviceSeen → ℕ
-quality_of device = QUALITY
+quality_of device = device.quality
 
 -- the filters that the device's converters may use: none so far
 abbrev pub filters_of : DeviceSeen → Filters
@@ -67,3 +70,12 @@ rate_between device settings = rate_in_plan (plan_between device settings)
 -- a device whose mix has a rate within the limits
 abbrev pub IsDevice : DeviceSeen → Type 0
 IsDevice device = IsRate (mix_settings device).rate
+
+-- a device within the limits of a run
+pub record IsInLimits (device : DeviceSeen) : Type 0 where
+  pub rate : IsDevice device
+  pub block : 0 < block_frames device
+  pub ring : block_frames device ≤ ring_frames device
+  pub ring_most : ring_frames device ≤ RING_FRAMES
+  pub slots_most : play_slots device ≤ SLOTS
+  pub quality : quality_of device ≤ QUALITY_MOST

@@ -1,19 +1,26 @@
 -- Lists of events: which fit, how many frames they take, and the desk after them.
-use Rattle.std.specs.Prelude.{ℕ, ◌+◌, ◌*◌, ◌<◌, ◌≤◌, List, [], ◌∷◌, length}
+use Rattle.std.specs.Prelude.{ℕ, ◌*◌, ◌<◌, ◌≤◌, List, [], ◌∷◌}
 use Rattle.std.specs.List.{sum_by}
 use Rattle.pcm_oss.specs.declared.event.Event.{Event}
 use Rattle.pcm_oss.specs.declared.event.Event.TheVariants.{Open, Write, Ioctl, Close, Intr}
-use Rattle.pcm_format.specs.declared.pool.Pool.{Pool}
+use Rattle.pcm_wave.specs.declared.pool.Pool.{Pool}
+use Rattle.pcm_wave.specs.declared.pool.Source.{Source}
+use Rattle.pcm_wave.specs.declared.pool.Source.TheVariants.{Inline, File}
+use Rattle.pcm_wave.specs.Pools.{HasBytes}
 use Rattle.pcm_feeder.specs.Limits.{IsRate}
 use Rattle.pcm_desk.specs.declared.limits.TheConstants.{DESCRIPTORS, WRITE_BYTES}
 use Rattle.pcm_desk.specs.Device.{DeviceSeen, device_frame_bytes, ring_frames}
 use Rattle.pcm_desk.specs.Desk.{Desk, after}
 
+-- how many bytes a write may have: a line spells so many, and a file as many as it has
+abbrev pub IsWriteOf : Source → ℕ → Type 0
+IsWriteOf Inline count = count ≤ WRITE_BYTES
+IsWriteOf (File place) count = Unit {0}
+
 -- The event keeps the limits of a device, and names bytes that are there. A client may have any rate within the limits.
 abbrev pub Fits : DeviceSeen → Pool → Event → Type 0
 Fits device pool (Open fd way settings) = (fd < DESCRIPTORS) × IsRate settings.rate
-Fits device pool (Write fd at count) =
-    (fd < DESCRIPTORS) × (count ≤ WRITE_BYTES) × (at + count ≤ length pool.inline_bytes)
+Fits device pool (Write fd source at count) = (fd < DESCRIPTORS) × IsWriteOf source count × HasBytes pool source at count
 Fits device pool (Ioctl fd request) = fd < DESCRIPTORS
 Fits device pool (Close fd) = fd < DESCRIPTORS
 Fits device pool (Intr frames) = (0 < frames) × (frames ≤ ring_frames device)
@@ -21,7 +28,7 @@ Fits device pool (Intr frames) = (0 < frames) × (frames ≤ ring_frames device)
 -- the frames that an event takes out of the device's ring
 abbrev pub frames_taken : Event → ℕ
 frames_taken (Open fd way settings) = 0
-frames_taken (Write fd at count) = 0
+frames_taken (Write fd source at count) = 0
 frames_taken (Ioctl fd request) = 0
 frames_taken (Close fd) = 0
 frames_taken (Intr frames) = frames

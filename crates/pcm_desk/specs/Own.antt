@@ -17,7 +17,7 @@ use Rattle.pcm_desk.specs.Desk.{Desk, asking, book_at, closing, held_by, mixing}
 -- the descriptor that a client's event names
 abbrev pub descriptor_of : Event → Option ℕ
 descriptor_of (Open fd way settings) = Some fd
-descriptor_of (Write fd at count) = Some fd
+descriptor_of (Write fd source at count) = Some fd
 descriptor_of (Ioctl fd request) = Some fd
 descriptor_of (Close fd) = Some fd
 descriptor_of (Intr n) = None
@@ -25,7 +25,7 @@ descriptor_of (Intr n) = None
 -- a book and the reply after an event of its own, or after an interrupt; a descriptor that is open can't be opened
 abbrev pub own_turn : DeviceSeen → Event → Book → BookTurn
 own_turn device (Open fd way settings) book = record { book = book; reply = Err Exist }
-own_turn device (Write fd at count) book = write_turn count book
+own_turn device (Write fd source at count) book = write_turn count book
 own_turn device (Ioctl fd request) book = asking device request book
 own_turn device (Close fd) book = record { book = closing device book; reply = Ok Done }
 own_turn device (Intr n) book = record { book = mixing device n book; reply = Ok (Number n) }

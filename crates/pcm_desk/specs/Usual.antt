@@ -8,6 +8,6 @@ use Rattle.pcm_desk.specs.Device.{DeviceSeen}
 abbrev pub usual_settings : Settings
 usual_settings = record { format = S16Le; layout = Two; rate = 48000 }
 
--- a ring of four blocks of 256 frames, and four channels that play
+-- a ring of four blocks of 256 frames, four channels that play, and converters that draw lines
 abbrev pub usual_device : DeviceSeen
-usual_device = record { settings = usual_settings; slots = 4; ring = 1024; block = 256 }
+usual_device = record { settings = usual_settings; slots = 4; ring = 1024; block = 256; quality = 1 }

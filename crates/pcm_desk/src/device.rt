@@ -12,8 +12,9 @@ pub const OPENING: Settings = Settings {
     rate: 8000,
 };
 
-/// The quality of the converters between the rates of clients and mix: they draw lines.
-pub const QUALITY: u32 = 1;
+/// The greatest quality of the converters between the rates of clients and mix: 0 holds a frame, 1 draws lines, and from 2 on
+/// filters are taken, where there are some.
+pub const QUALITY_MOST: u32 = 4;
 
 /// What is settled of a device before the first event.
 #[derive(Clone, Copy, Debug, PartialEq, Eq)]
@@ -25,17 +26,19 @@ pub struct Device {
     pub ring_frames: u32,
     /// How many channels can play at once.
     pub play_slots: u32,
+    /// How the rates of clients are converted: 0 to `QUALITY_MOST`.
+    pub quality: u32,
 }
 
 impl Device {
-    ghost use Rattle.pcm_desk.specs.Device.{IsDevice, seen};
+    ghost use Rattle.pcm_desk.specs.Device.{IsInLimits, seen};
     ghost use Rattle.pcm_desk.specs.Usual.{usual_device};
 
     /// The device of a run without a configuration: 16 bits, stereo, 48 kHz, a ring of four blocks of 256 frames,
-    /// four channels that play.
+    /// four channels that play, and converters that draw lines.
     pub fn usual() -> Device
         ensures value { seen result ≡ usual_device }
-        ensures limits { IsDevice (seen result) }
+        ensures limits { IsInLimits (seen result) }
     {
         Device {
             settings: Settings {
@@ -46,6 +49,7 @@ impl Device {
             block_frames: 256,
             ring_frames: 1024,
             play_slots: 4,
+            quality: 1,
         }
     }
 }

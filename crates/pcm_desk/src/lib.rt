@@ -11,7 +11,7 @@ mod turn;
 mod turns;
 
 pub use book::{Book, State};
-pub use device::{Device, Held, OPENING, QUALITY};
+pub use device::{Device, Held, OPENING, QUALITY_MOST};
 pub use laws::{books_stay_in_order, descriptors_hold_apart};
 pub use limits::{DESCRIPTORS, DEVICE_BYTES, EVENTS, RING_FRAMES, SLOTS, WRITE_BYTES};
 pub use turn::{ALL_FORMATS, CAPABILITIES, PLAY_BIT, Turn};

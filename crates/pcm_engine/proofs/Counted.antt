@@ -4,8 +4,9 @@ use Rattle.std.proofs.lemmas.List.{take_all, take-take, append-nil, length-drop}
 use Rattle.std.proofs.Math.Seq.{take-append-add}
 use Rattle.std.proofs.lemmas.Bool.{cases_lt}
 use Rattle.std.proofs.lemmas.Bool.Decides.{nat_tests}
-use Rattle.pcm_format.specs.declared.pool.Pool.{Pool}
-use Rattle.pcm_format.specs.Pools.{bytes_at}
+use Rattle.pcm_wave.specs.declared.pool.Pool.{Pool}
+use Rattle.pcm_wave.specs.declared.pool.Source.{Source}
+use Rattle.pcm_wave.specs.Pools.{bytes_at, source_bytes}
 use Rattle.pcm_desk.specs.declared.book.Book.{Book}
 use Rattle.pcm_desk.specs.Device.{DeviceSeen}
 use Rattle.pcm_sound.specs.Runs.{Run, begun_run, taking, newest_bytes}
@@ -56,20 +57,20 @@ counted-taking (byte ∷ bytes) old written [] w newest =
 counted-taking (byte ∷ bytes) old written (run ∷ runs) w newest = counted-taking_at (eqb old.written 0) byte bytes old written run runs refl w newest
 
 -- a write: the bytes that a book accepts are the front of those that were brought
-pub counted-written : (device : DeviceSeen) (mixed : ℕ) (pool : Pool) (at count accepted : ℕ) (old : Book) (written : ℕ) (runs : List Run) → SlotIsValid device mixed old runs → at + count ≤ length pool.inline_bytes
+pub counted-written : (device : DeviceSeen) (mixed : ℕ) (pool : Pool) (source : Source) (at count accepted : ℕ) (old : Book) (written : ℕ) (runs : List Run) → SlotIsValid device mixed old runs → at + count ≤ length (source_bytes pool source)
     → written ≡ old.written + accepted → accepted ≤ count
-    → take written (newest_bytes (taking (bytes_at pool at (written - old.written)) old runs)) ≡ take written (take old.written (newest_bytes runs) ++ bytes_at pool at count)
-counted-written device mixed pool at count accepted old written runs v fits grew within =
+    → take written (newest_bytes (taking (bytes_at pool source at (written - old.written)) old runs)) ≡ take written (take old.written (newest_bytes runs) ++ bytes_at pool source at count)
+counted-written device mixed pool source at count accepted old written runs v fits grew within =
     let same : written - old.written ≡ accepted = omega arith in
     let front : List ℕ = take old.written (newest_bytes runs) in
-    let more : List ℕ = bytes_at pool at accepted in
-    let long : length more ≡ accepted = omega (arith, length-take accepted (drop at pool.inline_bytes), length-drop at pool.inline_bytes) in
+    let more : List ℕ = bytes_at pool source at accepted in
+    let long : length more ≡ accepted = omega (arith, length-take accepted (drop at (source_bytes pool source)), length-drop at (source_bytes pool source)) in
     let all : written ≡ length front + accepted = omega (arith, length-counted device mixed old runs v) in
-    ap (λ n. take written (newest_bytes (taking (bytes_at pool at n) old runs))) same
+    ap (λ n. take written (newest_bytes (taking (bytes_at pool source at n) old runs))) same
     ∙ counted-taking more old written runs (omega arith) v.newest
-    ∙ ap (λ bytes. front ++ bytes) (sym (take-take accepted count (drop at pool.inline_bytes) within))
-    ∙ sym (take-append-add front (bytes_at pool at count) accepted)
-    ∙ ap (λ n. take n (front ++ bytes_at pool at count)) (sym all)
+    ∙ ap (λ bytes. front ++ bytes) (sym (take-take accepted count (drop at (source_bytes pool source)) within))
+    ∙ sym (take-append-add front (bytes_at pool source at count) accepted)
+    ∙ ap (λ n. take n (front ++ bytes_at pool source at count)) (sym all)
 
 -- another event: no more is counted than before
 pub counted-kept : (old : Book) (written : ℕ) (newest : List ℕ) → written ≤ old.written → take written newest ≡ take written (take old.written newest ++ [])

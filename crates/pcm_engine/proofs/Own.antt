@@ -58,7 +58,7 @@ refuses_one device way settings held desk fd e = rw e (record { own = refl; repl
 turns : (device : DeviceSeen) (event : Event) (held : Held) (desk : Desk) (fd : ℕ) → descriptor_of event ≡ Some fd → held_by desk fd ≡ Some held → held.slot < length desk.play
     → TurnsOne device (own_turn device event) held desk (after device desk event)
 turns device (Open at way settings) held desk fd n e there = refuses_one device way settings held desk at (ap (held_by desk) (named at fd n) ∙ e)
-turns device (Write at from count) held desk fd n e there = rw (ap (held_by desk) (named at fd n) ∙ e) (turns_one device (write_turn count) held desk there)
+turns device (Write at source from count) held desk fd n e there = rw (ap (held_by desk) (named at fd n) ∙ e) (turns_one device (write_turn count) held desk there)
 turns device (Ioctl at request) held desk fd n e there = rw (ap (held_by desk) (named at fd n) ∙ e) (turns_one device (asking device request) held desk there)
 turns device (Close at) held desk fd n e there = rw (ap (held_by desk) (named at fd n) ∙ e) (closes_one device held desk at there)
 turns device (Intr frames) held desk fd n e there = cc
@@ -66,7 +66,7 @@ turns device (Intr frames) held desk fd n e there = cc
 -- an interrupt goes by each book alone
 each_alone : (device : DeviceSeen) (event : Event) (desk : Desk) → descriptor_of event ≡ None → (slot : ℕ) → book_at device (after device desk event).desk slot ≡ (own_turn device event (book_at device desk slot)).book
 each_alone device (Open at way settings) desk n slot = cc
-each_alone device (Write at from count) desk n slot = cc
+each_alone device (Write at source from count) desk n slot = cc
 each_alone device (Ioctl at request) desk n slot = cc
 each_alone device (Close at) desk n slot = cc
 each_alone device (Intr frames) desk n slot = book_at-mixing device desk frames slot
@@ -120,7 +120,7 @@ leaves_opening false device desk fd other way settings theirs h differ e = leave
 leaves : (device : DeviceSeen) (event : Event) (desk : Desk) (fd other : ℕ) (theirs : Held) → HoldApart desk → descriptor_of event ≡ Some fd → other ≢ fd → held_by desk other ≡ Some theirs
     → Leaves device desk (after device desk event).desk other theirs
 leaves device (Open at way settings) desk fd other theirs h n differ e = leaves_opening (is_some (held_by desk at)) device desk at other way settings theirs h (λ same. differ (same ∙ named at fd n)) e
-leaves device (Write at from count) desk fd other theirs h n differ e = leaves_turning device (write_turn count) (held_by desk at) desk at other theirs h (λ same. differ (same ∙ named at fd n)) refl e
+leaves device (Write at source from count) desk fd other theirs h n differ e = leaves_turning device (write_turn count) (held_by desk at) desk at other theirs h (λ same. differ (same ∙ named at fd n)) refl e
 leaves device (Ioctl at request) desk fd other theirs h n differ e = leaves_turning device (asking device request) (held_by desk at) desk at other theirs h (λ same. differ (same ∙ named at fd n)) refl e
 leaves device (Close at) desk fd other theirs h n differ e = leaves_close device (held_by desk at) desk at other theirs h (λ same. differ (same ∙ named at fd n)) refl e
 leaves device (Intr frames) desk fd other theirs h n differ e = cc

@@ -5,7 +5,7 @@ use Rattle.std.proofs.Math.Seq.{take-add}
 use Rattle.std.proofs.Math.Nat.{mul-le-mul_right}
 use Rattle.pcm_oss.specs.declared.event.Event.{Event}
 use Rattle.pcm_oss.specs.declared.event.Event.TheVariants.{Open, Write, Ioctl, Close, Intr}
-use Rattle.pcm_format.specs.declared.pool.Pool.{Pool}
+use Rattle.pcm_wave.specs.declared.pool.Pool.{Pool}
 use Rattle.pcm_feeder.specs.declared.kind.Kind.{Kind}
 use Rattle.pcm_feeder.specs.Kept.{Kept}
 use Rattle.pcm_desk.specs.declared.book.Book.{Book}
@@ -71,12 +71,12 @@ counts_told device pool story (Open fd way settings) slot fits v more = record {
   are = marks device pool story (Open fd way settings) slot
       ∙ counted-kept (book_at device story.desk slot) (book_at device (told device pool story (Open fd way settings)).desk slot).written (newest_bytes (story.runs slot)) (omega arith);
 }
-counts_told device pool story (Write fd at count) slot fits v more =
+counts_told device pool story (Write fd source at count) slot fits v more =
     let w = (writes-write_on device (held_by story.desk fd) story.desk count).slots slot in
     record {
-      are = marks device pool story (Write fd at count) slot
-          ∙ counted-written device story.desk.mixed pool at count w.accepted (book_at device story.desk slot) (book_at device (told device pool story (Write fd at count)).desk slot).written (story.runs slot)
-          (v.slots slot) fits.2 w.accepts.written w.within;
+      are = marks device pool story (Write fd source at count) slot
+          ∙ counted-written device story.desk.mixed pool source at count w.accepted (book_at device story.desk slot) (book_at device (told device pool story (Write fd source at count)).desk slot).written (story.runs slot)
+          (v.slots slot) fits.2.within w.accepts.written w.within;
     }
 counts_told device pool story (Ioctl fd request) slot fits v more = record {
   are = marks device pool story (Ioctl fd request) slot
@@ -136,8 +136,8 @@ ring_told : {B : Type 0} (kind : B → Kind) (kept : B → Kept) (device : Devic
     → ring_now ≡ drop ((told device pool story event).desk.handed * device_frame_bytes device) (device_bytes device (told device pool story event))
 ring_told kind kept device pool story (Open fd way settings) before now ring_before ring_now fits st s =
     ring_kept device pool story (Open fd way settings) ring_before ring_now fits refl (st.ring (bytes_counted device story) (all_stand kept device story before ring_before st.play_before s)) s.valid s.ring_is
-ring_told kind kept device pool story (Write fd at count) before now ring_before ring_now fits st s =
-    ring_kept device pool story (Write fd at count) ring_before ring_now fits refl (st.ring (bytes_counted device story) (all_stand kept device story before ring_before st.play_before s)) s.valid s.ring_is
+ring_told kind kept device pool story (Write fd source at count) before now ring_before ring_now fits st s =
+    ring_kept device pool story (Write fd source at count) ring_before ring_now fits refl (st.ring (bytes_counted device story) (all_stand kept device story before ring_before st.play_before s)) s.valid s.ring_is
 ring_told kind kept device pool story (Ioctl fd request) before now ring_before ring_now fits st s =
     ring_kept device pool story (Ioctl fd request) ring_before ring_now fits refl (st.ring (bytes_counted device story) (all_stand kept device story before ring_before st.play_before s)) s.valid s.ring_is
 ring_told kind kept device pool story (Close fd) before now ring_before ring_now fits st s =
@@ -199,7 +199,7 @@ body_kept device pool story event ring fits none v =
 pub body-told : {B : Type 0} (kept : B → Kept) (device : DeviceSeen) (pool : Pool) (story : Story) (event : Event) (desk : Desk) (channels : List (PlayChannelOf B)) (ring : List ℕ) → Fits device pool event → PartsStand kept device desk channels ring story
     → device_body device (told device pool story event) ≡ device_body device story ++ take (bytes_handed device event) ring
 body-told kept device pool story (Open fd way settings) desk channels ring fits s = body_kept device pool story (Open fd way settings) ring fits refl s.valid
-body-told kept device pool story (Write fd at count) desk channels ring fits s = body_kept device pool story (Write fd at count) ring fits refl s.valid
+body-told kept device pool story (Write fd source at count) desk channels ring fits s = body_kept device pool story (Write fd source at count) ring fits refl s.valid
 body-told kept device pool story (Ioctl fd request) desk channels ring fits s = body_kept device pool story (Ioctl fd request) ring fits refl s.valid
 body-told kept device pool story (Close fd) desk channels ring fits s = body_kept device pool story (Close fd) ring fits refl s.valid
 body-told kept device pool story (Intr n) desk channels ring fits s =

@@ -17,7 +17,8 @@ use Rattle.pcm_desk.specs.declared.limits.TheConstants.{DESCRIPTORS}
 use Rattle.pcm_desk.specs.Device.{IsDevice, seen}
 use Rattle.pcm_desk.specs.Desk.{Desk, book_at, unopened, desk_at_start}
 use Rattle.pcm_sound.specs.Story.{story_at_start}
-use Rattle.pcm_sound.specs.DeviceList.{silence_in, spelled_frames}
+use Rattle.pcm_format.specs.Frames.{spelled_frames}
+use Rattle.pcm_sound.specs.DeviceList.{silence_in}
 use Rattle.pcm_sound.proofs.Stories.{valid-start, get_or-same}
 use Rattle.pcm_play.specs.declared.channel.PlayChannelOf.{PlayChannelOf}
 use Rattle.pcm_vchan.specs.declared.parent.ParentOf.{ParentOf}

@@ -1,7 +1,7 @@
 -- What an engine stands for.
 use Rattle.std.specs.Prelude.{◌≡◌, List, All}
 use Rattle.pcm_oss.specs.declared.event.Event.{Event}
-use Rattle.pcm_format.specs.declared.pool.Pool.{Pool}
+use Rattle.pcm_wave.specs.declared.pool.Pool.{Pool}
 use Rattle.pcm_feeder.specs.declared.kind.Kind.{Kind}
 use Rattle.pcm_feeder.specs.Kept.{Kept}
 use Rattle.pcm_desk.specs.Device.{DeviceSeen, seen}

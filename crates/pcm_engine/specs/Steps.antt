@@ -2,8 +2,8 @@
 use Rattle.std.specs.Prelude.{ℕ, ◌*◌, List, [], ◌++◌, drop}
 use Rattle.pcm_oss.specs.declared.event.Event.{Event}
 use Rattle.pcm_oss.specs.declared.event.Event.TheVariants.{Open, Write, Ioctl, Close, Intr}
-use Rattle.pcm_format.specs.declared.pool.Pool.{Pool}
-use Rattle.pcm_format.specs.Pools.{bytes_at}
+use Rattle.pcm_wave.specs.declared.pool.Pool.{Pool}
+use Rattle.pcm_wave.specs.Pools.{bytes_at}
 use Rattle.pcm_feeder.specs.declared.kind.Kind.{Kind}
 use Rattle.pcm_feeder.specs.Kept.{Kept}
 use Rattle.pcm_desk.specs.declared.book.Book.{Book}
@@ -17,7 +17,7 @@ use Rattle.pcm_vchan.specs.Blocks.{block_bytes, block_of}
 -- the bytes that an event brings
 abbrev pub bytes_brought : Pool → Event → List ℕ
 bytes_brought pool (Open fd way settings) = []
-bytes_brought pool (Write fd at count) = bytes_at pool at count
+bytes_brought pool (Write fd source at count) = bytes_at pool source at count
 bytes_brought pool (Ioctl fd request) = []
 bytes_brought pool (Close fd) = []
 bytes_brought pool (Intr n) = []
@@ -29,7 +29,7 @@ ChannelsMove kind kept pool event old new = Each (Moves kind kept (bytes_brought
 -- the bytes of the device's ring after an event, from the books of the slots and the bytes of their runs
 abbrev pub ring_after : DeviceSeen → Event → List Book → (ℕ → List ℕ) → ℕ → List ℕ → List ℕ
 ring_after device (Open fd way settings) books streams slots ring = ring
-ring_after device (Write fd at count) books streams slots ring = ring
+ring_after device (Write fd source at count) books streams slots ring = ring
 ring_after device (Ioctl fd request) books streams slots ring = ring
 ring_after device (Close fd) books streams slots ring = ring
 ring_after device (Intr n) books streams slots ring = drop (n * device_frame_bytes device) ring ++ block_bytes device (block_of device n books streams slots)

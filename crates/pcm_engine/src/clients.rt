@@ -1,8 +1,8 @@
 //! What clients ask by their descriptors.
 
-ghost use Rattle.std.specs.Prelude.{◌≡◌, ◌+◌, ◌^◌, ◌<◌, ◌≤◌, [], length, vec_len, All, OnErr, None, slice_index_or};
+ghost use Rattle.std.specs.Prelude.{◌≡◌, ◌+◌, ◌^◌, ◌<◌, [], length, vec_len, All, OnErr, None, slice_index_or};
 ghost use Rattle.pcm_feeder.specs.Limits.{IsRate};
-ghost use Rattle.pcm_desk.specs.declared.limits.TheConstants.{DESCRIPTORS, WRITE_BYTES};
+ghost use Rattle.pcm_desk.specs.declared.limits.TheConstants.{DESCRIPTORS};
 ghost use Rattle.pcm_desk.specs.Device.{filters_of, seen};
 ghost use Rattle.pcm_desk.specs.Desk.{close_on, held_by, ioctl_on, open_turn, write_on};
 ghost use Rattle.pcm_vchan.specs.Slots.{AreOf, Each};
@@ -66,8 +66,7 @@ pub fn write<B: Feeder>(
     requires size { length descriptors.now ≡ DESCRIPTORS }
     requires held { HoldWithin (vec_len parent.old.channels) descriptors.now }
     requires own { AreOf parent.old.device parent.old.channels.items }
-    requires length { length bytes.now ≤ WRITE_BYTES }
-    requires count { All (λ channel. channel.book.written + WRITE_BYTES
+    requires count { All (λ channel. channel.book.written + length bytes.now
         < 2 ^ 64) parent.old.channels.items }
     ensures slots { length parent.new.channels.items ≡ length parent.old.channels.items }
     ensures own { AreOf parent.new.device parent.new.channels.items }

@@ -1,7 +1,7 @@
 //! The engine and its events.
 
-ghost use Rattle.std.specs.Prelude.{◌≡◌, [], ◌∷◌, ◌++◌, ◌+◌, ◌*◌, ◌<◌, ◌≤◌, length, vec_len, take, drop, All, List, ℕ, IfOk, IsErr};
-ghost use Rattle.pcm_desk.specs.declared.limits.TheConstants.{DESCRIPTORS, EVENTS, RING_FRAMES, WRITE_BYTES};
+ghost use Rattle.std.specs.Prelude.{◌≡◌, [], ◌∷◌, ◌++◌, ◌+◌, ◌*◌, ◌^◌, ◌<◌, ◌≤◌, length, vec_len, take, drop, All, List, ℕ, IfOk, IsErr};
+ghost use Rattle.pcm_desk.specs.declared.limits.TheConstants.{DESCRIPTORS, EVENTS, RING_FRAMES};
 ghost use Rattle.pcm_desk.specs.Events.{Fits, bytes_handed};
 ghost use Rattle.pcm_desk.specs.Device.{filters_of, seen};
 ghost use Rattle.pcm_desk.specs.Own.{HoldApart};
@@ -12,9 +12,9 @@ ghost use Rattle.pcm_engine.specs.Holds.{HoldWithin};
 use crate::clients::{close, ioctl, open, write};
 use pcm_desk::{DESCRIPTORS, Device, Held};
 use pcm_feeder::{Feeder, RacksOf, Tables};
-use pcm_format::Pool;
 use pcm_oss::{Answer, Event, ReplyBuf};
 use pcm_vchan::ParentOf;
+use pcm_wave::Pool;
 use std::alloc::{AllocError, Global};
 
 /// The descriptors of clients, and the parent whose channels they hold.
@@ -28,7 +28,7 @@ pub struct EngineOf<B> {
     ghost own: { AreOf parent.device parent.channels.items },
     ghost held: { HoldWithin (vec_len parent.channels) descriptors },
     ghost apart: { HoldApart (desk_with parent descriptors) },
-    ghost counted: { All (λ channel. channel.book.done + channel.book.written ≤ WRITE_BYTES * steps) parent.channels.items },
+    ghost counted: { All (λ channel. channel.book.done + channel.book.written ≤ 2 ^ 32 * steps) parent.channels.items },
     ghost given: { All (λ channel. channel.book.given ≤ RING_FRAMES * steps) parent.channels.items },
     ghost mixed_within: { parent.mixed ≤ RING_FRAMES * steps },
     ghost handed_within: { parent.handed ≤ RING_FRAMES * steps },
@@ -36,8 +36,8 @@ pub struct EngineOf<B> {
 
 impl<B: Feeder> EngineOf<B> {
     ghost use Rattle.pcm_oss.specs.declared.event.Event.{Event};
-    ghost use Rattle.pcm_format.specs.declared.pool.Pool.{Pool};
-    ghost use Rattle.pcm_desk.specs.Usual.{usual_device};
+    ghost use Rattle.pcm_wave.specs.declared.pool.Pool.{Pool};
+    ghost use Rattle.pcm_desk.specs.Device.{IsInLimits};
     ghost use Rattle.pcm_desk.specs.Desk.{after, book_at, rate_at};
     ghost use Rattle.pcm_desk.specs.Own.{IsIsolated};
     ghost use Rattle.pcm_desk.specs.Safe.{BookIsSafe};
@@ -52,14 +52,14 @@ impl<B: Feeder> EngineOf<B> {
 
     /// The engine of a device before its first event. Its channels pick their stages from the racks, one rack a slot; after
     /// a refusal the racks are dropped. All memory of the engine is taken here.
-    pub fn new(alloc: Global, racks: RacksOf<B>) -> Result<EngineOf<B>, AllocError>
-        requires { AreRacks B.kind (list_of racks) }
-        ensures device { IfOk result (λ engine. device_of engine ≡ usual_device) }
+    pub fn new(alloc: Global, device: Device, racks: RacksOf<B>) -> Result<EngineOf<B>, AllocError>
+        requires limits { IsInLimits (seen device) }
+        requires kinds { AreRacks B.kind (list_of racks) }
+        ensures device { IfOk result (λ engine. device_of engine ≡ seen device) }
         ensures steps { IfOk result (λ engine. engine.steps ≡ 0) }
         ensures ready { IfOk result (AreReady B.kind B.kept) }
         ensures stands { IfOk result (λ engine. (pool : Pool) → Stands B.kept engine pool []) }
     {
-        let device = Device::usual();
         // No filter can be chosen so far.
         let tables = Tables::new(Vec::new(alloc));
         let parent = ParentOf::new(alloc, device, &tables, racks)?;
@@ -152,8 +152,13 @@ impl<B: Feeder> EngineOf<B> {
                 reply.keep(answer, &[]);
                 0
             }
-            Event::Write { fd, at, len } => {
-                let bytes = pool.bytes_at(at, len);
+            Event::Write {
+                fd,
+                source,
+                at,
+                len,
+            } => {
+                let bytes = pool.bytes_at(source, at, len);
                 reply.keep(write(parent, &self.descriptors, fd, bytes), &[]);
                 0
             }

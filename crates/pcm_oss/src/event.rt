@@ -2,6 +2,7 @@
 
 use crate::Request;
 use pcm_format::Settings;
+use pcm_wave::Source;
 
 /// Which way sound goes through a descriptor.
 #[derive(Clone, Copy, Debug, PartialEq, Eq)]
@@ -19,9 +20,10 @@ pub enum Event {
         way: Way,
         settings: Settings,
     },
-    /// A client writes `len` of the pool's inline bytes, from byte `at` on.
+    /// A client writes `len` bytes of a source, from its byte `at` on.
     Write {
         fd: u8,
+        source: Source,
         at: u32,
         len: u32,
     },

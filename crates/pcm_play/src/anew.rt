@@ -12,7 +12,7 @@ ghost use Rattle.pcm_desk.specs.Books.{ring_bytes};
 ghost use Rattle.pcm_desk.specs.Device.{IsDevice, filters_of, plan_between, seen};
 
 use pcm_chain::ChainOf;
-use pcm_desk::{Book, Device, QUALITY};
+use pcm_desk::{Book, Device};
 use pcm_feeder::{Feeder, Tables};
 use pcm_plan::plan_play;
 use pcm_ring::ByteRing;
@@ -38,6 +38,6 @@ pub fn begin_anew<B: Feeder>(
 {
     ring.clear();
     ring.set_size(book.fragments.size() as usize);
-    let plan = plan_play(&book.settings, &device.settings, QUALITY, tables);
+    let plan = plan_play(&book.settings, &device.settings, device.quality, tables);
     chain.reset(&plan);
 }

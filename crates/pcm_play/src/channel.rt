@@ -9,7 +9,6 @@ ghost use Rattle.pcm_oss.specs.declared.fragments.TheConstants.{RING_BYTES};
 ghost use Rattle.pcm_feeder.specs.Limits.{IsRate};
 ghost use Rattle.pcm_feeder.specs.Racks.{HaveKinds, IsRack};
 ghost use Rattle.pcm_chain.specs.Chains.{boxes_in, plan_in};
-ghost use Rattle.pcm_desk.specs.declared.limits.TheConstants.{WRITE_BYTES};
 ghost use Rattle.pcm_desk.specs.Device.{IsDevice, filters_of, plan_between, seen};
 ghost use Rattle.pcm_desk.specs.Books.{is_free, fill_of, ring_bytes, begun, write_turn};
 ghost use Rattle.pcm_desk.specs.Safe.{BookIsSafe};
@@ -105,8 +104,7 @@ impl<B: Feeder> PlayChannelOf<B> {
 
     /// Takes the front of `bytes`, as much as fits.
     pub fn write(&mut self, bytes: &[u8]) -> Result<Answer, Errno>
-        requires length { length bytes.now ≤ WRITE_BYTES }
-        requires count { self.old.book.written + WRITE_BYTES < 2 ^ 64 }
+        requires count { self.old.book.written + length bytes.now < 2 ^ 64 }
         ensures book { self.new.book ≡ (write_turn (length bytes.now) self.old.book).book }
         ensures reply { result ≡ (write_turn (length bytes.now) self.old.book).reply }
         ensures device { self.new.device ≡ self.old.device }

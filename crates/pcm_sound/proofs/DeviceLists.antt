@@ -12,11 +12,11 @@ use Rattle.pcm_format.specs.declared.settings.Settings.{Settings}
 use Rattle.pcm_format.specs.declared.format.Format.{Format}
 use Rattle.pcm_oss.specs.declared.event.Event.{Event}
 use Rattle.pcm_oss.specs.declared.event.Event.TheVariants.{Intr}
-use Rattle.pcm_format.specs.declared.pool.Pool.{Pool}
+use Rattle.pcm_wave.specs.declared.pool.Pool.{Pool}
 use Rattle.pcm_format.specs.Formats.{bits_of, bytes_of}
 use Rattle.pcm_format.specs.Layouts.{channels_of}
 use Rattle.pcm_format.specs.Samples.{spelled}
-use Rattle.pcm_format.specs.Frames.{Frame, frame_at, frames, whole_frames}
+use Rattle.pcm_format.specs.Frames.{Frame, frame_at, frames, whole_frames, spelled_frame, spelled_frames}
 use Rattle.pcm_format.proofs.Ranges.{map-range-same, range-add}
 use Rattle.pcm_format.proofs.Streams.{length-frame_at}
 use Rattle.pcm_format.proofs.Spelling.{length-flat_map-spelled}
@@ -32,7 +32,7 @@ use Rattle.pcm_sound.specs.Gains.{last_gain}
 use Rattle.pcm_sound.specs.Runs.{Run, Piece, covers, run_frames, piece_frame, first_of, sounding}
 use Rattle.pcm_sound.specs.Story.{Story, told}
 use Rattle.pcm_sound.specs.Mix.{Table, adding, mix_of}
-use Rattle.pcm_sound.specs.DeviceList.{table_of, silence_in, mix_at, device_frame, device_list, spelled_frame, spelled_frames, device_bytes, device_body}
+use Rattle.pcm_sound.specs.DeviceList.{table_of, silence_in, mix_at, device_frame, device_list, device_bytes, device_body}
 use Rattle.pcm_sound.specs.Valid.{HasRate, StoryIsValid}
 use Rattle.pcm_sound.proofs.Stories.{table_of-told}
 

@@ -10,11 +10,12 @@ use Rattle.pcm_oss.specs.declared.event.Event.{Event}
 use Rattle.pcm_oss.specs.declared.event.Event.TheVariants.{Open, Write, Ioctl, Close, Intr}
 use Rattle.pcm_oss.specs.declared.event.Way.{Way}
 use Rattle.pcm_oss.specs.declared.request.Request.{Request}
-use Rattle.pcm_format.specs.declared.pool.Pool.{Pool}
+use Rattle.pcm_wave.specs.declared.pool.Pool.{Pool}
 use Rattle.pcm_oss.specs.declared.reply.Errno.TheVariants.{Exist}
 use Rattle.pcm_oss.specs.Volumes.{gain_of}
 use Rattle.pcm_oss.proofs.Limits.{usual-fragments}
-use Rattle.pcm_format.specs.Pools.{bytes_at}
+use Rattle.pcm_wave.specs.declared.pool.Source.{Source}
+use Rattle.pcm_wave.specs.Pools.{bytes_at, source_bytes}
 use Rattle.pcm_feeder.specs.declared.stage.Gain.{Gain}
 use Rattle.pcm_feeder.specs.Limits.{IsRate}
 use Rattle.pcm_desk.specs.declared.book.Book.{Book}
@@ -219,25 +220,25 @@ safe-write_on device (Some held) desk count slot d rates s =
     (λ e. safe-written device count book d (rates held.slot) (subst (λ (k : ℕ). IsSafeAt device (book_at device desk k)) e s))
 
 -- as many bytes as are asked for are there
-pub length-bytes_at : (pool : Pool) (at count : ℕ) → at + count ≤ length pool.inline_bytes → length (bytes_at pool at count) ≡ count
-length-bytes_at pool at count h = omega (arith, length-take count (drop at pool.inline_bytes), length-drop at pool.inline_bytes)
+pub length-bytes_at : (pool : Pool) (source : Source) (at count : ℕ) → at + count ≤ length (source_bytes pool source) → length (bytes_at pool source at count) ≡ count
+length-bytes_at pool source at count h = omega (arith, length-take count (drop at (source_bytes pool source)), length-drop at (source_bytes pool source))
 
 -- bytes that a book grew by came while it didn't drain
-written_undrained : (pool : Pool) (at count : ℕ) (old new : Book) → WritesSome count old new → 0 < length (bytes_at pool at (new.written - old.written)) → is_draining old.state ≡ false
-written_undrained pool at count old new w h =
+written_undrained : (pool : Pool) (source : Source) (at count : ℕ) (old new : Book) → WritesSome count old new → 0 < length (bytes_at pool source at (new.written - old.written)) → is_draining old.state ≡ false
+written_undrained pool source at count old new w h =
     let written = w.accepts.written in
-    let some = length-take (new.written - old.written) (drop at pool.inline_bytes) in
+    let some = length-take (new.written - old.written) (drop at (source_bytes pool source)) in
     w.undrained (omega arith)
 
 -- a slot stays valid through a write of bytes that are there
-untold_written : (device : DeviceSeen) (mixed : ℕ) (pool : Pool) (at count : ℕ) (old new : Book) (runs : List Run) → IsDevice device → at + count ≤ length pool.inline_bytes → WritesSome count old new → SlotIsValid device mixed old runs
-    → IsUntold device mixed old new (taking (bytes_at pool at (new.written - old.written)) old runs)
-untold_written device mixed pool at count old new runs d h w v =
+untold_written : (device : DeviceSeen) (mixed : ℕ) (pool : Pool) (source : Source) (at count : ℕ) (old new : Book) (runs : List Run) → IsDevice device → at + count ≤ length (source_bytes pool source) → WritesSome count old new → SlotIsValid device mixed old runs
+    → IsUntold device mixed old new (taking (bytes_at pool source at (new.written - old.written)) old runs)
+untold_written device mixed pool source at count old new runs d h w v =
     let written = w.accepts.written in
     let within = w.within in
     let same : new.written - old.written ≡ w.accepted = omega arith in
-    let length_is : length (bytes_at pool at (new.written - old.written)) ≡ w.accepted = length-bytes_at pool at (new.written - old.written) (omega arith) ∙ same in
-    untold-taking device mixed (bytes_at pool at (new.written - old.written)) old new runs d (subst (λ (n : ℕ). Accepts n old new) (sym length_is) w.accepts) (written_undrained pool at count old new w) v
+    let length_is : length (bytes_at pool source at (new.written - old.written)) ≡ w.accepted = length-bytes_at pool source at (new.written - old.written) (omega arith) ∙ same in
+    untold-taking device mixed (bytes_at pool source at (new.written - old.written)) old new runs d (subst (λ (n : ℕ). Accepts n old new) (sym length_is) w.accepts) (written_undrained pool source at count old new w) v
 
 -- the runs of a slot after an event, before the newest is told of it
 abbrev pub carried_at : DeviceSeen → Pool → Story → Event → ℕ → List Run
@@ -268,13 +269,13 @@ keeps-open : (device : DeviceSeen) (pool : Pool) (story : Story) (fd : ℕ) (way
 keeps-open device pool story fd way settings rate v =
     keeps-left device pool story (Open fd way settings) (leaves-open_turn device story.desk.mixed story.desk fd way settings rate) (λ slot. refl) v
 
-keeps-write : (device : DeviceSeen) (pool : Pool) (story : Story) (fd at count : ℕ) → at + count ≤ length pool.inline_bytes → StoryIsValid device story → Keeps device pool story (Write fd at count)
-keeps-write device pool story fd at count h v =
+keeps-write : (device : DeviceSeen) (pool : Pool) (story : Story) (fd : ℕ) (source : Source) (at count : ℕ) → at + count ≤ length (source_bytes pool source) → StoryIsValid device story → Keeps device pool story (Write fd source at count)
+keeps-write device pool story fd source at count h v =
     let w = writes-write_on device (held_by story.desk fd) story.desk count in
     let new : Desk = (write_on device (held_by story.desk fd) story.desk count).desk in
     record {
       safe = λ slot. safe-write_on device (held_by story.desk fd) story.desk count slot v.limits (rates_of device story v) (v.safe slot);
-      slots = λ slot. untold_written device story.desk.mixed pool at count (book_at device story.desk slot) (book_at device new slot) (story.runs slot) v.limits h (w.slots slot) (v.slots slot);
+      slots = λ slot. untold_written device story.desk.mixed pool source at count (book_at device story.desk slot) (book_at device new slot) (story.runs slot) v.limits h (w.slots slot) (v.slots slot);
       handed_same = w.handed_same;
       mixed_same = w.mixed_same;
     }
@@ -290,7 +291,7 @@ keeps-close device pool story fd v =
 -- such an event leaves the counts of the device
 pub keeps : (device : DeviceSeen) (pool : Pool) (story : Story) (event : Event) → Fits device pool event → frames_taken event ≡ 0 → StoryIsValid device story → Keeps device pool story event
 keeps device pool story (Open fd way settings) fits none v = keeps-open device pool story fd way settings fits.1 v
-keeps device pool story (Write fd at count) fits none v = keeps-write device pool story fd at count fits.2 v
+keeps device pool story (Write fd source at count) fits none v = keeps-write device pool story fd source at count fits.2.within v
 keeps device pool story (Ioctl fd request) fits none v = keeps-ioctl device pool story fd request v
 keeps device pool story (Close fd) fits none v = keeps-close device pool story fd v
 keeps device pool story (Intr n) fits none v = absurd (let some = fits.0 in omega arith)
@@ -350,7 +351,7 @@ valid-interrupted device pool story n v = record {
 -- a story stays valid through an event that fits
 pub valid-told : (device : DeviceSeen) (pool : Pool) (story : Story) (event : Event) → Fits device pool event → StoryIsValid device story → StoryIsValid device (told device pool story event)
 valid-told device pool story (Open fd way settings) fits v = valid-kept device pool story (Open fd way settings) (keeps-open device pool story fd way settings fits.1 v) v
-valid-told device pool story (Write fd at count) fits v = valid-kept device pool story (Write fd at count) (keeps-write device pool story fd at count fits.2 v) v
+valid-told device pool story (Write fd source at count) fits v = valid-kept device pool story (Write fd source at count) (keeps-write device pool story fd source at count fits.2.within v) v
 valid-told device pool story (Ioctl fd request) fits v = valid-kept device pool story (Ioctl fd request) (keeps-ioctl device pool story fd request v) v
 valid-told device pool story (Close fd) fits v = valid-kept device pool story (Close fd) (keeps-close device pool story fd v) v
 valid-told device pool story (Intr n) fits v = valid-interrupted device pool story n v
@@ -383,11 +384,11 @@ valid-start device d = record {
 sounding-carrying : (device : DeviceSeen) (pool : Pool) (story : Story) (event : Event) (gain : Gain) (slot position : ℕ) → StoryIsValid device story → position < story.desk.mixed
     → sounding device gain (carried_at device pool story event slot) position ≡ sounding device gain (story.runs slot) position
 sounding-carrying device pool story (Open fd way settings) gain slot position v h = refl
-sounding-carrying device pool story (Write fd at count) gain slot position v h =
+sounding-carrying device pool story (Write fd source at count) gain slot position v h =
     let old : Book = book_at device story.desk slot in
-    let new : Book = book_at device (after device story.desk (Write fd at count)).desk slot in
-    sounding-taking device gain story.desk.mixed position (bytes_at pool at (new.written - old.written)) old (story.runs slot) v.limits (v.slots slot)
-    (written_undrained pool at count old new ((writes-write_on device (held_by story.desk fd) story.desk count).slots slot))
+    let new : Book = book_at device (after device story.desk (Write fd source at count)).desk slot in
+    sounding-taking device gain story.desk.mixed position (bytes_at pool source at (new.written - old.written)) old (story.runs slot) v.limits (v.slots slot)
+    (written_undrained pool source at count old new ((writes-write_on device (held_by story.desk fd) story.desk count).slots slot))
 sounding-carrying device pool story (Ioctl fd request) gain slot position v h = refl
 sounding-carrying device pool story (Close fd) gain slot position v h = refl
 sounding-carrying device pool story (Intr n) gain slot position v h = sounding-playing device gain story.desk.mixed n position (book_at device story.desk slot) (story.runs slot) h

@@ -1,14 +1,12 @@
 -- What the device gets: the silence of its ring, then what stands for the mix, spelled.
 use Rattle.std.specs.Prelude.{ℕ, List, ◌++◌, map, replicate, take}
-use Rattle.std.specs.List.{range_with_len, flat_map}
-use Rattle.pcm_format.specs.declared.format.Format.{Format}
+use Rattle.std.specs.List.{range_with_len}
 use Rattle.pcm_format.specs.declared.settings.Settings.{Settings}
 use Rattle.pcm_oss.specs.declared.event.Event.{Event}
-use Rattle.pcm_format.specs.declared.pool.Pool.{Pool}
+use Rattle.pcm_wave.specs.declared.pool.Pool.{Pool}
 use Rattle.pcm_format.specs.Formats.{bits_of}
 use Rattle.pcm_format.specs.Layouts.{channels_of}
-use Rattle.pcm_format.specs.Samples.{spelled}
-use Rattle.pcm_format.specs.Frames.{Frame}
+use Rattle.pcm_format.specs.Frames.{Frame, spelled_frames}
 use Rattle.pcm_feeder.specs.Streams.{silence}
 use Rattle.pcm_desk.specs.Device.{DeviceSeen, device_settings, mix_settings, play_slots, ring_frames}
 use Rattle.pcm_sound.specs.Gains.{last_gain}
@@ -37,14 +35,6 @@ device_frame device mix k = mix k
 abbrev pub device_list : DeviceSeen → Table → ℕ → List Frame
 device_list device table handed =
     replicate (ring_frames device) (silence_in (device_settings device)) ++ map (device_frame device (mix_at device table)) (range_with_len 0 handed)
-
--- the bytes of a frame
-abbrev pub spelled_frame : Format → Frame → List ℕ
-spelled_frame format frame = flat_map (spelled format) frame
-
--- the bytes of frames
-abbrev pub spelled_frames : Format → List Frame → List ℕ
-spelled_frames format frames = flat_map (spelled_frame format) frames
 
 -- the bytes of all frames of the device, handed over or still in its ring
 abbrev pub device_bytes : DeviceSeen → Story → List ℕ

@@ -5,9 +5,9 @@ use Rattle.pcm_oss.specs.declared.event.Event.{Event}
 use Rattle.pcm_oss.specs.declared.event.Event.TheVariants.{Open, Write, Ioctl, Close, Intr}
 use Rattle.pcm_oss.specs.declared.request.Request.{Request}
 use Rattle.pcm_oss.specs.declared.request.Request.TheVariants.{SetFmt, Speed, Channels, GetFmts, GetCaps, GetBlkSize, SetFragment, GetOSpace, GetISpace, GetOPtr, GetIPtr, GetODelay, GetError, SetTrigger, GetTrigger, SetPlayVol, GetPlayVol, Post, Sync, Halt}
-use Rattle.pcm_format.specs.declared.pool.Pool.{Pool}
+use Rattle.pcm_wave.specs.declared.pool.Pool.{Pool}
 use Rattle.pcm_format.specs.Frames.{Frame, frames}
-use Rattle.pcm_format.specs.Pools.{bytes_at}
+use Rattle.pcm_wave.specs.Pools.{bytes_at}
 use Rattle.pcm_feeder.specs.declared.stage.Gain.{Gain}
 use Rattle.pcm_desk.specs.declared.book.Book.{Book}
 use Rattle.pcm_desk.specs.declared.book.State.{State}
@@ -108,7 +108,7 @@ asks_drop Halt = true
 -- whether an event drops what it ends; what else ends a run is its drain
 abbrev pub drops : Event → Bool
 drops (Open fd way settings) = false
-drops (Write fd at count) = false
+drops (Write fd source at count) = false
 drops (Ioctl fd request) = asks_drop request
 drops (Close fd) = false
 drops (Intr n) = false
@@ -129,7 +129,7 @@ marking position event old new (run ∷ runs) = marked position event old new ru
 -- The bytes and the pieces of a slot's runs after an event: what was written is what the book grew by.
 abbrev pub carrying : DeviceSeen → Pool → Desk → Event → Book → Book → List Run → List Run
 carrying device pool desk (Open fd way settings) old new runs = runs
-carrying device pool desk (Write fd at count) old new runs = taking (bytes_at pool at (new.written - old.written)) old runs
+carrying device pool desk (Write fd source at count) old new runs = taking (bytes_at pool source at (new.written - old.written)) old runs
 carrying device pool desk (Ioctl fd request) old new runs = runs
 carrying device pool desk (Close fd) old new runs = runs
 carrying device pool desk (Intr n) old new runs = playing device desk.mixed (mixed_by device desk n) old runs

@@ -1,7 +1,7 @@
 -- What a list of events comes to: the desk, and for each slot its runs and its gains.
 use Rattle.std.specs.Prelude.{ℕ, List, [], ◌∷◌}
 use Rattle.pcm_oss.specs.declared.event.Event.{Event}
-use Rattle.pcm_format.specs.declared.pool.Pool.{Pool}
+use Rattle.pcm_wave.specs.declared.pool.Pool.{Pool}
 use Rattle.pcm_desk.specs.Device.{DeviceSeen}
 use Rattle.pcm_desk.specs.Desk.{Desk, desk_at_start, book_at, after}
 use Rattle.pcm_sound.specs.Gains.{GainSet, gains_after}

@@ -12,8 +12,8 @@ use Rattle.pcm_engine.proofs.clients.write.Goals as goal
 pub returns-in_default-clause-channels : goal.returns-in_default-clause-channels
 returns-in_default-clause-channels g c = λ slot other there. moves-nothing g.B.Feeder.kind g.B.Feeder.kept c.args.bytes.now 0 (get_or c.args.parent.now.channels.items slot other)
 
-pub write-requires-clause-count : goal.write-requires-clause-count
-write-requires-clause-count g c =
+pub write-requires : goal.write-requires
+write-requires g c =
     let parent = c.args.parent.now in
     let held = c.in-Some.held in
     let there : held.slot < length parent.channels.items = omega (arith, c.requires.held c.args.fd held (sym c.held.ensures ∙ c.in-Some.is), parent.channels.ok.0) in

@@ -1,10 +1,10 @@
-use Rattle.std.proofs.Common.{ℕ, ◌+◌, List, length, sym, ap, ◌∙◌, subst, arith}
+use Rattle.std.proofs.Common.{ℕ, ◌+◌, ◌^◌, List, length, sym, ap, ◌∙◌, subst, arith}
 use Rattle.pcm_oss.specs.declared.event.Event.{Event}
 use Rattle.pcm_oss.specs.declared.event.Event.TheVariants.{Open, Write, Ioctl, Close, Intr}
 use Rattle.pcm_desk.specs.declared.book.Book.{Book}
 use Rattle.pcm_desk.specs.declared.device.Device.{Device}
 use Rattle.pcm_desk.specs.Device.{filters_of, seen}
-use Rattle.pcm_desk.specs.declared.limits.TheConstants.{RING_FRAMES, WRITE_BYTES}
+use Rattle.pcm_desk.specs.declared.limits.TheConstants.{RING_FRAMES}
 use Rattle.pcm_desk.specs.Desk.{after}
 use Rattle.pcm_desk.specs.Own.{HoldApart}
 use Rattle.pcm_desk.proofs.Apart.{apart-after}
@@ -24,11 +24,11 @@ invariant_of-self-in-Write g c =
     let same = c.write.ensures.slots in
     let output = c.write.ensures.output in
     record {
-      apart = subst HoldApart (sym c.write.ensures.desk) (apart-after (device_of old) (desk_of old) (Write c.in-Write.fd c.in-Write.at (length c.bytes_at-bytes.result.now)) old.apart);
+      apart = subst HoldApart (sym c.write.ensures.desk) (apart-after (device_of old) (desk_of old) (Write c.in-Write.fd c.in-Write.source c.in-Write.at (length c.bytes_at-bytes.result.now)) old.apart);
       tables_are = old.tables_are ∙ ap (λ (d : Device). filters_of (seen d)) (sym output.device_same);
       own = c.write.ensures.own;
       held = λ fd held e. omega (arith, old.held fd held e, old.parent.channels.ok.0, new.channels.ok.0);
-      counted = count-within (λ (b : Book). b.done + b.written) WRITE_BYTES old.steps old.parent.channels.items new.channels.items same
+      counted = count-within (λ (b : Book). b.done + b.written) (2 ^ 32) old.steps old.parent.channels.items new.channels.items same
           (λ slot other there. let more = (c.write.ensures.channels slot other there).counted in omega (arith, more, c.bytes_at-bytes.ensures.length, fits.1)) old.counted;
       given = count-within (λ (b : Book). b.given) RING_FRAMES old.steps old.parent.channels.items new.channels.items same
           (λ slot other there. let more = (c.write.ensures.channels slot other there).given in omega (arith, more)) old.given;
@@ -47,7 +47,7 @@ invariant_of-self-in-Ioctl g c =
       tables_are = old.tables_are ∙ ap (λ (d : Device). filters_of (seen d)) (sym output.device_same);
       own = c.ioctl.ensures.own;
       held = λ fd held e. omega (arith, old.held fd held e, old.parent.channels.ok.0, new.channels.ok.0);
-      counted = count-within (λ (b : Book). b.done + b.written) WRITE_BYTES old.steps old.parent.channels.items new.channels.items same
+      counted = count-within (λ (b : Book). b.done + b.written) (2 ^ 32) old.steps old.parent.channels.items new.channels.items same
           (λ slot other there. let more = (c.ioctl.ensures.channels slot other there).counted in omega (arith, more)) old.counted;
       given = count-within (λ (b : Book). b.given) RING_FRAMES old.steps old.parent.channels.items new.channels.items same
           (λ slot other there. let more = (c.ioctl.ensures.channels slot other there).given in omega (arith, more)) old.given;
@@ -69,7 +69,7 @@ invariant_of-self-in-Intr g c =
       tables_are = old.tables_are ∙ ap (λ (d : Device). filters_of (seen d)) (sym c.interrupt.ensures.device);
       own = c.interrupt.ensures.own;
       held = λ fd held e. omega (arith, old.held fd held e, old.parent.channels.ok.0, new.channels.ok.0);
-      counted = count-within (λ (b : Book). b.done + b.written) WRITE_BYTES old.steps old.parent.channels.items new.channels.items same
+      counted = count-within (λ (b : Book). b.done + b.written) (2 ^ 32) old.steps old.parent.channels.items new.channels.items same
           (λ slot other there. let more = (c.interrupt.ensures.channels slot other there).counted in omega (arith, more)) old.counted;
       given = count-within (λ (b : Book). b.given) RING_FRAMES old.steps old.parent.channels.items new.channels.items same
           (λ slot other there. let more = (c.interrupt.ensures.channels slot other there).given in omega (arith, more, fits.1)) old.given;
@@ -109,7 +109,7 @@ invariant_of-self g c =
       own = c.open-answer.ensures.own;
       held = c.open-answer.ensures.held;
       apart = subst HoldApart (sym c.open-answer.ensures.desk) (apart-after (device_of old) (desk_of old) (Open c.in-Open.fd c.in-Open.way c.in-Open.settings) old.apart);
-      counted = count-within (λ (b : Book). b.done + b.written) WRITE_BYTES old.steps old.parent.channels.items new.channels.items same
+      counted = count-within (λ (b : Book). b.done + b.written) (2 ^ 32) old.steps old.parent.channels.items new.channels.items same
           (λ slot other there. let more = (c.open-answer.ensures.channels slot other there).counted in omega (arith, more)) old.counted;
       given = count-within (λ (b : Book). b.given) RING_FRAMES old.steps old.parent.channels.items new.channels.items same
           (λ slot other there. let more = (c.open-answer.ensures.channels slot other there).given in omega (arith, more)) old.given;
@@ -128,7 +128,7 @@ invariant_of-self-in-Close g c =
       own = c.close.ensures.own;
       held = c.close.ensures.held;
       apart = subst HoldApart (sym c.close.ensures.desk) (apart-after (device_of old) (desk_of old) (Close c.in-Close.fd) old.apart);
-      counted = count-within (λ (b : Book). b.done + b.written) WRITE_BYTES old.steps old.parent.channels.items new.channels.items same
+      counted = count-within (λ (b : Book). b.done + b.written) (2 ^ 32) old.steps old.parent.channels.items new.channels.items same
           (λ slot other there. let more = (c.close.ensures.channels slot other there).counted in omega (arith, more)) old.counted;
       given = count-within (λ (b : Book). b.given) RING_FRAMES old.steps old.parent.channels.items new.channels.items same
           (λ slot other there. let more = (c.close.ensures.channels slot other there).given in omega (arith, more)) old.given;

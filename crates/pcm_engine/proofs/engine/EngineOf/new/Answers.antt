@@ -30,9 +30,9 @@ invariant_of-result g c =
 
 pub returns-clause-ready : goal.returns-clause-ready
 returns-clause-ready g c =
-    ready-unopened g.B.Feeder.kind g.B.Feeder.kept c.usual-device.result c.in_ok-parent.parent.channels.items c.in_ok-parent.ensures.channels
+    ready-unopened g.B.Feeder.kind g.B.Feeder.kept c.args.device c.in_ok-parent.parent.channels.items c.in_ok-parent.ensures.channels
 
 pub returns-clause-stands : goal.returns-clause-stands
 returns-clause-stands g c = λ pool.
     let e = c.in_ok-parent.ensures in
-    parent-starts g.B.Feeder.kind g.B.Feeder.kept c.usual-device.result c.in_ok-parent.parent _ c.usual-device.ensures.limits refl e.device e.slots e.channels e.ring e.handed e.mixed
+    parent-starts g.B.Feeder.kind g.B.Feeder.kept c.args.device c.in_ok-parent.parent _ c.requires.limits.rate refl e.device e.slots e.channels e.ring e.handed e.mixed
