@@ -1,0 +1,148 @@
+-- What holds of each configuration that is read.
+use Rattle.std.proofs.Common.{◌≡◌, ℕ, ◌*◌, ◌≤◌, ℤ, pos, negsuc, Bool, true, false, not, ◌&&◌, nat_le, nat_lt, cond, List, length, Option, Some, None, Result, Ok, Err, refl, sym, arith, IfOk}
+use Rattle.std.proofs.lemmas.Bool.Decides.{nat_tests}
+use Rattle.pcm_feeder.specs.Limits.{IsRate}
+use Rattle.pcm_desk.specs.Device.{IsInLimits, seen}
+use Rattle.toml.specs.Data.{Members, as_integer}
+use Rattle.pcm_config.specs.declared.config.Config.{Config}
+use Rattle.pcm_config.specs.declared.fault.ConfigKind.{ConfigKind}
+use Rattle.pcm_config.specs.declared.fault.ConfigKind.TheVariants as kinds
+use Rattle.pcm_config.specs.declared.limits.TheConstants.{CONFIG_BYTES, RECORD_SLOTS}
+use Rattle.pcm_config.specs.declared.place.ConfigPlace.{ConfigPlace}
+use Rattle.pcm_config.specs.declared.place.ConfigPlace.TheVariants as places
+use Rattle.pcm_config.specs.Judgements.{◌>>=◌, required}
+use Rattle.pcm_config.specs.Lookups.{has_key, has_only, table_in, value_at}
+use Rattle.pcm_config.specs.Places.{device_places, top_places, vchans_places}
+use Rattle.pcm_config.specs.Rows.{block_row, blocks_row, channels_row, container_row, format_row, numbers, play_row, quality_row, rate_row, record_row}
+use Rattle.pcm_config.specs.Values.{AreSlots, IsHardware, capture_in, hardware_in, in_row, settings_in, settled, slots_in}
+use Rattle.pcm_config.specs.Files.{files_in}
+use Rattle.pcm_config.specs.Configs.{HasCapture, IsHeld, can_hold, config_read, config_with, document_of, document_read, has_capture, tables_read, top_read, values_read, whole_read}
+
+-- a configuration within its limits, which has what it names
+pub record IsKept (config : Config) : Type 0 where
+  pub limits : IsInLimits (seen config.device)
+  pub recording : config.record_slots ≤ RECORD_SLOTS
+  pub container : IsHeld config
+  pub capture : HasCapture config
+
+-- ---- judgements one after another
+
+after-kept : {A B E : Type 0} (read : Result A E) (next : A → Result B E) (P : A → Type 0) (Q : B → Type 0)
+    → IfOk read P → ((value : A) → P value → IfOk (next value) Q) → IfOk (read >>= next) Q
+after-kept (Ok value) next P Q before after = after value before
+after-kept (Err fault) next P Q before after = tt
+
+after-any : {A B E : Type 0} (read : Result A E) (next : A → Result B E) (Q : B → Type 0)
+    → ((value : A) → IfOk (next value) Q) → IfOk (read >>= next) Q
+after-any (Ok value) next Q after = after value
+after-any (Err fault) next Q after = tt
+
+-- what passes a test that else refuses
+passed : {A E : Type 0} (test : Bool) (fault : E) (read : Result A E) (Q : A → Type 0) → (test ≡ false → IfOk read Q) → IfOk (cond test (Err fault) read) Q
+passed true fault read Q after = tt
+passed false fault read Q after = after refl
+
+-- ---- numbers
+
+found-kept : (test : Bool) (fault : ConfigKind) (place : ConfigPlace) (number : ℕ) (Q : ℕ → Type 0) → (test ≡ true → Q number)
+    → IfOk (required fault place (cond test (Some number) None)) Q
+found-kept true fault place number Q known = known refl
+found-kept false fault place number Q known = tt
+
+abbrev IsBetween : ℕ → ℕ → ℕ → Type 0
+IsBetween least most number = (least ≤ number) × (number ≤ most)
+
+range-parts : (least most number : ℕ) → (nat_le least number && nat_le number most) ≡ true → IsBetween least most number
+range-parts least most number both = grind (arith, nat_tests)
+
+row-kept : (place : ConfigPlace) (least most usual : ℕ) (value : Option ℤ) → IsBetween least most usual
+    → IfOk (in_row (numbers place least most usual) value) (IsBetween least most)
+row-kept place least most usual None fits = fits
+row-kept place least most usual (Some (pos number)) fits =
+    found-kept (nat_le least number && nat_le number most) kinds.Range place number (IsBetween least most) (range-parts least most number)
+row-kept place least most usual (Some (negsuc number)) fits = tt
+
+number-kept : (place : ConfigPlace) (least most usual : ℕ) (table : Members) → IsBetween least most usual
+    → IfOk (settled (numbers place least most usual) table) (IsBetween least most)
+number-kept place least most usual table fits =
+    after-any (value_at as_integer place table) (in_row (numbers place least most usual)) (IsBetween least most) (λ value. row-kept place least most usual value fits)
+
+-- ---- the device and the channels
+
+settings-kept : (device : Members) → IfOk (settings_in device) (λ settings. IsRate settings.rate)
+unfolding settings_in
+settings-kept device =
+    after-any (settled format_row device) _ _ (λ format.
+    after-any (settled channels_row device) _ _ (λ layout.
+    after-kept (settled rate_row device) _ (IsBetween 4000 192000) _ (number-kept places.DeviceRate 4000 192000 48000 device (omega arith, omega arith)) (λ rate kept.
+    record { least = kept.0; most = kept.1 })))
+
+ring-kept : (block blocks : ℕ) → IsBetween 1 4096 block → IsBetween 2 64 blocks → IsBetween block 262144 (block * blocks)
+ring-kept block blocks few many = grind arith
+
+hardware-kept : (device : Members) → IfOk (hardware_in device) IsHardware
+unfolding hardware_in
+hardware-kept device =
+    after-kept (settings_in device) _ (λ settings. IsRate settings.rate) IsHardware (settings-kept device) (λ settings rate.
+    after-kept (settled block_row device) _ (IsBetween 1 4096) IsHardware (number-kept places.DeviceHwBlock 1 4096 256 device (omega arith, omega arith)) (λ block few.
+    after-kept (settled blocks_row device) _ (IsBetween 2 64) IsHardware (number-kept places.DeviceHwBlocks 2 64 4 device (omega arith, omega arith)) (λ blocks many.
+    after-any (settled container_row device) _ IsHardware (λ container.
+    let ring = ring-kept block blocks few many in
+    record { rate = rate; block = few.0; ring = ring.0; ring_most = ring.1 }))))
+
+slots-kept : (vchans : Members) → IfOk (slots_in vchans) AreSlots
+unfolding slots_in
+slots-kept vchans =
+    after-kept (settled play_row vchans) _ (IsBetween 1 16) AreSlots (number-kept places.VchansPlay 1 16 4 vchans (omega arith, omega arith)) (λ play p.
+    after-kept (settled record_row vchans) _ (IsBetween 0 16) AreSlots (number-kept places.VchansRecord 0 16 4 vchans (omega arith, omega arith)) (λ recording r.
+    after-kept (settled quality_row vchans) _ (IsBetween 0 4) AreSlots (number-kept places.VchansQuality 0 4 1 vchans (omega arith, omega arith)) (λ quality q.
+    record { play = p.1; recording = r.1; quality = q.1 })))
+
+-- ---- the whole
+
+not-false : (test : Bool) → not test ≡ false → test ≡ true
+not-false true passes = refl
+not-false false passes = sym passes
+
+whole-kept : (config : Config) → IsInLimits (seen config.device) → config.record_slots ≤ RECORD_SLOTS → IfOk (whole_read config) IsKept
+whole-kept config limits recording =
+    passed (not (can_hold config.container config.device.settings)) _ _ IsKept (λ holds.
+    passed (not (has_capture config.files config.capture)) _ _ IsKept (λ has.
+    record { limits = limits; recording = recording; container = not-false _ holds; capture = not-false _ has }))
+
+values-kept : (device vchans table : Members) → IfOk (values_read device vchans table) IsKept
+unfolding values_read
+values-kept device vchans table =
+    after-kept (hardware_in device) _ IsHardware IsKept (hardware-kept device) (λ hardware h.
+    after-any (capture_in device) _ IsKept (λ capture.
+    after-kept (slots_in vchans) _ AreSlots IsKept (slots-kept vchans) (λ slots s.
+    after-any (files_in table) _ IsKept (λ files.
+    whole-kept (config_with hardware capture slots files)
+    (record { rate = h.rate; block = h.block; ring = h.ring; ring_most = h.ring_most; slots_most = s.play; quality = s.quality })
+    s.recording))))
+
+tables-kept : (device vchans table : Members) → IfOk (tables_read device vchans table) IsKept
+unfolding tables_read
+tables-kept device vchans table =
+    passed (not (has_only device_places device)) _ _ IsKept (λ _.
+    passed (not (has_only vchans_places vchans)) _ _ IsKept (λ _. values-kept device vchans table))
+
+top-kept : (top : Members) → IfOk (top_read top) IsKept
+unfolding top_read
+top-kept top =
+    after-any (table_in places.Device top) _ IsKept (λ device.
+    after-any (table_in places.Vchans top) _ IsKept (λ vchans.
+    after-any (table_in places.Files top) _ IsKept (λ table. tables-kept device vchans table)))
+
+document-kept : (top : Members) → IfOk (document_read top) IsKept
+unfolding document_read
+document-kept top =
+    passed (has_key places.Tables top) _ _ IsKept (λ _.
+    passed (not (has_only top_places top)) _ _ IsKept (λ _. top-kept top))
+
+-- each configuration that is read keeps its limits, whatever reads it
+pub config_read-kept : (bytes : List ℕ) → IfOk (config_read bytes) IsKept
+unfolding config_read
+config_read-kept bytes =
+    passed (nat_lt CONFIG_BYTES (length bytes)) _ _ IsKept (λ _.
+    after-any (required kinds.Toml places.Top (document_of bytes)) _ IsKept document-kept)

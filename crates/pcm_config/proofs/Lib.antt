@@ -1,0 +1,5 @@
+pub mod Documents
+pub mod Entries
+pub mod Order
+pub mod OnLiterals
+pub mod Kept

@@ -1,0 +1,134 @@
+-- The configuration that a text is, or why it is none.
+use Rattle.std.specs.Prelude.{◌≡◌, ◌≤◌, ℕ, Bool, true, not, ◌&&◌, ◌==◌, ◌%◌, nat_lt, if◌then◌else◌, List, [], length, Option, Some, None, Result, Ok}
+use Rattle.std.specs.Str.{is_utf8}
+use Rattle.std.specs.Cmp.Lexicographic.{slice_cmp}
+use Rattle.std.specs.List.Sorted.{IsStrictlySortedBy}
+use Rattle.std.specs.Ordering.{nat_cmp}
+use Rattle.pcm_format.specs.declared.settings.Settings.{Settings}
+use Rattle.pcm_format.specs.Frames.{frame_bytes}
+use Rattle.pcm_desk.specs.Device.{IsInLimits, seen}
+use Rattle.pcm_desk.specs.Usual.{usual_settings}
+use Rattle.toml.specs.Data.{Members}
+use Rattle.toml.specs.Parse.{parse_document}
+use Rattle.pcm_config.specs.declared.config.Config.{Config}
+use Rattle.pcm_config.specs.declared.config.Container.{Container}
+use Rattle.pcm_config.specs.declared.config.Container.TheVariants.{Raw, Wav}
+use Rattle.pcm_config.specs.declared.config.FilePath.{FilePath}
+use Rattle.pcm_config.specs.declared.fault.ConfigKind.TheVariants as kinds
+use Rattle.pcm_config.specs.declared.fault.ConfigRefusal.{ConfigRefusal}
+use Rattle.pcm_config.specs.declared.hardware.Hardware.{Hardware}
+use Rattle.pcm_config.specs.declared.limits.TheConstants.{CONFIG_BYTES, RECORD_SLOTS}
+use Rattle.pcm_config.specs.declared.place.ConfigPlace.TheVariants as places
+use Rattle.pcm_config.specs.declared.slots.Slots.{Slots}
+use Rattle.pcm_config.specs.Judgements.{◌>>=◌, refused, required}
+use Rattle.pcm_config.specs.Places.{top_places, device_places, vchans_places}
+use Rattle.pcm_config.specs.Lookups.{has_key, has_only, table_in}
+use Rattle.pcm_config.specs.Values.{hardware_in, capture_in, slots_in}
+use Rattle.pcm_wave.specs.Formats.{is_wave_format}
+use Rattle.pcm_config.specs.Files.{files_in, is_named, names_of}
+
+-- what is settled of a run without a configuration
+abbrev pub usual_config : Config
+usual_config = record {
+  device = record { settings = usual_settings; block_frames = 256; ring_frames = 1024; play_slots = 4; quality = 1 };
+  container = Raw;
+  record_slots = 4;
+  capture = None;
+  files = [];
+}
+
+-- whether a file of this form can have frames with these settings: a wave has an even number of bytes a frame
+abbrev pub can_hold : Container → Settings → Bool
+can_hold Raw settings = true
+can_hold Wav settings = is_wave_format settings.format && frame_bytes settings % 2 == 0
+
+-- whether the file that is recorded from is there, if there is one
+abbrev pub has_capture : List FilePath → Option (List ℕ) → Bool
+has_capture files None = true
+has_capture files (Some name) = is_named files name
+
+-- all that is settled, put together
+abbrev pub config_with : Hardware → Option (List ℕ) → Slots → List FilePath → Config
+config_with hardware capture slots files = record {
+  device = record {
+    settings = hardware.settings;
+    block_frames = hardware.block_frames;
+    ring_frames = hardware.ring_frames;
+    play_slots = slots.play;
+    quality = slots.quality;
+  };
+  container = hardware.container;
+  record_slots = slots.recording;
+  capture = capture;
+  files = files;
+}
+
+-- what is judged of the whole: the form of the file that is played to, then the file that is recorded from
+abbrev pub whole_read : Config → Result Config ConfigRefusal
+whole_read config =
+    if not (can_hold config.container config.device.settings) then refused kinds.Container places.DeviceContainer
+    else if not (has_capture config.files config.capture) then refused kinds.Capture places.DeviceCapture
+    else Ok config
+
+-- the values of the tables, in their order, and then the whole
+unfoldable pub values_read : Members → Members → Members → Result Config ConfigRefusal
+values_read device vchans table = do
+  hardware ← hardware_in device
+  capture ← capture_in device
+  slots ← slots_in vchans
+  files ← files_in table
+  whole_read (config_with hardware capture slots files)
+
+-- the keys of the tables, and then their values
+unfoldable pub tables_read : Members → Members → Members → Result Config ConfigRefusal
+tables_read device vchans table =
+    if not (has_only device_places device) then refused kinds.Key places.Device
+    else if not (has_only vchans_places vchans) then refused kinds.Key places.Vchans
+    else values_read device vchans table
+
+-- the three tables, and then what they settle
+unfoldable pub top_read : Members → Result Config ConfigRefusal
+top_read top = do
+  device ← table_in places.Device top
+  vchans ← table_in places.Vchans top
+  table ← table_in places.Files top
+  tables_read device vchans table
+
+-- A document: filters aren't built yet, and then no key may be there but those of the three tables.
+unfoldable pub document_read : Members → Result Config ConfigRefusal
+document_read top =
+    if has_key places.Tables top then refused kinds.Unbuilt places.Tables
+    else if not (has_only top_places top) then refused kinds.Key places.Top
+    else top_read top
+
+-- the document that bytes are, which must be UTF-8
+abbrev pub document_of : List ℕ → Option Members
+document_of bytes = if is_utf8 bytes then parse_document bytes else None
+
+-- the configuration that bytes are
+unfoldable pub config_read : List ℕ → Result Config ConfigRefusal
+config_read bytes =
+    if nat_lt CONFIG_BYTES (length bytes) then refused kinds.Long places.Top
+    else do
+      top ← required kinds.Toml places.Top (document_of bytes)
+      document_read top
+
+-- a wave has frames that it can hold
+abbrev pub IsHeld : Config → Type 0
+IsHeld config = can_hold config.container config.device.settings ≡ true
+
+-- the file that is recorded from is among the files
+abbrev pub HasCapture : Config → Type 0
+HasCapture config = has_capture config.files config.capture ≡ true
+
+-- the files are in the byte order of their names, and no two have one name
+abbrev pub AreInOrder : List FilePath → Type 0
+AreInOrder files = IsStrictlySortedBy (slice_cmp nat_cmp) (names_of files)
+
+-- a configuration within its limits, whose files are in order and which has what it names
+pub record IsSettled (config : Config) : Type 0 where
+  pub limits : IsInLimits (seen config.device)
+  pub recording : config.record_slots ≤ RECORD_SLOTS
+  pub order : AreInOrder config.files
+  pub container : IsHeld config
+  pub capture : HasCapture config

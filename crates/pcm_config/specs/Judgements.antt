@@ -1,0 +1,25 @@
+-- Judgements one after another: the first that refuses is the answer.
+use Rattle.std.specs.Prelude.{Option, Some, None, Result, Ok, Err}
+use Rattle.pcm_config.specs.declared.fault.ConfigKind.{ConfigKind}
+use Rattle.pcm_config.specs.declared.fault.ConfigRefusal.{ConfigRefusal}
+use Rattle.pcm_config.specs.declared.place.ConfigPlace.{ConfigPlace}
+
+-- the next judgement, if this one gave a value
+infixl 10 ◌>>=◌
+abbrev pub ◌>>=◌ : {A B E : Type 0} → Result A E → (A → Result B E) → Result B E
+Ok value >>= next = next value
+Err fault >>= next = Err fault
+
+-- a refusal, for a kind of fault at a place
+abbrev pub refused : {A : Type 0} → ConfigKind → ConfigPlace → Result A ConfigRefusal
+refused fault place = Err (record { kind = fault; place = place })
+
+-- what must be there, else it is refused
+abbrev pub required : {A : Type 0} → ConfigKind → ConfigPlace → Option A → Result A ConfigRefusal
+required fault place None = refused fault place
+required fault place (Some value) = Ok value
+
+-- what was judged, as it is seen
+abbrev pub as_seen : {A B E : Type 0} → (A → B) → Result A E → Result B E
+as_seen seen (Ok value) = Ok (seen value)
+as_seen seen (Err fault) = Err fault

@@ -1,0 +1,111 @@
+//! What is settled of a run.
+
+ghost use Rattle.std.specs.Prelude.{◌≡◌, List, string_bytes, IfOk};
+ghost use Rattle.pcm_config.specs.Configs.{usual_config};
+
+use pcm_desk::Device;
+use std::alloc::{AllocError, Global};
+use std::marker::Model;
+
+/// The form of the file that is played to.
+#[derive(Clone, Copy, Debug, PartialEq, Eq)]
+pub enum Container {
+    /// Frames alone.
+    Raw,
+    /// Frames behind the header of a wave.
+    Wav,
+}
+
+/// A name of a file: one that the configuration gives it, or its path.
+#[derive(Debug, Drop)]
+pub struct Name {
+    text: String,
+}
+
+impl Model for Name {
+    ghost use Rattle.std.specs.Prelude.{List, ℕ, string_bytes};
+
+    ghost Value = { List ℕ };
+
+    ghost view = { λ n. string_bytes n.text };
+}
+
+impl Name {
+    /// Copies a name.
+    pub fn new(alloc: Global, text: &str) -> Result<Self, AllocError>
+        ensures { IfOk result (λ name. name ≡ text.now) }
+    {
+        Ok(Name {
+            text: String::from_str(alloc, text)?,
+        })
+    }
+
+    /// Lends the name.
+    pub fn as_str(&self) -> &str
+        ensures { result.now ≡ self.now }
+    {
+        self.text.as_str()
+    }
+}
+
+/// A file: the name that the configuration gives it, and where it lies.
+#[derive(Debug, Drop)]
+pub struct FilePath {
+    pub name: Name,
+    pub path: Name,
+}
+
+/// A list of files.
+#[derive(Debug, Drop)]
+pub struct FilePaths {
+    items: Vec<FilePath>,
+}
+
+impl Model for FilePaths {
+    ghost use Rattle.std.specs.Prelude.{List};
+    ghost use Rattle.pcm_config.specs.declared.config.FilePath.{FilePath};
+
+    ghost Value = { List FilePath };
+
+    ghost view = { λ f. f.items.items };
+}
+
+impl FilePaths {
+    /// Takes the files of a vector over.
+    pub fn new(items: Vec<FilePath>) -> Self
+        ensures { result ≡ items.items }
+    {
+        FilePaths { items }
+    }
+
+    /// Lends the files.
+    pub fn as_slice(&self) -> &[FilePath]
+        ensures { result.now ≡ self.now }
+    {
+        self.items.as_slice()
+    }
+}
+
+/// What is settled of a run: its device, the form of the file that is played to, how many channels record,
+/// and the files by their names, with the one that is recorded from.
+#[derive(Debug, Drop)]
+pub struct Config {
+    pub device: Device,
+    pub container: Container,
+    pub record_slots: u32,
+    pub capture: Option<Name>,
+    pub files: FilePaths,
+}
+
+/// What is settled of a run without a configuration. It takes no memory.
+pub fn default_config(alloc: Global) -> Config
+    ensures { result ≡ usual_config }
+{
+    Config {
+        device: Device::usual(),
+        container: Container::Raw,
+        record_slots: 4,
+        capture: None,
+        files: FilePaths::new(Vec::new(alloc)),
+    }
+}

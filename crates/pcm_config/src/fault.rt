@@ -1,0 +1,107 @@
+//! Why a configuration is refused.
+
+ghost use Rattle.std.specs.Prelude.{◌≡◌};
+ghost use Rattle.pcm_config.specs.declared.fault.ConfigFault.TheVariants.{Refused};
+
+use crate::ConfigPlace;
+use std::alloc::{AllocError, AllocFailed};
+use thiserror::Error;
+
+/// What is wrong with a configuration.
+#[derive(Clone, Copy, Debug, PartialEq, Eq)]
+pub enum ConfigKind {
+    /// The text passes its limit.
+    Long,
+    /// The text is no TOML.
+    Toml,
+    /// The text asks for what this program doesn't do yet.
+    Unbuilt,
+    /// A table has a key that it may not have.
+    Key,
+    /// A value is no table, no text or no whole number, where one is wanted.
+    Kind,
+    /// A number is outside its set.
+    Range,
+    /// A text is outside its set.
+    Name,
+    /// A wave can't have frames of the device.
+    Container,
+    /// The file that is recorded from isn't among the files.
+    Capture,
+}
+
+impl ConfigKind {
+    ghost use Rattle.pcm_config.specs.Places.{config_kind_word};
+
+    /// The word that names the kind.
+    pub fn word(self) -> &'static str
+        ensures { result.now ≡ config_kind_word self }
+    {
+        match self {
+            ConfigKind::Long => "long",
+            ConfigKind::Toml => "toml",
+            ConfigKind::Unbuilt => "unbuilt",
+            ConfigKind::Key => "key",
+            ConfigKind::Kind => "kind",
+            ConfigKind::Range => "range",
+            ConfigKind::Name => "name",
+            ConfigKind::Container => "container",
+            ConfigKind::Capture => "capture",
+        }
+    }
+}
+
+/// The first fault of a configuration, and where it stands.
+#[derive(Clone, Copy, Debug, PartialEq, Eq)]
+pub struct ConfigRefusal {
+    pub kind: ConfigKind,
+    pub place: ConfigPlace,
+}
+
+/// Why nothing is settled by a text.
+#[derive(Debug, Drop, Error)]
+pub enum ConfigFault {
+    /// The text isn't a configuration.
+    #[error("the configuration is refused")]
+    Refused(ConfigRefusal),
+    /// Memory ran out.
+    #[error("out of memory")]
+    Memory,
+}
+
+// A refusal, for a kind of fault at a place.
+pub(crate) fn refused(kind: ConfigKind, place: ConfigPlace) -> ConfigFault
+    ensures { result ≡ Refused (record { kind = kind; place = place }) }
+{
+    ConfigFault::Refused(ConfigRefusal { kind, place })
+}
+
+impl From<ConfigRefusal> for ConfigFault {
+    ghost use Rattle.pcm_config.specs.declared.fault.ConfigFault.TheVariants.{Refused};
+
+    ghost from_gives = { λ refusal fault. fault ≡ Refused refusal };
+
+    fn from(refusal: ConfigRefusal) -> ConfigFault {
+        ConfigFault::Refused(refusal)
+    }
+}
+
+impl From<AllocError> for ConfigFault {
+    ghost use Rattle.pcm_config.specs.declared.fault.ConfigFault.TheVariants.{Memory};
+
+    ghost from_gives = { λ _ fault. fault ≡ Memory };
+
+    fn from(_: AllocError) -> ConfigFault {
+        ConfigFault::Memory
+    }
+}
+
+impl<T: Drop> From<AllocFailed<T>> for ConfigFault {
+    ghost use Rattle.pcm_config.specs.declared.fault.ConfigFault.TheVariants.{Memory};
+
+    ghost from_gives = { λ _ fault. fault ≡ Memory };
+
+    fn from(_: AllocFailed<T>) -> ConfigFault {
+        ConfigFault::Memory
+    }
+}

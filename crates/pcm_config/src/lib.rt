@@ -1,0 +1,23 @@
+//! A configuration's text to what is settled of a run.
+//! Every key may be left out, and a text is refused for the first fault that applies.
+#![tactic(auto)]
+
+mod config;
+mod fault;
+mod files;
+mod hardware;
+mod laws;
+mod limits;
+mod lookup;
+mod number;
+mod place;
+mod reader;
+mod slots;
+mod whole;
+
+pub use config::{Config, Container, FilePath, FilePaths, Name, default_config};
+pub use fault::{ConfigFault, ConfigKind, ConfigRefusal};
+pub use laws::an_empty_text_is_the_usual;
+pub use limits::{CONFIG_BYTES, RECORD_SLOTS};
+pub use place::ConfigPlace;
+pub use reader::config_of;

@@ -1,0 +1,150 @@
+//! The walk over a configuration, judgement after judgement.
+
+ghost use Rattle.std.specs.Prelude.{◌≡◌, ◌≤◌, IfOk, option_copied};
+ghost use Rattle.pcm_desk.specs.Device.{IsInLimits, seen};
+ghost use Rattle.toml.specs.View.{table_view};
+ghost use Rattle.pcm_config.specs.declared.fault.ConfigKind.TheVariants.{Toml};
+ghost use Rattle.pcm_config.specs.declared.limits.TheConstants.{RECORD_SLOTS};
+ghost use Rattle.pcm_config.specs.declared.place.ConfigPlace.TheVariants.{Top};
+ghost use Rattle.pcm_config.specs.Answers.{Reads};
+ghost use Rattle.pcm_config.specs.Configs.{AreInOrder, HasCapture, IsHeld, IsSettled, config_read, document_of, document_read, tables_read, top_read, values_read};
+ghost use Rattle.pcm_config.specs.Judgements.{as_seen, required};
+ghost use Rattle.pcm_config.specs.Lookups.{members_seen};
+
+use crate::fault::refused;
+use crate::files::files_in;
+use crate::hardware::hardware_in;
+use crate::lookup::{has_key, has_only, table_in, text_at};
+use crate::slots::slots_in;
+use crate::whole::{config_with, whole_read};
+use crate::{CONFIG_BYTES, Config, ConfigFault, ConfigKind, ConfigPlace, Name};
+use std::alloc::{AllocError, Global};
+use toml::Table;
+
+// The keys of the top.
+const TOP: [ConfigPlace; 3] = [ConfigPlace::Device, ConfigPlace::Vchans, ConfigPlace::Files];
+
+// The keys of the device's table.
+const DEVICE: [ConfigPlace; 7] = [
+    ConfigPlace::DeviceFormat,
+    ConfigPlace::DeviceChannels,
+    ConfigPlace::DeviceRate,
+    ConfigPlace::DeviceHwBlock,
+    ConfigPlace::DeviceHwBlocks,
+    ConfigPlace::DeviceContainer,
+    ConfigPlace::DeviceCapture,
+];
+
+// The keys of the table of channels.
+const VCHANS: [ConfigPlace; 3] = [
+    ConfigPlace::VchansPlay,
+    ConfigPlace::VchansRecord,
+    ConfigPlace::VchansQuality,
+];
+
+/// Reads a configuration: all that it settles, or the first fault that applies.
+#[tactic(auto, unfolding(crate::specs::Configs::config_read))]
+pub fn config_of(alloc: Global, bytes: &[u8]) -> Result<Config, ConfigFault>
+    // Only memory is free: else the answer is the one that the text determines.
+    ensures read { Reads result (config_read bytes.now) }
+
+    // What a configuration keeps.
+    ensures limits { IfOk result (λ config. IsInLimits (seen config.device)) }
+    ensures recording { IfOk result (λ config. config.record_slots ≤ RECORD_SLOTS) }
+    ensures order { IfOk result (λ config. AreInOrder config.files) }
+    ensures container { IfOk result IsHeld }
+    ensures capture { IfOk result HasCapture }
+{
+    if bytes.len() > CONFIG_BYTES {
+        return Err(refused(ConfigKind::Long, ConfigPlace::Top));
+    }
+    let top = document_of(alloc, bytes)?;
+    document_read(alloc, &top)
+}
+
+// The document that bytes are.
+fn document_of(alloc: Global, bytes: &[u8]) -> Result<Table, ConfigFault>
+    ensures { Reads (as_seen table_view result) (required Toml Top (document_of bytes.now)) }
+{
+    match toml::table_from_slice(alloc, bytes) {
+        Ok(table) => Ok(table),
+        Err(error) => {
+            if error.is_memory() {
+                Err(ConfigFault::Memory)
+            } else {
+                Err(refused(ConfigKind::Toml, ConfigPlace::Top))
+            }
+        }
+    }
+}
+
+#[tactic(auto, unfolding(crate::specs::Configs::document_read))]
+fn document_read(alloc: Global, top: &Table) -> Result<Config, ConfigFault>
+    ensures read { Reads result (document_read (table_view top.now)) }
+    ensures settled { IfOk result IsSettled }
+{
+    if has_key(top, ConfigPlace::Tables) {
+        return Err(refused(ConfigKind::Unbuilt, ConfigPlace::Tables));
+    }
+    if !has_only(Some(top), &TOP) {
+        return Err(refused(ConfigKind::Key, ConfigPlace::Top));
+    }
+    top_read(alloc, top)
+}
+
+#[tactic(auto, unfolding(crate::specs::Configs::top_read))]
+fn top_read(alloc: Global, top: &Table) -> Result<Config, ConfigFault>
+    ensures read { Reads result (top_read (table_view top.now)) }
+    ensures settled { IfOk result IsSettled }
+{
+    let device = table_in(top, ConfigPlace::Device)?;
+    let vchans = table_in(top, ConfigPlace::Vchans)?;
+    let files = table_in(top, ConfigPlace::Files)?;
+    tables_read(alloc, device, vchans, files)
+}
+
+#[tactic(auto, unfolding(crate::specs::Configs::tables_read))]
+fn tables_read(
+    alloc: Global,
+    device: Option<&Table>,
+    vchans: Option<&Table>,
+    files: Option<&Table>,
+) -> Result<Config, ConfigFault>
+    ensures read { Reads result (tables_read (members_seen device.entry) (members_seen vchans.entry) (members_seen files.entry)) }
+    ensures settled { IfOk result IsSettled }
+{
+    if !has_only(device, &DEVICE) {
+        return Err(refused(ConfigKind::Key, ConfigPlace::Device));
+    }
+    if !has_only(vchans, &VCHANS) {
+        return Err(refused(ConfigKind::Key, ConfigPlace::Vchans));
+    }
+    values_read(alloc, device, vchans, files)
+}
+
+#[tactic(auto, unfolding(crate::specs::Configs::values_read))]
+fn values_read(
+    alloc: Global,
+    device: Option<&Table>,
+    vchans: Option<&Table>,
+    files: Option<&Table>,
+) -> Result<Config, ConfigFault>
+    ensures read { Reads result (values_read (members_seen device.entry) (members_seen vchans.entry) (members_seen files.entry)) }
+    ensures settled { IfOk result IsSettled }
+{
+    let hardware = hardware_in(device)?;
+    let capture = text_at(device, ConfigPlace::DeviceCapture)?;
+    let slots = slots_in(vchans)?;
+    let files = files_in(alloc, files)?;
+    let capture = name_of(alloc, capture)?;
+    whole_read(config_with(hardware, capture, slots, files))
+}
+
+fn name_of(alloc: Global, text: Option<&str>) -> Result<Option<Name>, AllocError>
+    ensures { IfOk result (λ name. name ≡ option_copied text.entry) }
+{
+    match text {
+        Some(text) => Ok(Some(Name::new(alloc, text)?)),
+        None => Ok(None),
+    }
+}

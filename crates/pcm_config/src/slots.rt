@@ -1,0 +1,58 @@
+//! What a configuration settles of the channels of clients.
+
+ghost use Rattle.std.specs.Prelude.{◌≡◌, IfOk};
+ghost use Rattle.pcm_config.specs.Lookups.{members_seen};
+ghost use Rattle.pcm_config.specs.Values.{AreSlots, slots_in};
+
+use crate::number::{NumberRow, number_in};
+use crate::{ConfigPlace, ConfigRefusal, RECORD_SLOTS};
+use pcm_desk::{QUALITY_MOST, SLOTS};
+use toml::Table;
+
+// Channels that play.
+const PLAY: NumberRow = NumberRow {
+    place: ConfigPlace::VchansPlay,
+    least: 1,
+    most: SLOTS,
+    usual: 4,
+};
+
+// Channels that record.
+const RECORDING: NumberRow = NumberRow {
+    place: ConfigPlace::VchansRecord,
+    least: 0,
+    most: RECORD_SLOTS,
+    usual: 4,
+};
+
+// How rates are converted.
+const QUALITY: NumberRow = NumberRow {
+    place: ConfigPlace::VchansQuality,
+    least: 0,
+    most: QUALITY_MOST,
+    usual: 1,
+};
+
+// How many channels play and record, and how rates are converted.
+#[derive(Clone, Copy)]
+pub(crate) struct Slots {
+    pub(crate) play: u32,
+    pub(crate) recording: u32,
+    pub(crate) quality: u32,
+}
+
+// What a table settles of the channels of clients.
+#[tactic(auto, unfolding(crate::specs::Values::slots_in))]
+pub(crate) fn slots_in(vchans: Option<&Table>) -> Result<Slots, ConfigRefusal>
+    ensures value { result ≡ slots_in (members_seen vchans.entry) }
+    ensures limits { IfOk result AreSlots }
+{
+    let play = number_in(vchans, PLAY)?;
+    let recording = number_in(vchans, RECORDING)?;
+    let quality = number_in(vchans, QUALITY)?;
+    Ok(Slots {
+        play,
+        recording,
+        quality,
+    })
+}

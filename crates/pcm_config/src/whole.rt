@@ -1,0 +1,74 @@
+//! What is settled, put together and judged as a whole.
+
+ghost use Rattle.std.specs.Prelude.{◌≡◌, IfOk};
+ghost use Rattle.pcm_config.specs.Answers.{Reads};
+ghost use Rattle.pcm_config.specs.Configs.{HasCapture, IsHeld, can_hold, config_with, has_capture, whole_read};
+
+use crate::fault::refused;
+use crate::files::is_named;
+use crate::hardware::Hardware;
+use crate::slots::Slots;
+use crate::{Config, ConfigFault, ConfigKind, ConfigPlace, Container, FilePath, FilePaths, Name};
+use pcm_desk::Device;
+use pcm_format::Settings;
+use pcm_wave::is_wave_format;
+
+// All that is settled, put together.
+pub(crate) fn config_with(
+    hardware: Hardware,
+    capture: Option<Name>,
+    slots: Slots,
+    files: FilePaths,
+) -> Config
+    ensures { result ≡ config_with hardware capture slots files }
+{
+    Config {
+        device: Device {
+            settings: hardware.settings,
+            block_frames: hardware.block_frames,
+            ring_frames: hardware.ring_frames,
+            play_slots: slots.play,
+            quality: slots.quality,
+        },
+        container: hardware.container,
+        record_slots: slots.recording,
+        capture,
+        files,
+    }
+}
+
+// What is judged of the whole.
+pub(crate) fn whole_read(config: Config) -> Result<Config, ConfigFault>
+    ensures read { Reads result (whole_read config) }
+    ensures same { IfOk result (λ whole. whole ≡ config) }
+    ensures container { IfOk result IsHeld }
+    ensures capture { IfOk result HasCapture }
+{
+    if !can_hold(config.container, config.device.settings) {
+        return Err(refused(ConfigKind::Container, ConfigPlace::DeviceContainer));
+    }
+    if !has_capture(config.files.as_slice(), &config.capture) {
+        return Err(refused(ConfigKind::Capture, ConfigPlace::DeviceCapture));
+    }
+    Ok(config)
+}
+
+// Whether a file of this form can have frames with these settings.
+fn can_hold(container: Container, settings: Settings) -> bool
+    ensures { result ≡ can_hold container settings }
+{
+    match container {
+        Container::Raw => true,
+        Container::Wav => is_wave_format(settings.format) && settings.frame_bytes() % 2 == 0,
+    }
+}
+
+// Whether the file that is recorded from is there, if there is one.
+fn has_capture(files: &[FilePath], capture: &Option<Name>) -> bool
+    ensures { result ≡ has_capture files.now capture.now }
+{
+    match capture {
+        Some(name) => is_named(files, name.as_str()),
+        None => true,
+    }
+}
