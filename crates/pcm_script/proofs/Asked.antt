@@ -1,23 +1,27 @@
 -- What each line asks for, judged by itself, is within what a device and a write allow.
-use Rattle.std.proofs.Common.{ℕ, ◌<◌, ◌≤◌, Bool, true, false, cond, List, [], ◌∷◌, length, Option, Some, Result, Ok, Err, arith, IfOk, codes, ◌≡◌, subst}
+use Rattle.std.proofs.Common.{ℕ, ◌<◌, ◌≤◌, Bool, true, false, cond, List, [], ◌∷◌, length, Option, Some, None, Result, Ok, Err, arith, IfOk, codes, ◌≡◌, ◌+◌, refl, subst, position}
 use Rattle.std.specs.Option.{IfSome}
 use Rattle.std.specs.Str.{bytes_eq}
 use Rattle.hex.specs.Hex.{decode_of}
 use Rattle.hex.specs.declared.error.FromHexError.{FromHexError}
 use Rattle.std.proofs.lemmas.Bool.Decides.{nat_tests}
 use Rattle.std.proofs.lemmas.Result.{IfOk-weaker}
+use Rattle.std.proofs.lemmas.List.Quantifiers.{position-Some}
+use Rattle.pcm_format.specs.declared.format.Format.TheVariants.{U8}
+use Rattle.pcm_format.specs.declared.layout.Layout.TheVariants.{One}
 use Rattle.pcm_format.specs.declared.settings.TheConstants.{RATE_LEAST, RATE_MOST}
 use Rattle.pcm_feeder.specs.Limits.{IsRate}
+use Rattle.pcm_wave.specs.DataFiles.{DataFileSeen}
 use Rattle.pcm_desk.specs.declared.limits.TheConstants.{DESCRIPTORS, WRITE_BYTES}
 use Rattle.pcm_desk.specs.Device.{DeviceSeen, block_frames, ring_frames}
 use Rattle.pcm_script.specs.declared.fault.ScriptKind.{ScriptKind}
 use Rattle.pcm_script.specs.declared.fault.ScriptKind.TheVariants.{Word, Name, Unbuilt}
 use Rattle.pcm_script.specs.declared.fault.LineFault.{LineFault}
 use Rattle.pcm_script.specs.declared.line_event.LineEvent.{LineEvent}
-use Rattle.pcm_script.specs.declared.line_event.LineEvent.TheVariants.{Open, Write, Ioctl, Close, Intr}
+use Rattle.pcm_script.specs.declared.line_event.LineEvent.TheVariants.{Open, Write, Send, Ioctl, Close, Intr}
 use Rattle.pcm_script.specs.Numbers.{number_in, within, number_within}
 use Rattle.pcm_script.specs.Requests.{as_full, as_plain, request_named}
-use Rattle.pcm_script.specs.Commands.{descriptor_in, plays_in, or_fault, format_in, layout_in, rate_in, short_bytes, bytes_in, argument_in, open_line, write_line, ioctl_line, close_line, interrupt_line, command_line, line_event}
+use Rattle.pcm_script.specs.Commands.{descriptor_in, plays_in, or_fault, format_in, layout_in, rate_in, short_bytes, bytes_in, argument_in, ending_within, file_in, is_file_named, length_in, size_of, open_line, write_line, send_line, ioctl_line, close_line, interrupt_line, command_line, line_event}
 use Rattle.pcm_script.specs.Answers.{Asks}
 use Rattle.pcm_script.specs.Collecting.{own_bytes}
 use Rattle.pcm_script.proofs.Judgements.{IfOk-then, IfOk-after, IfOk-either}
@@ -27,17 +31,22 @@ pub record HasBlocks (device : DeviceSeen) : Type 0 where
   pub some : 0 < block_frames device
   pub room : block_frames device ≤ ring_frames device
 
-abbrev pub IsWithin : DeviceSeen → LineEvent → Type 0
-IsWithin device (Open fd plays settings) = (fd < DESCRIPTORS) × IsRate settings.rate
-IsWithin device (Write fd bytes) = (fd < DESCRIPTORS) × (length bytes ≤ WRITE_BYTES)
-IsWithin device (Ioctl fd request) = fd < DESCRIPTORS
-IsWithin device (Close fd) = fd < DESCRIPTORS
-IsWithin device (Intr frames) = HasBlocks device → (0 < frames) × (frames ≤ ring_frames device)
+abbrev pub IsWithin : DeviceSeen → List DataFileSeen → LineEvent → Type 0
+IsWithin device files (Open fd plays settings) = (fd < DESCRIPTORS) × IsRate settings.rate
+IsWithin device files (Write fd bytes) = (fd < DESCRIPTORS) × (length bytes ≤ WRITE_BYTES)
+IsWithin device files (Send fd file at count) = (fd < DESCRIPTORS) × (file < length files) × (at + count ≤ size_of files file)
+IsWithin device files (Ioctl fd request) = fd < DESCRIPTORS
+IsWithin device files (Close fd) = fd < DESCRIPTORS
+IsWithin device files (Intr frames) = HasBlocks device → (0 < frames) × (frames ≤ ring_frames device)
 
 -- ---- words
 
 within-range : (least most number : ℕ) → IfOk (within least most number) (λ n. (least ≤ n) × (n ≤ most))
 within-range least most number = grind (arith, nat_tests)
+
+-- bytes that end within a body
+ending_within-room : (size at count : ℕ) → IfOk (ending_within size (at + count) count) (λ n. at + n ≤ size)
+ending_within-room size at count = grind (arith, nat_tests)
 
 number_within-range : (least most : ℕ) (word : List ℕ) → IfOk (number_within least most word) (λ n. (least ≤ n) × (n ≤ most))
 number_within-range least most word = IfOk-after (number_in word) (within least most) _ (within-range least most)
@@ -54,106 +63,139 @@ bytes_in-room word =
     IfOk-either (bytes_eq word (codes "-")) (Ok []) (short_bytes (decode_of word)) (λ bytes. length bytes ≤ WRITE_BYTES)
     (omega arith) (short_bytes-room (decode_of word))
 
+-- ---- files
+
+-- a file
+some_file : DataFileSeen
+some_file = record { name = []; bytes = []; wave = record { format = U8; layout = One; rate = 0; at = 0; len = 0 } }
+
+found-place : {A : Type 0} (found : Option A) {P : A → Type 0} → ((value : A) → found ≡ Some value → P value) → IfOk (or_fault found Name) P
+found-place None h = tt
+found-place (Some value) h = h value refl
+
+length_in-room : (size at : ℕ) (word : List ℕ) → IfOk (length_in size at word) (λ count. at + count ≤ size)
+length_in-room size at word = IfOk-after (number_in word) _ _ (λ count. ending_within-room size at count)
+
 -- ---- commands
 
-open_line-within : (device : DeviceSeen) (arguments : List (List ℕ)) → IfOk (open_line arguments) (IsWithin device)
+open_line-within : (device : DeviceSeen) (files : List DataFileSeen) (arguments : List (List ℕ)) → IfOk (open_line arguments) (IsWithin device files)
 unfolding open_line
-open_line-within device [] = tt
-open_line-within device (d ∷ []) = tt
-open_line-within device (d ∷ way ∷ []) =
-    IfOk-then (descriptor_in d) _ _ (IsWithin device) (descriptor-range d)
-    (λ fd low. IfOk-after (plays_in way) _ (IsWithin device) (λ plays. (low, record { least = omega arith; most = omega arith })))
-open_line-within device (d ∷ way ∷ f ∷ []) = tt
-open_line-within device (d ∷ way ∷ f ∷ c ∷ []) = tt
-open_line-within device (d ∷ way ∷ f ∷ c ∷ r ∷ []) =
-    IfOk-then (descriptor_in d) _ _ (IsWithin device) (descriptor-range d)
-    (λ fd low. IfOk-after (plays_in way) _ (IsWithin device)
-    (λ plays. IfOk-after (format_in f) _ (IsWithin device)
-    (λ format. IfOk-after (layout_in c) _ (IsWithin device)
-    (λ layout. IfOk-then (rate_in r) _ _ (IsWithin device) (number_within-range RATE_LEAST RATE_MOST r)
+open_line-within device files [] = tt
+open_line-within device files (d ∷ []) = tt
+open_line-within device files (d ∷ way ∷ []) =
+    IfOk-then (descriptor_in d) _ _ (IsWithin device files) (descriptor-range d)
+    (λ fd low. IfOk-after (plays_in way) _ (IsWithin device files) (λ plays. (low, record { least = omega arith; most = omega arith })))
+open_line-within device files (d ∷ way ∷ f ∷ []) = tt
+open_line-within device files (d ∷ way ∷ f ∷ c ∷ []) = tt
+open_line-within device files (d ∷ way ∷ f ∷ c ∷ r ∷ []) =
+    IfOk-then (descriptor_in d) _ _ (IsWithin device files) (descriptor-range d)
+    (λ fd low. IfOk-after (plays_in way) _ (IsWithin device files)
+    (λ plays. IfOk-after (format_in f) _ (IsWithin device files)
+    (λ format. IfOk-after (layout_in c) _ (IsWithin device files)
+    (λ layout. IfOk-then (rate_in r) _ _ (IsWithin device files) (number_within-range RATE_LEAST RATE_MOST r)
     (λ rate range. (low, record { least = range.0; most = range.1 }))))))
-open_line-within device (d ∷ way ∷ f ∷ c ∷ r ∷ x ∷ more) = tt
+open_line-within device files (d ∷ way ∷ f ∷ c ∷ r ∷ x ∷ more) = tt
 
-write_line-within : (device : DeviceSeen) (arguments : List (List ℕ)) → IfOk (write_line arguments) (IsWithin device)
+write_line-within : (device : DeviceSeen) (files : List DataFileSeen) (arguments : List (List ℕ)) → IfOk (write_line arguments) (IsWithin device files)
 unfolding write_line
-write_line-within device [] = tt
-write_line-within device (d ∷ []) = tt
-write_line-within device (d ∷ h ∷ []) =
-    IfOk-then (descriptor_in d) _ _ (IsWithin device) (descriptor-range d)
-    (λ fd low. IfOk-then (bytes_in h) _ _ (IsWithin device) (bytes_in-room h) (λ bytes short. (low, short)))
-write_line-within device (d ∷ h ∷ x ∷ more) = tt
+write_line-within device files [] = tt
+write_line-within device files (d ∷ []) = tt
+write_line-within device files (d ∷ h ∷ []) =
+    IfOk-then (descriptor_in d) _ _ (IsWithin device files) (descriptor-range d)
+    (λ fd low. IfOk-then (bytes_in h) _ _ (IsWithin device files) (bytes_in-room h) (λ bytes short. (low, short)))
+write_line-within device files (d ∷ h ∷ x ∷ more) = tt
 
-ioctl_line-within : (device : DeviceSeen) (arguments : List (List ℕ)) → IfOk (ioctl_line arguments) (IsWithin device)
+-- a word that names a file gives its place
+file_in-place : (files : List DataFileSeen) (word : List ℕ) → IfOk (file_in files word) (λ file. file < length files)
+file_in-place files word =
+    found-place (position (is_file_named word) files) (λ place e. (position-Some (is_file_named word) files place some_file e).0)
+
+send_line-within : (device : DeviceSeen) (files : List DataFileSeen) (arguments : List (List ℕ)) → IfOk (send_line files arguments) (IsWithin device files)
+unfolding send_line
+send_line-within device files [] = tt
+send_line-within device files (d ∷ []) = tt
+send_line-within device files (d ∷ f ∷ []) = tt
+send_line-within device files (d ∷ f ∷ o ∷ []) = tt
+send_line-within device files (d ∷ f ∷ o ∷ l ∷ []) =
+    IfOk-then (descriptor_in d) _ _ (IsWithin device files) (descriptor-range d)
+    (λ fd low. IfOk-then (file_in files f) _ _ (IsWithin device files) (file_in-place files f)
+    (λ file there. IfOk-after (number_in o) _ (IsWithin device files)
+    (λ at. IfOk-then (length_in (size_of files file) at l) _ _ (IsWithin device files) (length_in-room (size_of files file) at l)
+    (λ count room. (low, there, room)))))
+send_line-within device files (d ∷ f ∷ o ∷ l ∷ x ∷ more) = tt
+
+ioctl_line-within : (device : DeviceSeen) (files : List DataFileSeen) (arguments : List (List ℕ)) → IfOk (ioctl_line arguments) (IsWithin device files)
 unfolding ioctl_line
-ioctl_line-within device [] = tt
-ioctl_line-within device (d ∷ []) = tt
-ioctl_line-within device (d ∷ name ∷ []) =
-    IfOk-after (as_plain (request_named name)) _ (IsWithin device)
-    (λ named. IfOk-then (descriptor_in d) _ _ (IsWithin device) (descriptor-range d)
-    (λ fd low. IfOk-after (or_fault named Name) _ (IsWithin device) (λ request. low)))
-ioctl_line-within device (d ∷ name ∷ a ∷ []) =
-    IfOk-after (as_full (request_named name)) _ (IsWithin device)
-    (λ named. IfOk-then (descriptor_in d) _ _ (IsWithin device) (descriptor-range d)
-    (λ fd low. IfOk-after (or_fault named Name) _ (IsWithin device)
-    (λ setter. IfOk-after (argument_in setter a) _ (IsWithin device) (λ argument. low))))
-ioctl_line-within device (d ∷ name ∷ a ∷ x ∷ more) = tt
+ioctl_line-within device files [] = tt
+ioctl_line-within device files (d ∷ []) = tt
+ioctl_line-within device files (d ∷ name ∷ []) =
+    IfOk-after (as_plain (request_named name)) _ (IsWithin device files)
+    (λ named. IfOk-then (descriptor_in d) _ _ (IsWithin device files) (descriptor-range d)
+    (λ fd low. IfOk-after (or_fault named Name) _ (IsWithin device files) (λ request. low)))
+ioctl_line-within device files (d ∷ name ∷ a ∷ []) =
+    IfOk-after (as_full (request_named name)) _ (IsWithin device files)
+    (λ named. IfOk-then (descriptor_in d) _ _ (IsWithin device files) (descriptor-range d)
+    (λ fd low. IfOk-after (or_fault named Name) _ (IsWithin device files)
+    (λ setter. IfOk-after (argument_in setter a) _ (IsWithin device files) (λ argument. low))))
+ioctl_line-within device files (d ∷ name ∷ a ∷ x ∷ more) = tt
 
-close_line-within : (device : DeviceSeen) (arguments : List (List ℕ)) → IfOk (close_line arguments) (IsWithin device)
+close_line-within : (device : DeviceSeen) (files : List DataFileSeen) (arguments : List (List ℕ)) → IfOk (close_line arguments) (IsWithin device files)
 unfolding close_line
-close_line-within device [] = tt
-close_line-within device (d ∷ []) = IfOk-then (descriptor_in d) _ _ (IsWithin device) (descriptor-range d) (λ fd low. low)
-close_line-within device (d ∷ x ∷ more) = tt
+close_line-within device files [] = tt
+close_line-within device files (d ∷ []) = IfOk-then (descriptor_in d) _ _ (IsWithin device files) (descriptor-range d) (λ fd low. low)
+close_line-within device files (d ∷ x ∷ more) = tt
 
-interrupt_line-within : (device : DeviceSeen) (arguments : List (List ℕ)) → IfOk (interrupt_line device arguments) (IsWithin device)
+interrupt_line-within : (device : DeviceSeen) (files : List DataFileSeen) (arguments : List (List ℕ)) → IfOk (interrupt_line device arguments) (IsWithin device files)
 unfolding interrupt_line
-interrupt_line-within device [] = λ blocks. (blocks.some, blocks.room)
-interrupt_line-within device (n ∷ []) =
-    IfOk-then (number_within 1 (ring_frames device) n) _ _ (IsWithin device) (number_within-range 1 (ring_frames device) n) (λ frames range blocks. range)
-interrupt_line-within device (n ∷ x ∷ more) = tt
+interrupt_line-within device files [] = λ blocks. (blocks.some, blocks.room)
+interrupt_line-within device files (n ∷ []) =
+    IfOk-then (number_within 1 (ring_frames device) n) _ _ (IsWithin device files) (number_within-range 1 (ring_frames device) n) (λ frames range blocks. range)
+interrupt_line-within device files (n ∷ x ∷ more) = tt
 
 -- what a judgement gives is within
-record GivesWithin (device : DeviceSeen) (judged : Result LineEvent ScriptKind) : Type 0 where
-  kept : IfOk judged (IsWithin device)
+record GivesWithin (device : DeviceSeen) (files : List DataFileSeen) (judged : Result LineEvent ScriptKind) : Type 0 where
+  kept : IfOk judged (IsWithin device files)
 
-either : (device : DeviceSeen) (test : Bool) {one other : Result LineEvent ScriptKind} → GivesWithin device one → GivesWithin device other
-    → GivesWithin device (cond test one other)
-either device true here there = here
-either device false here there = there
+either : (device : DeviceSeen) (files : List DataFileSeen) (test : Bool) {one other : Result LineEvent ScriptKind} → GivesWithin device files one → GivesWithin device files other
+    → GivesWithin device files (cond test one other)
+either device files true here there = here
+either device files false here there = there
 
-refused : (device : DeviceSeen) (kind : ScriptKind) → GivesWithin device (Err kind)
-refused device kind = record { kept = tt }
+refused : (device : DeviceSeen) (files : List DataFileSeen) (kind : ScriptKind) → GivesWithin device files (Err kind)
+refused device files kind = record { kept = tt }
 
-command_line-within : (device : DeviceSeen) (word : List ℕ) (arguments : List (List ℕ))
-    → IfOk (command_line device word arguments) (IsWithin device)
+command_line-within : (device : DeviceSeen) (files : List DataFileSeen) (word : List ℕ) (arguments : List (List ℕ))
+    → IfOk (command_line device files word arguments) (IsWithin device files)
 unfolding command_line
-command_line-within device word arguments =
-    (either device (bytes_eq word (codes "open")) (record { kept = open_line-within device arguments })
-    (either device (bytes_eq word (codes "write")) (record { kept = write_line-within device arguments })
-    (either device (bytes_eq word (codes "ioctl")) (record { kept = ioctl_line-within device arguments })
-    (either device (bytes_eq word (codes "close")) (record { kept = close_line-within device arguments })
-    (either device (bytes_eq word (codes "intr")) (record { kept = interrupt_line-within device arguments })
-    (either device (bytes_eq word (codes "send")) (refused device Unbuilt)
-    (either device (bytes_eq word (codes "read")) (refused device Unbuilt) (refused device Word)))))))).kept
+command_line-within device files word arguments =
+    (either device files (bytes_eq word (codes "open")) (record { kept = open_line-within device files arguments })
+    (either device files (bytes_eq word (codes "write")) (record { kept = write_line-within device files arguments })
+    (either device files (bytes_eq word (codes "send")) (record { kept = send_line-within device files arguments })
+    (either device files (bytes_eq word (codes "ioctl")) (record { kept = ioctl_line-within device files arguments })
+    (either device files (bytes_eq word (codes "close")) (record { kept = close_line-within device files arguments })
+    (either device files (bytes_eq word (codes "intr")) (record { kept = interrupt_line-within device files arguments })
+    (either device files (bytes_eq word (codes "read")) (refused device files Unbuilt) (refused device files Word)))))))).kept
 
 -- what each line asks for is within
-pub line_event-within : (device : DeviceSeen) (words : List (List ℕ))
-    → IfOk (line_event device words) (λ asked. IfSome asked (IsWithin device))
+pub line_event-within : (device : DeviceSeen) (files : List DataFileSeen) (words : List (List ℕ))
+    → IfOk (line_event device files words) (λ asked. IfSome asked (IsWithin device files))
 unfolding line_event
-line_event-within device [] = tt
-line_event-within device (word ∷ arguments) =
-    IfOk-then (command_line device word arguments) _ (IsWithin device) (λ asked. IfSome asked (IsWithin device))
-    (command_line-within device word arguments) (λ event within. within)
+line_event-within device files [] = tt
+line_event-within device files (word ∷ arguments) =
+    IfOk-then (command_line device files word arguments) _ (IsWithin device files) (λ asked. IfSome asked (IsWithin device files))
+    (command_line-within device files word arguments) (λ event within. within)
 
-own_bytes-room : (device : DeviceSeen) (line : LineEvent) → IsWithin device line → length (own_bytes line) ≤ WRITE_BYTES
-own_bytes-room device (Open fd plays settings) within = omega arith
-own_bytes-room device (Write fd bytes) within = within.1
-own_bytes-room device (Ioctl fd request) within = omega arith
-own_bytes-room device (Close fd) within = omega arith
-own_bytes-room device (Intr frames) within = omega arith
+own_bytes-room : (device : DeviceSeen) (files : List DataFileSeen) (line : LineEvent) → IsWithin device files line → length (own_bytes line) ≤ WRITE_BYTES
+own_bytes-room device files (Open fd plays settings) within = omega arith
+own_bytes-room device files (Write fd bytes) within = within.1
+own_bytes-room device files (Send fd file at count) within = omega arith
+own_bytes-room device files (Ioctl fd request) within = omega arith
+own_bytes-room device files (Close fd) within = omega arith
+own_bytes-room device files (Intr frames) within = omega arith
 
 -- no line names more bytes than a write has
-pub asked-room : (device : DeviceSeen) (words : List (List ℕ)) (answer : Result (Option LineEvent) LineFault) (line : LineEvent)
-    → Asks answer (line_event device words) → answer ≡ Ok (Some line) → length (own_bytes line) ≤ WRITE_BYTES
-asked-room device words answer line gives same =
-    let judged : line_event device words ≡ Ok (Some line) = subst (λ r. Asks r (line_event device words)) same gives in
-    own_bytes-room device line (subst (λ r. IfOk r (λ asked. IfSome asked (IsWithin device))) judged (line_event-within device words))
+pub asked-room : (device : DeviceSeen) (files : List DataFileSeen) (words : List (List ℕ)) (answer : Result (Option LineEvent) LineFault) (line : LineEvent)
+    → Asks answer (line_event device files words) → answer ≡ Ok (Some line) → length (own_bytes line) ≤ WRITE_BYTES
+asked-room device files words answer line gives same =
+    let judged : line_event device files words ≡ Ok (Some line) = subst (λ r. Asks r (line_event device files words)) same gives in
+    own_bytes-room device files line (subst (λ r. IfOk r (λ asked. IfSome asked (IsWithin device files))) judged (line_event-within device files words))

@@ -1,7 +1,8 @@
 -- Numbers of words that no command allows.
 use Rattle.std.proofs.Common.{◌≡◌, ◌≢◌, ℕ, List, [], ◌∷◌, length, Err, refl}
 use Rattle.pcm_script.specs.declared.fault.ScriptKind.TheVariants.{Count}
-use Rattle.pcm_script.specs.Commands.{open_line}
+use Rattle.pcm_wave.specs.DataFiles.{DataFileSeen}
+use Rattle.pcm_script.specs.Commands.{open_line, send_line}
 
 -- an open has two arguments or five
 pub open_line-count : (arguments : List (List ℕ)) → length arguments ≢ 2 → length arguments ≢ 5 → open_line arguments ≡ Err Count
@@ -13,3 +14,12 @@ open_line-count (a ∷ b ∷ c ∷ []) two five = refl
 open_line-count (a ∷ b ∷ c ∷ d ∷ []) two five = refl
 open_line-count (a ∷ b ∷ c ∷ d ∷ e ∷ []) two five = absurd (five refl)
 open_line-count (a ∷ b ∷ c ∷ d ∷ e ∷ f ∷ more) two five = refl
+
+pub send_line-count : (files : List DataFileSeen) (arguments : List (List ℕ)) → length arguments ≢ 4 → send_line files arguments ≡ Err Count
+unfolding send_line
+send_line-count files [] other = refl
+send_line-count files (d ∷ []) other = refl
+send_line-count files (d ∷ f ∷ []) other = refl
+send_line-count files (d ∷ f ∷ o ∷ []) other = refl
+send_line-count files (d ∷ f ∷ o ∷ l ∷ []) other = absurd (other refl)
+send_line-count files (d ∷ f ∷ o ∷ l ∷ x ∷ more) other = refl

@@ -3,27 +3,30 @@ use Rattle.std.specs.Prelude.{ℕ, ◌+◌, ◌*◌, Bool, true, not, ◌&&◌, 
 use Rattle.pcm_oss.specs.declared.event.Event.{Event}
 use Rattle.pcm_oss.specs.declared.event.Event.TheVariants as events
 use Rattle.pcm_oss.specs.declared.event.Way.TheVariants.{Play}
+use Rattle.pcm_wave.specs.declared.pool.Source.TheVariants.{Inline, File}
 use Rattle.pcm_desk.specs.declared.limits.TheConstants.{DEVICE_BYTES, EVENTS}
 use Rattle.pcm_desk.specs.Device.{DeviceSeen, device_frame_bytes}
 use Rattle.pcm_desk.specs.Events.{frames_taken}
 use Rattle.pcm_script.specs.declared.fault.ScriptKind.{ScriptKind}
 use Rattle.pcm_script.specs.declared.fault.ScriptKind.TheVariants.{Long, Unbuilt}
 use Rattle.pcm_script.specs.declared.line_event.LineEvent.{LineEvent}
-use Rattle.pcm_script.specs.declared.line_event.LineEvent.TheVariants.{Open, Write, Ioctl, Close, Intr}
+use Rattle.pcm_script.specs.declared.line_event.LineEvent.TheVariants.{Open, Write, Send, Ioctl, Close, Intr}
 use Rattle.pcm_script.specs.declared.script.Script.{Script}
 
 -- the bytes that a line names
 abbrev pub own_bytes : LineEvent → List ℕ
 own_bytes (Open fd plays settings) = []
 own_bytes (Write fd bytes) = bytes
+own_bytes (Send fd file at count) = []
 own_bytes (Ioctl fd request) = []
 own_bytes (Close fd) = []
 own_bytes (Intr frames) = []
 
--- the event of a line whose bytes stand at a place
+-- the event of a line whose own bytes stand at a place; to send is to write what stands in a file
 abbrev pub event_at : ℕ → LineEvent → Event
 event_at place (Open fd plays settings) = events.Open fd Play settings
-event_at place (Write fd bytes) = events.Write fd place (length bytes)
+event_at place (Write fd bytes) = events.Write fd Inline place (length bytes)
+event_at place (Send fd file at count) = events.Write fd (File file) at count
 event_at place (Ioctl fd request) = events.Ioctl fd request
 event_at place (Close fd) = events.Close fd
 event_at place (Intr frames) = events.Intr frames
@@ -41,6 +44,7 @@ has_room device script frames =
 abbrev pub is_built : LineEvent → Bool
 is_built (Open fd plays settings) = plays
 is_built (Write fd bytes) = true
+is_built (Send fd file at count) = true
 is_built (Ioctl fd request) = true
 is_built (Close fd) = true
 is_built (Intr frames) = true

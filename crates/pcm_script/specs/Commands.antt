@@ -1,5 +1,5 @@
 -- What each command asks of its words, one judgement after another from left to right, and the event that it gives.
-use Rattle.std.specs.Prelude.{ℕ, ◌-◌, Bool, true, false, nat_le, if◌then◌else◌, List, [], ◌∷◌, length, Option, Some, None, Result, Ok, Err, codes}
+use Rattle.std.specs.Prelude.{ℕ, ◌+◌, ◌-◌, Bool, true, false, nat_le, if◌then◌else◌, List, [], ◌∷◌, length, position, slice_get, Option, Some, None, Result, Ok, Err, codes}
 use Rattle.std.specs.Result.{result_ok}
 use Rattle.std.specs.Str.{bytes_eq}
 use Rattle.hex.specs.Hex.{decode_of}
@@ -9,13 +9,15 @@ use Rattle.pcm_format.specs.declared.layout.Layout.{Layout}
 use Rattle.pcm_format.specs.declared.settings.TheConstants.{RATE_LEAST, RATE_MOST}
 use Rattle.pcm_format.specs.Formats.{code_of, format_named}
 use Rattle.pcm_format.specs.Layouts.{layout_of}
+use Rattle.pcm_wave.specs.DataFiles.{DataFileSeen}
+use Rattle.pcm_wave.specs.Pools.{body_in}
 use Rattle.pcm_desk.specs.declared.device.TheConstants.{OPENING}
 use Rattle.pcm_desk.specs.declared.limits.TheConstants.{DESCRIPTORS, WRITE_BYTES}
 use Rattle.pcm_desk.specs.Device.{DeviceSeen, block_frames, ring_frames}
 use Rattle.pcm_script.specs.declared.fault.ScriptKind.{ScriptKind}
 use Rattle.pcm_script.specs.declared.fault.ScriptKind.TheVariants.{Word, Count, Name, Hex, Range, Unbuilt}
 use Rattle.pcm_script.specs.declared.line_event.LineEvent.{LineEvent}
-use Rattle.pcm_script.specs.declared.line_event.LineEvent.TheVariants.{Open, Write, Ioctl, Close, Intr}
+use Rattle.pcm_script.specs.declared.line_event.LineEvent.TheVariants.{Open, Write, Send, Ioctl, Close, Intr}
 use Rattle.pcm_script.specs.declared.request.Setter.{Setter}
 use Rattle.pcm_script.specs.declared.request.Setter.TheVariants.{SetFmt, Speed, Channels, SetFragment, SetTrigger, SetPlayVol}
 use Rattle.pcm_script.specs.Steps.{◌>>=◌}
@@ -107,6 +109,38 @@ write_line (d ∷ h ∷ []) = do
   Ok (Write fd bytes)
 write_line arguments = Err Count
 
+-- whether a word names a file
+abbrev pub is_file_named : List ℕ → DataFileSeen → Bool
+is_file_named word file = bytes_eq file.name word
+
+-- the place of the file that a word names
+abbrev pub file_in : List DataFileSeen → List ℕ → Result ℕ ScriptKind
+file_in files word = or_fault (position (is_file_named word) files) Name
+
+-- so many bytes, which must end within a body
+abbrev pub ending_within : ℕ → ℕ → ℕ → Result ℕ ScriptKind
+ending_within size end count = if nat_le end size then Ok count else Err Range
+
+-- how many bytes a word asks for, which must be there behind a place of a body
+abbrev pub length_in : ℕ → ℕ → List ℕ → Result ℕ ScriptKind
+length_in size at word = do
+  count ← number_in word
+  ending_within size (at + count) count
+
+-- how many bytes the file at a place has to send
+abbrev pub size_of : List DataFileSeen → ℕ → ℕ
+size_of files file = length (body_in (slice_get files file))
+
+-- `send D FILE OFFSET LENGTH`
+unfoldable pub send_line : List DataFileSeen → List (List ℕ) → Result LineEvent ScriptKind
+send_line files (d ∷ f ∷ o ∷ l ∷ []) = do
+  fd ← descriptor_in d
+  file ← file_in files f
+  at ← number_in o
+  count ← length_in (size_of files file) at l
+  Ok (Send fd file at count)
+send_line files arguments = Err Count
+
 -- `ioctl D NAME` and `ioctl D NAME A`. The name says how many words there are. Whether it is one is judged in its turn.
 unfoldable pub ioctl_line : List (List ℕ) → Result LineEvent ScriptKind
 ioctl_line (d ∷ name ∷ []) = do
@@ -137,21 +171,21 @@ interrupt_line device (n ∷ []) = do
   Ok (Intr frames)
 interrupt_line device arguments = Err Count
 
--- A command by its first word. The last two commands aren't built yet.
-unfoldable pub command_line : DeviceSeen → List ℕ → List (List ℕ) → Result LineEvent ScriptKind
-command_line device word arguments =
+-- A command by its first word. The last command isn't built yet.
+unfoldable pub command_line : DeviceSeen → List DataFileSeen → List ℕ → List (List ℕ) → Result LineEvent ScriptKind
+command_line device files word arguments =
     if bytes_eq word (codes "open") then open_line arguments
     else if bytes_eq word (codes "write") then write_line arguments
+    else if bytes_eq word (codes "send") then send_line files arguments
     else if bytes_eq word (codes "ioctl") then ioctl_line arguments
     else if bytes_eq word (codes "close") then close_line arguments
     else if bytes_eq word (codes "intr") then interrupt_line device arguments
-    else if bytes_eq word (codes "send") then Err Unbuilt
     else if bytes_eq word (codes "read") then Err Unbuilt
     else Err Word
 
 -- What a line of these words asks for, judged by itself: nothing if it has none, else the event of its command.
-unfoldable pub line_event : DeviceSeen → List (List ℕ) → Result (Option LineEvent) ScriptKind
-line_event device [] = Ok None
-line_event device (word ∷ arguments) = do
-  event ← command_line device word arguments
+unfoldable pub line_event : DeviceSeen → List DataFileSeen → List (List ℕ) → Result (Option LineEvent) ScriptKind
+line_event device files [] = Ok None
+line_event device files (word ∷ arguments) = do
+  event ← command_line device files word arguments
   Ok (Some event)

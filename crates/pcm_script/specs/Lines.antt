@@ -1,6 +1,7 @@
 -- A script's text: each line is judged by itself, and then all are collected, up to the first that is refused.
 use Rattle.std.specs.Prelude.{ℕ, ◌+◌, ◌*◌, nat_lt, if◌then◌else◌, List, [], ◌∷◌, length, map, Option, Result, Ok, Err, All}
-use Rattle.pcm_format.specs.declared.pool.Pool.{Pool}
+use Rattle.pcm_wave.specs.declared.pool.Pool.{Pool}
+use Rattle.pcm_wave.specs.DataFiles.{DataFileSeen}
 use Rattle.pcm_desk.specs.Device.{DeviceSeen, device_frame_bytes}
 use Rattle.pcm_desk.specs.Events.{Fits}
 use Rattle.pcm_script.specs.declared.fault.ScriptKind.{ScriptKind}
@@ -18,21 +19,21 @@ use Rattle.pcm_script.specs.Collecting.{with_line}
 abbrev pub empty_script : Script
 empty_script = record { events = []; inline_bytes = []; device_frames = 0 }
 
--- where the bytes of a script's events are found
-abbrev pub pool_of : Script → Pool
-pool_of script = record { inline_bytes = script.inline_bytes }
+-- where the bytes of a script's events are found: in its own lines, and in data files
+abbrev pub pool_of : List DataFileSeen → Script → Pool
+pool_of files script = record { files = files; inline_bytes = script.inline_bytes }
 
 -- each event fits the device, and names bytes that are there
-abbrev pub AllFit : DeviceSeen → Script → Type 0
-AllFit device script = All (Fits device (pool_of script)) script.events
+abbrev pub AllFit : DeviceSeen → List DataFileSeen → Script → Type 0
+AllFit device files script = All (Fits device (pool_of files script)) script.events
 
 -- the bytes that the device takes
 abbrev pub bytes_taken : DeviceSeen → Script → ℕ
 bytes_taken device script = script.device_frames * device_frame_bytes device
 
 -- what the lines of a text ask for, each judged by itself
-abbrev pub lines_read : DeviceSeen → List (List ℕ) → List (Result (Option LineEvent) ScriptKind)
-lines_read device lines = map (λ line. line_event device (words_of line)) lines
+abbrev pub lines_read : DeviceSeen → List DataFileSeen → List (List ℕ) → List (Result (Option LineEvent) ScriptKind)
+lines_read device files lines = map (λ line. line_event device files (words_of line)) lines
 
 -- what a line is refused for, with its number
 abbrev pub at_line : ℕ → Result Script ScriptKind → Result Script Refusal
@@ -47,7 +48,7 @@ collected device script number (line ∷ lines) = do
   collected device more (number + 1) lines
 
 -- the script that a text is; too long a text is refused as line 0
-unfoldable pub script_read : DeviceSeen → List ℕ → Result Script Refusal
-script_read device text =
+unfoldable pub script_read : DeviceSeen → List DataFileSeen → List ℕ → Result Script Refusal
+script_read device files text =
     if nat_lt TEXT_BYTES (length text) then Err (record { line = 0; kind = Long })
-    else collected device empty_script 1 (lines_read device (lines_of text))
+    else collected device empty_script 1 (lines_read device files (lines_of text))

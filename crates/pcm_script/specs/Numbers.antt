@@ -22,6 +22,10 @@ digits_value base digits = fold (λ value digit. value * base + digit_of (hex_di
 abbrev pub are_digits : (ℕ → Bool) → ℕ → List ℕ → Bool
 are_digits is_digit most digits = nat_le 1 (length digits) && nat_le (length digits) most && list_all is_digit digits
 
+-- the number of a word of one to ten decimal digits
+abbrev pub decimal_in : List ℕ → Option ℕ
+decimal_in word = if are_digits is_decimal_digit 10 word then Some (digits_value 10 word) else None
+
 -- a word with the prefix of hexadecimal numbers taken off, if it has it
 abbrev pub after_prefix : List ℕ → Option (List ℕ)
 after_prefix word = if starts_with nat_eq word (codes "0x") then Some (drop 2 word) else None

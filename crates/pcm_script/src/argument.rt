@@ -1,8 +1,8 @@
 //! The words that follow a command.
 
-ghost use Rattle.std.specs.Prelude.{◌≡◌};
+ghost use Rattle.std.specs.Prelude.{◌≡◌, ◌+◌, ◌^◌, ◌<◌, ◌≤◌, IfOk, IfSome, length, position};
 ghost use Rattle.pcm_script.specs.Answers.{Gives};
-ghost use Rattle.pcm_script.specs.Commands.{argument_in, bytes_in, code_in, descriptor_in, format_in, layout_in, plays_in, rate_in};
+ghost use Rattle.pcm_script.specs.Commands.{argument_in, bytes_in, code_in, descriptor_in, file_in, format_in, is_file_named, layout_in, length_in, plays_in, rate_in, size_of};
 
 use crate::ScriptKind;
 use crate::fault::LineFault;
@@ -11,6 +11,7 @@ use crate::request::Setter;
 use hex::FromHexError;
 use pcm_desk::{DESCRIPTORS, WRITE_BYTES};
 use pcm_format::{Format, Layout, RATE_LEAST, RATE_MOST};
+use pcm_wave::DataFile;
 use std::alloc::Global;
 
 // A descriptor.
@@ -56,6 +57,50 @@ pub(crate) fn rate_in(word: &[u8]) -> Result<u32, ScriptKind>
     ensures { result ≡ rate_in word.now }
 {
     number_within(RATE_LEAST, RATE_MOST, word)
+}
+
+// The place of the file that a word names.
+pub(crate) fn file_in(files: &[DataFile], word: &[u8]) -> Result<usize, ScriptKind>
+    ensures value { result ≡ file_in files.now word.now }
+    ensures within { IfOk result (λ place. place < length files.now) }
+{
+    place_named(files, word).ok_or(ScriptKind::Name)
+}
+
+// The place of the first file that a word names.
+fn place_named(files: &[DataFile], word: &[u8]) -> Option<usize>
+    ensures value { result ≡ position (is_file_named word.now) files.now }
+    ensures within { IfSome result (λ place. place < length files.now) }
+{
+    files.iter().position(|file| is_file_named(file, word))
+}
+
+// How many bytes the file at a place has to send.
+pub(crate) fn size_of(files: &[DataFile], place: usize) -> u64
+    requires { place < length files.now }
+    ensures value { result ≡ size_of files.now place }
+    ensures most { result < 2 ^ 32 }
+{
+    files[place].body().len() as u64
+}
+
+// Whether a word names a file.
+fn is_file_named(file: &DataFile, word: &[u8]) -> bool
+    ensures { result ≡ is_file_named word.now file.now }
+{
+    file.name().as_bytes() == word
+}
+
+// How many bytes a word asks for, which must stand behind place `at` of a body of this size.
+pub(crate) fn length_in(size: u64, at: u64, word: &[u8]) -> Result<u64, ScriptKind>
+    ensures value { result ≡ length_in size at word.now }
+    ensures within { IfOk result (λ count. at + count ≤ size) }
+{
+    let count = number_in(word)?;
+    if at > size || count > size - at {
+        return Err(ScriptKind::Range);
+    }
+    Ok(count)
 }
 
 // The argument of a request: any number, and for a format its name as well.

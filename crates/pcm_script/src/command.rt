@@ -3,19 +3,21 @@
 ghost use Rattle.std.specs.Prelude.{◌≡◌, ◌∷◌, []};
 ghost use Rattle.pcm_desk.specs.Device.{seen};
 ghost use Rattle.pcm_script.specs.Answers.{Asks};
-ghost use Rattle.pcm_script.specs.Commands.{close_line, command_line, interrupt_line, ioctl_line, line_event, open_line, write_line};
+ghost use Rattle.pcm_script.specs.Commands.{close_line, command_line, interrupt_line, ioctl_line, line_event, open_line, send_line, write_line};
 ghost use Rattle.pcm_script.specs.Words.{lent};
 
 use crate::ScriptKind;
 use crate::argument::{
-    argument_in, bytes_in, descriptor_in, format_in, layout_in, plays_in, rate_in,
+    argument_in, bytes_in, descriptor_in, file_in, format_in, layout_in, length_in, plays_in,
+    rate_in, size_of,
 };
 use crate::fault::LineFault;
 use crate::line_event::LineEvent;
-use crate::number::number_within;
+use crate::number::{number_in, number_within};
 use crate::request::{full_request, plain_request};
 use pcm_desk::{Device, OPENING};
 use pcm_format::{Bytes, Settings};
+use pcm_wave::DataFile;
 use std::alloc::Global;
 
 // What a line of these words asks for.
@@ -23,13 +25,14 @@ use std::alloc::Global;
 pub(crate) fn line_event(
     alloc: Global,
     device: &Device,
+    files: &[DataFile],
     words: &[&[u8]],
 ) -> Result<Option<LineEvent>, LineFault>
-    ensures { Asks result (line_event (seen device.now) (lent words.now)) }
+    ensures { Asks result (line_event (seen device.now) files.now (lent words.now)) }
 {
     match words {
         [] => Ok(None),
-        [word, arguments @ ..] => Ok(Some(command_line(alloc, device, word, arguments)?)),
+        [word, arguments @ ..] => Ok(Some(command_line(alloc, device, files, word, arguments)?)),
     }
 }
 
@@ -37,22 +40,26 @@ pub(crate) fn line_event(
 fn command_line(
     alloc: Global,
     device: &Device,
+    files: &[DataFile],
     word: &[u8],
     arguments: &[&[u8]],
 ) -> Result<LineEvent, LineFault>
-    ensures { Asks result (command_line (seen device.now) word.now (lent arguments.now)) }
+    ensures { Asks result
+        (command_line (seen device.now) files.now word.now (lent arguments.now)) }
 {
     if word == b"open".as_slice() {
         Ok(open_line(arguments)?)
     } else if word == b"write".as_slice() {
         write_line(alloc, arguments)
+    } else if word == b"send".as_slice() {
+        Ok(send_line(files, arguments)?)
     } else if word == b"ioctl".as_slice() {
         Ok(ioctl_line(arguments)?)
     } else if word == b"close".as_slice() {
         Ok(close_line(arguments)?)
     } else if word == b"intr".as_slice() {
         Ok(interrupt_line(device, arguments)?)
-    } else if word == b"send".as_slice() || word == b"read".as_slice() {
+    } else if word == b"read".as_slice() {
         Err(LineFault::Refused(ScriptKind::Unbuilt))
     } else {
         Err(LineFault::Refused(ScriptKind::Word))
@@ -122,6 +129,39 @@ fn full_write(alloc: Global, d: &[u8], h: &[u8]) -> Result<LineEvent, LineFault>
     let fd = descriptor_in(d)?;
     let bytes = Bytes::new(bytes_in(alloc, h)?);
     Ok(LineEvent::Write { fd, bytes })
+}
+
+#[tactic(auto, unfolding(crate::specs::Commands::send_line))]
+fn send_line(files: &[DataFile], arguments: &[&[u8]]) -> Result<LineEvent, ScriptKind>
+    ensures { result ≡ send_line files.now (lent arguments.now) }
+{
+    let [d, f, o, l] = arguments else {
+        return Err(ScriptKind::Count);
+    };
+    full_send(files, d, f, o, l)
+}
+
+// A send that names a descriptor, a file, and a part of its body.
+#[tactic(auto, unfolding(crate::specs::Commands::send_line))]
+fn full_send(
+    files: &[DataFile],
+    d: &[u8],
+    f: &[u8],
+    o: &[u8],
+    l: &[u8],
+) -> Result<LineEvent, ScriptKind>
+    ensures { result ≡ send_line files.now (d.now ∷ f.now ∷ o.now ∷ l.now ∷ []) }
+{
+    let fd = descriptor_in(d)?;
+    let file = file_in(files, f)?;
+    let at = number_in(o)?;
+    let count = length_in(size_of(files, file), at, l)?;
+    Ok(LineEvent::Send {
+        fd,
+        file,
+        at: at as u32,
+        count: count as u32,
+    })
 }
 
 #[tactic(auto, unfolding(crate::specs::Commands::ioctl_line))]

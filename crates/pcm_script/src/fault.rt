@@ -14,7 +14,7 @@ pub enum ScriptKind {
     Count,
     /// There is no number where the command wants one.
     Number,
-    /// A direction, a format or a request isn't one.
+    /// A direction, a format, a file or a request isn't one.
     Name,
     /// The bytes of a write are no pairs of hexadecimal digits, or too many.
     Hex,

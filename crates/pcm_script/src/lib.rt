@@ -16,5 +16,6 @@ mod words;
 
 pub use fault::{Refusal, ScriptFault, ScriptKind};
 pub use limits::TEXT_BYTES;
+pub use number::decimal_in;
 pub use reader::script_of;
 pub use script::{Events, Script};

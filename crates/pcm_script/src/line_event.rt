@@ -5,8 +5,9 @@ ghost use Rattle.pcm_desk.specs.declared.limits.TheConstants.{WRITE_BYTES};
 
 use pcm_format::{Bytes, Settings};
 use pcm_oss::{Event, Request, Way};
+use pcm_wave::Source;
 
-// An event with the bytes that the line names, and not yet a place for them.
+// An event with the bytes that the line spells, and not yet a place for them.
 #[derive(Drop)]
 pub(crate) enum LineEvent {
     Open {
@@ -17,6 +18,12 @@ pub(crate) enum LineEvent {
     Write {
         fd: u8,
         bytes: Bytes,
+    },
+    Send {
+        fd: u8,
+        file: usize,
+        at: u32,
+        count: u32,
     },
     Ioctl {
         fd: u8,
@@ -33,7 +40,7 @@ pub(crate) enum LineEvent {
 impl LineEvent {
     ghost use Rattle.pcm_script.specs.Collecting.{event_at, frames_asked, is_built, own_bytes};
 
-    // The bytes that the line names.
+    // The bytes that the line spells.
     pub(crate) fn bytes(&self) -> &[u8]
         ensures { result.now ≡ own_bytes self.now }
     {
@@ -76,8 +83,20 @@ impl LineEvent {
             },
             LineEvent::Write { fd, bytes } => Event::Write {
                 fd: *fd,
+                source: Source::Inline,
                 at: place,
                 len: bytes.as_slice().len() as u32,
+            },
+            LineEvent::Send {
+                fd,
+                file,
+                at,
+                count,
+            } => Event::Write {
+                fd: *fd,
+                source: Source::File(*file),
+                at: *at,
+                len: *count,
             },
             LineEvent::Ioctl { fd, request } => Event::Ioctl {
                 fd: *fd,

@@ -3,9 +3,19 @@
 ghost use Rattle.std.specs.Prelude.{◌≡◌, ◌≤◌, IsTrue, length, option_map, IfOk};
 ghost use Rattle.std.specs.List.{list_all};
 ghost use Rattle.hex.specs.Hex.{hex_digit_value, is_hex_digit};
-ghost use Rattle.pcm_script.specs.Numbers.{after_prefix, are_digits, digit_of, digits_value, is_decimal_digit, number_in, number_within};
+ghost use Rattle.pcm_script.specs.Numbers.{after_prefix, are_digits, decimal_in, digit_of, digits_value, is_decimal_digit, number_in, number_within};
 
 use crate::ScriptKind;
+
+/// The number of a word of one to ten decimal digits.
+pub fn decimal_in(word: &[u8]) -> Option<u64>
+    ensures { result ≡ decimal_in word.now }
+{
+    if !is_decimal(word) {
+        return None;
+    }
+    Some(digits_value(10, word))
+}
 
 // The number that a word spells.
 pub(crate) fn number_in(word: &[u8]) -> Result<u64, ScriptKind>

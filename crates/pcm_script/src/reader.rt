@@ -16,19 +16,26 @@ use crate::fault::LineFault;
 use crate::words::words_of;
 use crate::{Refusal, Script, ScriptFault, ScriptKind, TEXT_BYTES};
 use pcm_desk::Device;
+use pcm_wave::DataFile;
 use std::alloc::Global;
 
-/// Reads a script for a device: all its events, or its first line that is refused.
+/// Reads a script for a device and data files, whose bodies its lines may send: all its events, or its first line that is
+/// refused.
 #[tactic(auto, unfolding(crate::specs::Lines::script_read))]
-pub fn script_of(alloc: Global, bytes: &[u8], device: &Device) -> Result<Script, ScriptFault>
+pub fn script_of(
+    alloc: Global,
+    bytes: &[u8],
+    device: &Device,
+    files: &[DataFile],
+) -> Result<Script, ScriptFault>
     requires block { 0 < device.now.block_frames }
     requires ring { device.now.block_frames ≤ device.now.ring_frames }
 
-    // Only memory is free: else the answer is the one that the text and the device determine.
-    ensures read { Reads result (script_read (seen device.now) bytes.now) }
+    // Only memory is free: else the answer is the one that the text, the device and the files determine.
+    ensures read { Reads result (script_read (seen device.now) files.now bytes.now) }
 
     // What a script keeps.
-    ensures fits { IfOk result (λ script. AllFit (seen device.now) script) }
+    ensures fits { IfOk result (λ script. AllFit (seen device.now) files.now script) }
     ensures counts { IfOk result (λ script. length script.events ≤ EVENTS) }
     ensures frames { IfOk result (λ script. bytes_taken (seen device.now) script ≤ DEVICE_BYTES) }
     ensures sum { IfOk result (λ script. script.device_frames ≡ all_frames_taken script.events) }
@@ -40,7 +47,7 @@ pub fn script_of(alloc: Global, bytes: &[u8], device: &Device) -> Result<Script,
     let mut draft = Draft::new(alloc);
     let mut line = 1;
     for text in bytes.split(|byte| *byte == b'\n') {
-        match read_line(alloc, &mut draft, device, text) {
+        match read_line(alloc, &mut draft, device, files, text) {
             Ok(()) => line += 1,
             Err(LineFault::Refused(kind)) => {
                 return Err(ScriptFault::Refused(Refusal { line, kind }));
@@ -56,13 +63,15 @@ fn read_line(
     alloc: Global,
     draft: &mut Draft,
     device: &Device,
+    files: &[DataFile],
     text: &[u8],
 ) -> Result<(), LineFault>
     ensures { Gives (λ _. draft.new) result
-        (with_line (seen device.now) draft.old (line_event (seen device.now) (words_of text.now))) }
+        (with_line (seen device.now) draft.old
+        (line_event (seen device.now) files.now (words_of text.now))) }
 {
     let words = words_of(alloc, text)?;
-    match line_event(alloc, device, &words)? {
+    match line_event(alloc, device, files, &words)? {
         None => Ok(()),
         Some(line) => draft.add(device, &line),
     }

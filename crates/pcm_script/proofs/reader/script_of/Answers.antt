@@ -20,7 +20,7 @@ loop-text-preserved c =
       tt,
       omega (arith, c.loop-text.invariant.2),
       rw pushed
-          (sym (with_lines-more _ _ _ _ _ _ _ t.0 t.1 c.in-Ok.ensures) ∙ c.loop-text.invariant.3),
+          (sym (with_lines-more _ _ _ _ _ _ _ _ t.0 t.1 c.in-Ok.ensures) ∙ c.loop-text.invariant.3),
     )
 
 pub returns-in-Err-Refused-clause-read : goal.returns-in-Err-Refused-clause-read
@@ -31,7 +31,7 @@ returns-in-Err-Refused-clause-read c =
     c.loop-text.yielded _ c.loop-text.yielded_by _ _ c.in-Some.text c.in-Some.is c.next.ensures.steps in
     let refused = rw c.in-Err-Refused.field-0-is at c.in-Err-Refused.ensures in
     rw c.in-Err-Refused.kind-is
-    (script_read-lines _ _ (omega arith) ∙ sym c.loop-text.invariant.3 ∙ with_lines-refused _ _ _ _ _ _ _ t.0 t.1 refused)
+    (script_read-lines _ _ _ (omega arith) ∙ sym c.loop-text.invariant.3 ∙ with_lines-refused _ _ _ _ _ _ _ _ t.0 t.1 refused)
 
 pub returns-clause-read : goal.returns-clause-read
 returns-clause-read c =
@@ -40,20 +40,20 @@ returns-clause-read c =
     (YieldsList-from_slice_split _ (λ byte. byte == 10) c.args.bytes.now c.split-text-items.ensures.rest c.split-text-items.ensures.done c.split-text-items.ensures.closure (λ x b q k. search (rules, tests))))
     c.loop-text.yielded _ c.loop-text.yielded_by _ _ c.in-None.is c.next.ensures.steps in
     let past : length (lines_of c.args.bytes.now) ≤ length c.loop-text.yielded = omega (arith, t.1) in
-    script_read-lines _ _ (omega arith) ∙ sym c.loop-text.invariant.3 ∙ with_lines-end _ _ _ _ _ past ∙ ap Ok (sym c.into_script.ensures)
+    script_read-lines _ _ _ (omega arith) ∙ sym c.loop-text.invariant.3 ∙ with_lines-end _ _ _ _ _ _ past ∙ ap Ok (sym c.into_script.ensures)
 
 pub returns-clause-fits : goal.returns-clause-fits
 returns-clause-fits c =
-    (IfOk-at_ok (IsSound (seen c.args.device.now)) (returns-clause-read c) (script_read-sound (seen c.args.device.now) c.args.bytes.now (record { some = c.requires.block; room = c.requires.ring }))).fits
+    (IfOk-at_ok (IsSound (seen c.args.device.now) c.args.files.now) (returns-clause-read c) (script_read-sound (seen c.args.device.now) c.args.files.now c.args.bytes.now (record { some = c.requires.block; room = c.requires.ring }))).fits
 
 pub returns-clause-counts : goal.returns-clause-counts
 returns-clause-counts c =
-    (IfOk-at_ok (IsSound (seen c.args.device.now)) (returns-clause-read c) (script_read-sound (seen c.args.device.now) c.args.bytes.now (record { some = c.requires.block; room = c.requires.ring }))).counts
+    (IfOk-at_ok (IsSound (seen c.args.device.now) c.args.files.now) (returns-clause-read c) (script_read-sound (seen c.args.device.now) c.args.files.now c.args.bytes.now (record { some = c.requires.block; room = c.requires.ring }))).counts
 
 pub returns-clause-frames : goal.returns-clause-frames
 returns-clause-frames c =
-    (IfOk-at_ok (IsSound (seen c.args.device.now)) (returns-clause-read c) (script_read-sound (seen c.args.device.now) c.args.bytes.now (record { some = c.requires.block; room = c.requires.ring }))).frames
+    (IfOk-at_ok (IsSound (seen c.args.device.now) c.args.files.now) (returns-clause-read c) (script_read-sound (seen c.args.device.now) c.args.files.now c.args.bytes.now (record { some = c.requires.block; room = c.requires.ring }))).frames
 
 pub returns-clause-sum : goal.returns-clause-sum
 returns-clause-sum c =
-    (IfOk-at_ok (IsSound (seen c.args.device.now)) (returns-clause-read c) (script_read-sound (seen c.args.device.now) c.args.bytes.now (record { some = c.requires.block; room = c.requires.ring }))).sum
+    (IfOk-at_ok (IsSound (seen c.args.device.now) c.args.files.now) (returns-clause-read c) (script_read-sound (seen c.args.device.now) c.args.files.now c.args.bytes.now (record { some = c.requires.block; room = c.requires.ring }))).sum

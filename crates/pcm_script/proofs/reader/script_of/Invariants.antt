@@ -10,4 +10,4 @@ invariant-loop-text l =
     (goal.iterator-loop-text).can_next l.text-iterator ×
     (goal.iterator-loop-text).is_finite l.text-iterator ×
     (l.line ≡ length l.yielded + 1) ×
-    (with_lines (seen l.device) l.draft l.line (drop (length l.yielded) (lines_of l.bytes)) ≡ with_lines (seen l.device) empty_script 1 (lines_of l.bytes))
+    (with_lines (seen l.device) l.files l.draft l.line (drop (length l.yielded) (lines_of l.bytes)) ≡ with_lines (seen l.device) l.files empty_script 1 (lines_of l.bytes))
