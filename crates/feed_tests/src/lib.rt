@@ -5,6 +5,8 @@
 #[cfg(test)]
 mod chains;
 #[cfg(test)]
+mod conversions;
+#[cfg(test)]
 mod depth;
 #[cfg(test)]
 mod hold;

@@ -1,5 +1,5 @@
 -- How a call ends whose script was read.
-use Rattle.std.proofs.Common.{◌≡◌, ℕ, List, Some, Result, Ok, Err, IfErr, IfOk, IsTrue, OnOk, ◌∙◌, ap, refl, subst, sym}
+use Rattle.std.proofs.Common.{◌≡◌, ℕ, List, Some, Result, Ok, Err, IfErr, IfOk, IsTrue, OnOk, ◌∙◌, ap, refl, subst, sym, []}
 use Rattle.pcm_outside.specs.Files.{OnlyReads}
 use Rattle.pcm_feeder.specs.Kept.{Kept}
 use Rattle.pcm_engine.specs.declared.engine.EngineOf.{EngineOf}
@@ -29,7 +29,7 @@ read_of words name accepted before between command cause only = record {
 
 pub finishes : {B : Type 0} (kept : B → Kept) (words : List (List ℕ)) (accepted : Accepted) (before between after : Outside) (r : Result (EngineOf B) Ending)
     → IsRead words accepted before between
-    → IfOk r (λ engine. RanThrough kept engine (pool_of accepted.script) accepted.script.events)
+    → IfOk r (λ engine. RanThrough kept engine (pool_of [] accepted.script) accepted.script.events)
     → OnOk r (WritesRun (output_of accepted) between after)
     → IfOk r (λ engine. Finishes kept engine words before after)
 finishes kept words accepted before between after (Ok engine) read ran writes = record {

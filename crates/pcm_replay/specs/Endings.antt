@@ -1,5 +1,5 @@
 -- What a call did, by its ending.
-use Rattle.std.specs.Prelude.{◌≡◌, ℕ, List}
+use Rattle.std.specs.Prelude.{◌≡◌, ℕ, List, []}
 use Rattle.pcm_feeder.specs.Kept.{Kept}
 use Rattle.pcm_engine.specs.declared.engine.EngineOf.{EngineOf}
 use Rattle.pcm_script.specs.Lines.{pool_of}
@@ -31,5 +31,5 @@ CutsShort NoMemory accepted before after = after ≡ before
 pub record Finishes {B : Type 0} (kept : B → Kept) (engine : EngineOf B) (words : List (List ℕ)) (before after : Outside) : Type 0 where
   pub accepted : Accepted
   pub is_named : IsNamed words before.files accepted
-  pub ran : RanThrough kept engine (pool_of accepted.script) accepted.script.events
+  pub ran : RanThrough kept engine (pool_of [] accepted.script) accepted.script.events
   pub writes : WritesRun (output_of accepted) before after

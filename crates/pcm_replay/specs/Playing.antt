@@ -1,7 +1,7 @@
 -- How far a run has come: what its engine stands for, and what it is to leave.
 use Rattle.std.specs.Prelude.{◌≡◌, ℕ, ◌*◌, List, length, vec_len}
 use Rattle.pcm_oss.specs.declared.event.Event.{Event}
-use Rattle.pcm_format.specs.declared.pool.Pool.{Pool}
+use Rattle.pcm_wave.specs.declared.pool.Pool.{Pool}
 use Rattle.pcm_desk.specs.Device.{DeviceSeen, device_frame_bytes, ring_frames}
 use Rattle.pcm_desk.specs.Usual.{usual_device}
 use Rattle.pcm_sound.specs.DeviceList.{device_text}

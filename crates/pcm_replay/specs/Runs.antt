@@ -1,5 +1,5 @@
 -- What a run is to leave, and what it leaves where it is cut short.
-use Rattle.std.specs.Prelude.{◌≡◌, ℕ, List, IsTrue}
+use Rattle.std.specs.Prelude.{◌≡◌, ℕ, List, IsTrue, []}
 use Rattle.pcm_outside.specs.Counts.{Rose}
 use Rattle.pcm_outside.specs.Files.{FilesSeen, FailsToCreate, HasCreated, IsPrefixOf, KeepsOthers}
 use Rattle.pcm_outside.specs.Sink.{FailsToPut, Puts}
@@ -20,8 +20,8 @@ pub record Output : Type 0 where
 abbrev pub output_of : Accepted → Output
 output_of accepted = record {
   name = accepted.out;
-  bytes = device_text usual_device (pool_of accepted.script) accepted.script.events;
-  lines = transcript usual_device (pool_of accepted.script) accepted.script.events;
+  bytes = device_text usual_device (pool_of [] accepted.script) accepted.script.events;
+  lines = transcript usual_device (pool_of [] accepted.script) accepted.script.events;
 }
 
 -- the device file was created and has these bytes, and the other files keep theirs

@@ -1,6 +1,6 @@
 //! A script is read, and then judged.
 
-ghost use Rattle.std.specs.Prelude.{◌≡◌, ◌≤◌, ℕ, List, Some, IfErr, IfOk, IsTrue, OnOk, length};
+ghost use Rattle.std.specs.Prelude.{◌≡◌, ◌≤◌, ℕ, List, Some, IfErr, IfOk, IsTrue, OnOk, length, []};
 ghost use Rattle.pcm_outside.specs.Files.{NoReadFails, OnlyReads};
 ghost use Rattle.pcm_desk.specs.declared.limits.TheConstants.{EVENTS};
 ghost use Rattle.pcm_desk.specs.Usual.{usual_device};
@@ -29,7 +29,7 @@ pub fn read_script<F: Files, K: Sink>(
     ensures ok { IfOk result (λ script. (words : List (List ℕ)) (to : List ℕ)
         → command_of words ≡ Some (RunScript name.now to) → IsTrue (F.seen files.old).tells
         → verdict_on words (F.seen files.old) ≡ Accept (record { out = to; script = script })) }
-    ensures fits { IfOk result (λ script. AllFit usual_device script) }
+    ensures fits { IfOk result (λ script. AllFit usual_device [] script) }
     ensures count { IfOk result (λ script. length script.events ≤ EVENTS) }
     ensures kept { OnOk result (NoReadFails (F.seen files.old) (F.seen files.new)) }
     ensures sink { OnOk result (K.seen out.new ≡ K.seen out.old) }
@@ -44,7 +44,7 @@ pub fn read_script<F: Files, K: Sink>(
         Err(ReadFault::Failed) => return Err(refuse_read(alloc, name, out)),
         Err(ReadFault::Memory) => return Err(Ending::NoMemory),
     };
-    match script_of(alloc, &text, &Device::usual()) {
+    match script_of(alloc, &text, &Device::usual(), &[]) {
         Ok(script) => Ok(script),
         Err(ScriptFault::Refused(refusal)) => Err(refuse_script(alloc, refusal, out)),
         Err(ScriptFault::Memory) => Err(Ending::NoMemory),

@@ -1,7 +1,7 @@
 //! The run of a script, which is kept whole until it is written.
 
 ghost use Rattle.std.specs.Prelude.{◌+◌, ◌<◌, ◌≤◌, [], All, IfErr, IfOk, OnOk, length, take};
-ghost use Rattle.pcm_format.specs.declared.pool.Pool.{Pool};
+ghost use Rattle.pcm_wave.specs.declared.pool.Pool.{Pool};
 ghost use Rattle.pcm_desk.specs.declared.limits.TheConstants.{EVENTS};
 ghost use Rattle.pcm_desk.specs.Events.{Fits};
 ghost use Rattle.pcm_desk.specs.Usual.{usual_device};
@@ -17,11 +17,11 @@ use crate::writing::write_run;
 use pcm_desk::Device;
 use pcm_engine::EngineOf;
 use pcm_feeder::{Feeder, RacksOf};
-use pcm_format::Pool;
 use pcm_oss::{Event, ReplyBuf};
 use pcm_outside::{Files, Sink};
 use pcm_report::{LINE_BYTES, write_line};
 use pcm_script::Script;
+use pcm_wave::{DataFiles, Pool};
 use std::alloc::{AllocError, Global};
 
 /// The engine of a run, with the device's bytes and the lines of the events so far.
@@ -45,7 +45,7 @@ impl<B: Feeder> ReplayOf<B> {
         // The greatest interrupt takes the device's whole ring.
         let room = device.ring_frames as usize * device.settings.frame_bytes();
         Ok(ReplayOf {
-            engine: EngineOf::new(alloc, racks)?,
+            engine: EngineOf::new(alloc, device, racks)?,
             reply: ReplyBuf::new(alloc)?,
             block: vec![in alloc; 0; room]?,
             line: vec![in alloc; 0; LINE_BYTES]?,
@@ -101,9 +101,9 @@ pub fn run_script<B: Feeder, F: Files, K: Sink>(
     name: &str,
 ) -> Result<EngineOf<B>, Ending>
     requires kinds { AreRacks B.kind (list_of racks) }
-    requires fits { AllFit usual_device script }
+    requires fits { AllFit usual_device [] script }
     requires count { length script.events ≤ EVENTS }
-    ensures ran { IfOk result (λ engine. RanThrough B.kept engine (pool_of script) script.events) }
+    ensures ran { IfOk result (λ engine. RanThrough B.kept engine (pool_of [] script) script.events) }
     ensures ok { OnOk result (WritesRun (output_of (record { out = name.now; script = script }))
         (both (F.seen files.old) (K.seen out.old)) (both (F.seen files.new) (K.seen out.new))) }
     ensures err { IfErr result (λ ending. CutsShort ending
@@ -115,7 +115,10 @@ pub fn run_script<B: Feeder, F: Files, K: Sink>(
         inline_bytes,
         ..
     } = script;
-    let pool = Pool { inline_bytes };
+    let pool = Pool {
+        files: DataFiles::new(Vec::new(alloc)),
+        inline_bytes,
+    };
     let Ok(replay) = play(alloc, racks, events.as_slice(), &pool) else {
         return Err(Ending::NoMemory);
     };

@@ -1,6 +1,6 @@
 //! The top call: words, files and a sink go in, and a status comes out.
 
-ghost use Rattle.std.specs.Prelude.{◌≡◌, ◌≢◌, ◌⊎◌, None, IfErr, IfOk, IsSomeAnd, IsTrue, map, string_bytes};
+ghost use Rattle.std.specs.Prelude.{◌≡◌, ◌≢◌, ◌⊎◌, None, IfErr, IfOk, IsSomeAnd, IsTrue, map, string_bytes, []};
 ghost use Rattle.pcm_outside.specs.Counts.{Rose};
 ghost use Rattle.pcm_feeder.specs.Racks.{AreRacks, list_of};
 ghost use Rattle.pcm_script.specs.Lines.{pool_of};
@@ -54,7 +54,7 @@ pub fn dsp_main<B: Feeder, F: Files, K: Sink>(
     ensures engine { (accepted : Accepted) → result ≡ 0
         → IsAccepted (map string_bytes words.now) (F.seen files.old) accepted
         → IsSomeAnd ran.new
-        (λ engine. RanThrough B.kept engine (pool_of accepted.script) accepted.script.events) }
+        (λ engine. RanThrough B.kept engine (pool_of [] accepted.script) accepted.script.events) }
     ensures finished { result ≡ 0
         → IsSomeAnd ran.new (λ engine. Finishes B.kept engine (map string_bytes words.now)
         (both (F.seen files.old) (K.seen out.old)) (both (F.seen files.new) (K.seen out.new))) }

@@ -1,11 +1,12 @@
 -- What a row unfolds, so that the definitions compute on its bytes.
 use Rattle.std.specs.Prelude.{⊤}
 use Rattle.std.specs.Fmt.{digits}
+use Rattle.pcm_config.proofs.OnLiterals.{config_on_literals}
 use Rattle.hex.specs.Hex.{decode_pairs, encode_with}
 use Rattle.pcm_feeder.specs.Stages.{conv}
 use Rattle.pcm_script.specs.Lines.{script_read, collected}
-use Rattle.pcm_script.specs.Commands.{line_event, command_line, open_line, write_line, ioctl_line, close_line, interrupt_line}
+use Rattle.pcm_script.specs.Commands.{line_event, command_line, open_line, write_line, send_line, ioctl_line, close_line, interrupt_line}
 
 unfoldable pub row : ⊤
-unfolding digits decode_pairs encode_with conv script_read collected line_event command_line open_line write_line ioctl_line close_line interrupt_line
+unfolding digits decode_pairs encode_with conv script_read collected line_event command_line open_line write_line send_line ioctl_line close_line interrupt_line config_on_literals
 row = tt

@@ -23,7 +23,7 @@ use Rattle.pcm_verdict.specs.Transcript.{transcript}
 
 -- a ring of four frames, where a row looks at single frames
 abbrev pub small_device : DeviceSeen
-small_device = record { settings = usual_settings; slots = 4; ring = 4; block = 2 }
+small_device = record { settings = usual_settings; slots = 4; ring = 4; block = 2; quality = 1 }
 
 -- an open with the settings of the device
 abbrev pub opens : ℕ → Event
@@ -57,15 +57,15 @@ accepted script = Accept (record { out = codes "o"; script = script })
 
 -- the bytes that a script makes
 abbrev pub played : DeviceSeen → Script → List ℕ
-played device script = device_text device (pool_of script) script.events
+played device script = device_text device (pool_of [] script) script.events
 
 -- the lines that a script prints
 abbrev pub printed : DeviceSeen → Script → List ℕ
-printed device script = transcript device (pool_of script) script.events
+printed device script = transcript device (pool_of [] script) script.events
 
 -- what a script comes to
 abbrev pub story_after : DeviceSeen → Script → Story
-story_after device script = story_of device (pool_of script) script.events
+story_after device script = story_of device (pool_of [] script) script.events
 
 -- so many frames of a run from an index on, mixed from a position on, with so many missing
 abbrev pub piece : ℕ → ℕ → ℕ → ℕ → Piece

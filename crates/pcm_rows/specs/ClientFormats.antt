@@ -1,6 +1,7 @@
 -- Scripts with one client in other settings than the device's.
 use Rattle.std.specs.Prelude.{ℕ, ◌+◌, List, [], ◌∷◌, ◌++◌, codes, length}
 use Rattle.pcm_oss.specs.declared.event.Event.TheVariants.{Open, Write, Close, Intr}
+use Rattle.pcm_wave.specs.declared.pool.Source.TheVariants.{Inline}
 use Rattle.pcm_oss.specs.declared.event.Way.TheVariants.{Play}
 use Rattle.pcm_format.specs.declared.format.Format.{Format}
 use Rattle.pcm_format.specs.declared.format.Format.TheVariants.{U8, S16Le, U16Le, S24Be}
@@ -25,7 +26,7 @@ client_text settings hex frames = joined (
 
 abbrev pub client_script : Settings → List ℕ → ℕ → Script
 client_script settings bytes frames = record {
-  events = Open 0 Play settings ∷ Write 0 0 (length bytes) ∷ Close 0 ∷ Intr 1024 ∷ Intr frames ∷ [];
+  events = Open 0 Play settings ∷ Write 0 Inline 0 (length bytes) ∷ Close 0 ∷ Intr 1024 ∷ Intr frames ∷ [];
   inline_bytes = bytes;
   device_frames = 1024 + frames;
 }

@@ -2,6 +2,7 @@
 use Rattle.std.specs.Prelude.{ℕ, List, [], ◌∷◌, codes, Some, None, true}
 use Rattle.pcm_oss.specs.declared.event.Event.{Event}
 use Rattle.pcm_oss.specs.declared.event.Event.TheVariants.{Open, Write, Close, Intr}
+use Rattle.pcm_wave.specs.declared.pool.Source.TheVariants.{Inline}
 use Rattle.pcm_oss.specs.declared.event.Way.TheVariants.{Play}
 use Rattle.pcm_format.specs.declared.format.Format.TheVariants.{S16Le, S32Le}
 use Rattle.pcm_format.specs.declared.layout.Layout.TheVariants.{One, Two, Eight}
@@ -50,7 +51,7 @@ tail_text = joined (
 
 abbrev pub tail_script : Script
 tail_script = record {
-  events = Open 0 Play half_settings ∷ Write 0 0 8 ∷ Close 0 ∷ Intr 3 ∷ Intr 1 ∷ Intr 4 ∷ [];
+  events = Open 0 Play half_settings ∷ Write 0 Inline 0 8 ∷ Close 0 ∷ Intr 3 ∷ Intr 1 ∷ Intr 4 ∷ [];
   inline_bytes = 0 ∷ 0 ∷ 0 ∷ 0 ∷ 100 ∷ 0 ∷ 100 ∷ 0 ∷ [];
   device_frames = 8;
 }
@@ -93,7 +94,7 @@ downmix_text = joined (
 
 abbrev pub downmix_script : Script
 downmix_script = record {
-  events = Open 0 Play (record { format = S32Le; layout = Two; rate = 24000 }) ∷ Write 0 0 16 ∷ Close 0 ∷ Intr 4 ∷ Intr 4 ∷ [];
+  events = Open 0 Play (record { format = S32Le; layout = Two; rate = 24000 }) ∷ Write 0 Inline 0 16 ∷ Close 0 ∷ Intr 4 ∷ Intr 4 ∷ [];
   inline_bytes = 1 ∷ 0 ∷ 0 ∷ 0 ∷ 0 ∷ 0 ∷ 0 ∷ 0 ∷ 1 ∷ 0 ∷ 0 ∷ 0 ∷ 2 ∷ 0 ∷ 0 ∷ 0 ∷ [];
   device_frames = 8;
 }
@@ -107,7 +108,7 @@ abbrev pub wide_settings : Settings
 wide_settings = record { format = S32Le; layout = Eight; rate = 24000 }
 
 abbrev pub wide_events : List Event
-wide_events = Open 0 Play wide_settings ∷ Write 0 0 4096 ∷ Intr 254 ∷ Intr 2 ∷ Write 0 4096 32 ∷ Intr 2 ∷ []
+wide_events = Open 0 Play wide_settings ∷ Write 0 Inline 0 4096 ∷ Intr 254 ∷ Intr 2 ∷ Write 0 Inline 4096 32 ∷ Intr 2 ∷ []
 
 -- its book while it runs
 abbrev pub wide_book : ℕ → ℕ → ℕ → ℕ → Book

@@ -1,6 +1,7 @@
 -- Writes of whole fragments to the usual device, and what is counted of them.
 use Rattle.std.specs.Prelude.{ℕ, List, [], ◌∷◌, ◌++◌, codes, replicate, Some, None, false}
 use Rattle.pcm_oss.specs.declared.event.Event.TheVariants.{Write, Intr}
+use Rattle.pcm_wave.specs.declared.pool.Source.TheVariants.{Inline}
 use Rattle.pcm_desk.specs.declared.book.Book.{Book}
 use Rattle.pcm_desk.specs.declared.book.State.TheVariants.{Running}
 use Rattle.pcm_desk.specs.Usual.{usual_settings}
@@ -30,7 +31,7 @@ starved_text = joined (
 
 abbrev pub starved_script : Script
 starved_script = record {
-  events = opens 0 ∷ Write 0 0 4096 ∷ Intr 1024 ∷ Intr 4 ∷ Write 0 4096 4 ∷ Intr 4 ∷ Intr 1016 ∷ Intr 8 ∷ [];
+  events = opens 0 ∷ Write 0 Inline 0 4096 ∷ Intr 1024 ∷ Intr 4 ∷ Write 0 Inline 4096 4 ∷ Intr 4 ∷ Intr 1016 ∷ Intr 8 ∷ [];
   inline_bytes = full_fragment ++ late_frame;
   device_frames = 2056;
 }
@@ -68,7 +69,7 @@ full_ring_text = codes "open 0 play s16le 2 48000\n" ++ times 5 (codes "write 0 
 
 abbrev pub full_ring_script : Script
 full_ring_script = record {
-  events = opens 0 ∷ Write 0 0 4096 ∷ Write 0 4096 4096 ∷ Write 0 8192 4096 ∷ Write 0 12288 4096 ∷ Write 0 16384 4096 ∷ [];
+  events = opens 0 ∷ Write 0 Inline 0 4096 ∷ Write 0 Inline 4096 4096 ∷ Write 0 Inline 8192 4096 ∷ Write 0 Inline 12288 4096 ∷ Write 0 Inline 16384 4096 ∷ [];
   inline_bytes = replicate 20480 0;
   device_frames = 0;
 }

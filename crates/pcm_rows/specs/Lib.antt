@@ -12,3 +12,6 @@ pub mod Requests
 pub mod RequestTable
 pub mod Stages
 pub mod PlanRows
+pub mod Waves
+pub mod Configurations
+pub mod ConversionRows

@@ -1,6 +1,7 @@
 -- Scripts with one client at most.
 use Rattle.std.specs.Prelude.{ℕ, List, [], ◌∷◌, codes, Some, None, true}
 use Rattle.pcm_oss.specs.declared.event.Event.TheVariants.{Write, Close, Intr}
+use Rattle.pcm_wave.specs.declared.pool.Source.TheVariants.{Inline}
 use Rattle.pcm_desk.specs.declared.book.Book.{Book}
 use Rattle.pcm_desk.specs.declared.book.State.TheVariants.{Free}
 use Rattle.pcm_desk.specs.Usual.{usual_settings}
@@ -25,7 +26,7 @@ drain_bytes = 1 ∷ 0 ∷ 2 ∷ 0 ∷ 3 ∷ 0 ∷ 4 ∷ 0 ∷ 5 ∷ 0 ∷ 6 ∷ 
 
 abbrev pub drain_script : Script
 drain_script = record {
-  events = opens 0 ∷ Write 0 0 16 ∷ Close 0 ∷ Intr 1024 ∷ Intr 4 ∷ [];
+  events = opens 0 ∷ Write 0 Inline 0 16 ∷ Close 0 ∷ Intr 1024 ∷ Intr 4 ∷ [];
   inline_bytes = drain_bytes;
   device_frames = 1028;
 }
@@ -46,7 +47,7 @@ cut_text = joined (
 
 abbrev pub cut_script : Script
 cut_script = record {
-  events = opens 0 ∷ Write 0 0 3 ∷ Write 0 3 5 ∷ Write 0 8 8 ∷ Close 0 ∷ Intr 1024 ∷ Intr 4 ∷ [];
+  events = opens 0 ∷ Write 0 Inline 0 3 ∷ Write 0 Inline 3 5 ∷ Write 0 Inline 8 8 ∷ Close 0 ∷ Intr 1024 ∷ Intr 4 ∷ [];
   inline_bytes = drain_bytes;
   device_frames = 1028;
 }
@@ -70,7 +71,7 @@ short_drain_text = joined (
 
 abbrev pub short_drain_script : Script
 short_drain_script = record {
-  events = opens 0 ∷ Write 0 0 8 ∷ Close 0 ∷ Intr 4 ∷ Intr 2 ∷ Intr 2 ∷ [];
+  events = opens 0 ∷ Write 0 Inline 0 8 ∷ Close 0 ∷ Intr 4 ∷ Intr 2 ∷ Intr 2 ∷ [];
   inline_bytes = 1 ∷ 0 ∷ 2 ∷ 0 ∷ 3 ∷ 0 ∷ 4 ∷ 0 ∷ [];
   device_frames = 8;
 }
@@ -106,7 +107,7 @@ part_text = joined (
 
 abbrev pub part_script : Script
 part_script = record {
-  events = opens 0 ∷ Write 0 0 3 ∷ Close 0 ∷ opens 1 ∷ Intr 4 ∷ Intr 1 ∷ [];
+  events = opens 0 ∷ Write 0 Inline 0 3 ∷ Close 0 ∷ opens 1 ∷ Intr 4 ∷ Intr 1 ∷ [];
   inline_bytes = 1 ∷ 0 ∷ 2 ∷ [];
   device_frames = 5;
 }
@@ -118,7 +119,7 @@ part_lines = joined (
 -- three frames are mixed before a write and its close, and the slot is opened again after five
 abbrev pub late_script : Script
 late_script = record {
-  events = opens 0 ∷ Intr 3 ∷ Write 0 0 4 ∷ Close 0 ∷ Intr 2 ∷ opens 0 ∷ [];
+  events = opens 0 ∷ Intr 3 ∷ Write 0 Inline 0 4 ∷ Close 0 ∷ Intr 2 ∷ opens 0 ∷ [];
   inline_bytes = 1 ∷ 0 ∷ 2 ∷ 0 ∷ [];
   device_frames = 5;
 }

@@ -5,6 +5,7 @@ use Rattle.pcm_format.specs.declared.layout.Layout.TheVariants.{Six}
 use Rattle.pcm_format.specs.Formats.{code_of}
 use Rattle.pcm_format.specs.Layouts.{channels_of}
 use Rattle.pcm_oss.specs.declared.event.Event.TheVariants.{Write, Close}
+use Rattle.pcm_wave.specs.declared.pool.Source.TheVariants.{Inline}
 use Rattle.pcm_oss.specs.declared.reply.Answer.{Answer}
 use Rattle.pcm_oss.specs.declared.reply.Answer.TheVariants.{Done, Number, Space, Pointer, Errors}
 use Rattle.pcm_oss.specs.declared.reply.Errno.{Errno}
@@ -282,4 +283,4 @@ refuses errno book = outcome_turn book (Refuses errno)
 
 -- a client that closed before its two frames were played
 abbrev pub closed_desk : Desk
-closed_desk = after_all small_device (desk_at_start small_device) (opens 0 ∷ Write 0 0 8 ∷ Close 0 ∷ [])
+closed_desk = after_all small_device (desk_at_start small_device) (opens 0 ∷ Write 0 Inline 0 8 ∷ Close 0 ∷ [])

@@ -2,6 +2,7 @@
 use Rattle.std.specs.Prelude.{ℕ, List, [], ◌∷◌, ◌++◌, codes, replicate, Option, Some, None, Bool, true, false}
 use Rattle.pcm_oss.specs.declared.event.Event.{Event}
 use Rattle.pcm_oss.specs.declared.event.Event.TheVariants.{Open, Write, Ioctl, Close, Intr}
+use Rattle.pcm_wave.specs.declared.pool.Source.TheVariants.{Inline}
 use Rattle.pcm_oss.specs.declared.event.Way.TheVariants.{Play}
 use Rattle.pcm_oss.specs.declared.request.Request.{Request}
 use Rattle.pcm_oss.specs.declared.request.Request.TheVariants.{SetFmt, Channels, GetFmts, GetCaps, SetFragment, GetOSpace, GetISpace, GetOPtr, GetIPtr, GetError, SetTrigger, SetPlayVol, Post, Sync, Halt}
@@ -42,7 +43,7 @@ posted_text = joined (
 
 abbrev pub posted_script : Script
 posted_script = record {
-  events = opens 0 ∷ Write 0 0 8 ∷ asks Post ∷ Intr 4 ∷ asks GetError ∷ asks GetError ∷ Write 0 8 8 ∷ Intr 4 ∷ Intr 4 ∷ [];
+  events = opens 0 ∷ Write 0 Inline 0 8 ∷ asks Post ∷ Intr 4 ∷ asks GetError ∷ asks GetError ∷ Write 0 Inline 8 8 ∷ Intr 4 ∷ Intr 4 ∷ [];
   inline_bytes = drain_bytes;
   device_frames = 12;
 }
@@ -86,7 +87,7 @@ synced_text = joined (
 
 abbrev pub synced_script : Script
 synced_script = record {
-  events = opens 0 ∷ Write 0 0 8 ∷ asks Sync ∷ Intr 4 ∷ asks GetError ∷ asks GetOPtr ∷ Intr 4 ∷ [];
+  events = opens 0 ∷ Write 0 Inline 0 8 ∷ asks Sync ∷ Intr 4 ∷ asks GetError ∷ asks GetOPtr ∷ Intr 4 ∷ [];
   inline_bytes = two_frame_bytes;
   device_frames = 8;
 }
@@ -111,7 +112,7 @@ synced_tail_text = joined (
 
 abbrev pub synced_tail_script : Script
 synced_tail_script = record {
-  events = Open 0 Play half_settings ∷ Write 0 0 8 ∷ asks Sync ∷ Intr 4 ∷ Intr 4 ∷ [];
+  events = Open 0 Play half_settings ∷ Write 0 Inline 0 8 ∷ asks Sync ∷ Intr 4 ∷ Intr 4 ∷ [];
   inline_bytes = tail_script.inline_bytes;
   device_frames = 8;
 }
@@ -135,7 +136,7 @@ cut_post_text = joined (
 
 abbrev pub cut_post_script : Script
 cut_post_script = record {
-  events = opens 0 ∷ Write 0 0 3 ∷ Write 0 3 5 ∷ asks Post ∷ Intr 1 ∷ Write 0 8 8 ∷ Close 0 ∷ Intr 3 ∷ Intr 4 ∷ [];
+  events = opens 0 ∷ Write 0 Inline 0 3 ∷ Write 0 Inline 3 5 ∷ asks Post ∷ Intr 1 ∷ Write 0 Inline 8 8 ∷ Close 0 ∷ Intr 3 ∷ Intr 4 ∷ [];
   inline_bytes = drain_bytes;
   device_frames = 8;
 }
@@ -165,8 +166,8 @@ changed_text = joined (
 abbrev pub changed_script : Script
 changed_script = record {
   events =
-      opens 0 ∷ Write 0 0 4 ∷ asks Sync ∷ Intr 4 ∷ asks (SetFmt 8) ∷ asks (Channels 1) ∷
-      Write 0 4 1 ∷ asks Post ∷ Intr 4 ∷ asks GetOPtr ∷ Intr 4 ∷ [];
+      opens 0 ∷ Write 0 Inline 0 4 ∷ asks Sync ∷ Intr 4 ∷ asks (SetFmt 8) ∷ asks (Channels 1) ∷
+      Write 0 Inline 4 1 ∷ asks Post ∷ Intr 4 ∷ asks GetOPtr ∷ Intr 4 ∷ [];
   inline_bytes = 1 ∷ 0 ∷ 2 ∷ 0 ∷ 0x81 ∷ [];
   device_frames = 12;
 }
@@ -201,7 +202,7 @@ refused_text = joined (
 
 abbrev pub refused_script : Script
 refused_script = record {
-  events = opens 0 ∷ Write 0 0 16 ∷ asks Post ∷ asks (SetFmt 0x40) ∷ asks (Channels 3) ∷ asks GetOSpace ∷ asks (SetFmt 0) ∷ [];
+  events = opens 0 ∷ Write 0 Inline 0 16 ∷ asks Post ∷ asks (SetFmt 0x40) ∷ asks (Channels 3) ∷ asks GetOSpace ∷ asks (SetFmt 0) ∷ [];
   inline_bytes = drain_bytes;
   device_frames = 0;
 }
@@ -244,7 +245,7 @@ busy_text = joined (
 
 abbrev pub busy_script : Script
 busy_script = record {
-  events = opens 0 ∷ Write 0 0 16 ∷ asks Sync ∷ Write 0 16 4 ∷ asks (SetTrigger 2) ∷ [];
+  events = opens 0 ∷ Write 0 Inline 0 16 ∷ asks Sync ∷ Write 0 Inline 16 4 ∷ asks (SetTrigger 2) ∷ [];
   inline_bytes = drain_bytes ++ 1 ∷ 0 ∷ 2 ∷ 0 ∷ [];
   device_frames = 0;
 }
@@ -289,7 +290,7 @@ small_ring_text = joined (
 
 abbrev pub small_ring_script : Script
 small_ring_script = record {
-  events = opens 0 ∷ asks (SetFragment 0x00020004) ∷ Write 0 0 32 ∷ Write 0 32 1 ∷ Write 0 33 0 ∷ [];
+  events = opens 0 ∷ asks (SetFragment 0x00020004) ∷ Write 0 Inline 0 32 ∷ Write 0 Inline 32 1 ∷ Write 0 Inline 33 0 ∷ [];
   inline_bytes = times 8 (1 ∷ 0 ∷ 2 ∷ 0 ∷ []) ++ 0 ∷ [];
   device_frames = 0;
 }
@@ -304,7 +305,7 @@ small_ring_book = record (book_in usual_settings Running 32 0 0) { fragments = r
 
 -- the same fragments with frames of 32 bytes: half a frame fills one
 abbrev pub half_frame_events : List Event
-half_frame_events = Open 0 Play wide_settings ∷ asks (SetFragment 0x00020004) ∷ Write 0 0 16 ∷ Intr 1 ∷ []
+half_frame_events = Open 0 Play wide_settings ∷ asks (SetFragment 0x00020004) ∷ Write 0 Inline 0 16 ∷ Intr 1 ∷ []
 
 -- its book while it runs, which has no whole frame yet
 abbrev pub half_frame_book : ℕ → Book
@@ -314,7 +315,7 @@ half_frame_book underruns =
 -- the same with the trigger off, and then on, and a write of no bytes
 abbrev pub no_bytes_events : List Event
 no_bytes_events =
-    Open 0 Play wide_settings ∷ asks (SetFragment 0x00020004) ∷ asks (SetTrigger 0) ∷ Write 0 0 16 ∷ asks (SetTrigger 2) ∷ Write 0 16 0 ∷ []
+    Open 0 Play wide_settings ∷ asks (SetFragment 0x00020004) ∷ asks (SetTrigger 0) ∷ Write 0 Inline 0 16 ∷ asks (SetTrigger 2) ∷ Write 0 Inline 16 0 ∷ []
 
 -- ---- halts
 
@@ -337,8 +338,8 @@ halted_text = joined (
 abbrev pub halted_script : Script
 halted_script = record {
   events =
-      Open 0 Play half_settings ∷ Write 0 0 8 ∷ asks Post ∷ Intr 4 ∷ asks GetOPtr ∷ asks Halt ∷ asks GetOPtr ∷
-      Write 0 8 4 ∷ asks Sync ∷ Intr 4 ∷ asks GetError ∷ Intr 4 ∷ [];
+      Open 0 Play half_settings ∷ Write 0 Inline 0 8 ∷ asks Post ∷ Intr 4 ∷ asks GetOPtr ∷ asks Halt ∷ asks GetOPtr ∷
+      Write 0 Inline 8 4 ∷ asks Sync ∷ Intr 4 ∷ asks GetError ∷ Intr 4 ∷ [];
   inline_bytes = 0 ∷ 0 ∷ 0 ∷ 0 ∷ 100 ∷ 0 ∷ 100 ∷ 0 ∷ 100 ∷ 0 ∷ 100 ∷ 0 ∷ [];
   device_frames = 12;
 }
@@ -381,7 +382,7 @@ second_run = record {
 -- the runs of a client that writes two frames, and then these events
 abbrev pub runs_of_two_frames : List Event → List Run
 runs_of_two_frames events =
-    (story_of small_device (record { inline_bytes = two_frame_bytes }) (opens 0 ∷ Write 0 0 8 ∷ events)).runs 0
+    (story_of small_device (record { files = []; inline_bytes = two_frame_bytes }) (opens 0 ∷ Write 0 Inline 0 8 ∷ events)).runs 0
 
 -- a run of these frames: where it started, whether no more came, where it was dropped, and its pieces
 abbrev pub run_of_two_frames : Option ℕ → Bool → Option ℕ → List Piece → Run
@@ -409,7 +410,7 @@ softer_text = joined (
 
 abbrev pub softer_script : Script
 softer_script = record {
-  events = opens 0 ∷ Write 0 0 16 ∷ asks Post ∷ Intr 2 ∷ asks (SetPlayVol 0x3264) ∷ Intr 2 ∷ Intr 4 ∷ [];
+  events = opens 0 ∷ Write 0 Inline 0 16 ∷ asks Post ∷ Intr 2 ∷ asks (SetPlayVol 0x3264) ∷ Intr 2 ∷ Intr 4 ∷ [];
   inline_bytes = times 4 (0x64 ∷ 0x00 ∷ 0xfd ∷ 0xff ∷ []);
   device_frames = 8;
 }

@@ -2,6 +2,7 @@
 use Rattle.std.specs.Prelude.{ℕ, List, [], ◌∷◌, ◌++◌, codes}
 use Rattle.pcm_oss.specs.declared.event.Event.{Event}
 use Rattle.pcm_oss.specs.declared.event.Event.TheVariants.{Write, Close, Intr}
+use Rattle.pcm_wave.specs.declared.pool.Source.TheVariants.{Inline}
 use Rattle.pcm_desk.specs.Device.{DeviceSeen}
 use Rattle.pcm_script.specs.declared.script.Script.{Script}
 use Rattle.pcm_desk.specs.Usual.{usual_device}
@@ -24,7 +25,7 @@ three_text first second third = joined (
 
 abbrev pub three_script : List ℕ → List ℕ → List ℕ → Script
 three_script first second third = record {
-  events = opens 0 ∷ opens 1 ∷ opens 2 ∷ Write 0 0 4 ∷ Close 0 ∷ Write 1 4 4 ∷ Close 1 ∷ Write 2 8 4 ∷ Close 2 ∷ Intr 1024 ∷ Intr 1 ∷ [];
+  events = opens 0 ∷ opens 1 ∷ opens 2 ∷ Write 0 Inline 0 4 ∷ Close 0 ∷ Write 1 Inline 4 4 ∷ Close 1 ∷ Write 2 Inline 8 4 ∷ Close 2 ∷ Intr 1024 ∷ Intr 1 ∷ [];
   inline_bytes = first ++ second ++ third;
   device_frames = 1025;
 }
@@ -73,7 +74,7 @@ single_device = record usual_device { slots = 1 }
 
 -- an open while the slot's client plays, one while its drain lasts, and one after it
 abbrev pub queue_events : List Event
-queue_events = opens 0 ∷ opens 1 ∷ Write 0 0 4 ∷ Close 0 ∷ opens 1 ∷ Intr 1 ∷ opens 1 ∷ []
+queue_events = opens 0 ∷ opens 1 ∷ Write 0 Inline 0 4 ∷ Close 0 ∷ opens 1 ∷ Intr 1 ∷ opens 1 ∷ []
 
 abbrev pub queue_lines : List ℕ
 queue_lines = joined (

@@ -1,6 +1,7 @@
 -- Texts that say the same in other words.
 use Rattle.std.specs.Prelude.{ℕ, List, [], ◌∷◌, ◌++◌, codes, map}
 use Rattle.pcm_oss.specs.declared.event.Event.TheVariants.{Write, Ioctl, Close, Intr}
+use Rattle.pcm_wave.specs.declared.pool.Source.TheVariants.{Inline}
 use Rattle.pcm_oss.specs.declared.request.Request.{Request}
 use Rattle.pcm_oss.specs.declared.request.Request.TheVariants.{SetFmt, Speed, Channels, GetFmts, GetCaps, GetBlkSize, SetFragment, GetOSpace, GetISpace, GetOPtr, GetIPtr, GetODelay, GetError, SetTrigger, GetTrigger, SetPlayVol, GetPlayVol, Post, Sync, Halt}
 use Rattle.pcm_script.specs.declared.script.Script.{Script}
@@ -22,7 +23,7 @@ hex_text = joined (codes "open 0x1f play s16le 0x2 0xBB80" ∷ codes "write 0x1F
 
 abbrev pub hex_script : Script
 hex_script = record {
-  events = opens 31 ∷ Write 31 0 4 ∷ Close 31 ∷ [];
+  events = opens 31 ∷ Write 31 Inline 0 4 ∷ Close 31 ∷ [];
   inline_bytes = 0xab ∷ 0xcd ∷ 0xef ∷ 0x01 ∷ [];
   device_frames = 0;
 }

@@ -2,6 +2,8 @@
 //! Each is a function that does nothing, whose contract says that the definitions give the values that a hand worked out.
 #![tactic(auto)]
 
+mod configs;
+mod conversions;
 mod counts;
 mod formats;
 mod fragments;
@@ -17,58 +19,118 @@ mod several_clients;
 mod stages;
 mod texts;
 mod verdicts;
+mod waves;
 
+pub use configs::configuration_that_settles_all;
+pub use configs::configurations_that_are_no_toml;
+pub use configs::containers_and_captures;
+pub use configs::first_fault_of_a_configuration;
+pub use configs::keys_and_tables_of_a_configuration;
+pub use configs::kinds_of_channels_and_files;
+pub use configs::kinds_of_the_device;
+pub use configs::names_of_files;
+pub use configs::numbers_of_the_channels;
+pub use configs::numbers_of_the_device;
+pub use configs::words_and_channels_of_the_device;
+pub use conversions::block_after_three_frames;
+pub use conversions::conversion_changes_the_channels;
+pub use conversions::conversion_changes_the_format;
+pub use conversions::conversion_doubles_the_rate;
+pub use conversions::conversion_halves_the_rate;
+pub use conversions::conversion_lasts_as_long;
+pub use conversions::conversion_leaves_a_part_of_a_frame;
 pub use counts::nothing_is_eaten_early;
-pub use formats::{
-    big_endian_24_bits, eight_channels_to_two, loud_channels_are_limited, mono_bytes_to_stereo,
-    six_channels_to_two, unsigned_16_bits,
-};
-pub use fragments::{fifth_write_again, full_fragment_starts, shortage_sets_back};
-pub use one_client::{
-    close_of_a_closed_descriptor, cut_into_three_writes, drain_below_a_fragment,
-    drain_counts_no_shortage, empty_script, late_close_starts_late, one_silent_block,
-    part_of_a_frame_is_dropped,
-};
-pub use plans::{
-    downmix_comes_before_the_rate, plan_doubles_the_rate, plans_at_the_rate_of_the_device,
-    quality_chooses_the_converter, rate_is_changed_at_the_fewer_channels,
-};
-pub use rates::{
-    downmix_at_half_the_rate, drain_gives_its_tail, shortage_at_half_the_rate, six_frames_for_each,
-};
-pub use refusals::{
-    device_bytes_at_the_limit, each_kind_of_fault, faults_of_requests, interrupt_above_the_ring,
-    rates_at_their_limits, recordings_unbuilt,
-};
-pub use request_numbers::{
-    codes_of_all_formats, fragments_by_number, gains_of_volumes, volumes_at_their_limits,
-};
-pub use request_table::{
-    close_in_each_state, each_request_in_setup, each_request_on_a_full_ring,
-    each_request_when_primed, each_request_while_draining, each_request_while_running,
-    no_request_of_a_closed_descriptor, part_of_a_frame_starts_nothing, requests_in_every_state,
-    what_is_not_faded_drains, what_is_played_is_over_at_once, write_in_each_state,
-    write_of_no_bytes_in_each_state,
-};
-pub use requests::{
-    cut_behind_a_post, draining_refuses_busy, fragments_at_both_ends, full_ring_refuses_again,
-    half_a_frame_fills_a_fragment, halt_drops_and_counts, marks_of_a_run, opening_begins_anew,
-    refusals_change_nothing, requests_of_the_wrong_way, settings_between_two_runs,
-    shortage_is_told_once, sync_gives_its_tail, sync_plays_what_is_there,
-    volume_from_the_next_frame,
-};
-pub use samples::{
-    edges_of_8_bits, edges_of_16_bits, edges_of_24_bits, edges_of_32_bits, fewer_bits_round_down,
-    midpoint_is_silence,
-};
-pub use several_clients::{
-    fifth_open_busy, one_slot_free_after_drain, three_clients_other_order, three_clients_saturate,
-};
-pub use stages::{
-    a_line_waits_for_its_end, depth_rounds_down, hold_doubles, linear_doubles, linear_from_44100,
-    linear_halves, six_channels_fold_to_two, two_taps_double, volume_halves_the_right_side,
-};
-pub use texts::{
-    comments_and_empty_lines, hex_of_either_case, interrupt_without_a_number, line_for_each_request,
-};
-pub use verdicts::{script_not_there, words_of_no_form};
+pub use formats::big_endian_24_bits;
+pub use formats::eight_channels_to_two;
+pub use formats::loud_channels_are_limited;
+pub use formats::mono_bytes_to_stereo;
+pub use formats::six_channels_to_two;
+pub use formats::unsigned_16_bits;
+pub use fragments::fifth_write_again;
+pub use fragments::full_fragment_starts;
+pub use fragments::shortage_sets_back;
+pub use one_client::close_of_a_closed_descriptor;
+pub use one_client::cut_into_three_writes;
+pub use one_client::drain_below_a_fragment;
+pub use one_client::drain_counts_no_shortage;
+pub use one_client::empty_script;
+pub use one_client::late_close_starts_late;
+pub use one_client::one_silent_block;
+pub use one_client::part_of_a_frame_is_dropped;
+pub use plans::downmix_comes_before_the_rate;
+pub use plans::plan_doubles_the_rate;
+pub use plans::plans_at_the_rate_of_the_device;
+pub use plans::quality_chooses_the_converter;
+pub use plans::rate_is_changed_at_the_fewer_channels;
+pub use rates::downmix_at_half_the_rate;
+pub use rates::drain_gives_its_tail;
+pub use rates::shortage_at_half_the_rate;
+pub use rates::six_frames_for_each;
+pub use refusals::device_bytes_at_the_limit;
+pub use refusals::each_kind_of_fault;
+pub use refusals::faults_of_requests;
+pub use refusals::interrupt_above_the_ring;
+pub use refusals::rates_at_their_limits;
+pub use refusals::recordings_unbuilt;
+pub use request_numbers::codes_of_all_formats;
+pub use request_numbers::fragments_by_number;
+pub use request_numbers::gains_of_volumes;
+pub use request_numbers::volumes_at_their_limits;
+pub use request_table::close_in_each_state;
+pub use request_table::each_request_in_setup;
+pub use request_table::each_request_on_a_full_ring;
+pub use request_table::each_request_when_primed;
+pub use request_table::each_request_while_draining;
+pub use request_table::each_request_while_running;
+pub use request_table::no_request_of_a_closed_descriptor;
+pub use request_table::part_of_a_frame_starts_nothing;
+pub use request_table::requests_in_every_state;
+pub use request_table::what_is_not_faded_drains;
+pub use request_table::what_is_played_is_over_at_once;
+pub use request_table::write_in_each_state;
+pub use request_table::write_of_no_bytes_in_each_state;
+pub use requests::cut_behind_a_post;
+pub use requests::draining_refuses_busy;
+pub use requests::fragments_at_both_ends;
+pub use requests::full_ring_refuses_again;
+pub use requests::half_a_frame_fills_a_fragment;
+pub use requests::halt_drops_and_counts;
+pub use requests::marks_of_a_run;
+pub use requests::opening_begins_anew;
+pub use requests::refusals_change_nothing;
+pub use requests::requests_of_the_wrong_way;
+pub use requests::settings_between_two_runs;
+pub use requests::shortage_is_told_once;
+pub use requests::sync_gives_its_tail;
+pub use requests::sync_plays_what_is_there;
+pub use requests::volume_from_the_next_frame;
+pub use samples::edges_of_8_bits;
+pub use samples::edges_of_16_bits;
+pub use samples::edges_of_24_bits;
+pub use samples::edges_of_32_bits;
+pub use samples::fewer_bits_round_down;
+pub use samples::midpoint_is_silence;
+pub use several_clients::fifth_open_busy;
+pub use several_clients::one_slot_free_after_drain;
+pub use several_clients::three_clients_other_order;
+pub use several_clients::three_clients_saturate;
+pub use stages::a_line_waits_for_its_end;
+pub use stages::depth_rounds_down;
+pub use stages::hold_doubles;
+pub use stages::linear_doubles;
+pub use stages::linear_from_44100;
+pub use stages::linear_halves;
+pub use stages::six_channels_fold_to_two;
+pub use stages::two_taps_double;
+pub use stages::volume_halves_the_right_side;
+pub use texts::comments_and_empty_lines;
+pub use texts::hex_of_either_case;
+pub use texts::interrupt_without_a_number;
+pub use texts::line_for_each_request;
+pub use verdicts::script_not_there;
+pub use verdicts::words_of_no_form;
+pub use waves::broken_waves;
+pub use waves::small_wave;
+pub use waves::unsupported_waves;
+pub use waves::waves_with_more_chunks;
+pub use waves::waves_with_open_ends;

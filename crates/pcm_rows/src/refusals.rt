@@ -52,7 +52,8 @@ pub fn each_kind_of_fault()
     ensures name { judged usual_device (codes "open 0 both") ≡ refused_at 1 Name }
     ensures hex { judged usual_device (codes "write 0 012") ≡ refused_at 1 Hex }
     ensures range { judged usual_device (codes "close 64") ≡ refused_at 1 Range }
-    ensures unbuilt { judged usual_device (codes "send 0 song 0 4096") ≡ refused_at 1 Unbuilt }
+    ensures unbuilt { judged usual_device (codes "read 0 4") ≡ refused_at 1 Unbuilt }
+    ensures file { judged usual_device (codes "send 0 song 0 4096") ≡ refused_at 1 Name }
 {}
 
 /// The words of a request that is known are counted first. Then come the descriptor, the name and

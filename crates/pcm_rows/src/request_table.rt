@@ -3,6 +3,7 @@
 
 ghost use Rattle.std.specs.Prelude.{◌≡◌, Ok, true, false};
 ghost use Rattle.pcm_oss.specs.declared.event.Event.TheVariants.{Write, Ioctl, Close};
+ghost use Rattle.pcm_wave.specs.declared.pool.Source.TheVariants.{Inline};
 ghost use Rattle.pcm_oss.specs.declared.reply.Answer.TheVariants.{Done};
 ghost use Rattle.pcm_oss.specs.declared.reply.Errno.TheVariants.{Again, Busy, BadF};
 ghost use Rattle.pcm_oss.specs.declared.request.Request.{Request};
@@ -79,7 +80,7 @@ pub fn no_request_of_a_closed_descriptor()
     ensures draining { (book_at small_device closed_desk 0).state ≡ Draining true }
     ensures request { (request : Request)
         → after small_device closed_desk (Ioctl 0 request) ≡ refusing closed_desk BadF }
-    ensures written { after small_device closed_desk (Write 0 8 4) ≡ refusing closed_desk BadF }
+    ensures written { after small_device closed_desk (Write 0 Inline 8 4) ≡ refusing closed_desk BadF }
     ensures closed { after small_device closed_desk (Close 0) ≡ refusing closed_desk BadF }
     ensures never { (request : Request)
         → after small_device (desk_at_start small_device) (Ioctl 63 request)

@@ -2,7 +2,7 @@
 #![tactic(auto, unfolding(crate::proofs::Computing::row))]
 
 ghost use Rattle.std.specs.Prelude.{◌≡◌, ◌∷◌, ◌++◌, [], replicate, take, Some, None, true, false};
-ghost use Rattle.pcm_format.specs.declared.pool.Pool.{Pool};
+ghost use Rattle.pcm_wave.specs.declared.pool.Pool.{Pool};
 ghost use Rattle.pcm_oss.specs.declared.event.Event.TheVariants.{Intr};
 ghost use Rattle.pcm_oss.specs.declared.request.Request.TheVariants.{SetTrigger, Post, Sync, Halt};
 ghost use Rattle.pcm_desk.specs.declared.book.State.TheVariants.{Setup, Primed, Running, Draining};

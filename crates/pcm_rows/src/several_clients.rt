@@ -2,7 +2,7 @@
 #![tactic(auto, unfolding(crate::proofs::Computing::row))]
 
 ghost use Rattle.std.specs.Prelude.{◌≡◌, ◌∷◌, ◌++◌, [], codes, replicate};
-ghost use Rattle.pcm_format.specs.declared.pool.Pool.{Pool};
+ghost use Rattle.pcm_wave.specs.declared.pool.Pool.{Pool};
 ghost use Rattle.pcm_desk.specs.Usual.{usual_device};
 ghost use Rattle.pcm_verdict.specs.Transcript.{transcript};
 ghost use Rattle.pcm_rows.specs.Calls.{accepted, judged, played, printed};

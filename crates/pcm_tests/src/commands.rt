@@ -4,6 +4,7 @@ use pcm_desk::Device;
 use pcm_format::{Format, Layout, Settings};
 use pcm_oss::{Event, Way};
 use pcm_script::{Events, ScriptFault, script_of};
+use pcm_wave::Source;
 use std::alloc::Global;
 use std::test::Fail;
 
@@ -12,7 +13,7 @@ pub type Outcome = Result<usize, (u32, &'static str)>;
 
 /// What comes of a text.
 pub fn outcome(alloc: Global, text: &[u8]) -> Outcome {
-    match script_of(alloc, text, &Device::usual()) {
+    match script_of(alloc, text, &Device::usual(), &[]) {
         Ok(script) => Ok(script.events.as_slice().len()),
         Err(ScriptFault::Refused(refusal)) => Err((refusal.line, refusal.kind.word())),
         Err(ScriptFault::Memory) => Err((0, "memory")),
@@ -88,7 +89,7 @@ const COUNTS: [Row; 10] = [
     (b"open 0 play s16le 2 48000 1", Err((1, "count"))),
     (b"write 0", Err((1, "count"))),
     (b"intr 1 1", Err((1, "count"))),
-    (b"send", Err((1, "unbuilt"))),
+    (b"send", Err((1, "count"))),
     (b"read 64 x y z", Err((1, "unbuilt"))),
 ];
 
@@ -141,16 +142,19 @@ fn the_bytes_of_a_write_are_pairs_of_digits(rt: HostRuntime) {
 const EVENTS: [Event; 6] = [
     Event::Write {
         fd: 3,
+        source: Source::Inline,
         at: 0,
         len: 2,
     },
     Event::Write {
         fd: 3,
+        source: Source::Inline,
         at: 2,
         len: 0,
     },
     Event::Write {
         fd: 4,
+        source: Source::Inline,
         at: 2,
         len: 1,
     },
@@ -162,7 +166,7 @@ const EVENTS: [Event; 6] = [
 #[test]
 fn a_script_has_its_events_in_order(rt: HostRuntime) -> Result<(), Fail> {
     let text = b"write 3 0102\nwrite 3 -\nwrite 4 03\nintr\nintr 0x10\nclose 3";
-    let script = script_of(rt.alloc(), text, &Device::usual())?;
+    let script = script_of(rt.alloc(), text, &Device::usual(), &[])?;
     assert_eq!(rt; script.events.as_slice(), EVENTS.as_slice());
     assert_eq!(rt; script.inline_bytes.as_slice(), &b"\x01\x02\x03"[..]);
     assert_eq!(rt; script.device_frames, 272);
@@ -174,7 +178,7 @@ fn a_script_has_its_events_in_order(rt: HostRuntime) -> Result<(), Fail> {
 #[test]
 fn an_open_has_its_settings(rt: HostRuntime) -> Result<(), Fail> {
     let text = b"open 3 play s16le 2 48000\nopen 4 play s32be 6 44100\nopen 5 play";
-    let script = script_of(rt.alloc(), text, &Device::usual())?;
+    let script = script_of(rt.alloc(), text, &Device::usual(), &[])?;
     let opens = [
         open(3, Format::S16Le, Layout::Two, 48000),
         open(4, Format::S32Be, Layout::Six, 44100),

@@ -7,6 +7,8 @@ mod books;
 #[cfg(test)]
 mod commands;
 #[cfg(test)]
+mod configs;
+#[cfg(test)]
 mod formats;
 #[cfg(test)]
 mod limits;
@@ -24,3 +26,5 @@ mod requests;
 mod rings;
 #[cfg(test)]
 mod transfers;
+#[cfg(test)]
+mod waves;

@@ -102,7 +102,7 @@ const ASKED: [Request; 20] = [
 
 #[test]
 fn each_request_has_its_name(rt: HostRuntime) -> Result<(), Fail> {
-    let script = script_of(rt.alloc(), TEXT, &Device::usual())?;
+    let script = script_of(rt.alloc(), TEXT, &Device::usual(), &[])?;
     let events = ASKED.map(|request| Event::Ioctl { fd: 7, request });
     assert_eq!(rt; script.events.as_slice(), events.as_slice());
     Ok(())

@@ -47,7 +47,7 @@ judged_script out (Err refusal) = BadScript refusal
 -- the script is read
 abbrev pub judged_text : DeviceSeen → List ℕ → List ℕ → Option (List ℕ) → Verdict
 judged_text device script out None = Missing script
-judged_text device script out (Some text) = judged_script out (script_read device text)
+judged_text device script out (Some text) = judged_script out (script_read device [] text)
 
 -- the words are judged
 abbrev pub judged_command : DeviceSeen → (List ℕ → Option (List ℕ)) → Option Command → Verdict

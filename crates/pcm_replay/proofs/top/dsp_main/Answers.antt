@@ -1,3 +1,4 @@
+use Rattle.std.proofs.Common.{[]}
 use Rattle.pcm_script.specs.Lines.{pool_of}
 use Rattle.pcm_replay.specs.Playing.{RanThrough}
 use Rattle.pcm_replay.specs.Outside.{both}
@@ -16,4 +17,4 @@ returns-in-Ok-clause-headline g c = λ accepted _ told.
 pub returns-in-Ok-clause-engine : goal.returns-in-Ok-clause-engine
 returns-in-Ok-clause-engine g c = λ accepted _ told.
     let done = c.in-Ok.ensures.ok in
-    of_accepted _ done.accepted accepted (λ a. RanThrough g.B.Feeder.kept c.in-Ok.engine (pool_of a.script) a.script.events) (done.is_named.cause told.tells) told.accepts done.ran
+    of_accepted _ done.accepted accepted (λ a. RanThrough g.B.Feeder.kept c.in-Ok.engine (pool_of [] a.script) a.script.events) (done.is_named.cause told.tells) told.accepts done.ran

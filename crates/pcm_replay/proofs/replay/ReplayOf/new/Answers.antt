@@ -4,7 +4,7 @@ use Rattle.pcm_replay.proofs.replay.ReplayOf.new.Goals as goal
 
 pub returns : goal.returns
 returns g c = λ pool. record {
-  engine = record { device = c.in_ok-new.ensures.device; stands = c.in_ok-new.ensures.stands pool; steps = c.in_ok-new.ensures.steps };
+  engine = record { device = c.in_ok-new.ensures.device ∙ c.usual-device.ensures.value; stands = c.in_ok-new.ensures.stands pool; steps = c.in_ok-new.ensures.steps };
   ready = c.in_ok-new.ensures.ready;
   text = c.new-3.ensures.items;
   lines = c.new-4.ensures.items;

@@ -1,0 +1,51 @@
+-- A configuration that settles all, and what it settles.
+use Rattle.std.specs.Prelude.{ℕ, List, [], ◌∷◌, codes, Some}
+use Rattle.pcm_format.specs.declared.format.Format.TheVariants.{S24Le}
+use Rattle.pcm_format.specs.declared.layout.Layout.TheVariants.{Six}
+use Rattle.pcm_config.specs.declared.config.Config.{Config}
+use Rattle.pcm_config.specs.declared.config.Container.TheVariants.{Wav}
+use Rattle.pcm_config.specs.declared.config.FilePath.{FilePath}
+use Rattle.pcm_rows.specs.Calls.{joined}
+
+-- all that may be settled
+abbrev pub whole_text : List ℕ
+whole_text = joined (
+    codes "[device]"
+    ∷ codes "format = \"s24le\""
+    ∷ codes "channels = 6"
+    ∷ codes "rate = 44100"
+    ∷ codes "hw_block = 128"
+    ∷ codes "hw_blocks = 2"
+    ∷ codes "container = \"wav\""
+    ∷ codes "capture = \"room\""
+    ∷ codes "[vchans]"
+    ∷ codes "play = 16"
+    ∷ codes "record = 0"
+    ∷ codes "quality = 4"
+    ∷ codes "[files]"
+    ∷ codes "room = \"in.wav\""
+    ∷ codes "a_1 = \"/\""
+    ∷ [])
+
+-- its files, in the order of their names
+abbrev pub whole_files : List FilePath
+whole_files =
+    record { name = codes "a_1"; path = codes "/" }
+    ∷ record { name = codes "room"; path = codes "in.wav" }
+    ∷ []
+
+-- what it settles
+abbrev pub whole_config : Config
+whole_config = record {
+  device = record {
+    settings = record { format = S24Le; layout = Six; rate = 44100 };
+    block_frames = 128;
+    ring_frames = 256;
+    play_slots = 16;
+    quality = 4;
+  };
+  container = Wav;
+  record_slots = 0;
+  capture = Some (codes "room");
+  files = whole_files;
+}
