@@ -1,6 +1,6 @@
 //! Configurations: what a text settles where memory is ample, and the limit of its length.
 
-use pcm_config::{ConfigFault, Container, config_of};
+use pcm_config::{ConfigFault, Container, FilePath, Name, config_of};
 use std::alloc::{AllocError, Global};
 use std::test::Fail;
 
@@ -104,12 +104,28 @@ fn has_files(alloc: Global, text: &[u8]) -> bool {
     let Ok(config) = config_of(alloc, text) else {
         return false;
     };
-    let files = config.files.as_slice();
     config.container == Container::Wav
-        && config.capture.is_some_and(|name| name.as_str() == "b")
-        && files.len() == FILES.len()
-        && files.iter().zip(&FILES).all(|(file, (name, path))| file.name.as_str() == *name
-            && file.path.as_str() == *path)
+        && is_b(&config.capture)
+        && are_files(config.files.as_slice())
+}
+
+fn is_b(name: &Option<Name>) -> bool {
+    match name {
+        Some(name) => name.as_str() == "b",
+        None => false,
+    }
+}
+
+fn are_files(files: &[FilePath]) -> bool {
+    files.len() == FILES.len()
+        && files
+            .iter()
+            .zip(&FILES)
+            .all(|(file, row)| is_file(file, row))
+}
+
+fn is_file(file: &FilePath, row: &(&str, &str)) -> bool {
+    file.name.as_str() == row.0 && file.path.as_str() == row.1
 }
 
 #[test]
