@@ -1,7 +1,7 @@
 //! A run with stages out of boxes that this program makes.
 
 ghost use Rattle.std.specs.Prelude.{◌≡◌, ◌≢◌, IfOk, None, map, string_bytes};
-ghost use Rattle.pcm_verdict.specs.Verdict.{command_of};
+ghost use Rattle.pcm_verdict.specs.Commands.{command_of};
 ghost use Rattle.pcm_replay.specs.Outcomes.{IsStatus};
 
 use feed_format::DepthFeeder;

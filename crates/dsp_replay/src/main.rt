@@ -1,9 +1,9 @@
-//! Runs a script of client calls and interrupts, and writes the device's bytes and the replies.
+//! Runs a script of client calls and interrupts, and writes the device's bytes and the replies; judges a script; converts a wave.
 //! It hands `dsp_main` of `pcm_replay` its words, the real files, standard output, and 32 racks of boxed feeders.
 #![tactic(auto)]
 
 ghost use Rattle.std.specs.Prelude.{◌≡◌, ◌≢◌, ◌⊎◌, None, map, string_bytes};
-ghost use Rattle.pcm_verdict.specs.Verdict.{command_of};
+ghost use Rattle.pcm_verdict.specs.Commands.{command_of};
 ghost use Rattle.pcm_replay.specs.Outcomes.{IsStatus};
 
 mod boxed;
@@ -49,7 +49,7 @@ fn run(rt: &HostRuntime, words: &[String]) -> u8
 // alone tells.
 fn explain(rt: &HostRuntime, status: u8, words: &[String], is_file: bool) {
     match (status, words) {
-        (7, [_, _, out]) if is_file => {
+        (7, [_, _, out, ..]) if is_file => {
             let _ = eprintln!(rt; "dsp_replay: cannot write {out}");
         }
         (7, _) => {

@@ -37,7 +37,18 @@ pub fn folder(alloc: Global, room: usize, script: &[u8]) -> Result<MemFiles, All
     Ok(files)
 }
 
-/// Whether a call with these words comes to that. With 0, and only then, it leaves an engine.
+/// A folder with these files, by their names.
+pub fn folder_of(alloc: Global, room: usize, held: &[(&str, &[u8])]) -> Result<MemFiles, AllocError>
+    ensures { IfOk result (λ files. files.created ≡ None) }
+{
+    let mut files = MemFiles::new(alloc, room)?;
+    for (name, bytes) in held {
+        files.add(name, bytes)?;
+    }
+    Ok(files)
+}
+
+/// Whether a call with these words comes to that. A run that ends with 0, and only that, leaves an engine.
 pub fn comes_to(
     alloc: Global,
     words: &[&str],
@@ -50,7 +61,8 @@ pub fn comes_to(
     Ok(has_ended && out.bytes() == printed && has_file(files, content))
 }
 
-// Whether a call with these words, over racks of boxes, ends with that status, and with 0, and only then, leaves an engine.
+// Whether a call with these words, over racks of boxes, ends with that status. A run that ends with 0, and only that,
+// leaves an engine.
 fn ends_with(
     alloc: Global,
     words: &[&str],
@@ -71,10 +83,11 @@ fn ends_with(
     let Ok(racks) = Racks::of_boxes(alloc, boxes) else {
         return Ok(false);
     };
+    let runs = words.first() == Some(&"run");
     let words = owned(alloc, words)?;
     let mut ran = None;
     let found = dsp_main(alloc, &words, files, out, racks, &mut ran);
-    Ok(found == status && ran.is_some() == (status == 0))
+    Ok(found == status && ran.is_some() == (runs && status == 0))
 }
 
 fn owned(alloc: Global, words: &[&str]) -> Result<Vec<String>, AllocError> {

@@ -10,3 +10,5 @@ mod faults;
 mod scripts;
 #[cfg(test)]
 mod usage;
+#[cfg(test)]
+mod waves;

@@ -1,4 +1,4 @@
-//! Words that match no form, and a script that isn't there.
+//! Words that match no form, and files that aren't there.
 
 use crate::calls::{ROOM, comes_to};
 use pcm_outside::{MemFiles, MemSink};
@@ -11,14 +11,32 @@ const USAGE: &[u8] =
 #[test]
 fn words_and_names(rt: HostRuntime) -> Result<(), Fail> {
     // The words, the status, and what is printed. There is no file.
-    let rows: [(&[&str], u8, &[u8]); 7] = [
+    let rows: [(&[&str], u8, &[u8]); 21] = [
         (&[], 2, USAGE),
         (&["run", "s"], 2, USAGE),
         (&["run", "", "o"], 2, USAGE),
         (&["run", "s", ""], 2, USAGE),
-        (&["run", "s", "o", "c"], 2, USAGE),
-        (&["check", "s", "o"], 2, USAGE),
+        (&["run", "s", "o", ""], 2, USAGE),
+        (&["run", "s", "o", "c", "x"], 2, USAGE),
+        (&["check"], 2, USAGE),
+        (&["check", "s", "c", "x"], 2, USAGE),
+        (&["soak", "7"], 2, USAGE),
+        (&["--help"], 2, USAGE),
+        (&["convert", "w", "o", "48000", "s16le"], 2, USAGE),
+        (&["convert", "w", "o", "3999", "s16le", "2"], 2, USAGE),
+        (&["convert", "w", "o", "192001", "s16le", "2"], 2, USAGE),
+        (&["convert", "w", "o", "0xbb80", "s16le", "2"], 2, USAGE),
+        (&["convert", "w", "o", "48000", "s16be", "2"], 2, USAGE),
+        (&["convert", "w", "o", "48000", "s16le", "3"], 2, USAGE),
         (&["run", "s", "o"], 3, b"dsp_replay: cannot read s\n"),
+        (&["run", "s", "o", "c"], 3, b"dsp_replay: cannot read c\n"),
+        (&["check", "s"], 3, b"dsp_replay: cannot read s\n"),
+        (&["check", "s", "c"], 3, b"dsp_replay: cannot read c\n"),
+        (
+            &["convert", "w", "o", "0000048000", "s16le", "2"],
+            3,
+            b"dsp_replay: cannot read w\n",
+        ),
     ];
     for (words, status, printed) in rows {
         assert!(rt; prints(rt.alloc(), words, status, printed)?, "{words:?}");

@@ -1,5 +1,13 @@
-pub mod Cuts
-pub mod Ends
+pub mod Parts
+pub mod Fronts
+pub mod Refusing
 pub mod Judgements
+pub mod Loading
+pub mod Ordering
+pub mod Doing
+pub mod Statuses
+pub mod Cuts
 pub mod Plays
 pub mod Texts
+pub mod Blocks
+pub mod Waves

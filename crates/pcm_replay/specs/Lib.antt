@@ -1,6 +1,9 @@
 pub mod Commands
+pub mod Faults
 pub mod Outside
-pub mod Runs
+pub mod Reads
+pub mod Parts
+pub mod Written
 pub mod Outcomes
 pub mod Endings
 pub mod Playing

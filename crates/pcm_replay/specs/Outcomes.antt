@@ -1,97 +1,110 @@
 -- What a call did outside, by how it ended: of its words, and of the outside before and after.
-use Rattle.std.specs.Prelude.{◌≡◌, ◌⊎◌, ℕ, List, Some, None, IsTrue}
-use Rattle.pcm_outside.specs.Files.{FilesSeen, FailsToRead, OnlyReads}
+use Rattle.std.specs.Prelude.{◌≡◌, ◌⊎◌, ℕ, List, Some, None, IsTrue, Result, Ok, Err}
+use Rattle.pcm_outside.specs.Files.{FilesSeen}
 use Rattle.pcm_outside.specs.Sink.{FailsToPut, Puts}
-use Rattle.pcm_desk.specs.Usual.{usual_device}
-use Rattle.pcm_script.specs.declared.fault.Refusal.{Refusal}
-use Rattle.pcm_verdict.specs.Verdict.{Accepted, Verdict, Usage, Missing, BadScript, Accept, RunScript, command_of, verdict}
-use Rattle.pcm_verdict.specs.Faults.{bad_script_line, cannot_read_line, usage_line}
+use Rattle.pcm_verdict.specs.Commands.{Command, command_of}
+use Rattle.pcm_verdict.specs.Faults.{Fault, Usage, Missing, BadConfig, BadWave, BadScript, usage_line}
+use Rattle.pcm_verdict.specs.Outputs.{output_of}
+use Rattle.pcm_verdict.specs.Verdict.{Accepted, command_judged, verdict}
+use Rattle.pcm_replay.specs.Commands.{MayRead}
 use Rattle.pcm_replay.specs.Outside.{Outside}
-use Rattle.pcm_replay.specs.Runs.{CutsRun, output_of}
+use Rattle.pcm_replay.specs.Reads.{CutsLine, FailsToReadOne, Lacks, Part, RefusesPart}
+use Rattle.pcm_replay.specs.Written.{CutsOutput}
+use Rattle.pcm_replay.specs.declared.ending.Ending.{Ending}
 
 -- what the words come to, over the contents of the files
-abbrev pub verdict_on : List (List ℕ) → FilesSeen → Verdict
-verdict_on words files = verdict usual_device words files.content
+abbrev pub verdict_on : List (List ℕ) → FilesSeen → Result Accepted Fault
+verdict_on words files = verdict words files.content
 
--- the files tell that the words and the script are accepted
+-- the files tell that the words, and all that they name, are accepted
 pub record IsAccepted (words : List (List ℕ)) (files : FilesSeen) (accepted : Accepted) : Type 0 where
   pub tells : IsTrue files.tells
-  pub accepts : verdict_on words files ≡ Accept accepted
+  pub accepts : verdict_on words files ≡ Ok accepted
 
--- the words name a script and a device file
-pub record NamesRun (words : List (List ℕ)) : Type 0 where
-  pub script : List ℕ
-  pub out : List ℕ
-  pub command : command_of words ≡ Some (RunScript script out)
+-- what a command reads and judges
+abbrev pub command_part : Command → Part Accepted
+command_part command = record { judged = λ content. command_judged content command; may = MayRead command }
 
--- the words name a script and this device file, and where the files tell, all is accepted
+-- the command that the words spell
+pub record Spells (words : List (List ℕ)) : Type 0 where
+  pub command : Command
+  pub is : command_of words ≡ Some command
+
+-- the part of a call that reads and judges files
+abbrev pub part_of : {words : List (List ℕ)} → Spells words → Part Accepted
+part_of spells = command_part spells.command
+
+-- the words spell a command, and where the files tell, what it works on is accepted
 pub record IsNamed (words : List (List ℕ)) (files : FilesSeen) (accepted : Accepted) : Type 0 where
-  pub named : NamesRun words
-  pub out : accepted.out ≡ named.out
-  pub cause : IsTrue files.tells → verdict_on words files ≡ Accept accepted
+  pub spells : Spells words
+  pub cause : IsTrue files.tells → verdict_on words files ≡ Ok accepted
 
--- the words match no form: nothing was read, and all forms were put
+-- 2: the words match no form: nothing was read, and all forms were put
 pub record RefusesWords (words : List (List ℕ)) (before after : Outside) : Type 0 where
   pub cause : command_of words ≡ None
   pub files : after.files ≡ before.files
   pub line : Puts before.sink after.sink usage_line
 
--- the script that the words name could not be read, and its name was put
-pub record FailsToReadScript (words : List (List ℕ)) (before after : Outside) : Type 0 where
-  pub name : List ℕ
-  pub out : List ℕ
-  pub cause : command_of words ≡ Some (RunScript name out)
-  pub read : FailsToRead before.files after.files name
-  pub files : OnlyReads before.files after.files
-  pub line : Puts before.sink after.sink (cannot_read_line name)
+-- 3: a file that the command may read could not be read
+pub record CannotReadOne (words : List (List ℕ)) (before after : Outside) : Type 0 where
+  pub spells : Spells words
+  pub read : FailsToReadOne (part_of spells) before after
 
--- the script is refused, and its first bad line was put
-pub record RefusesScript (words : List (List ℕ)) (before after : Outside) : Type 0 where
-  pub named : NamesRun words
-  pub refusal : Refusal
-  pub cause : IsTrue before.files.tells → verdict_on words before.files ≡ BadScript refusal
-  pub files : OnlyReads before.files after.files
-  pub line : Puts before.sink after.sink (bad_script_line refusal)
+-- 4, 5, 6: a file that the command reads is refused
+pub record RefusesFile (words : List (List ℕ)) (ending : Ending) (before after : Outside) : Type 0 where
+  pub spells : Spells words
+  pub refuses : RefusesPart (part_of spells) ending before after
 
--- memory ran out: nothing was written, and nothing was put
-pub record LacksMemory (words : List (List ℕ)) (before after : Outside) : Type 0 where
-  pub named : NamesRun words
-  pub files : OnlyReads before.files after.files
-  pub sink : after.sink ≡ before.sink
+-- 7: the put of the forms failed
+pub record CutsForms (words : List (List ℕ)) (before after : Outside) : Type 0 where
+  pub cause : command_of words ≡ None
+  pub files : after.files ≡ before.files
+  pub put : FailsToPut before.sink after.sink usage_line
 
--- the line of a fault that was found
-pub data IsFaultLine (words : List (List ℕ)) (old new : FilesSeen) (line : List ℕ) : Type 0 where
-  OfWords : command_of words ≡ None → line ≡ usage_line → IsFaultLine words old new line
-  OfRead : (name out : List ℕ) → command_of words ≡ Some (RunScript name out) → FailsToRead old new name
-      → line ≡ cannot_read_line name → IsFaultLine words old new line
-  OfScript : NamesRun words → (refusal : Refusal) → (IsTrue old.tells → verdict_on words old ≡ BadScript refusal)
-      → line ≡ bad_script_line refusal → IsFaultLine words old new line
-
--- the put of a fault line failed: nothing was written, and a prefix of the line was put
+-- 7: the put of another fault's line failed
 pub record CutsFaultLine (words : List (List ℕ)) (before after : Outside) : Type 0 where
-  pub line : List ℕ
-  pub fault : IsFaultLine words before.files after.files line
-  pub files : OnlyReads before.files after.files
-  pub put : FailsToPut before.sink after.sink line
+  pub spells : Spells words
+  pub line : CutsLine (part_of spells) before after
 
--- the run of the script that the words name was cut short
-pub record CutsScript (words : List (List ℕ)) (before after : Outside) : Type 0 where
+-- 7: what an accepted call was to leave was cut short
+pub record CutsAccepted (words : List (List ℕ)) (before after : Outside) : Type 0 where
   pub accepted : Accepted
   pub is_named : IsNamed words before.files accepted
-  pub cut : CutsRun (output_of accepted) before after
+  pub cut : CutsOutput (output_of accepted) before after
 
--- a write failed, in a fault line or in a run
+-- 7: a write failed, in the forms, in a fault's line, or in what was to be left
 pub data IsCut (words : List (List ℕ)) (before after : Outside) : Type 0 where
+  InForms : CutsForms words before after → IsCut words before after
   InFaultLine : CutsFaultLine words before after → IsCut words before after
-  InScript : CutsScript words before after → IsCut words before after
+  InOutput : CutsAccepted words before after → IsCut words before after
 
--- the six statuses
+-- 8: memory ran out: nothing was written, and nothing was put
+pub record LacksMemory (words : List (List ℕ)) (before after : Outside) : Type 0 where
+  pub spells : Spells words
+  pub lacks : Lacks before after
+
+-- what was judged is accepted, or refused
+abbrev pub IsAcceptedBy : Result Accepted Fault → Type 0
+IsAcceptedBy (Ok accepted) = Unit {0}
+IsAcceptedBy (Err fault) = ⊥
+
+abbrev pub IsRefusedBy : Result Accepted Fault → Type 0
+IsRefusedBy (Ok accepted) = ⊥
+IsRefusedBy (Err fault) = Unit {0}
+
+-- the eight statuses
 abbrev pub IsStatus : ℕ → Type 0
-IsStatus status = (status ≡ 0) ⊎ ((status ≡ 2) ⊎ ((status ≡ 3) ⊎ ((status ≡ 5) ⊎ ((status ≡ 7) ⊎ (status ≡ 8)))))
+IsStatus status = (status ≡ 0) ⊎ ((status ≡ 2) ⊎ ((status ≡ 3) ⊎ ((status ≡ 4) ⊎ ((status ≡ 5) ⊎ ((status ≡ 6) ⊎ ((status ≡ 7) ⊎ (status ≡ 8)))))))
+
+-- the statuses that a fault may come to
+abbrev pub MayRefuse : Fault → ℕ → Type 0
+MayRefuse Usage status = (status ≡ 2) ⊎ ((status ≡ 7) ⊎ (status ≡ 8))
+MayRefuse (Missing name) status = (status ≡ 3) ⊎ ((status ≡ 7) ⊎ (status ≡ 8))
+MayRefuse (BadConfig refusal) status = (status ≡ 4) ⊎ ((status ≡ 3) ⊎ ((status ≡ 7) ⊎ (status ≡ 8)))
+MayRefuse (BadScript refusal) status = (status ≡ 5) ⊎ ((status ≡ 3) ⊎ ((status ≡ 7) ⊎ (status ≡ 8)))
+MayRefuse (BadWave name kind) status = (status ≡ 6) ⊎ ((status ≡ 3) ⊎ ((status ≡ 7) ⊎ (status ≡ 8)))
 
 -- the statuses that a verdict may come to
-abbrev pub MayEnd : Verdict → ℕ → Type 0
-MayEnd Usage status = (status ≡ 2) ⊎ ((status ≡ 7) ⊎ (status ≡ 8))
-MayEnd (Missing name) status = (status ≡ 3) ⊎ ((status ≡ 7) ⊎ (status ≡ 8))
-MayEnd (BadScript refusal) status = (status ≡ 5) ⊎ ((status ≡ 3) ⊎ ((status ≡ 7) ⊎ (status ≡ 8)))
-MayEnd (Accept accepted) status = (status ≡ 0) ⊎ ((status ≡ 3) ⊎ ((status ≡ 7) ⊎ (status ≡ 8)))
+abbrev pub MayEnd : Result Accepted Fault → ℕ → Type 0
+MayEnd (Ok accepted) status = (status ≡ 0) ⊎ ((status ≡ 3) ⊎ ((status ≡ 7) ⊎ (status ≡ 8)))
+MayEnd (Err fault) status = MayRefuse fault status

@@ -3,7 +3,6 @@ use Rattle.std.specs.Prelude.{◌≡◌, ℕ, ◌*◌, List, length, vec_len}
 use Rattle.pcm_oss.specs.declared.event.Event.{Event}
 use Rattle.pcm_wave.specs.declared.pool.Pool.{Pool}
 use Rattle.pcm_desk.specs.Device.{DeviceSeen, device_frame_bytes, ring_frames}
-use Rattle.pcm_desk.specs.Usual.{usual_device}
 use Rattle.pcm_sound.specs.DeviceList.{device_text}
 use Rattle.pcm_feeder.specs.declared.kind.Kind.{Kind}
 use Rattle.pcm_feeder.specs.Kept.{Kept}
@@ -17,18 +16,17 @@ use Rattle.pcm_replay.specs.declared.replay.ReplayOf.{ReplayOf}
 abbrev pub ring_room : DeviceSeen → ℕ
 ring_room device = ring_frames device * device_frame_bytes device
 
--- the engine was stepped through these events, once each
-pub record RanThrough {B : Type 0} (kept : B → Kept) (engine : EngineOf B) (pool : Pool) (events : List Event) : Type 0 where
-  pub device : device_of engine ≡ usual_device
+-- an engine of a device was stepped through these events, once each
+pub record RanThrough {B : Type 0} (kept : B → Kept) (engine : EngineOf B) (device : DeviceSeen) (pool : Pool) (events : List Event) : Type 0 where
+  pub device_is : device_of engine ≡ device
   pub stands : Stands kept engine pool events
   pub steps : engine.steps ≡ length events
 
 -- these events were run, and what they leave is kept
-pub record HasPlayed {B : Type 0} (kind : B → Kind) (kept : B → Kept) (replay : ReplayOf B) (pool : Pool)
-    (events : List Event) : Type 0 where
-  pub engine : RanThrough kept replay.engine pool events
+pub record HasPlayed {B : Type 0} (kind : B → Kind) (kept : B → Kept) (replay : ReplayOf B) (pool : Pool) (events : List Event) : Type 0 where
+  pub engine : RanThrough kept replay.engine (device_of replay.engine) pool events
   pub ready : AreReady kind kept replay.engine
-  pub text : replay.text.items ≡ device_text usual_device pool events
-  pub lines : replay.lines.items ≡ transcript usual_device pool events
-  pub room : vec_len replay.block ≡ ring_room usual_device
+  pub text : replay.text.items ≡ device_text (device_of replay.engine) pool events
+  pub lines : replay.lines.items ≡ transcript (device_of replay.engine) pool events
+  pub room : vec_len replay.block ≡ ring_room (device_of replay.engine)
   pub line_room : vec_len replay.line ≡ LINE_BYTES

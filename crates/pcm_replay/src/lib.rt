@@ -2,11 +2,18 @@
 //! `dsp_main` says exactly what is written, over any files and any sink that meet their traits.
 #![tactic(auto)]
 
+mod check;
+mod commands;
+mod convert;
+mod data_files;
 mod ending;
-mod fault_lines;
+mod fault;
+mod inputs;
+mod loaded;
 mod reading;
 mod refusals;
 mod replay;
+mod source;
 mod top;
 mod words;
 mod writing;

@@ -1,19 +1,27 @@
 //! The run of a script, which is kept whole until it is written.
 
-ghost use Rattle.std.specs.Prelude.{◌+◌, ◌<◌, ◌≤◌, [], All, IfErr, IfOk, OnOk, length, take};
+ghost use Rattle.pcm_replay.specs.declared.ending.Ending.TheVariants.{NoMemory};
+ghost use Rattle.std.specs.Prelude.{◌≡◌, ◌*◌, ◌+◌, ◌<◌, ◌≤◌, [], All, IfErr, IfOk, OnOk, length, take};
 ghost use Rattle.pcm_wave.specs.declared.pool.Pool.{Pool};
-ghost use Rattle.pcm_desk.specs.declared.limits.TheConstants.{EVENTS};
+ghost use Rattle.pcm_desk.specs.declared.limits.TheConstants.{DEVICE_BYTES, EVENTS};
 ghost use Rattle.pcm_desk.specs.Events.{Fits};
-ghost use Rattle.pcm_desk.specs.Usual.{usual_device};
+ghost use Rattle.pcm_desk.specs.Device.{IsInLimits, device_frame_bytes, seen};
 ghost use Rattle.pcm_feeder.specs.Racks.{AreRacks, list_of};
-ghost use Rattle.pcm_script.specs.Lines.{AllFit, pool_of};
-ghost use Rattle.pcm_replay.specs.Endings.{CutsShort};
+ghost use Rattle.pcm_config.specs.Configs.{IsHeld};
+ghost use Rattle.pcm_engine.specs.Engines.{device_of};
+ghost use Rattle.pcm_script.specs.Lines.{AllFit, bytes_taken};
+ghost use Rattle.pcm_verdict.specs.Outputs.{file_header, output_of};
+ghost use Rattle.pcm_verdict.specs.Verdict.{Runs};
+ghost use Rattle.pcm_replay.specs.Endings.{CutsShort, RanInputs};
 ghost use Rattle.pcm_replay.specs.Outside.{both};
-ghost use Rattle.pcm_replay.specs.Playing.{HasPlayed, RanThrough};
-ghost use Rattle.pcm_replay.specs.Runs.{WritesRun, output_of};
+ghost use Rattle.pcm_replay.specs.Parts.{inputs_seen};
+ghost use Rattle.pcm_replay.specs.Playing.{HasPlayed};
+ghost use Rattle.pcm_replay.specs.Written.{WritesAll};
 
 use crate::ending::Ending;
-use crate::writing::write_run;
+use crate::inputs::Inputs;
+use crate::writing::write_all;
+use pcm_config::{Config, Container};
 use pcm_desk::Device;
 use pcm_engine::EngineOf;
 use pcm_feeder::{Feeder, RacksOf};
@@ -21,7 +29,7 @@ use pcm_oss::{Event, ReplyBuf};
 use pcm_outside::{Files, Sink};
 use pcm_report::{LINE_BYTES, write_line};
 use pcm_script::Script;
-use pcm_wave::{DataFiles, Pool};
+use pcm_wave::{Pool, header};
 use std::alloc::{AllocError, Global};
 
 /// The engine of a run, with the device's bytes and the lines of the events so far.
@@ -37,15 +45,16 @@ pub struct ReplayOf<B> {
 
 impl<B: Feeder> ReplayOf<B> {
     // Takes the engine's memory, before the first event.
-    fn new(alloc: Global, racks: RacksOf<B>) -> Result<ReplayOf<B>, AllocError>
-        requires { AreRacks B.kind (list_of racks) }
-        ensures { IfOk result (λ replay. (pool : Pool) → HasPlayed B.kind B.kept replay pool []) }
+    fn new(alloc: Global, device: &Device, racks: RacksOf<B>) -> Result<ReplayOf<B>, AllocError>
+        requires limits { IsInLimits (seen device.now) }
+        requires kinds { AreRacks B.kind (list_of racks) }
+        ensures played { IfOk result (λ replay. (pool : Pool) → HasPlayed B.kind B.kept replay pool []) }
+        ensures device { IfOk result (λ replay. device_of replay.engine ≡ seen device.now) }
     {
-        let device = Device::usual();
         // The greatest interrupt takes the device's whole ring.
         let room = device.ring_frames as usize * device.settings.frame_bytes();
         Ok(ReplayOf {
-            engine: EngineOf::new(alloc, device, racks)?,
+            engine: EngineOf::new(alloc, *device, racks)?,
             reply: ReplyBuf::new(alloc)?,
             block: vec![in alloc; 0; room]?,
             line: vec![in alloc; 0; LINE_BYTES]?,
@@ -57,10 +66,11 @@ impl<B: Feeder> ReplayOf<B> {
     // Steps the engine through one event.
     fn step_at(&mut self, events: &[Event], pool: &Pool, at: usize) -> Result<(), AllocError>
         requires there { at < length events.now }
-        requires fits { All (Fits usual_device pool.now) events.now }
+        requires fits { All (Fits (device_of self.old.engine) pool.now) events.now }
         requires count { length events.now ≤ EVENTS }
         requires played { HasPlayed B.kind B.kept self.old pool.now (take at events.now) }
-        ensures { OnOk result (HasPlayed B.kind B.kept self.new pool.now (take (at + 1) events.now)) }
+        ensures played { OnOk result (HasPlayed B.kind B.kept self.new pool.now (take (at + 1) events.now)) }
+        ensures device { OnOk result (device_of self.new.engine ≡ device_of self.old.engine) }
     {
         let count = self
             .engine
@@ -72,19 +82,22 @@ impl<B: Feeder> ReplayOf<B> {
     }
 }
 
-/// Runs all events of a script.
+/// Runs all events of a script on a device.
 pub fn play<B: Feeder>(
     alloc: Global,
+    device: &Device,
     racks: RacksOf<B>,
     events: &[Event],
     pool: &Pool,
 ) -> Result<ReplayOf<B>, AllocError>
+    requires limits { IsInLimits (seen device.now) }
     requires kinds { AreRacks B.kind (list_of racks) }
-    requires fits { All (Fits usual_device pool.now) events.now }
+    requires fits { All (Fits (seen device.now) pool.now) events.now }
     requires count { length events.now ≤ EVENTS }
-    ensures { IfOk result (λ replay. HasPlayed B.kind B.kept replay pool.now events.now) }
+    ensures played { IfOk result (λ replay. HasPlayed B.kind B.kept replay pool.now events.now) }
+    ensures device { IfOk result (λ replay. device_of replay.engine ≡ seen device.now) }
 {
-    let mut replay = ReplayOf::new(alloc, racks)?;
+    let mut replay = ReplayOf::new(alloc, device, racks)?;
     for at in 0..events.len() {
         replay.step_at(events, pool, at)?;
     }
@@ -95,36 +108,64 @@ pub fn play<B: Feeder>(
 pub fn run_script<B: Feeder, F: Files, K: Sink>(
     alloc: Global,
     racks: RacksOf<B>,
-    script: Script,
+    inputs: Inputs,
     files: &mut F,
     out: &mut K,
     name: &str,
 ) -> Result<EngineOf<B>, Ending>
     requires kinds { AreRacks B.kind (list_of racks) }
-    requires fits { AllFit usual_device [] script }
-    requires count { length script.events ≤ EVENTS }
-    ensures ran { IfOk result (λ engine. RanThrough B.kept engine (pool_of [] script) script.events) }
-    ensures ok { OnOk result (WritesRun (output_of (record { out = name.now; script = script }))
+    requires limits { IsInLimits (seen inputs.config.device) }
+    requires container { IsHeld inputs.config }
+    requires fits { AllFit (seen inputs.config.device) inputs.files inputs.script }
+    requires count { length inputs.script.events ≤ EVENTS }
+    requires frames { bytes_taken (seen inputs.config.device) inputs.script ≤ DEVICE_BYTES }
+    ensures ran { IfOk result (λ engine. RanInputs B.kept engine (inputs_seen inputs)) }
+    ensures ok { OnOk result (WritesAll (output_of (Runs name.now (inputs_seen inputs)))
         (both (F.seen files.old) (K.seen out.old)) (both (F.seen files.new) (K.seen out.new))) }
-    ensures err { IfErr result (λ ending. CutsShort ending
-        (record { out = name.now; script = script })
+    ensures err { IfErr result (λ ending. CutsShort ending (Runs name.now (inputs_seen inputs))
         (both (F.seen files.old) (K.seen out.old)) (both (F.seen files.new) (K.seen out.new))) }
 {
+    let Inputs {
+        config,
+        files: data,
+        script,
+    } = inputs;
     let Script {
         events,
         inline_bytes,
-        ..
+        device_frames,
     } = script;
     let pool = Pool {
-        files: DataFiles::new(Vec::new(alloc)),
+        files: data,
         inline_bytes,
     };
-    let Ok(replay) = play(alloc, racks, events.as_slice(), &pool) else {
+    let Ok(replay) = play(alloc, &config.device, racks, events.as_slice(), &pool) else {
         return Err(Ending::NoMemory);
     };
-    let written = write_run(files, out, name, &replay.text, &replay.lines);
+    let head = file_head(alloc, &config, device_frames)?;
+    let written = write_all(files, out, name, &head, &replay.text, &replay.lines);
     let Ok(()) = written else {
         return Err(Ending::CannotWrite);
     };
     Ok(replay.engine)
+}
+
+// What stands before the frames of a device file.
+fn file_head(alloc: Global, config: &Config, frames: u32) -> Result<Vec<u8>, Ending>
+    requires limits { IsInLimits (seen config.now.device) }
+    requires container { IsHeld config.now }
+    requires frames { frames * device_frame_bytes (seen config.now.device) ≤ DEVICE_BYTES }
+    ensures ok { IfOk result (λ head. head.items
+        ≡ file_header config.now.container (seen config.now.device) frames) }
+    ensures err { IfErr result (λ ending. ending ≡ NoMemory) }
+{
+    let mut head = Vec::new(alloc);
+    if config.container == Container::Raw {
+        return Ok(head);
+    }
+    let bytes = header(&config.device.settings, frames);
+    match head.extend_from_slice(&bytes) {
+        Ok(()) => Ok(head),
+        Err(_) => Err(Ending::NoMemory),
+    }
 }

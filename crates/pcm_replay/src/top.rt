@@ -1,22 +1,21 @@
 //! The top call: words, files and a sink go in, and a status comes out.
 
-ghost use Rattle.std.specs.Prelude.{◌≡◌, ◌≢◌, ◌⊎◌, None, IfErr, IfOk, IsSomeAnd, IsTrue, map, string_bytes, []};
+ghost use Rattle.std.specs.Prelude.{◌≡◌, ◌≢◌, ◌⊎◌, None, IfErr, IfOk, IsSomeAnd, IsTrue, List, ℕ, map, string_bytes};
 ghost use Rattle.pcm_outside.specs.Counts.{Rose};
 ghost use Rattle.pcm_feeder.specs.Racks.{AreRacks, list_of};
-ghost use Rattle.pcm_script.specs.Lines.{pool_of};
-ghost use Rattle.pcm_verdict.specs.Faults.{status_of};
-ghost use Rattle.pcm_verdict.specs.Verdict.{Accepted, command_of};
-ghost use Rattle.pcm_replay.specs.Endings.{Ends, Finishes};
-ghost use Rattle.pcm_replay.specs.Outcomes.{FailsToReadScript, IsAccepted, IsCut, IsStatus, LacksMemory};
-ghost use Rattle.pcm_replay.specs.Outcomes.{MayEnd, RefusesScript, RefusesWords, verdict_on};
+ghost use Rattle.pcm_verdict.specs.Commands.{command_of};
+ghost use Rattle.pcm_verdict.specs.Outputs.{output_of};
+ghost use Rattle.pcm_verdict.specs.Verdict.{Conversion, Inputs, Checks, Converts, Runs};
+ghost use Rattle.pcm_replay.specs.declared.ending.Ending.TheVariants.{BadConfig, BadScript, BadWave};
+ghost use Rattle.pcm_replay.specs.Endings.{DoesWords, EndsCall, Finishes, RanInputs};
+ghost use Rattle.pcm_replay.specs.Outcomes.{CannotReadOne, IsAccepted, IsAcceptedBy, IsCut, IsRefusedBy, IsStatus};
+ghost use Rattle.pcm_replay.specs.Outcomes.{LacksMemory, MayEnd, RefusesFile, RefusesWords, verdict_on};
 ghost use Rattle.pcm_replay.specs.Outside.{NoneRose, OneRose, WriteRose, both};
-ghost use Rattle.pcm_replay.specs.Playing.{RanThrough};
-ghost use Rattle.pcm_replay.specs.Runs.{WritesRun, output_of};
+ghost use Rattle.pcm_replay.specs.Written.{WritesAll};
 
+use crate::commands::do_command;
 use crate::ending::Ending;
-use crate::reading::read_script;
 use crate::refusals::refuse_words;
-use crate::replay::run_script;
 use crate::words::command_in;
 use pcm_engine::EngineOf;
 use pcm_feeder::{Feeder, RacksOf};
@@ -24,7 +23,7 @@ use pcm_outside::{Files, Sink};
 use std::alloc::Global;
 
 /// Does what the words ask for, with stages out of the racks. The status that the program ends with is 0, or says what
-/// stopped it.
+/// stopped it. Where a script was run to its end, its engine is left in `ran`.
 pub fn dsp_main<B: Feeder, F: Files, K: Sink>(
     alloc: Global,
     words: &[String],
@@ -39,44 +38,58 @@ pub fn dsp_main<B: Feeder, F: Files, K: Sink>(
     ensures completeness { IsTrue (F.seen files.old).tells
         → MayEnd (verdict_on (map string_bytes words.now) (F.seen files.old)) result }
     ensures unfailing { IsTrue (F.seen files.old).tells
-        → status_of (verdict_on (map string_bytes words.now) (F.seen files.old)) ≡ 0
+        → IsAcceptedBy (verdict_on (map string_bytes words.now) (F.seen files.old))
         → (OneRose
         (both (F.seen files.old) (K.seen out.old)) (both (F.seen files.new) (K.seen out.new)) → ⊥)
         → (result ≡ 0) ⊎ (result ≡ 8) }
 
-    // 0: the device file has exactly its bytes, and exactly the replies were put.
+    // 0: what the words ask for was done to its end.
     ensures accepted { result ≡ 0 → IsTrue (F.seen files.old).tells
-        → status_of (verdict_on (map string_bytes words.now) (F.seen files.old)) ≡ 0 }
-    ensures headline { (accepted : Accepted) → result ≡ 0
-        → IsAccepted (map string_bytes words.now) (F.seen files.old) accepted
-        → WritesRun (output_of accepted)
+        → IsAcceptedBy (verdict_on (map string_bytes words.now) (F.seen files.old)) }
+    // A run: the device file has exactly its bytes, and exactly the replies were put.
+    ensures headline { (name : List ℕ) (inputs : Inputs) → result ≡ 0
+        → IsAccepted (map string_bytes words.now) (F.seen files.old) (Runs name inputs)
+        → WritesAll (output_of (Runs name inputs))
         (both (F.seen files.old) (K.seen out.old)) (both (F.seen files.new) (K.seen out.new)) }
-    ensures engine { (accepted : Accepted) → result ≡ 0
-        → IsAccepted (map string_bytes words.now) (F.seen files.old) accepted
-        → IsSomeAnd ran.new
-        (λ engine. RanThrough B.kept engine (pool_of [] accepted.script) accepted.script.events) }
+    ensures engine { (name : List ℕ) (inputs : Inputs) → result ≡ 0
+        → IsAccepted (map string_bytes words.now) (F.seen files.old) (Runs name inputs)
+        → IsSomeAnd ran.new (λ engine. RanInputs B.kept engine inputs) }
+    // A check: nothing was written, and exactly its line was put.
+    ensures checked { (inputs : Inputs) → result ≡ 0
+        → IsAccepted (map string_bytes words.now) (F.seen files.old) (Checks inputs)
+        → WritesAll (output_of (Checks inputs))
+        (both (F.seen files.old) (K.seen out.old)) (both (F.seen files.new) (K.seen out.new)) }
+    // A conversion: the file is exactly the converted wave, and exactly its line was put.
+    ensures converted { (name : List ℕ) (conversion : Conversion) → result ≡ 0
+        → IsAccepted (map string_bytes words.now) (F.seen files.old) (Converts name conversion)
+        → WritesAll (output_of (Converts name conversion))
+        (both (F.seen files.old) (K.seen out.old)) (both (F.seen files.new) (K.seen out.new)) }
     ensures finished { result ≡ 0
-        → IsSomeAnd ran.new (λ engine. Finishes B.kept engine (map string_bytes words.now)
-        (both (F.seen files.old) (K.seen out.old)) (both (F.seen files.new) (K.seen out.new))) }
+        → Finishes B.kept ran.old ran.new (map string_bytes words.now)
+        (both (F.seen files.old) (K.seen out.old)) (both (F.seen files.new) (K.seen out.new)) }
     ensures no_rise { result ≡ 0 → NoneRose
         (both (F.seen files.old) (K.seen out.old)) (both (F.seen files.new) (K.seen out.new)) }
     ensures stays { result ≢ 0 → ran.new ≡ ran.old }
 
-    // 2, 3, 5: nothing was written, and exactly the line of the fault was put.
+    // 2, 3, 4, 5, 6: nothing was written, and exactly the line of the fault was put.
     ensures usage { result ≡ 2 → RefusesWords (map string_bytes words.now)
         (both (F.seen files.old) (K.seen out.old)) (both (F.seen files.new) (K.seen out.new)) }
     ensures only_usage { command_of (map string_bytes words.now) ≡ None → result ≢ 2
         → (result ≡ 7) × (Rose (K.seen out.old).faults (K.seen out.new).faults) }
-    ensures read_cause { result ≡ 3 → FailsToReadScript (map string_bytes words.now)
+    ensures read_cause { result ≡ 3 → CannotReadOne (map string_bytes words.now)
         (both (F.seen files.old) (K.seen out.old)) (both (F.seen files.new) (K.seen out.new)) }
-    ensures bad_script { result ≡ 5 → RefusesScript (map string_bytes words.now)
+    ensures bad_config { result ≡ 4 → RefusesFile (map string_bytes words.now) BadConfig
+        (both (F.seen files.old) (K.seen out.old)) (both (F.seen files.new) (K.seen out.new)) }
+    ensures bad_script { result ≡ 5 → RefusesFile (map string_bytes words.now) BadScript
+        (both (F.seen files.old) (K.seen out.old)) (both (F.seen files.new) (K.seen out.new)) }
+    ensures bad_wave { result ≡ 6 → RefusesFile (map string_bytes words.now) BadWave
         (both (F.seen files.old) (K.seen out.old)) (both (F.seen files.new) (K.seen out.new)) }
 
     // 7: a write failed, and what is left is a prefix of what was to be written.
     ensures write_cause { result ≡ 7 → WriteRose
         (both (F.seen files.old) (K.seen out.old)) (both (F.seen files.new) (K.seen out.new)) }
     ensures line_cause { result ≡ 7 → IsTrue (F.seen files.old).tells
-        → status_of (verdict_on (map string_bytes words.now) (F.seen files.old)) ≢ 0
+        → IsRefusedBy (verdict_on (map string_bytes words.now) (F.seen files.old))
         → Rose (K.seen out.old).faults (K.seen out.new).faults }
     ensures cut { result ≡ 7 → IsCut (map string_bytes words.now)
         (both (F.seen files.old) (K.seen out.old)) (both (F.seen files.new) (K.seen out.new)) }
@@ -85,36 +98,32 @@ pub fn dsp_main<B: Feeder, F: Files, K: Sink>(
     ensures memory { result ≡ 8 → LacksMemory (map string_bytes words.now)
         (both (F.seen files.old) (K.seen out.old)) (both (F.seen files.new) (K.seen out.new)) }
 {
-    match replay(alloc, words, files, out, racks) {
-        Ok(engine) => {
+    match carry_out(alloc, words, files, out, racks) {
+        Ok(None) => 0,
+        Ok(Some(engine)) => {
             *ran = Some(engine);
             0
         }
-        Err(Ending::Usage) => 2,
-        Err(Ending::CannotRead) => 3,
-        Err(Ending::BadScript) => 5,
-        Err(Ending::CannotWrite) => 7,
-        Err(Ending::NoMemory) => 8,
+        Err(ending) => ending.status(),
     }
 }
 
-// The words are judged, the script is read and judged, and then it is run.
-fn replay<B: Feeder, F: Files, K: Sink>(
+// The words are judged, and then what they ask for is done.
+fn carry_out<B: Feeder, F: Files, K: Sink>(
     alloc: Global,
     words: &[String],
     files: &mut F,
     out: &mut K,
     racks: RacksOf<B>,
-) -> Result<EngineOf<B>, Ending>
+) -> Result<Option<EngineOf<B>>, Ending>
     requires kinds { AreRacks B.kind (list_of racks) }
-    ensures ok { IfOk result (λ engine. Finishes B.kept engine (map string_bytes words.now)
+    ensures ok { IfOk result (λ engine. DoesWords B.kept (map string_bytes words.now) engine
         (both (F.seen files.old) (K.seen out.old)) (both (F.seen files.new) (K.seen out.new))) }
-    ensures err { IfErr result (λ ending. Ends ending (map string_bytes words.now)
+    ensures err { IfErr result (λ ending. EndsCall ending (map string_bytes words.now)
         (both (F.seen files.old) (K.seen out.old)) (both (F.seen files.new) (K.seen out.new))) }
 {
     let Some(command) = command_in(words) else {
         return Err(refuse_words(out));
     };
-    let script = read_script(alloc, command.script, files, out)?;
-    run_script(alloc, racks, script, files, out, command.out)
+    do_command(alloc, command, files, out, racks)
 }

@@ -1,5 +1,5 @@
 -- The call that the rows make, and the devices that they make it on.
-use Rattle.std.specs.Prelude.{ℕ, zero, suc, List, [], ◌∷◌, ◌++◌, codes, true, Option, Some, None, if◌then◌else◌}
+use Rattle.std.specs.Prelude.{ℕ, zero, suc, List, [], ◌∷◌, ◌++◌, codes, true, Option, Some, None, Result, Ok, Err, if◌then◌else◌}
 use Rattle.std.specs.Str.{bytes_eq}
 use Rattle.pcm_oss.specs.declared.event.Event.{Event}
 use Rattle.pcm_oss.specs.declared.event.Event.TheVariants.{Open}
@@ -17,8 +17,9 @@ use Rattle.pcm_sound.specs.Story.{Story, story_of}
 use Rattle.pcm_sound.specs.Gains.{GainSet}
 use Rattle.pcm_feeder.specs.Layouts.{unity}
 use Rattle.pcm_script.specs.declared.script.Script.{Script}
-use Rattle.pcm_script.specs.Lines.{pool_of}
-use Rattle.pcm_verdict.specs.Verdict.{Verdict, Accept, verdict}
+use Rattle.pcm_script.specs.Lines.{pool_of, script_read}
+use Rattle.pcm_verdict.specs.Faults.{Fault, fault_line, status_of}
+use Rattle.pcm_verdict.specs.Verdict.{or_bad_script}
 use Rattle.pcm_verdict.specs.Transcript.{transcript}
 
 -- a ring of four frames, where a row looks at single frames
@@ -44,16 +45,25 @@ abbrev pub only : List ℕ → List ℕ → List ℕ → Option (List ℕ)
 only there bytes other = if bytes_eq other there then Some bytes else None
 
 -- the words after the program's name: run the script `s` into the file `o`
-abbrev pub run_words : List (List ℕ)
-run_words = codes "run" ∷ codes "s" ∷ codes "o" ∷ []
+abbrev pub run_call : List (List ℕ)
+run_call = codes "run" ∷ codes "s" ∷ codes "o" ∷ []
 
--- the verdict on these words, where the script has these bytes
-abbrev pub judged : DeviceSeen → List ℕ → Verdict
-judged device bytes = verdict device run_words (only (codes "s") bytes)
+-- what a script's text is judged to be, for a device and without data files
+abbrev pub judged : DeviceSeen → List ℕ → Result Script Fault
+judged device bytes = or_bad_script (script_read device [] bytes)
 
--- the verdict that accepts a script, which goes into the file `o`
-abbrev pub accepted : Script → Verdict
-accepted script = Accept (record { out = codes "o"; script = script })
+-- a script that is accepted
+abbrev pub accepted : Script → Result Script Fault
+accepted script = Ok script
+
+-- the line of a fault that a text has, and the status
+abbrev pub line_for : Result Script Fault → List ℕ
+line_for (Ok script) = []
+line_for (Err fault) = fault_line fault
+
+abbrev pub status_for : Result Script Fault → ℕ
+status_for (Ok script) = 0
+status_for (Err fault) = status_of fault
 
 -- the bytes that a script makes
 abbrev pub played : DeviceSeen → Script → List ℕ

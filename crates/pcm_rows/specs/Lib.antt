@@ -15,3 +15,4 @@ pub mod PlanRows
 pub mod Waves
 pub mod Configurations
 pub mod ConversionRows
+pub mod Verdicts

@@ -1,5 +1,5 @@
 -- Lines that are refused, and a device with a ring as large as all that a device may get.
-use Rattle.std.specs.Prelude.{ℕ, [], ◌∷◌}
+use Rattle.std.specs.Prelude.{ℕ, [], ◌∷◌, Result, Err}
 use Rattle.pcm_oss.specs.declared.event.Event.TheVariants.{Open, Intr}
 use Rattle.pcm_oss.specs.declared.event.Way.TheVariants.{Play}
 use Rattle.pcm_format.specs.declared.format.Format.TheVariants.{U32Be}
@@ -9,11 +9,11 @@ use Rattle.pcm_desk.specs.Device.{DeviceSeen}
 use Rattle.pcm_desk.specs.Usual.{usual_device}
 use Rattle.pcm_script.specs.declared.fault.ScriptKind.{ScriptKind}
 use Rattle.pcm_script.specs.declared.script.Script.{Script}
-use Rattle.pcm_verdict.specs.Verdict.{Verdict, BadScript}
+use Rattle.pcm_verdict.specs.Faults.{Fault, BadScript}
 
--- the verdict that a line is refused
-abbrev pub refused_at : ℕ → ScriptKind → Verdict
-refused_at line kind = BadScript (record { line = line; kind = kind })
+-- a line that is refused
+abbrev pub refused_at : ℕ → ScriptKind → Result Script Fault
+refused_at line kind = Err (BadScript (record { line = line; kind = kind }))
 
 -- an open alone
 abbrev pub open_script : Settings → Script

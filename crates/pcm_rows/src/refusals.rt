@@ -5,23 +5,22 @@ ghost use Rattle.std.specs.Prelude.{◌≡◌, codes};
 ghost use Rattle.pcm_desk.specs.declared.device.TheConstants.{OPENING};
 ghost use Rattle.pcm_desk.specs.Usual.{usual_device};
 ghost use Rattle.pcm_script.specs.declared.fault.ScriptKind.TheVariants.{Word, Count, Number, Name, Hex, Range, Long, Unbuilt};
-ghost use Rattle.pcm_verdict.specs.Faults.{fault_line, status_of};
-ghost use Rattle.pcm_rows.specs.Calls.{accepted, judged};
+ghost use Rattle.pcm_rows.specs.Calls.{accepted, judged, line_for, status_for};
 ghost use Rattle.pcm_rows.specs.Refusals.{refused_at, open_script, eight_at, large_device, largest_script};
 
 /// An interrupt can't take more than the ring holds.
 pub fn interrupt_above_the_ring()
     ensures verdict { judged usual_device (codes "intr 1025\n") ≡ refused_at 1 Range }
-    ensures printed { fault_line (judged usual_device (codes "intr 1025\n"))
+    ensures printed { line_for (judged usual_device (codes "intr 1025\n"))
         ≡ codes "dsp_replay: bad script: line 1: range\n" }
-    ensures status { status_of (judged usual_device (codes "intr 1025\n")) ≡ 5 }
+    ensures status { status_for (judged usual_device (codes "intr 1025\n")) ≡ 5 }
 {}
 
 /// A recording isn't built, whatever it records.
 pub fn recordings_unbuilt()
     ensures verdict { judged usual_device (codes "open 0 rec s16le 2 48000\n")
         ≡ refused_at 1 Unbuilt }
-    ensures printed { fault_line (judged usual_device (codes "open 0 rec s16le 2 48000\n"))
+    ensures printed { line_for (judged usual_device (codes "open 0 rec s16le 2 48000\n"))
         ≡ codes "dsp_replay: bad script: line 1: unbuilt\n" }
     ensures opening { judged usual_device (codes "open 0 rec") ≡ refused_at 1 Unbuilt }
 {}

@@ -1,16 +1,19 @@
-//! Calls that end before a script is read.
-#![tactic(auto)]
+//! Calls by their words and files: what is read in which order, what is accepted, and what stops a call.
+#![tactic(auto, unfolding(crate::proofs::Computing::row))]
 
-ghost use Rattle.std.specs.Prelude.{◌≡◌, ◌∷◌, ℕ, List, Option, [], codes};
-ghost use Rattle.pcm_desk.specs.Usual.{usual_device};
-ghost use Rattle.pcm_verdict.specs.Verdict.{verdict, Usage, Missing};
-ghost use Rattle.pcm_verdict.specs.Faults.{fault_line, status_of};
-ghost use Rattle.pcm_rows.specs.Calls.{run_words, only};
+ghost use Rattle.std.specs.Prelude.{◌≡◌, ◌∷◌, ℕ, List, Option, Err, Ok, [], codes, take};
+ghost use Rattle.pcm_wave.specs.declared.wave.WaveFault.TheVariants.{NotRiff};
+ghost use Rattle.pcm_verdict.specs.Verdict.{Checks, verdict, words_judged};
+ghost use Rattle.pcm_verdict.specs.Faults.{BadWave, Missing, NoWave, Usage, fault_line, status_of};
+ghost use Rattle.pcm_verdict.specs.Outputs.{check_line};
+ghost use Rattle.pcm_rows.specs.Calls.{run_call, only};
+ghost use Rattle.pcm_rows.specs.Verdicts.{check_call, contents, file_with, song_config, song_inputs, song_script};
+ghost use Rattle.pcm_rows.specs.Waves.{small_wave};
 
 /// Two words match no form, whatever the files hold.
 pub fn words_of_no_form()
     ensures verdict { (content : List ℕ → Option (List ℕ))
-        → verdict usual_device (codes "run" ∷ codes "s" ∷ []) content ≡ Usage }
+        → verdict (codes "run" ∷ codes "s" ∷ []) content ≡ Err Usage }
     ensures printed { fault_line Usage
         ≡ codes "dsp_replay: usage: run SCRIPT OUT [CONFIG] | check SCRIPT [CONFIG] | convert IN OUT RATE FORMAT CHANNELS | soak N\n" }
     ensures status { status_of Usage ≡ 2 }
@@ -18,7 +21,27 @@ pub fn words_of_no_form()
 
 /// A script that isn't there.
 pub fn script_not_there()
-    ensures verdict { verdict usual_device run_words (only (codes "t") []) ≡ Missing (codes "s") }
+    ensures verdict { verdict run_call (only (codes "t") []) ≡ Err (Missing (codes "s")) }
     ensures printed { fault_line (Missing (codes "s")) ≡ codes "dsp_replay: cannot read s\n" }
     ensures status { status_of (Missing (codes "s")) ≡ 3 }
+{}
+
+/// The configuration is read first, then its data files, and last the script.
+pub fn files_in_their_order()
+    ensures accepted { verdict check_call (contents (file_with (codes "s") song_script
+        ∷ file_with (codes "c") song_config ∷ file_with (codes "w") small_wave ∷ []))
+        ≡ Ok (Checks song_inputs) }
+    ensures names { (words_judged check_call (contents (file_with (codes "s") song_script
+        ∷ file_with (codes "c") song_config ∷ file_with (codes "w") small_wave ∷ []))).names
+        ≡ codes "c" ∷ codes "w" ∷ codes "s" ∷ [] }
+    ensures line { check_line song_inputs ≡ codes "events 1 frames 0\n" }
+{}
+
+/// A data file that is no wave stops a call before its script is read.
+pub fn a_wave_stops_a_call()
+    ensures verdict { verdict check_call (contents (file_with (codes "c") song_config
+        ∷ file_with (codes "w") (take 11 small_wave) ∷ [])) ≡ Err (BadWave (codes "w") (NoWave NotRiff)) }
+    ensures printed { fault_line (BadWave (codes "w") (NoWave NotRiff))
+        ≡ codes "dsp_replay: bad wave: w: notriff\n" }
+    ensures status { status_of (BadWave (codes "w") (NoWave NotRiff)) ≡ 6 }
 {}

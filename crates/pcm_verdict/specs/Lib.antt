@@ -1,3 +1,6 @@
-pub mod Transcript
-pub mod Verdict
+pub mod Commands
 pub mod Faults
+pub mod Judging
+pub mod Verdict
+pub mod Transcript
+pub mod Outputs

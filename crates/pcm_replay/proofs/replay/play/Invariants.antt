@@ -1,7 +1,8 @@
 use Rattle.std.proofs.Common.{take}
-use Rattle.pcm_replay.specs.Playing.{HasPlayed}
+use Rattle.pcm_desk.specs.Device.{seen}
+use Rattle.pcm_replay.proofs.Plays.{HasPlayedOn}
 use Rattle.pcm_replay.proofs.replay.play.Given as goal
 
--- the events so far were run
+-- the events so far were run, on the device
 abbrev pub invariant-loop-at : goal.invariant-loop-at
-invariant-loop-at g l = HasPlayed g.B.Feeder.kind g.B.Feeder.kept l.replay l.pool (take l.at l.events)
+invariant-loop-at g l = HasPlayedOn g.B.Feeder.kind g.B.Feeder.kept l.replay (seen l.device) l.pool (take l.at l.events)

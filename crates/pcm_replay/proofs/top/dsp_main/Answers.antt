@@ -1,20 +1,38 @@
-use Rattle.std.proofs.Common.{[]}
-use Rattle.pcm_script.specs.Lines.{pool_of}
-use Rattle.pcm_replay.specs.Playing.{RanThrough}
-use Rattle.pcm_replay.specs.Outside.{both}
-use Rattle.pcm_replay.specs.Runs.{WritesRun, output_of}
-use Rattle.pcm_replay.proofs.Ends.{of_accepted}
+use Rattle.std.proofs.Common.{ℕ, List, map, string_bytes, subst, sym}
+use Rattle.pcm_verdict.specs.Outputs.{output_of}
+use Rattle.pcm_replay.specs.declared.ending.Ending.TheVariants.{CannotRead, BadConfig, BadScript, BadWave, CannotWrite, NoMemory}
+use Rattle.pcm_replay.specs.Outcomes.{MayEnd, verdict_on}
+use Rattle.pcm_replay.proofs.Statuses.{ended-as, may-end, none-rose}
 use Rattle.pcm_replay.proofs.top.dsp_main.Goals as goal
 
--- the script that was run is the accepted one
-pub returns-in-Ok-clause-headline : goal.returns-in-Ok-clause-headline
-returns-in-Ok-clause-headline g c = λ accepted _ told.
-    let done = c.in-Ok.ensures.ok in
-    of_accepted _ done.accepted accepted
-    (λ a. WritesRun (output_of a) (both (g.F.Files.seen c.args.files.now) (g.K.Sink.seen c.args.out.now)) (both (g.F.Files.seen c.replay.new.files) (g.K.Sink.seen c.replay.new.out)))
-    (done.is_named.cause told.tells) told.accepts done.writes
+-- a run wrote all that it was to leave
+pub returns-in-Ok-Some-clause-no_rise : goal.returns-in-Ok-Some-clause-no_rise
+returns-in-Ok-Some-clause-no_rise g c = λ is.
+    let does = c.in-Ok-Some.ensures.ok.does in
+    none-rose (output_of does.accepted).file _ _ does.writes.written does.writes.put.faults
 
-pub returns-in-Ok-clause-engine : goal.returns-in-Ok-clause-engine
-returns-in-Ok-clause-engine g c = λ accepted _ told.
-    let done = c.in-Ok.ensures.ok in
-    of_accepted _ done.accepted accepted (λ a. RanThrough g.B.Feeder.kept c.in-Ok.engine (pool_of [] a.script) a.script.events) (done.is_named.cause told.tells) told.accepts done.ran
+-- the verdict allows the status
+pub returns-in-Err-clause-completeness : goal.returns-in-Err-clause-completeness
+returns-in-Err-clause-completeness g c = λ told.
+    let words : List (List ℕ) = map string_bytes c.args.words.now in
+    subst (λ (status : ℕ). MayEnd (verdict_on words (g.F.Files.seen c.args.files.now)) status) (sym c.status.ensures)
+    (may-end words c.in-Err.ending _ _ c.in-Err.ensures.err told)
+
+-- the status names the ending
+pub returns-in-Err-clause-read_cause : goal.returns-in-Err-clause-read_cause
+returns-in-Err-clause-read_cause g c = λ named. ended-as (map string_bytes c.args.words.now) _ _ c.in-Err.ending CannotRead c.status.result c.status.ensures named c.in-Err.ensures.err
+
+pub returns-in-Err-clause-bad_config : goal.returns-in-Err-clause-bad_config
+returns-in-Err-clause-bad_config g c = λ named. ended-as (map string_bytes c.args.words.now) _ _ c.in-Err.ending BadConfig c.status.result c.status.ensures named c.in-Err.ensures.err
+
+pub returns-in-Err-clause-bad_script : goal.returns-in-Err-clause-bad_script
+returns-in-Err-clause-bad_script g c = λ named. ended-as (map string_bytes c.args.words.now) _ _ c.in-Err.ending BadScript c.status.result c.status.ensures named c.in-Err.ensures.err
+
+pub returns-in-Err-clause-bad_wave : goal.returns-in-Err-clause-bad_wave
+returns-in-Err-clause-bad_wave g c = λ named. ended-as (map string_bytes c.args.words.now) _ _ c.in-Err.ending BadWave c.status.result c.status.ensures named c.in-Err.ensures.err
+
+pub returns-in-Err-clause-cut : goal.returns-in-Err-clause-cut
+returns-in-Err-clause-cut g c = λ named. ended-as (map string_bytes c.args.words.now) _ _ c.in-Err.ending CannotWrite c.status.result c.status.ensures named c.in-Err.ensures.err
+
+pub returns-in-Err-clause-memory : goal.returns-in-Err-clause-memory
+returns-in-Err-clause-memory g c = λ named. ended-as (map string_bytes c.args.words.now) _ _ c.in-Err.ending NoMemory c.status.result c.status.ensures named c.in-Err.ensures.err

@@ -1,13 +1,14 @@
 use Rattle.std.proofs.Common.{◌≡◌, ℕ, ◌+◌, ◌≤◌, ◌++◌, List, take, length, refl, sym, ◌∙◌, ap, subst, arith, length-take-le}
 use Rattle.std.proofs.lemmas.List.{take_more}
 use Rattle.pcm_report.specs.Lines.{reply_line}
-use Rattle.pcm_replay.specs.Playing.{HasPlayed}
-use Rattle.pcm_replay.proofs.Plays.{front, played}
+use Rattle.pcm_replay.specs.Playing.{HasPlayed, ring_room}
+use Rattle.pcm_engine.specs.Engines.{device_of}
+use Rattle.pcm_replay.proofs.Plays.{front, handed-within, played}
 use Rattle.pcm_replay.proofs.replay.ReplayOf.step_at.Goals as goal
 
 -- the events up to this one were run
-pub returns : goal.returns
-returns g c =
+pub returns-clause-played : goal.returns-clause-played
+returns-clause-played g c =
     let replay = c.args.self.now in
     let pool = c.args.pool.now in
     let xs = c.args.events.now in
@@ -39,3 +40,14 @@ returns g c =
       line_room = refl;
     })
     c.requires.played)
+
+-- the bytes that were handed over are in the block
+pub slice_bounds-extend_from_slice-end : goal.slice_bounds-extend_from_slice-end
+slice_bounds-extend_from_slice-end g c =
+    let count : c.step-count.result ≤ ring_room (device_of c.args.self.now.engine) =
+    handed-within (device_of c.args.self.now.engine) c.args.pool.now c.args.events.now c.args.at c.step-count.result _ c.requires.fits c.requires.there c.step-count.ensures.count in
+    let block : c.deref.result.now ≡ c.step-count.new.out =
+    c.deref.ensures.value ∙ front _ c.step-count.new.out _ (c.step-count.auto.out ∙ c.deref_mut.ensures.len) in
+    let size : length c.deref.result.now ≡ ring_room (device_of c.args.self.now.engine) =
+    ap (λ (bytes : List ℕ). length bytes) block ∙ c.step-count.auto.out ∙ c.deref_mut.ensures.len ∙ c.requires.played.room in
+    sym (length-take-le c.step-count.result c.deref.result.now (omega (arith, count, size)))

@@ -1,0 +1,6 @@
+use Rattle.std.proofs.Common.{◌≡◌, None}
+use Rattle.dsp_tests.proofs.calls.folder_of.Given as goal
+
+-- nothing was created yet
+abbrev pub invariant-loop-name : goal.invariant-loop-name
+invariant-loop-name l = l.files.created ≡ None

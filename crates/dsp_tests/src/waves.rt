@@ -1,0 +1,207 @@
+//! Configurations, data files and conversions, with their exact output.
+
+use crate::calls::{Expected, ROOM, comes_to, folder_of};
+use pcm_outside::MemSink;
+use std::alloc::{AllocError, Global};
+use std::test::Fail;
+
+// The files that are there, the words, and what the call is to come to.
+type Row<'a> = (&'a [(&'a str, &'a [u8])], &'a [&'a str], Expected<'a>);
+
+// One frame of two channels of 16 bits at 48000 frames each second, behind a header.
+const ONE_FRAME: &[u8] =
+    b"RIFF\x28\0\0\0WAVEfmt \x10\0\0\0\x01\0\x02\0\x80\xbb\0\0\0\xee\x02\0\x04\0\x10\0data\x04\0\0\0\x01\0\x02\0";
+
+// Two frames at 24000 frames each second, from nothing to 100.
+const STEP: &[u8] =
+    b"RIFF\x2c\0\0\0WAVEfmt \x10\0\0\0\x01\0\x02\0\xc0\x5d\0\0\0\x77\x01\0\x04\0\x10\0data\x08\0\0\0\0\0\0\0\x64\0\x64\0";
+
+// The same at twice the rate.
+const STEP_DOUBLED: &[u8] =
+    b"RIFF\x34\0\0\0WAVEfmt \x10\0\0\0\x01\0\x02\0\x80\xbb\0\0\0\xee\x02\0\x04\0\x10\0data\x10\0\0\0\0\0\0\0\x32\0\x32\0\x64\0\x64\0\x32\0\x32\0";
+
+// And as one channel of bytes, of which there is an odd number with a byte of padding behind it.
+const ONE_FRAME_IN_BYTES: &[u8] =
+    b"RIFF\x26\0\0\0WAVEfmt \x10\0\0\0\x01\0\x01\0\x80\xbb\0\0\x80\xbb\0\0\x01\0\x08\0data\x01\0\0\0\x80\0";
+
+// Eight frames of silence behind a header.
+const SILENT_WAVE: &[u8] =
+    b"RIFF\x44\0\0\0WAVEfmt \x10\0\0\0\x01\0\x02\0\x80\xbb\0\0\0\xee\x02\0\x04\0\x10\0data\x20\0\0\0\0\0\0\0\0\0\0\0\0\0\0\0\0\0\0\0\0\0\0\0\0\0\0\0\0\0\0\0\0\0\0\0";
+
+const RUN: &[&str] = &["run", "s", "o", "c"];
+
+const CHECK: &[&str] = &["check", "s", "c"];
+
+const CONVERT: &[&str] = &["convert", "w", "o", "48000", "s16le", "2"];
+
+// A configuration with one data file, and with one more that is recorded from.
+const SONG: &[u8] = b"[files]\nsong = \"w\"\n";
+
+const MICROPHONE: &[u8] = b"[device]\ncapture = \"song\"\n[files]\nsong = \"w\"\n";
+
+#[test]
+fn runs_with_a_configuration(rt: HostRuntime) -> Result<(), Fail> {
+    let rows: [Row; 4] = [
+        // A converter of quality 0 holds each frame.
+        (
+            &[
+                (
+                    "s",
+                    b"open 0 play s16le 2 24000\nwrite 0 0100020003000400\nioctl 0 sync\nintr 1024\nintr 4\n",
+                ),
+                ("c", b"[vchans]\nquality = 0\n"),
+            ],
+            RUN,
+            (
+                0,
+                b"1: ok 0\n2: ok 8\n3: ok\n4: ok 1024\n5: ok 4\n",
+                Some((4096, b"\x01\0\x02\0\x01\0\x02\0\x03\0\x04\0\x03\0\x04\0")),
+            ),
+        ),
+        // The frames stand behind a header.
+        (
+            &[
+                ("s", b"intr 4\nintr 4\n"),
+                ("c", b"[device]\ncontainer = \"wav\"\n"),
+            ],
+            RUN,
+            (0, b"1: ok 4\n2: ok 4\n", Some((0, SILENT_WAVE))),
+        ),
+        // The bytes of a wave's body are sent, from the body's begin on.
+        (
+            &[
+                (
+                    "s",
+                    b"open 0 play s16le 2 48000\nsend 0 song 0 2\nsend 0 song 2 2\nclose 0\nintr 1024\nintr 1\n",
+                ),
+                ("c", SONG),
+                ("w", ONE_FRAME),
+            ],
+            RUN,
+            (
+                0,
+                b"1: ok 0\n2: ok 2\n3: ok 2\n4: ok\n5: ok 1024\n6: ok 1\n",
+                Some((4096, b"\x01\0\x02\0")),
+            ),
+        ),
+        // One slot alone: it is free again once the closed channel was played.
+        (
+            &[
+                ("s", b"open 0 play\nopen 1 play\n"),
+                ("c", b"[vchans]\nplay = 1\n"),
+            ],
+            RUN,
+            (0, b"1: ok 0\n2: refused busy\n", Some((0, b""))),
+        ),
+    ];
+    for (row, (held, words, expected)) in rows.into_iter().enumerate() {
+        assert!(rt;
+            call_comes_to(rt.alloc(), held, words, expected)?,
+            "row {row}"
+        );
+    }
+    Ok(())
+}
+
+#[test]
+fn checks_and_what_is_refused(rt: HostRuntime) -> Result<(), Fail> {
+    let rows: [Row; 8] = [
+        (
+            &[("s", b""), ("c", SONG), ("w", ONE_FRAME)],
+            CHECK,
+            (0, b"events 0 frames 0\n", None),
+        ),
+        (
+            &[("s", b"intr 4\nclose 5\nintr\n"), ("c", b"")],
+            CHECK,
+            (0, b"events 3 frames 260\n", None),
+        ),
+        (
+            &[("s", b""), ("c", b"[device]\nrate = 3999\n")],
+            RUN,
+            (
+                4,
+                b"dsp_replay: bad configuration: range device.rate\n",
+                None,
+            ),
+        ),
+        (
+            &[("s", b"x"), ("c", SONG), ("w", b"RIFF\x28\0\0\0WAV")],
+            CHECK,
+            (6, b"dsp_replay: bad wave: w: notriff\n", None),
+        ),
+        // The data files are judged before the script is read.
+        (
+            &[("c", SONG), ("w", b"")],
+            CHECK,
+            (6, b"dsp_replay: bad wave: w: notriff\n", None),
+        ),
+        (
+            &[("s", b""), ("c", MICROPHONE), ("w", STEP)],
+            CHECK,
+            (6, b"dsp_replay: bad wave: w: shape\n", None),
+        ),
+        (
+            &[("s", b""), ("c", MICROPHONE), ("w", ONE_FRAME)],
+            CHECK,
+            (0, b"events 0 frames 0\n", None),
+        ),
+        (
+            &[
+                ("s", b"open 0 play\nsend 0 song 3 2\n"),
+                ("c", SONG),
+                ("w", ONE_FRAME),
+            ],
+            CHECK,
+            (5, b"dsp_replay: bad script: line 2: range\n", None),
+        ),
+    ];
+    for (row, (held, words, expected)) in rows.into_iter().enumerate() {
+        assert!(rt;
+            call_comes_to(rt.alloc(), held, words, expected)?,
+            "row {row}"
+        );
+    }
+    Ok(())
+}
+
+#[test]
+fn conversions(rt: HostRuntime) -> Result<(), Fail> {
+    let rows: [Row; 3] = [
+        (
+            &[("w", STEP)],
+            CONVERT,
+            (0, b"frames 4\n", Some((0, STEP_DOUBLED))),
+        ),
+        // 1 and 2 in 16 bits are nothing in 8: the byte is the midpoint.
+        (
+            &[("w", ONE_FRAME)],
+            &["convert", "w", "o", "48000", "u8", "1"],
+            (0, b"frames 1\n", Some((0, ONE_FRAME_IN_BYTES))),
+        ),
+        (
+            &[("w", b"RIFF")],
+            CONVERT,
+            (6, b"dsp_replay: bad wave: w: notriff\n", None),
+        ),
+    ];
+    for (row, (held, words, expected)) in rows.into_iter().enumerate() {
+        assert!(rt;
+            call_comes_to(rt.alloc(), held, words, expected)?,
+            "row {row}"
+        );
+    }
+    Ok(())
+}
+
+// Whether a call over these files comes to that, with ample room.
+fn call_comes_to(
+    alloc: Global,
+    held: &[(&str, &[u8])],
+    words: &[&str],
+    expected: Expected,
+) -> Result<bool, AllocError> {
+    let mut files = folder_of(alloc, ROOM, held)?;
+    let mut out = MemSink::new(alloc, ROOM)?;
+    comes_to(alloc, words, &mut files, &mut out, expected)
+}

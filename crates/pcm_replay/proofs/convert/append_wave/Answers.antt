@@ -1,0 +1,48 @@
+use Rattle.std.proofs.Common.{◌≡◌, ℕ, ◌*◌, ◌≤◌, replicate, ap, ◌∙◌, arith}
+use Rattle.std.proofs.Math.Nat.{mul-le-mul_right}
+use Rattle.pcm_format.specs.declared.settings.Settings.{Settings}
+use Rattle.pcm_format.specs.Frames.{frame_bytes}
+use Rattle.pcm_format.proofs.Streams.{frame_bytes-most}
+use Rattle.pcm_wave.specs.Headers.{padding}
+use Rattle.pcm_convert.specs.Conversions.{converted_body, converted_frames}
+use Rattle.pcm_convert.specs.Stands.{source_in, target_in}
+use Rattle.pcm_replay.specs.Written.{wave_body}
+use Rattle.pcm_replay.proofs.Blocks.{padded, padding-fails}
+use Rattle.pcm_replay.proofs.Cuts.{appends-on, appends-only, fails-before, fails-behind}
+use Rattle.pcm_replay.proofs.convert.append_wave.Goals as goal
+
+pub returns-in_default-append_body-clause-err : goal.returns-in_default-append_body-clause-err
+returns-in_default-append_body-clause-err g c =
+    let old = c.args.conversion.now in
+    let head = c.in-Ok.ensures in
+    fails-behind _ _ _ c.args.head.now (wave_body (source_in old) (target_in old) c.args.body.now) head.only head.ok
+    (fails-before _ _ (converted_body (source_in old) (target_in old) c.args.body.now) _ c.in_default-append_body.ensures.err)
+
+-- so many bytes are counted in 64 bits
+pub overflow_mul-frames : goal.overflow_mul-frames
+overflow_mul-frames g c =
+    let frames : c.args.frames ≤ 4294967295 = omega (arith, c.ranges.frames.fits) in
+    let bytes = mul-le-mul_right c.frame_bytes.result frames in
+    omega (arith, bytes, c.frame_bytes.ensures, frame_bytes-most c.target-target.result)
+
+pub returns-clause-ok : goal.returns-clause-ok
+returns-clause-ok g c =
+    let old = c.args.conversion.now in
+    let head = c.in-Ok.ensures in
+    let body = c.in-Ok-append_body.ensures in
+    let size : c.args.frames * c.frame_bytes.result ≡ converted_frames (source_in old) (target_in old) c.args.body.now * frame_bytes (target_in old) =
+    ap (λ (n : ℕ). n * c.frame_bytes.result) c.requires.frames
+    ∙ ap (λ (n : ℕ). converted_frames (source_in old) (target_in old) c.args.body.now * n) (c.frame_bytes.ensures ∙ ap (λ (s : Settings). frame_bytes s) c.target-target.ensures) in
+    padded c.append_padding.result _ _ _ c.args.head.now (converted_body (source_in old) (target_in old) c.args.body.now) _ _
+    (appends-only _ _ _ head.only body.only) (appends-on _ _ _ c.args.head.now (converted_body (source_in old) (target_in old) c.args.body.now) head.only head.ok body.ok) (ap (λ (n : ℕ). replicate (padding n) 0) size) c.append_padding.ensures.ok
+
+pub returns-clause-err : goal.returns-clause-err
+returns-clause-err g c =
+    let old = c.args.conversion.now in
+    let head = c.in-Ok.ensures in
+    let body = c.in-Ok-append_body.ensures in
+    let size : c.args.frames * c.frame_bytes.result ≡ converted_frames (source_in old) (target_in old) c.args.body.now * frame_bytes (target_in old) =
+    ap (λ (n : ℕ). n * c.frame_bytes.result) c.requires.frames
+    ∙ ap (λ (n : ℕ). converted_frames (source_in old) (target_in old) c.args.body.now * n) (c.frame_bytes.ensures ∙ ap (λ (s : Settings). frame_bytes s) c.target-target.ensures) in
+    padding-fails c.append_padding.result _ _ _ c.args.head.now (converted_body (source_in old) (target_in old) c.args.body.now) _ _
+    (appends-only _ _ _ head.only body.only) (appends-on _ _ _ c.args.head.now (converted_body (source_in old) (target_in old) c.args.body.now) head.only head.ok body.ok) (ap (λ (n : ℕ). replicate (padding n) 0) size) c.append_padding.ensures.err

@@ -1,0 +1,120 @@
+//! What the words ask for is done: what it works on is read and judged, and then it is written.
+
+ghost use Rattle.std.specs.Prelude.{IfErr, IfOk, option_map};
+ghost use Rattle.pcm_feeder.specs.Limits.{IsRate};
+ghost use Rattle.pcm_feeder.specs.Racks.{AreRacks, list_of};
+ghost use Rattle.pcm_wave.specs.Headers.{IsWaveFormat};
+ghost use Rattle.pcm_verdict.specs.Commands.{CheckScript, ConvertWave, RunScript};
+ghost use Rattle.pcm_replay.specs.Commands.{AreLimits, command_seen};
+ghost use Rattle.pcm_replay.specs.Endings.{DoesCommand, EndsCommand};
+ghost use Rattle.pcm_replay.specs.Outside.{both};
+
+use crate::check::tell_script;
+use crate::convert::convert_wave;
+use crate::ending::Ending;
+use crate::reading::read_inputs;
+use crate::replay::run_script;
+use crate::source::read_source;
+use crate::words::Command;
+use pcm_engine::EngineOf;
+use pcm_feeder::{Feeder, RacksOf};
+use pcm_format::Settings;
+use pcm_outside::{Files, Sink};
+use std::alloc::Global;
+
+/// Does what a command asks for. An engine is left of a script that was run.
+pub fn do_command<B: Feeder, F: Files, K: Sink>(
+    alloc: Global,
+    command: Command<'_>,
+    files: &mut F,
+    out: &mut K,
+    racks: RacksOf<B>,
+) -> Result<Option<EngineOf<B>>, Ending>
+    requires kinds { AreRacks B.kind (list_of racks) }
+    requires limits { AreLimits command }
+    ensures ok { IfOk result (λ engine. DoesCommand B.kept (command_seen command.entry) engine
+        (both (F.seen files.old) (K.seen out.old)) (both (F.seen files.new) (K.seen out.new))) }
+    ensures err { IfErr result (λ ending. EndsCommand (command_seen command.entry) ending
+        (both (F.seen files.old) (K.seen out.old)) (both (F.seen files.new) (K.seen out.new))) }
+{
+    match command {
+        Command::Run {
+            script,
+            out: name,
+            config,
+        } => run(alloc, script, config, files, out, racks, name),
+        Command::Check { script, config } => check(alloc, script, config, files, out),
+        Command::Convert {
+            input,
+            out: name,
+            target,
+        } => convert(alloc, input, target, files, out, racks, name),
+    }
+}
+
+// Runs a script into the file of a name.
+fn run<B: Feeder, F: Files, K: Sink>(
+    alloc: Global,
+    script: &str,
+    config: Option<&str>,
+    files: &mut F,
+    out: &mut K,
+    racks: RacksOf<B>,
+    name: &str,
+) -> Result<Option<EngineOf<B>>, Ending>
+    requires kinds { AreRacks B.kind (list_of racks) }
+    ensures ok { IfOk result (λ engine. DoesCommand B.kept
+        (RunScript script.now name.now (option_map (λ n. n.now) config.entry)) engine
+        (both (F.seen files.old) (K.seen out.old)) (both (F.seen files.new) (K.seen out.new))) }
+    ensures err { IfErr result (λ ending. EndsCommand
+        (RunScript script.now name.now (option_map (λ n. n.now) config.entry)) ending
+        (both (F.seen files.old) (K.seen out.old)) (both (F.seen files.new) (K.seen out.new))) }
+{
+    let inputs = read_inputs(alloc, script, config, files, out)?;
+    let engine = run_script(alloc, racks, inputs, files, out, name)?;
+    Ok(Some(engine))
+}
+
+// Judges a script, and all that it is read with.
+fn check<B: Feeder, F: Files, K: Sink>(
+    alloc: Global,
+    script: &str,
+    config: Option<&str>,
+    files: &mut F,
+    out: &mut K,
+) -> Result<Option<EngineOf<B>>, Ending>
+    ensures ok { IfOk result (λ engine. DoesCommand B.kept
+        (CheckScript script.now (option_map (λ n. n.now) config.entry)) engine
+        (both (F.seen files.old) (K.seen out.old)) (both (F.seen files.new) (K.seen out.new))) }
+    ensures err { IfErr result (λ ending. EndsCommand
+        (CheckScript script.now (option_map (λ n. n.now) config.entry)) ending
+        (both (F.seen files.old) (K.seen out.old)) (both (F.seen files.new) (K.seen out.new))) }
+{
+    let inputs = read_inputs(alloc, script, config, files, out)?;
+    tell_script(alloc, &inputs, out)?;
+    Ok(None)
+}
+
+// Converts a wave into the file of a name.
+fn convert<B: Feeder, F: Files, K: Sink>(
+    alloc: Global,
+    input: &str,
+    target: Settings,
+    files: &mut F,
+    out: &mut K,
+    racks: RacksOf<B>,
+    name: &str,
+) -> Result<Option<EngineOf<B>>, Ending>
+    requires kinds { AreRacks B.kind (list_of racks) }
+    requires rate { IsRate target.rate }
+    requires format { IsWaveFormat target.format }
+    ensures ok { IfOk result (λ engine. DoesCommand B.kept
+        (ConvertWave input.now name.now target) engine
+        (both (F.seen files.old) (K.seen out.old)) (both (F.seen files.new) (K.seen out.new))) }
+    ensures err { IfErr result (λ ending. EndsCommand (ConvertWave input.now name.now target) ending
+        (both (F.seen files.old) (K.seen out.old)) (both (F.seen files.new) (K.seen out.new))) }
+{
+    let source = read_source(alloc, input, target, files, out)?;
+    convert_wave(alloc, racks, &source, target, files, out, name)?;
+    Ok(None)
+}

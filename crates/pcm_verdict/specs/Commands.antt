@@ -1,0 +1,86 @@
+-- The forms of words behind the program's name.
+use Rattle.std.specs.Prelude.{ℕ, ◌&&◌, nat_le, if◌then◌else◌, List, [], ◌∷◌, Option, Some, None, codes}
+use Rattle.std.specs.Str.{bytes_eq}
+use Rattle.pcm_format.specs.declared.settings.Settings.{Settings}
+use Rattle.pcm_format.specs.declared.settings.TheConstants.{RATE_LEAST, RATE_MOST}
+use Rattle.pcm_format.specs.Formats.{format_named}
+use Rattle.pcm_format.specs.Layouts.{layout_of}
+use Rattle.pcm_wave.specs.Formats.{wave_format}
+use Rattle.pcm_script.specs.Numbers.{decimal_in}
+
+-- what the words after the program's name ask for
+pub data Command : Type 0 where
+  -- run a script into a device file: the names of both, and of a configuration
+  RunScript : List ℕ → List ℕ → Option (List ℕ) → Command
+  -- judge a script and all that it is read with
+  CheckScript : List ℕ → Option (List ℕ) → Command
+  -- convert a wave into another, with these settings
+  ConvertWave : List ℕ → List ℕ → Settings → Command
+
+-- the next word, if this one is of its form
+infixl 10 ◌>>=◌
+abbrev pub ◌>>=◌ : {A B : Type 0} → Option A → (A → Option B) → Option B
+None >>= next = None
+Some value >>= next = next value
+
+-- a name isn't empty
+abbrev pub name_in : List ℕ → Option (List ℕ)
+name_in [] = None
+name_in (byte ∷ bytes) = Some (byte ∷ bytes)
+
+-- frames per second, within the limits
+abbrev pub rate_within : ℕ → Option ℕ
+rate_within rate = if nat_le RATE_LEAST rate && nat_le rate RATE_MOST then Some rate else None
+
+-- the settings that three words ask for: a rate, a format that waves have, and a number of channels
+unfoldable pub target_asked : List ℕ → List ℕ → List ℕ → Option Settings
+target_asked r f c = do
+  number ← decimal_in r
+  rate ← rate_within number
+  named ← format_named f
+  format ← wave_format named
+  channels ← decimal_in c
+  layout ← layout_of channels
+  Some (record { format = format; layout = layout; rate = rate })
+
+-- `run SCRIPT OUT` and `run SCRIPT OUT CONFIG`
+unfoldable pub run_words : List (List ℕ) → Option Command
+run_words (s ∷ o ∷ []) = do
+  script ← name_in s
+  out ← name_in o
+  Some (RunScript script out None)
+run_words (s ∷ o ∷ c ∷ []) = do
+  script ← name_in s
+  out ← name_in o
+  config ← name_in c
+  Some (RunScript script out (Some config))
+run_words words = None
+
+-- `check SCRIPT` and `check SCRIPT CONFIG`
+unfoldable pub check_words : List (List ℕ) → Option Command
+check_words (s ∷ []) = do
+  script ← name_in s
+  Some (CheckScript script None)
+check_words (s ∷ c ∷ []) = do
+  script ← name_in s
+  config ← name_in c
+  Some (CheckScript script (Some config))
+check_words words = None
+
+-- `convert IN OUT RATE FORMAT CHANNELS`
+unfoldable pub convert_words : List (List ℕ) → Option Command
+convert_words (i ∷ o ∷ r ∷ f ∷ c ∷ []) = do
+  input ← name_in i
+  out ← name_in o
+  target ← target_asked r f c
+  Some (ConvertWave input out target)
+convert_words words = None
+
+-- the command that words spell, if they match a form
+unfoldable pub command_of : List (List ℕ) → Option Command
+command_of [] = None
+command_of (word ∷ words) =
+    if bytes_eq word (codes "run") then run_words words
+    else if bytes_eq word (codes "check") then check_words words
+    else if bytes_eq word (codes "convert") then convert_words words
+    else None
