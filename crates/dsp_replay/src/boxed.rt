@@ -8,6 +8,7 @@ use feed_format::DepthFeeder;
 use feed_hold::HoldFeeder;
 use feed_linear::LinearFeeder;
 use feed_matrix::MatrixFeeder;
+use feed_poly::PolyFeeder;
 use feed_volume::VolumeFeeder;
 use pcm_feeder::{RACKS, RackFault, Racks, Six};
 use pcm_outside::{Files, Sink};
@@ -33,6 +34,7 @@ pub fn run_boxed<F: Files, K: Sink>(
             matrix: Box::new(alloc, MatrixFeeder::new(alloc)?)?,
             hold: Box::new(alloc, HoldFeeder::new(alloc)?)?,
             linear: Box::new(alloc, LinearFeeder::new(alloc)?)?,
+            poly: Box::new(alloc, PolyFeeder::new(alloc)?)?,
             volume: Box::new(alloc, VolumeFeeder::new(alloc)?)?,
             depth: Box::new(alloc, DepthFeeder::new(alloc)?)?,
         })?;

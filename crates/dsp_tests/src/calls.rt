@@ -6,6 +6,7 @@ use feed_format::DepthFeeder;
 use feed_hold::HoldFeeder;
 use feed_linear::LinearFeeder;
 use feed_matrix::MatrixFeeder;
+use feed_poly::PolyFeeder;
 use feed_volume::VolumeFeeder;
 use pcm_feeder::{RACKS, Racks, Six};
 use pcm_outside::{MemFiles, MemSink};
@@ -76,6 +77,7 @@ fn ends_with(
             matrix: Box::new(alloc, MatrixFeeder::new(alloc)?)?,
             hold: Box::new(alloc, HoldFeeder::new(alloc)?)?,
             linear: Box::new(alloc, LinearFeeder::new(alloc)?)?,
+            poly: Box::new(alloc, PolyFeeder::new(alloc)?)?,
             volume: Box::new(alloc, VolumeFeeder::new(alloc)?)?,
             depth: Box::new(alloc, DepthFeeder::new(alloc)?)?,
         })?;

@@ -1,8 +1,7 @@
 //! A chain of boxes, and what it pulls by a plan.
 
-ghost use Rattle.std.specs.Prelude.{◌≡◌, All};
-ghost use Rattle.pcm_feeder.specs.Limits.{AreFilters, IsRate};
-ghost use Rattle.pcm_feeder.specs.Racks.{HasBox};
+ghost use Rattle.std.specs.Prelude.{◌≡◌};
+ghost use Rattle.pcm_feeder.specs.Limits.{IsRate};
 ghost use Rattle.pcm_plan.specs.Fits.{HaveTables};
 
 use crate::racks::{RIGHT, six};
@@ -106,17 +105,14 @@ fn settings(end: (Format, Layout, u32)) -> Settings
     }
 }
 
-// The plan between two settings: a hold at quality 0, lines from 1 on.
+// The plan between two settings, with converters of a quality.
 fn plan_between(client: &Settings, device: &Settings, quality: u32, tables: &Tables) -> Plan
     requires client { IsRate client.now.rate }
     requires device { IsRate device.now.rate }
-    requires filters { AreFilters tables.now.list }
     ensures target { result.target ≡ device.now.layout }
-    ensures boxes { All HasBox result.stages }
     ensures tables { HaveTables result.stages tables.now }
 {
-    let low = quality.min(1);
-    plan_play(client, device, low, tables)
+    plan_play(client, device, quality, tables)
 }
 
 // How a chain is pulled: by which quality, whether the stream has ended, and how many frames are wanted of a first pull,

@@ -15,6 +15,8 @@ mod linear;
 #[cfg(test)]
 mod matrix;
 #[cfg(test)]
+mod poly;
+#[cfg(test)]
 mod racks;
 #[cfg(test)]
 mod tables;

@@ -4,6 +4,7 @@ use feed_format::DepthFeeder;
 use feed_hold::HoldFeeder;
 use feed_linear::LinearFeeder;
 use feed_matrix::MatrixFeeder;
+use feed_poly::PolyFeeder;
 use feed_volume::VolumeFeeder;
 use pcm_feeder::{Feeder, Kind, Rack, RackFault, RackOf, Racks, Six, SixOf, WrongCount, WrongKind};
 use std::alloc::{AllocError, Global};
@@ -20,6 +21,9 @@ fn boxed(alloc: Global, kind: Kind) -> Result<Box<dyn Feeder>, AllocError> {
     if kind == Kind::Linear {
         return Ok(Box::new(alloc, LinearFeeder::new(alloc)?)?);
     }
+    if kind == Kind::Poly {
+        return Ok(Box::new(alloc, PolyFeeder::new(alloc)?)?);
+    }
     if kind == Kind::Volume {
         return Ok(Box::new(alloc, VolumeFeeder::new(alloc)?)?);
     }
@@ -27,21 +31,23 @@ fn boxed(alloc: Global, kind: Kind) -> Result<Box<dyn Feeder>, AllocError> {
 }
 
 // The kinds that the places ask for, in their order.
-pub const RIGHT: [Kind; 5] = [
+pub const RIGHT: [Kind; 6] = [
     Kind::Matrix,
     Kind::Hold,
     Kind::Linear,
+    Kind::Poly,
     Kind::Volume,
     Kind::Depth,
 ];
 
 // Boxes of these kinds, in the order of the places.
-pub fn six(alloc: Global, kinds: [Kind; 5]) -> Result<Six, AllocError> {
-    let [matrix, hold, linear, volume, depth] = kinds;
+pub fn six(alloc: Global, kinds: [Kind; 6]) -> Result<Six, AllocError> {
+    let [matrix, hold, linear, poly, volume, depth] = kinds;
     Ok(Six {
         matrix: boxed(alloc, matrix)?,
         hold: boxed(alloc, hold)?,
         linear: boxed(alloc, linear)?,
+        poly: boxed(alloc, poly)?,
         volume: boxed(alloc, volume)?,
         depth: boxed(alloc, depth)?,
     })
@@ -57,31 +63,51 @@ fn first_wrong<B: Feeder>(six: SixOf<B>) -> Option<WrongKind> {
 
 #[test]
 fn the_first_wrong_box_is_told(rt: HostRuntime) -> Result<(), Fail> {
-    let [matrix, hold, linear, volume, depth] = RIGHT;
+    let [matrix, hold, linear, poly, volume, depth] = RIGHT;
     for (kinds, want) in [
-        ([matrix, hold, linear, volume, depth], None),
+        ([matrix, hold, linear, poly, volume, depth], None),
         (
-            [volume, hold, linear, volume, depth],
+            [volume, hold, linear, poly, volume, depth],
             Some((matrix, volume)),
         ),
-        ([hold, matrix, linear, volume, depth], Some((matrix, hold))),
         (
-            [matrix, linear, linear, volume, depth],
+            [hold, matrix, linear, poly, volume, depth],
+            Some((matrix, hold)),
+        ),
+        (
+            [matrix, linear, linear, poly, volume, depth],
             Some((hold, linear)),
         ),
-        ([matrix, linear, hold, volume, depth], Some((hold, linear))),
-        ([matrix, hold, hold, volume, depth], Some((linear, hold))),
         (
-            [matrix, hold, volume, linear, depth],
-            Some((linear, volume)),
+            [matrix, linear, hold, poly, volume, depth],
+            Some((hold, linear)),
         ),
         (
-            [matrix, hold, linear, matrix, depth],
+            [matrix, hold, hold, poly, volume, depth],
+            Some((linear, hold)),
+        ),
+        (
+            [matrix, hold, poly, linear, volume, depth],
+            Some((linear, poly)),
+        ),
+        (
+            [matrix, hold, linear, linear, volume, depth],
+            Some((poly, linear)),
+        ),
+        (
+            [matrix, hold, linear, volume, poly, depth],
+            Some((poly, volume)),
+        ),
+        (
+            [matrix, hold, linear, poly, matrix, depth],
             Some((volume, matrix)),
         ),
-        ([matrix, hold, linear, depth, volume], Some((volume, depth))),
         (
-            [matrix, hold, linear, volume, volume],
+            [matrix, hold, linear, poly, depth, volume],
+            Some((volume, depth)),
+        ),
+        (
+            [matrix, hold, linear, poly, volume, volume],
             Some((depth, volume)),
         ),
     ] {
@@ -129,6 +155,7 @@ fn boxes(alloc: Global, count: usize, wrong: Option<usize>) -> Result<Vec<Six>, 
                 Kind::Matrix,
                 Kind::Hold,
                 Kind::Linear,
+                Kind::Poly,
                 Kind::Depth,
                 Kind::Depth,
             ]
@@ -170,6 +197,7 @@ fn plain_feeders_are_told_apart(rt: HostRuntime) -> Result<(), Fail> {
         matrix: DepthFeeder::new(rt.alloc())?,
         hold: DepthFeeder::new(rt.alloc())?,
         linear: DepthFeeder::new(rt.alloc())?,
+        poly: DepthFeeder::new(rt.alloc())?,
         volume: DepthFeeder::new(rt.alloc())?,
         depth: DepthFeeder::new(rt.alloc())?,
     });

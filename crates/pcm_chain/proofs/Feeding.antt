@@ -17,7 +17,6 @@ use Rattle.pcm_feeder.specs.Filters.{Filters}
 use Rattle.pcm_feeder.specs.Kept.{Kept, fresh, IsFitted}
 use Rattle.pcm_feeder.specs.Kinds.{kind_of}
 use Rattle.pcm_feeder.specs.Limits.{AreChannels, IsSpec, IsGain, HasTable}
-use Rattle.pcm_feeder.specs.Racks.{HasBox}
 use Rattle.pcm_feeder.specs.Stages.{rate_of, channels_in, channels_out, table_at, filtered, held, on_line, filtered_frame}
 use Rattle.pcm_feeder.specs.Streams.{written, HaveChannels}
 use Rattle.pcm_feeder.specs.Turns.{Turn, CanFeed, turn, turn_of, fed, around, phase_of}
@@ -177,7 +176,6 @@ others-keep kept old mid spec rest differ others k d below = others (get_or rest
 
 -- what the stages behind the first one ask
 pub record AskOn {B : Type 0} (kept : B → Kept) (six : SixOf B) (filters : Filters) (given want source space : ℕ) (rest : List Spec) : Type 0 where
-  pub boxes : All HasBox rest
   pub limits : All IsSpec rest
   pub distinct : AreDistinct rest
   pub fitted : HaveFitted kept six rest
@@ -206,11 +204,11 @@ asked-most (Volume layout) want frames w f = f
 asked-most (Depth bits channels) want frames w f = f
 
 pub ask-on : {B : Type 0} (kept : B → Kept) (old mid : SixOf B) (tables : Filters) (frames given want source room : ℕ) (stages : List Spec) (spec : Spec) (rest : List Spec) → stages ≡ spec ∷ rest
-    → All HasBox stages → All IsSpec stages → AreDistinct stages → HaveFitted kept old stages → HaveTables stages tables → frames ≤ 256 → want ≤ 256
+    → All IsSpec stages → AreDistinct stages → HaveFitted kept old stages → HaveTables stages tables → frames ≤ 256 → want ≤ 256
     → (rate_among stages ≡ unchanged → frames ≤ want) → HaveRoom source stages want room → given ≤ asked spec want frames
     → ((other : Spec) → kind_of other ≢ kind_of spec → kept_in kept mid other ≡ kept_in kept old other)
     → AskOn kept mid tables given want (channels_out spec) room rest
-ask-on kept old mid tables frames given want source room stages spec rest cut boxes limits distinct fitted filters few wanted level has most others =
+ask-on kept old mid tables frames given want source room stages spec rest cut limits distinct fitted filters few wanted level has most others =
     let P : Spec → Type 0 = λ s. IsFitted s (kept_in kept old s) in
     let different = rw cut at distinct in
     let keep = others-keep kept old mid spec rest different.0 others in
@@ -219,7 +217,6 @@ ask-on kept old mid tables frames given want source room stages spec rest cut bo
     let space = subst Rooms cut has in
     let follow = space.follow in
     record {
-      boxes = All-tail HasBox spec rest (subst (λ list. All HasBox list) cut boxes);
       limits = All-tail IsSpec spec rest (subst (λ list. All IsSpec list) cut limits);
       distinct = different.1;
       fitted = λ k d below. rw (keep k d below) (All-tail P spec rest (subst (λ list. All P list) cut fitted) k d below);

@@ -3,14 +3,14 @@ use Rattle.std.specs.Prelude.{List, All}
 use Rattle.pcm_feeder.specs.declared.rack.SixOf.{SixOf}
 use Rattle.pcm_feeder.specs.declared.stage.Spec.{Spec}
 use Rattle.pcm_feeder.specs.declared.stage.Spec.TheVariants.{Matrix, Hold, Linear, Poly, Volume, Depth}
-use Rattle.pcm_feeder.specs.Kept.{Kept, unfitted, IsFitted}
+use Rattle.pcm_feeder.specs.Kept.{Kept, IsFitted}
 
--- what the box of a stage keeps; a kind without a box keeps nothing
+-- what the box of a stage keeps
 abbrev pub kept_in : {B : Type 0} → (B → Kept) → SixOf B → Spec → Kept
 kept_in kept six (Matrix from to) = kept six.matrix
 kept_in kept six (Hold src dst channels) = kept six.hold
 kept_in kept six (Linear src dst channels) = kept six.linear
-kept_in kept six (Poly src dst channels table taps) = unfitted
+kept_in kept six (Poly src dst channels table taps) = kept six.poly
 kept_in kept six (Volume layout) = kept six.volume
 kept_in kept six (Depth bits channels) = kept six.depth
 

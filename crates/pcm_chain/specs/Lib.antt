@@ -3,4 +3,3 @@ pub mod Counts
 pub mod Feeds
 pub mod Chains
 pub mod Pulls
-pub mod Props

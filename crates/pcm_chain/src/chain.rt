@@ -1,11 +1,9 @@
 //! A chain of stages between a client's ring and the frames of a device.
 
-ghost use Rattle.std.specs.Prelude.{◌≡◌, ◌≤◌, ◌*◌, All};
-ghost use Rattle.pcm_feeder.specs.Racks.{HasBox};
+ghost use Rattle.std.specs.Prelude.{◌≡◌, ◌≤◌, ◌*◌};
 ghost use Rattle.std.proofs.Props.{props};
 ghost use Rattle.pcm_plan.specs.Plans.{rate_in_plan};
 ghost use Rattle.pcm_chain.specs.Counts.{AreBounded};
-ghost use Rattle.pcm_chain.specs.Props.{box_props};
 
 use crate::counts::Counts;
 use crate::stages::{feed_stages, fit_stages};
@@ -23,7 +21,6 @@ pub struct ChainOf<B> {
     plan: Plan,
     staging: Staging,
     counts: Counts,
-    ghost has_boxes: { All HasBox plan.stages } by { Prim.hlevel box_props },
     ghost bounded: { AreBounded (rate_in_plan plan) counts } by { Prim.hlevel props },
 }
 
@@ -74,7 +71,6 @@ impl<B: Feeder> ChainOf<B> {
     /// An empty stream by a plan begins. Takes no memory.
     pub fn reset(&mut self, plan: &Plan)
         requires kinds { HaveKinds B.kind (boxes_in self.old) }
-        requires boxes { All HasBox plan.now.stages }
         ensures plan { plan_in self.new ≡ plan.now }
         ensures kinds { HaveKinds B.kind (boxes_in self.new) }
         ensures fitted { AreFitted B.kept self.new }

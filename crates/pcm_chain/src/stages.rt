@@ -6,7 +6,7 @@ ghost use Rattle.pcm_feeder.specs.declared.stage.Spec.{Spec};
 ghost use Rattle.pcm_feeder.specs.Kept.{fresh, IsFitted};
 ghost use Rattle.pcm_feeder.specs.Kinds.{kind_of};
 ghost use Rattle.pcm_feeder.specs.Limits.{AreChannels, IsSpec, IsGain, HasTable};
-ghost use Rattle.pcm_feeder.specs.Racks.{HaveKinds, HasBox};
+ghost use Rattle.pcm_feeder.specs.Racks.{HaveKinds};
 ghost use Rattle.pcm_feeder.specs.Stages.{channels_in, channels_out};
 ghost use Rattle.pcm_feeder.specs.Streams.{written};
 ghost use Rattle.pcm_feeder.specs.Turns.{fed};
@@ -22,7 +22,6 @@ use pcm_feeder::{Feeder, Gain, SixOf, Spec, Tables};
 /// Fits the box of each stage to it.
 pub fn fit_stages<B: Feeder>(boxes: &mut SixOf<B>, stages: &[Spec])
     requires kinds { HaveKinds B.kind boxes.old }
-    requires boxes { All HasBox stages.now }
     requires limits { All IsSpec stages.now }
     requires distinct { AreDistinct stages.now }
     ensures kinds { HaveKinds B.kind boxes.new }
@@ -36,7 +35,6 @@ pub fn fit_stages<B: Feeder>(boxes: &mut SixOf<B>, stages: &[Spec])
 // Fits the box of a stage to it. The other boxes keep what they kept.
 fn fit_stage<B: Feeder>(boxes: &mut SixOf<B>, spec: Spec)
     requires kinds { HaveKinds B.kind boxes.old }
-    requires there { HasBox spec }
     requires limits { IsSpec spec }
     ensures kinds { HaveKinds B.kind boxes.new }
     ensures fresh { kept_in B.kept boxes.new spec ≡ fresh spec }
@@ -47,9 +45,9 @@ fn fit_stage<B: Feeder>(boxes: &mut SixOf<B>, spec: Spec)
         Spec::Matrix { .. } => boxes.matrix.fit(spec),
         Spec::Hold { .. } => boxes.hold.fit(spec),
         Spec::Linear { .. } => boxes.linear.fit(spec),
+        Spec::Poly { .. } => boxes.poly.fit(spec),
         Spec::Volume { .. } => boxes.volume.fit(spec),
         Spec::Depth { .. } => boxes.depth.fit(spec),
-        Spec::Poly { .. } => unreachable!(),
     }
 }
 
@@ -66,7 +64,6 @@ pub fn feed_stages<B: Feeder>(
     staging: &mut Staging,
     out: &mut [i32],
 ) -> usize
-    requires boxes { All HasBox stages.now }
     requires limits { All IsSpec stages.now }
     requires distinct { AreDistinct stages.now }
     requires fitted { HaveFitted B.kept boxes.old stages.now }
@@ -133,7 +130,6 @@ fn feed_stage<B: Feeder>(
     input: &[i32],
     output: &mut [i32],
 ) -> usize
-    requires there { HasBox spec }
     requires limits { IsSpec spec }
     requires fitted { IsFitted spec (kept_in B.kept boxes.old spec) }
     requires gain { IsGain gain }
@@ -156,9 +152,9 @@ fn feed_stage<B: Feeder>(
         Spec::Matrix { .. } => boxes.matrix.feed(tables, gain, input, frames, output),
         Spec::Hold { .. } => boxes.hold.feed(tables, gain, input, want, output),
         Spec::Linear { .. } => boxes.linear.feed(tables, gain, input, want, output),
+        Spec::Poly { .. } => boxes.poly.feed(tables, gain, input, want, output),
         Spec::Volume { .. } => boxes.volume.feed(tables, gain, input, frames, output),
         Spec::Depth { .. } => boxes.depth.feed(tables, gain, input, frames, output),
-        Spec::Poly { .. } => unreachable!(),
     };
     moved.given
 }

@@ -1,66 +1,39 @@
 -- What holds of each configuration that is read.
-use Rattle.std.proofs.Common.{◌≡◌, ℕ, ◌*◌, ◌≤◌, ℤ, pos, negsuc, Bool, true, false, not, ◌&&◌, nat_le, nat_lt, cond, List, length, Option, Some, None, Result, Ok, Err, refl, sym, arith, IfOk}
-use Rattle.std.proofs.lemmas.Bool.Decides.{nat_tests}
-use Rattle.pcm_feeder.specs.Limits.{IsRate}
-use Rattle.pcm_desk.specs.Device.{IsInLimits, seen}
+use Rattle.std.proofs.Common.{ℕ, ◌*◌, ◌≤◌, ℤ, not, nat_lt, List, length, Option, Some, None, arith, IfOk}
+use Rattle.std.specs.List.{list_all}
+use Rattle.pcm_feeder.specs.Limits.{IsRate, AreFilters}
+use Rattle.pcm_desk.specs.Device.{IsInLimits}
 use Rattle.toml.specs.Data.{Members, as_integer}
 use Rattle.pcm_config.specs.declared.config.Config.{Config}
-use Rattle.pcm_config.specs.declared.fault.ConfigKind.{ConfigKind}
 use Rattle.pcm_config.specs.declared.fault.ConfigKind.TheVariants as kinds
 use Rattle.pcm_config.specs.declared.limits.TheConstants.{CONFIG_BYTES, RECORD_SLOTS}
 use Rattle.pcm_config.specs.declared.place.ConfigPlace.{ConfigPlace}
 use Rattle.pcm_config.specs.declared.place.ConfigPlace.TheVariants as places
-use Rattle.pcm_config.specs.Judgements.{◌>>=◌, required}
-use Rattle.pcm_config.specs.Lookups.{has_key, has_only, table_in, value_at}
+use Rattle.pcm_config.specs.Judgements.{required}
+use Rattle.pcm_config.specs.Lookups.{has_only, table_in, value_at}
 use Rattle.pcm_config.specs.Places.{device_places, top_places, vchans_places}
-use Rattle.pcm_config.specs.Rows.{block_row, blocks_row, channels_row, container_row, format_row, numbers, play_row, quality_row, rate_row, record_row}
+use Rattle.pcm_config.specs.Rows.{block_row, blocks_row, channels_row, container_row, format_row, in_range, numbers, play_row, quality_row, rate_row, record_row}
 use Rattle.pcm_config.specs.Values.{AreSlots, IsHardware, capture_in, hardware_in, in_row, settings_in, settled, slots_in}
 use Rattle.pcm_config.specs.Files.{files_in}
-use Rattle.pcm_config.specs.Configs.{HasCapture, IsHeld, can_hold, config_read, config_with, document_of, document_read, has_capture, tables_read, top_read, values_read, whole_read}
+use Rattle.pcm_config.specs.Tables.{filter_tables, filters_in, has_filter_keys}
+use Rattle.pcm_config.proofs.Judging.{IsBetween, after-any, after-kept, not-false, passed, range-kept, required-kept}
+use Rattle.pcm_config.proofs.FilterLimits.{filters-kept}
+use Rattle.pcm_config.specs.Configs.{HasCapture, IsHeld, can_hold, config_read, config_with, device_seen, document_of, document_read, has_capture, tables_read, top_read, values_read, whole_read}
 
 -- a configuration within its limits, which has what it names
 pub record IsKept (config : Config) : Type 0 where
-  pub limits : IsInLimits (seen config.device)
+  pub limits : IsInLimits (device_seen config)
   pub recording : config.record_slots ≤ RECORD_SLOTS
   pub container : IsHeld config
   pub capture : HasCapture config
 
--- ---- judgements one after another
-
-after-kept : {A B E : Type 0} (read : Result A E) (next : A → Result B E) (P : A → Type 0) (Q : B → Type 0)
-    → IfOk read P → ((value : A) → P value → IfOk (next value) Q) → IfOk (read >>= next) Q
-after-kept (Ok value) next P Q before after = after value before
-after-kept (Err fault) next P Q before after = tt
-
-after-any : {A B E : Type 0} (read : Result A E) (next : A → Result B E) (Q : B → Type 0)
-    → ((value : A) → IfOk (next value) Q) → IfOk (read >>= next) Q
-after-any (Ok value) next Q after = after value
-after-any (Err fault) next Q after = tt
-
--- what passes a test that else refuses
-passed : {A E : Type 0} (test : Bool) (fault : E) (read : Result A E) (Q : A → Type 0) → (test ≡ false → IfOk read Q) → IfOk (cond test (Err fault) read) Q
-passed true fault read Q after = tt
-passed false fault read Q after = after refl
-
 -- ---- numbers
-
-found-kept : (test : Bool) (fault : ConfigKind) (place : ConfigPlace) (number : ℕ) (Q : ℕ → Type 0) → (test ≡ true → Q number)
-    → IfOk (required fault place (cond test (Some number) None)) Q
-found-kept true fault place number Q known = known refl
-found-kept false fault place number Q known = tt
-
-abbrev IsBetween : ℕ → ℕ → ℕ → Type 0
-IsBetween least most number = (least ≤ number) × (number ≤ most)
-
-range-parts : (least most number : ℕ) → (nat_le least number && nat_le number most) ≡ true → IsBetween least most number
-range-parts least most number both = grind (arith, nat_tests)
 
 row-kept : (place : ConfigPlace) (least most usual : ℕ) (value : Option ℤ) → IsBetween least most usual
     → IfOk (in_row (numbers place least most usual) value) (IsBetween least most)
 row-kept place least most usual None fits = fits
-row-kept place least most usual (Some (pos number)) fits =
-    found-kept (nat_le least number && nat_le number most) kinds.Range place number (IsBetween least most) (range-parts least most number)
-row-kept place least most usual (Some (negsuc number)) fits = tt
+row-kept place least most usual (Some value) fits =
+    required-kept kinds.Range place (in_range least most value) (IsBetween least most) (range-kept least most value)
 
 number-kept : (place : ConfigPlace) (least most usual : ℕ) (table : Members) → IsBetween least most usual
     → IfOk (settled (numbers place least most usual) table) (IsBetween least most)
@@ -100,45 +73,43 @@ slots-kept vchans =
 
 -- ---- the whole
 
-not-false : (test : Bool) → not test ≡ false → test ≡ true
-not-false true passes = refl
-not-false false passes = sym passes
-
-whole-kept : (config : Config) → IsInLimits (seen config.device) → config.record_slots ≤ RECORD_SLOTS → IfOk (whole_read config) IsKept
+whole-kept : (config : Config) → IsInLimits (device_seen config) → config.record_slots ≤ RECORD_SLOTS → IfOk (whole_read config) IsKept
 whole-kept config limits recording =
     passed (not (can_hold config.container config.device.settings)) _ _ IsKept (λ holds.
     passed (not (has_capture config.files config.capture)) _ _ IsKept (λ has.
     record { limits = limits; recording = recording; container = not-false _ holds; capture = not-false _ has }))
 
-values-kept : (device vchans table : Members) → IfOk (values_read device vchans table) IsKept
+values-kept : (device vchans table : Members) (tables : List Members) → IfOk (values_read device vchans table tables) IsKept
 unfolding values_read
-values-kept device vchans table =
+values-kept device vchans table tables =
     after-kept (hardware_in device) _ IsHardware IsKept (hardware-kept device) (λ hardware h.
     after-any (capture_in device) _ IsKept (λ capture.
     after-kept (slots_in vchans) _ AreSlots IsKept (slots-kept vchans) (λ slots s.
     after-any (files_in table) _ IsKept (λ files.
-    whole-kept (config_with hardware capture slots files)
-    (record { rate = h.rate; block = h.block; ring = h.ring; ring_most = h.ring_most; slots_most = s.play; quality = s.quality })
-    s.recording))))
+    after-kept (filters_in tables) _ (λ filters. AreFilters filters.list) IsKept (filters-kept tables) (λ filters f.
+    whole-kept (config_with hardware capture slots files filters)
+    (record { device_is = record { rate = h.rate; filters = f }; block = h.block; ring = h.ring; ring_most = h.ring_most; slots_most = s.play; quality = s.quality })
+    s.recording)))))
 
-tables-kept : (device vchans table : Members) → IfOk (tables_read device vchans table) IsKept
+tables-kept : (device vchans table : Members) (tables : List Members) → IfOk (tables_read device vchans table tables) IsKept
 unfolding tables_read
-tables-kept device vchans table =
+tables-kept device vchans table tables =
     passed (not (has_only device_places device)) _ _ IsKept (λ _.
-    passed (not (has_only vchans_places vchans)) _ _ IsKept (λ _. values-kept device vchans table))
+    passed (not (has_only vchans_places vchans)) _ _ IsKept (λ _.
+    passed (not (list_all has_filter_keys tables)) _ _ IsKept (λ _. values-kept device vchans table tables)))
 
 top-kept : (top : Members) → IfOk (top_read top) IsKept
 unfolding top_read
 top-kept top =
     after-any (table_in places.Device top) _ IsKept (λ device.
     after-any (table_in places.Vchans top) _ IsKept (λ vchans.
-    after-any (table_in places.Files top) _ IsKept (λ table. tables-kept device vchans table)))
+    after-any (table_in places.Files top) _ IsKept (λ table.
+    after-any (filter_tables top) _ IsKept (λ tables. tables-kept device vchans table tables))))
 
 document-kept : (top : Members) → IfOk (document_read top) IsKept
 unfolding document_read
 document-kept top =
-    passed (has_key places.Tables top) _ _ IsKept (λ _.
-    passed (not (has_only top_places top)) _ _ IsKept (λ _. top-kept top))
+    passed (not (has_only top_places top)) _ _ IsKept (λ _. top-kept top)
 
 -- each configuration that is read keeps its limits, whatever reads it
 pub config_read-kept : (bytes : List ℕ) → IfOk (config_read bytes) IsKept

@@ -1,5 +1,9 @@
 pub mod Documents
+pub mod Arrays
 pub mod Entries
 pub mod Order
+pub mod Filters
+pub mod Judging
+pub mod FilterLimits
 pub mod OnLiterals
 pub mod Kept

@@ -15,7 +15,8 @@ use Rattle.toml.proofs.Views.{Entry}
 use Rattle.pcm_config.specs.declared.config.FilePath.{FilePath}
 use Rattle.pcm_config.specs.Configs.{AreInOrder}
 use Rattle.pcm_config.specs.Files.{names_of, with_file}
-use Rattle.pcm_config.proofs.Entries.{files_seen, joined}
+use Rattle.pcm_config.proofs.Entries.{files_seen}
+use Rattle.pcm_config.proofs.Arrays.{joined}
 
 -- no file is in any order
 pub none-in-order : AreInOrder []

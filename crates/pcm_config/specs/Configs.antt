@@ -2,11 +2,13 @@
 use Rattle.std.specs.Prelude.{◌≡◌, ◌≤◌, ℕ, Bool, true, not, ◌&&◌, ◌==◌, ◌%◌, nat_lt, if◌then◌else◌, List, [], length, Option, Some, None, Result, Ok}
 use Rattle.std.specs.Str.{is_utf8}
 use Rattle.std.specs.Cmp.Lexicographic.{slice_cmp}
+use Rattle.std.specs.List.{list_all}
 use Rattle.std.specs.List.Sorted.{IsStrictlySortedBy}
 use Rattle.std.specs.Ordering.{nat_cmp}
 use Rattle.pcm_format.specs.declared.settings.Settings.{Settings}
 use Rattle.pcm_format.specs.Frames.{frame_bytes}
-use Rattle.pcm_desk.specs.Device.{IsInLimits, seen}
+use Rattle.pcm_feeder.specs.Filters.{Filters}
+use Rattle.pcm_desk.specs.Device.{DeviceSeen, IsInLimits, no_filters, seen}
 use Rattle.pcm_desk.specs.Usual.{usual_settings}
 use Rattle.toml.specs.Data.{Members}
 use Rattle.toml.specs.Parse.{parse_document}
@@ -22,10 +24,11 @@ use Rattle.pcm_config.specs.declared.place.ConfigPlace.TheVariants as places
 use Rattle.pcm_config.specs.declared.slots.Slots.{Slots}
 use Rattle.pcm_config.specs.Judgements.{◌>>=◌, refused, required}
 use Rattle.pcm_config.specs.Places.{top_places, device_places, vchans_places}
-use Rattle.pcm_config.specs.Lookups.{has_key, has_only, table_in}
+use Rattle.pcm_config.specs.Lookups.{has_only, table_in}
 use Rattle.pcm_config.specs.Values.{hardware_in, capture_in, slots_in}
 use Rattle.pcm_wave.specs.Formats.{is_wave_format}
 use Rattle.pcm_config.specs.Files.{files_in, is_named, names_of}
+use Rattle.pcm_config.specs.Tables.{filter_tables, filters_in, has_filter_keys}
 
 -- what is settled of a run without a configuration
 abbrev pub usual_config : Config
@@ -35,6 +38,7 @@ usual_config = record {
   record_slots = 4;
   capture = None;
   files = [];
+  tables = no_filters;
 }
 
 -- whether a file of this form can have frames with these settings: a wave has an even number of bytes a frame
@@ -48,8 +52,8 @@ has_capture files None = true
 has_capture files (Some name) = is_named files name
 
 -- all that is settled, put together
-abbrev pub config_with : Hardware → Option (List ℕ) → Slots → List FilePath → Config
-config_with hardware capture slots files = record {
+abbrev pub config_with : Hardware → Option (List ℕ) → Slots → List FilePath → Filters → Config
+config_with hardware capture slots files filters = record {
   device = record {
     settings = hardware.settings;
     block_frames = hardware.block_frames;
@@ -61,6 +65,7 @@ config_with hardware capture slots files = record {
   record_slots = slots.recording;
   capture = capture;
   files = files;
+  tables = filters;
 }
 
 -- what is judged of the whole: the form of the file that is played to, then the file that is recorded from
@@ -71,34 +76,36 @@ whole_read config =
     else Ok config
 
 -- the values of the tables, in their order, and then the whole
-unfoldable pub values_read : Members → Members → Members → Result Config ConfigRefusal
-values_read device vchans table = do
+unfoldable pub values_read : Members → Members → Members → List Members → Result Config ConfigRefusal
+values_read device vchans table tables = do
   hardware ← hardware_in device
   capture ← capture_in device
   slots ← slots_in vchans
   files ← files_in table
-  whole_read (config_with hardware capture slots files)
+  filters ← filters_in tables
+  whole_read (config_with hardware capture slots files filters)
 
 -- the keys of the tables, and then their values
-unfoldable pub tables_read : Members → Members → Members → Result Config ConfigRefusal
-tables_read device vchans table =
+unfoldable pub tables_read : Members → Members → Members → List Members → Result Config ConfigRefusal
+tables_read device vchans table tables =
     if not (has_only device_places device) then refused kinds.Key places.Device
     else if not (has_only vchans_places vchans) then refused kinds.Key places.Vchans
-    else values_read device vchans table
+    else if not (list_all has_filter_keys tables) then refused kinds.Key places.Tables
+    else values_read device vchans table tables
 
--- the three tables, and then what they settle
+-- the three tables and those of filters, and then what they settle
 unfoldable pub top_read : Members → Result Config ConfigRefusal
 top_read top = do
   device ← table_in places.Device top
   vchans ← table_in places.Vchans top
   table ← table_in places.Files top
-  tables_read device vchans table
+  tables ← filter_tables top
+  tables_read device vchans table tables
 
--- A document: filters aren't built yet, and then no key may be there but those of the three tables.
+-- a document, which has no key but those of the top
 unfoldable pub document_read : Members → Result Config ConfigRefusal
 document_read top =
-    if has_key places.Tables top then refused kinds.Unbuilt places.Tables
-    else if not (has_only top_places top) then refused kinds.Key places.Top
+    if not (has_only top_places top) then refused kinds.Key places.Top
     else top_read top
 
 -- the document that bytes are, which must be UTF-8
@@ -112,6 +119,10 @@ config_read bytes =
     else do
       top ← required kinds.Toml places.Top (document_of bytes)
       document_read top
+
+-- the device of a run with its filters, as others see it
+abbrev pub device_seen : Config → DeviceSeen
+device_seen config = seen config.tables config.device
 
 -- a wave has frames that it can hold
 abbrev pub IsHeld : Config → Type 0
@@ -127,7 +138,7 @@ AreInOrder files = IsStrictlySortedBy (slice_cmp nat_cmp) (names_of files)
 
 -- a configuration within its limits, whose files are in order and which has what it names
 pub record IsSettled (config : Config) : Type 0 where
-  pub limits : IsInLimits (seen config.device)
+  pub limits : IsInLimits (device_seen config)
   pub recording : config.record_slots ≤ RECORD_SLOTS
   pub order : AreInOrder config.files
   pub container : IsHeld config

@@ -4,5 +4,6 @@ pub mod Lookups
 pub mod Rows
 pub mod Values
 pub mod Files
+pub mod Tables
 pub mod Configs
 pub mod Answers

@@ -1,7 +1,7 @@
 -- The places of a configuration and the kinds of its faults, by their words.
 use Rattle.std.specs.Prelude.{ℕ, List, [], ◌∷◌, codes}
 use Rattle.pcm_config.specs.declared.fault.ConfigKind.{ConfigKind}
-use Rattle.pcm_config.specs.declared.fault.ConfigKind.TheVariants.{Long, Toml, Unbuilt, Key, Kind, Range, Name, Container, Capture}
+use Rattle.pcm_config.specs.declared.fault.ConfigKind.TheVariants.{Long, Toml, Key, Kind, Range, Name, Count, Missing, Shape, Coef, Container, Capture}
 use Rattle.pcm_config.specs.declared.place.ConfigPlace.{ConfigPlace}
 use Rattle.pcm_config.specs.declared.place.ConfigPlace.TheVariants.{Top, Device, Vchans, Files, Tables, DeviceFormat, DeviceChannels, DeviceRate, DeviceHwBlock, DeviceHwBlocks, DeviceContainer, DeviceCapture, VchansPlay, VchansRecord, VchansQuality}
 
@@ -9,11 +9,14 @@ use Rattle.pcm_config.specs.declared.place.ConfigPlace.TheVariants.{Top, Device,
 abbrev pub config_kind_word : ConfigKind → List ℕ
 config_kind_word Long = codes "long"
 config_kind_word Toml = codes "toml"
-config_kind_word Unbuilt = codes "unbuilt"
 config_kind_word Key = codes "key"
 config_kind_word Kind = codes "kind"
 config_kind_word Range = codes "range"
 config_kind_word Name = codes "name"
+config_kind_word Count = codes "count"
+config_kind_word Missing = codes "missing"
+config_kind_word Shape = codes "shape"
+config_kind_word Coef = codes "coef"
 config_kind_word Container = codes "container"
 config_kind_word Capture = codes "capture"
 
@@ -53,9 +56,9 @@ key_of VchansPlay = codes "play"
 key_of VchansRecord = codes "record"
 key_of VchansQuality = codes "quality"
 
--- the tables of a configuration, beside those of filters, which aren't built yet
+-- what stands at the top of a configuration: three tables, and the array of filters
 abbrev pub top_places : List ConfigPlace
-top_places = Device ∷ Vchans ∷ Files ∷ []
+top_places = Device ∷ Vchans ∷ Files ∷ Tables ∷ []
 
 -- what may be settled of the device
 abbrev pub device_places : List ConfigPlace

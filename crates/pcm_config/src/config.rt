@@ -4,6 +4,7 @@ ghost use Rattle.std.specs.Prelude.{◌≡◌, List, string_bytes, IfOk};
 ghost use Rattle.pcm_config.specs.Configs.{usual_config};
 
 use pcm_desk::Device;
+use pcm_feeder::Tables;
 use std::alloc::{AllocError, Global};
 use std::marker::Model;
 
@@ -87,7 +88,7 @@ impl FilePaths {
 }
 
 /// What is settled of a run: its device, the form of the file that is played to, how many channels record,
-/// and the files by their names, with the one that is recorded from.
+/// the files by their names, with the one that is recorded from, and the filters of the converters.
 #[derive(Debug, Drop)]
 pub struct Config {
     pub device: Device,
@@ -95,6 +96,7 @@ pub struct Config {
     pub record_slots: u32,
     pub capture: Option<Name>,
     pub files: FilePaths,
+    pub tables: Tables,
 }
 
 /// What is settled of a run without a configuration. It takes no memory.
@@ -107,5 +109,6 @@ pub fn default_config(alloc: Global) -> Config
         record_slots: 4,
         capture: None,
         files: FilePaths::new(Vec::new(alloc)),
+        tables: Tables::new(Vec::new(alloc)),
     }
 }

@@ -14,16 +14,22 @@ pub enum ConfigKind {
     Long,
     /// The text is no TOML.
     Toml,
-    /// The text asks for what this program doesn't do yet.
-    Unbuilt,
     /// A table has a key that it may not have.
     Key,
-    /// A value is no table, no text or no whole number, where one is wanted.
+    /// A value is no table, no array, no text or no whole number, where one is wanted.
     Kind,
     /// A number is outside its set.
     Range,
     /// A text is outside its set.
     Name,
+    /// There are more filters than there may be.
+    Count,
+    /// A filter lacks its shift or its rows, or one rate where it has the other.
+    Missing,
+    /// The rows of a filter are too few or too many, too short or too long, or differ in length.
+    Shape,
+    /// A coefficient is outside its set.
+    Coef,
     /// A wave can't have frames of the device.
     Container,
     /// The file that is recorded from isn't among the files.
@@ -40,11 +46,14 @@ impl ConfigKind {
         match self {
             ConfigKind::Long => "long",
             ConfigKind::Toml => "toml",
-            ConfigKind::Unbuilt => "unbuilt",
             ConfigKind::Key => "key",
             ConfigKind::Kind => "kind",
             ConfigKind::Range => "range",
             ConfigKind::Name => "name",
+            ConfigKind::Count => "count",
+            ConfigKind::Missing => "missing",
+            ConfigKind::Shape => "shape",
+            ConfigKind::Coef => "coef",
             ConfigKind::Container => "container",
             ConfigKind::Capture => "capture",
         }

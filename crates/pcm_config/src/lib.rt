@@ -5,6 +5,7 @@
 mod config;
 mod fault;
 mod files;
+mod filter;
 mod hardware;
 mod laws;
 mod limits;
@@ -12,7 +13,10 @@ mod lookup;
 mod number;
 mod place;
 mod reader;
+mod rows;
+mod shape;
 mod slots;
+mod tables;
 mod whole;
 
 pub use config::{Config, Container, FilePath, FilePaths, Name, default_config};

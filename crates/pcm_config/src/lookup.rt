@@ -1,20 +1,13 @@
 //! What stands in a table of TOML.
 
-ghost use Rattle.std.specs.Prelude.{◌≡◌, option_map, option_copied};
+ghost use Rattle.std.specs.Prelude.{◌≡◌, option_copied};
 ghost use Rattle.toml.specs.Data.{as_integer, as_str, get_member};
-ghost use Rattle.toml.specs.View.{view, table_view};
+ghost use Rattle.toml.specs.View.{table_view};
 ghost use Rattle.pcm_config.specs.Judgements.{as_seen};
-ghost use Rattle.pcm_config.specs.Lookups.{has_key, has_only, is_key_of, member_at, members_seen, table_in, value_at};
+ghost use Rattle.pcm_config.specs.Lookups.{has_only, is_key_of, member_at, members_seen, table_in, value_at, value_seen};
 
 use crate::{ConfigKind, ConfigPlace, ConfigRefusal};
 use toml::{Table, Value};
-
-// Whether a table has a value at a place.
-pub(crate) fn has_key(table: &Table, place: ConfigPlace) -> bool
-    ensures { result ≡ has_key place (table_view table.now) }
-{
-    member_at(Some(table), place).is_some()
-}
 
 // Whether a table has no key but those of these places.
 pub(crate) fn has_only(table: Option<&Table>, places: &[ConfigPlace]) -> bool
@@ -81,17 +74,24 @@ pub(crate) fn integer_at(
 }
 
 // The value at a place of a table, if both are there.
-fn member_at(table: Option<&Table>, place: ConfigPlace) -> Option<&Value>
-    ensures { option_map (λ v. view v.now) result ≡ member_at place (members_seen table.entry) }
+pub(crate) fn member_at(table: Option<&Table>, place: ConfigPlace) -> Option<&Value>
+    ensures { value_seen result ≡ member_at place (members_seen table.entry) }
+{
+    member_of(table, place.key())
+}
+
+// The value at a key of a table, if both are there.
+pub(crate) fn member_of<'a>(table: Option<&'a Table>, key: &str) -> Option<&'a Value>
+    ensures { value_seen result ≡ get_member key.now (members_seen table.entry) }
 {
     match table {
-        Some(table) => value_of(table, place.key()),
+        Some(table) => value_of(table, key),
         None => None,
     }
 }
 
 fn value_of<'a>(table: &'a Table, key: &str) -> Option<&'a Value>
-    ensures { option_map (λ v. view v.now) result ≡ get_member key.now (table_view table.now) }
+    ensures { value_seen result ≡ get_member key.now (table_view table.now) }
 {
     table.get(key)
 }

@@ -35,7 +35,8 @@ pub(crate) fn number_in(table: Option<&Table>, row: NumberRow) -> Result<u32, Co
     }
 }
 
-fn in_range(least: u32, most: u32, number: i64) -> Option<u32>
+// A number, if it is in a set.
+pub(crate) fn in_range(least: u32, most: u32, number: i64) -> Option<u32>
     ensures value { result ≡ in_range least most number }
     ensures least { IfSome result (λ number. least ≤ number) }
     ensures most { IfSome result (λ number. number ≤ most) }

@@ -1,28 +1,34 @@
 //! The walk over a configuration, judgement after judgement.
 
 ghost use Rattle.std.specs.Prelude.{◌≡◌, ◌≤◌, IfOk, option_copied};
-ghost use Rattle.pcm_desk.specs.Device.{IsInLimits, seen};
+ghost use Rattle.pcm_desk.specs.Device.{IsInLimits};
 ghost use Rattle.toml.specs.View.{table_view};
 ghost use Rattle.pcm_config.specs.declared.fault.ConfigKind.TheVariants.{Toml};
 ghost use Rattle.pcm_config.specs.declared.limits.TheConstants.{RECORD_SLOTS};
 ghost use Rattle.pcm_config.specs.declared.place.ConfigPlace.TheVariants.{Top};
 ghost use Rattle.pcm_config.specs.Answers.{Reads};
-ghost use Rattle.pcm_config.specs.Configs.{AreInOrder, HasCapture, IsHeld, IsSettled, config_read, document_of, document_read, tables_read, top_read, values_read};
+ghost use Rattle.pcm_config.specs.Configs.{AreInOrder, HasCapture, IsHeld, IsSettled, config_read, device_seen, document_of, document_read, tables_read, top_read, values_read};
 ghost use Rattle.pcm_config.specs.Judgements.{as_seen, required};
-ghost use Rattle.pcm_config.specs.Lookups.{members_seen};
+ghost use Rattle.pcm_config.specs.Lookups.{members_seen, tables_seen};
 
 use crate::fault::refused;
 use crate::files::files_in;
 use crate::hardware::hardware_in;
-use crate::lookup::{has_key, has_only, table_in, text_at};
+use crate::lookup::{has_only, table_in, text_at};
 use crate::slots::slots_in;
+use crate::tables::{filter_tables, filters_in, have_filter_keys};
 use crate::whole::{config_with, whole_read};
 use crate::{CONFIG_BYTES, Config, ConfigFault, ConfigKind, ConfigPlace, Name};
 use std::alloc::{AllocError, Global};
-use toml::Table;
+use toml::{Table, Value};
 
 // The keys of the top.
-const TOP: [ConfigPlace; 3] = [ConfigPlace::Device, ConfigPlace::Vchans, ConfigPlace::Files];
+const TOP: [ConfigPlace; 4] = [
+    ConfigPlace::Device,
+    ConfigPlace::Vchans,
+    ConfigPlace::Files,
+    ConfigPlace::Tables,
+];
 
 // The keys of the device's table.
 const DEVICE: [ConfigPlace; 7] = [
@@ -49,7 +55,7 @@ pub fn config_of(alloc: Global, bytes: &[u8]) -> Result<Config, ConfigFault>
     ensures read { Reads result (config_read bytes.now) }
 
     // What a configuration keeps.
-    ensures limits { IfOk result (λ config. IsInLimits (seen config.device)) }
+    ensures limits { IfOk result (λ config. IsInLimits (device_seen config)) }
     ensures recording { IfOk result (λ config. config.record_slots ≤ RECORD_SLOTS) }
     ensures order { IfOk result (λ config. AreInOrder config.files) }
     ensures container { IfOk result IsHeld }
@@ -83,9 +89,6 @@ fn document_read(alloc: Global, top: &Table) -> Result<Config, ConfigFault>
     ensures read { Reads result (document_read (table_view top.now)) }
     ensures settled { IfOk result IsSettled }
 {
-    if has_key(top, ConfigPlace::Tables) {
-        return Err(refused(ConfigKind::Unbuilt, ConfigPlace::Tables));
-    }
     if !has_only(Some(top), &TOP) {
         return Err(refused(ConfigKind::Key, ConfigPlace::Top));
     }
@@ -100,7 +103,8 @@ fn top_read(alloc: Global, top: &Table) -> Result<Config, ConfigFault>
     let device = table_in(top, ConfigPlace::Device)?;
     let vchans = table_in(top, ConfigPlace::Vchans)?;
     let files = table_in(top, ConfigPlace::Files)?;
-    tables_read(alloc, device, vchans, files)
+    let tables = filter_tables(top)?;
+    tables_read(alloc, device, vchans, files, tables)
 }
 
 #[tactic(auto, unfolding(crate::specs::Configs::tables_read))]
@@ -109,8 +113,9 @@ fn tables_read(
     device: Option<&Table>,
     vchans: Option<&Table>,
     files: Option<&Table>,
+    tables: &[Value],
 ) -> Result<Config, ConfigFault>
-    ensures read { Reads result (tables_read (members_seen device.entry) (members_seen vchans.entry) (members_seen files.entry)) }
+    ensures read { Reads result (tables_read (members_seen device.entry) (members_seen vchans.entry) (members_seen files.entry) (tables_seen tables.now)) }
     ensures settled { IfOk result IsSettled }
 {
     if !has_only(device, &DEVICE) {
@@ -119,7 +124,10 @@ fn tables_read(
     if !has_only(vchans, &VCHANS) {
         return Err(refused(ConfigKind::Key, ConfigPlace::Vchans));
     }
-    values_read(alloc, device, vchans, files)
+    if !have_filter_keys(tables) {
+        return Err(refused(ConfigKind::Key, ConfigPlace::Tables));
+    }
+    values_read(alloc, device, vchans, files, tables)
 }
 
 #[tactic(auto, unfolding(crate::specs::Configs::values_read))]
@@ -128,16 +136,18 @@ fn values_read(
     device: Option<&Table>,
     vchans: Option<&Table>,
     files: Option<&Table>,
+    tables: &[Value],
 ) -> Result<Config, ConfigFault>
-    ensures read { Reads result (values_read (members_seen device.entry) (members_seen vchans.entry) (members_seen files.entry)) }
+    ensures read { Reads result (values_read (members_seen device.entry) (members_seen vchans.entry) (members_seen files.entry) (tables_seen tables.now)) }
     ensures settled { IfOk result IsSettled }
 {
     let hardware = hardware_in(device)?;
     let capture = text_at(device, ConfigPlace::DeviceCapture)?;
     let slots = slots_in(vchans)?;
     let files = files_in(alloc, files)?;
+    let tables = filters_in(alloc, tables)?;
     let capture = name_of(alloc, capture)?;
-    whole_read(config_with(hardware, capture, slots, files))
+    whole_read(config_with(hardware, capture, slots, files, tables))
 }
 
 fn name_of(alloc: Global, text: Option<&str>) -> Result<Option<Name>, AllocError>

@@ -10,6 +10,7 @@ use crate::hardware::Hardware;
 use crate::slots::Slots;
 use crate::{Config, ConfigFault, ConfigKind, ConfigPlace, Container, FilePath, FilePaths, Name};
 use pcm_desk::Device;
+use pcm_feeder::Tables;
 use pcm_format::Settings;
 use pcm_wave::is_wave_format;
 
@@ -19,8 +20,9 @@ pub(crate) fn config_with(
     capture: Option<Name>,
     slots: Slots,
     files: FilePaths,
+    tables: Tables,
 ) -> Config
-    ensures { result ≡ config_with hardware capture slots files }
+    ensures { result ≡ config_with hardware capture slots files tables }
 {
     Config {
         device: Device {
@@ -34,6 +36,7 @@ pub(crate) fn config_with(
         record_slots: slots.recording,
         capture,
         files,
+        tables,
     }
 }
 

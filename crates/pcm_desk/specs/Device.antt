@@ -4,7 +4,7 @@ use Rattle.pcm_format.specs.declared.settings.Settings.{Settings}
 use Rattle.pcm_format.specs.Frames.{frame_bytes}
 use Rattle.pcm_rate.specs.declared.rate.Rate.{Rate}
 use Rattle.pcm_feeder.specs.Filters.{Filters}
-use Rattle.pcm_feeder.specs.Limits.{IsRate}
+use Rattle.pcm_feeder.specs.Limits.{IsRate, AreFilters}
 use Rattle.pcm_plan.specs.Plans.{PlanSeen, plan_play, rate_in_plan}
 use Rattle.pcm_desk.specs.declared.device.Device.{Device}
 use Rattle.pcm_desk.specs.declared.device.TheConstants.{QUALITY_MOST}
@@ -16,16 +16,26 @@ pub record DeviceSeen : Type 0 where
   pub ring : ℕ
   pub block : ℕ
   pub quality : ℕ
+  pub filters : Filters
 
--- what a device is seen as
-abbrev pub seen : Device → DeviceSeen
-seen device = record {
+-- what a device is seen as, beside the filters of its run
+abbrev pub seen : Filters → Device → DeviceSeen
+seen filters device = record {
   settings = device.settings;
   slots = device.play_slots;
   ring = device.ring_frames;
   block = device.block_frames;
   quality = device.quality;
+  filters = filters;
 }
+
+-- no filter
+abbrev pub no_filters : Filters
+no_filters = record { list = [] }
+
+-- a device whose run has no filter
+abbrev pub unfiltered : Device → DeviceSeen
+unfiltered device = seen no_filters device
 
 -- the settings of the frames that are handed over
 abbrev pub device_settings : DeviceSeen → Settings
@@ -55,9 +65,9 @@ device_frame_bytes device = frame_bytes (device_settings device)
 abbrev pub quality_of : DeviceSeen → ℕ
 quality_of device = device.quality
 
--- the filters that the device's converters may use: none so far
+-- the filters that the device's converters may use
 abbrev pub filters_of : DeviceSeen → Filters
-filters_of device = record { list = [] }
+filters_of device = device.filters
 
 -- the plan from a client with these settings to the mix
 abbrev pub plan_between : DeviceSeen → Settings → PlanSeen
@@ -67,13 +77,14 @@ plan_between device settings = plan_play (filters_of device) (quality_of device)
 abbrev pub rate_between : DeviceSeen → Settings → Rate
 rate_between device settings = rate_in_plan (plan_between device settings)
 
--- a device whose mix has a rate within the limits
-abbrev pub IsDevice : DeviceSeen → Type 0
-IsDevice device = IsRate (mix_settings device).rate
+-- a device whose mix has a rate within the limits, as its filters are
+pub record IsDevice (device : DeviceSeen) : Type 0 where
+  pub rate : IsRate (mix_settings device).rate
+  pub filters : AreFilters (filters_of device).list
 
 -- a device within the limits of a run
 pub record IsInLimits (device : DeviceSeen) : Type 0 where
-  pub rate : IsDevice device
+  pub device_is : IsDevice device
   pub block : 0 < block_frames device
   pub ring : block_frames device ≤ ring_frames device
   pub ring_most : ring_frames device ≤ RING_FRAMES

@@ -2,12 +2,12 @@
 use Rattle.pcm_format.specs.declared.settings.Settings.{Settings}
 use Rattle.pcm_format.specs.declared.format.Format.TheVariants.{S16Le}
 use Rattle.pcm_format.specs.declared.layout.Layout.TheVariants.{Two}
-use Rattle.pcm_desk.specs.Device.{DeviceSeen}
+use Rattle.pcm_desk.specs.Device.{DeviceSeen, no_filters}
 
 -- 16 bits, stereo, 48 kHz
 abbrev pub usual_settings : Settings
 usual_settings = record { format = S16Le; layout = Two; rate = 48000 }
 
--- a ring of four blocks of 256 frames, four channels that play, and converters that draw lines
+-- a ring of four blocks of 256 frames, four channels that play, converters that draw lines, and no filter
 abbrev pub usual_device : DeviceSeen
-usual_device = record { settings = usual_settings; slots = 4; ring = 1024; block = 256; quality = 1 }
+usual_device = record { settings = usual_settings; slots = 4; ring = 1024; block = 256; quality = 1; filters = no_filters }

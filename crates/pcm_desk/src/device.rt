@@ -31,14 +31,14 @@ pub struct Device {
 }
 
 impl Device {
-    ghost use Rattle.pcm_desk.specs.Device.{IsInLimits, seen};
+    ghost use Rattle.pcm_desk.specs.Device.{IsInLimits, unfiltered};
     ghost use Rattle.pcm_desk.specs.Usual.{usual_device};
 
     /// The device of a run without a configuration: 16 bits, stereo, 48 kHz, a ring of four blocks of 256 frames,
     /// four channels that play, and converters that draw lines.
     pub fn usual() -> Device
-        ensures value { seen result ≡ usual_device }
-        ensures limits { IsInLimits (seen result) }
+        ensures value { unfiltered result ≡ usual_device }
+        ensures limits { IsInLimits (unfiltered result) }
     {
         Device {
             settings: Settings {

@@ -4,7 +4,7 @@ use Rattle.std.proofs.lemmas.List.{set_past}
 use Rattle.std.proofs.lemmas.Bool.{cases_eq, cases_lt}
 use Rattle.pcm_desk.specs.declared.book.Book.{Book}
 use Rattle.pcm_desk.specs.declared.device.Held.{Held}
-use Rattle.pcm_desk.specs.Device.{seen}
+use Rattle.pcm_desk.specs.Device.{DeviceSeen}
 use Rattle.pcm_desk.specs.Desk.{mixing, interrupt_turn}
 use Rattle.pcm_play.specs.declared.channel.PlayChannelOf.{PlayChannelOf}
 use Rattle.pcm_vchan.specs.declared.parent.ParentOf.{ParentOf}
@@ -37,9 +37,9 @@ count-within count limit steps old new same grows before = λ slot other within.
     omega arith
 
 -- the desk after an interrupt
-pub desk_with-mixed : {B : Type 0} (old new : ParentOf B) (descriptors : List (Option Held)) (n : ℕ) → parent_books new ≡ map (mixing (seen old.device) n) (parent_books old) → new.handed ≡ old.handed + n → new.mixed ≡ old.mixed + n
-    → desk_with new descriptors ≡ (interrupt_turn (seen old.device) (desk_with old descriptors) n).desk
-desk_with-mixed old new descriptors n books handed mixed =
+pub desk_with-mixed : {B : Type 0} (device : DeviceSeen) (old new : ParentOf B) (descriptors : List (Option Held)) (n : ℕ) → parent_books new ≡ map (mixing device n) (parent_books old) → new.handed ≡ old.handed + n → new.mixed ≡ old.mixed + n
+    → desk_with new descriptors ≡ (interrupt_turn device (desk_with old descriptors) n).desk
+desk_with-mixed device old new descriptors n books handed mixed =
     ap (λ (play : List Book). record { play = play; descriptors = descriptors; handed = new.handed; mixed = new.mixed }) books
-    ∙ ap (λ (h : ℕ). record { play = map (mixing (seen old.device) n) (parent_books old); descriptors = descriptors; handed = h; mixed = new.mixed }) handed
-    ∙ ap (λ (m : ℕ). record { play = map (mixing (seen old.device) n) (parent_books old); descriptors = descriptors; handed = old.handed + n; mixed = m }) mixed
+    ∙ ap (λ (h : ℕ). record { play = map (mixing device n) (parent_books old); descriptors = descriptors; handed = h; mixed = new.mixed }) handed
+    ∙ ap (λ (m : ℕ). record { play = map (mixing device n) (parent_books old); descriptors = descriptors; handed = old.handed + n; mixed = m }) mixed

@@ -9,7 +9,7 @@ use Rattle.pcm_wave.specs.declared.pool.Pool.{Pool}
 use Rattle.pcm_feeder.specs.declared.kind.Kind.{Kind}
 use Rattle.pcm_feeder.specs.Kept.{Kept}
 use Rattle.pcm_desk.specs.declared.book.Book.{Book}
-use Rattle.pcm_desk.specs.Device.{DeviceSeen, device_frame_bytes, play_slots, ring_frames}
+use Rattle.pcm_desk.specs.Device.{DeviceSeen, device_frame_bytes, filters_of, play_slots, ring_frames}
 use Rattle.pcm_desk.specs.Desk.{Desk, book_at, unopened, held_by, after}
 use Rattle.pcm_desk.specs.Events.{Fits, bytes_handed, frames_taken}
 use Rattle.pcm_sound.specs.Runs.{carrying, newest_bytes}
@@ -40,8 +40,8 @@ pub record Stepped {B : Type 0} (kind : B → Kind) (kept : B → Kept) (device 
   pub play_now : new.play ≡ books_of now
   pub slots : length now ≡ length before
   pub all_slots : length before ≡ play_slots device
-  pub channels : ChannelsMove kind kept pool event before now
-  pub ring : (streams : ℕ → List ℕ) → AllStand kept before streams → ring_now ≡ ring_after device event (books_of before) streams (length before) ring_before
+  pub channels : ChannelsMove kind kept (filters_of device) pool event before now
+  pub ring : (streams : ℕ → List ℕ) → AllStand kept (filters_of device) before streams → ring_now ≡ ring_after device event (books_of before) streams (length before) ring_before
 
 -- the part of a step that is about a story: its own desks stand at both ends
 abbrev StoryStep : {B : Type 0} → (B → Kind) → (B → Kept) → DeviceSeen → Pool → Story → Event → List (PlayChannelOf B) → List (PlayChannelOf B) → List ℕ → List ℕ → Type 0
@@ -98,25 +98,25 @@ counts_told device pool story (Intr n) slot fits v more =
 -- each channel stands for its slot after an event
 slots_stand : {B : Type 0} (kind : B → Kind) (kept : B → Kept) (device : DeviceSeen) (pool : Pool) (story : Story) (event : Event) (before now : List (PlayChannelOf B)) (ring_before ring_now : List ℕ)
     → Fits device pool event → StoryStep kind kept device pool story event before now ring_before ring_now → PartsStand kept device story.desk before ring_before story
-    → (slot : ℕ) (other : PlayChannelOf B) → slot < length now → ChannelStands kept (get_or now slot other) (book_at device (told device pool story event).desk slot) (bytes_counted device (told device pool story event) slot)
+    → (slot : ℕ) (other : PlayChannelOf B) → slot < length now → ChannelStands kept (filters_of device) (get_or now slot other) (book_at device (told device pool story event).desk slot) (bytes_counted device (told device pool story event) slot)
 slots_stand kind kept device pool story event before now ring_before ring_now fits st s slot other within =
     let same = st.slots in
     let there : slot < length before = omega arith in
     let was = book_at-books device story.desk before slot other st.play_before there in
     let is = book_at-books device (told device pool story event).desk now slot other st.play_now within in
     let moves = st.channels slot other there in
-    let stood = subst (λ (b : Book). ChannelStands kept (get_or before slot other) b (bytes_counted device story slot)) was (s.slots slot other there) in
+    let stood = subst (λ (b : Book). ChannelStands kept (filters_of device) (get_or before slot other) b (bytes_counted device story slot)) was (s.slots slot other there) in
     let stands = moves.stands (bytes_counted device story slot) stood in
     let more : (book_at device (told device pool story event).desk slot).written ≤ (book_at device story.desk slot).written + length (bytes_brought pool event) = rw (is, was) moves.written in
     let counts = counts_told device pool story event slot fits s.valid more in
-    subst (ChannelStands kept (get_or now slot other) (book_at device (told device pool story event).desk slot)) (sym counts.are)
-    (subst (λ (b : Book). ChannelStands kept (get_or now slot other) b (take b.written (bytes_counted device story slot ++ bytes_brought pool event))) (sym is) stands)
+    subst (ChannelStands kept (filters_of device) (get_or now slot other) (book_at device (told device pool story event).desk slot)) (sym counts.are)
+    (subst (λ (b : Book). ChannelStands kept (filters_of device) (get_or now slot other) b (take b.written (bytes_counted device story slot ++ bytes_brought pool event))) (sym is) stands)
 
 -- each channel stands for its book and the bytes that its slot counts
 all_stand : {B : Type 0} (kept : B → Kept) (device : DeviceSeen) (story : Story) (channels : List (PlayChannelOf B)) (ring : List ℕ) → story.desk.play ≡ books_of channels → PartsStand kept device story.desk channels ring story
-    → AllStand kept channels (bytes_counted device story)
+    → AllStand kept (filters_of device) channels (bytes_counted device story)
 all_stand kept device story channels ring play s = λ slot other there.
-    subst (λ (b : Book). ChannelStands kept (get_or channels slot other) b (bytes_counted device story slot)) (book_at-books device story.desk channels slot other play there) (s.slots slot other there)
+    subst (λ (b : Book). ChannelStands kept (filters_of device) (get_or channels slot other) b (bytes_counted device story slot)) (book_at-books device story.desk channels slot other play there) (s.slots slot other there)
 
 -- ---- the device's ring
 

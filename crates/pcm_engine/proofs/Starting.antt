@@ -9,6 +9,7 @@ use Rattle.pcm_format.specs.Layouts.{channels_of}
 use Rattle.pcm_format.specs.Samples.{spelled}
 use Rattle.pcm_format.specs.Frames.{frame_bytes}
 use Rattle.pcm_feeder.specs.declared.kind.Kind.{Kind}
+use Rattle.pcm_feeder.specs.Filters.{Filters}
 use Rattle.pcm_feeder.specs.Kept.{Kept}
 use Rattle.pcm_desk.specs.declared.book.Book.{Book}
 use Rattle.pcm_desk.specs.declared.device.Device.{Device}
@@ -48,50 +49,50 @@ spelled-silence format settings (suc n) =
     ∙ ap (flat_map (spelled format)) (replicate-append-replicate (channels_of settings.layout) (n * channels_of settings.layout) (pos 0) ∙ ap (λ k. replicate k (pos 0)) (sym more))
 
 -- channels that nobody has opened are ready
-pub ready-unopened : {B : Type 0} (kind : B → Kind) (kept : B → Kept) (device : Device) (channels : List (PlayChannelOf B)) → All (IsUnopened kind kept device) channels → All (IsReady kind kept) channels
-ready-unopened kind kept device channels each = λ slot other there.
+pub ready-unopened : {B : Type 0} (kind : B → Kind) (kept : B → Kept) (filters : Filters) (device : Device) (channels : List (PlayChannelOf B)) → All (IsUnopened kind kept filters device) channels → All (IsReady kind kept filters) channels
+ready-unopened kind kept filters device channels each = λ slot other there.
     let u = each slot other there in
-    record { kinds = u.kinds; stands = record { bytes = []; stands = u.stands } }
+    record { kinds = u.kinds; planned = u.planned; stands = record { bytes = []; stands = u.stands } }
 
 -- the books of channels that nobody has opened
-pub books_of-unopened : {B : Type 0} (kind : B → Kind) (kept : B → Kept) (device : Device) (channels : List (PlayChannelOf B)) → length channels ≡ device.play_slots → All (IsUnopened kind kept device) channels
-    → books_of channels ≡ replicate device.play_slots (unopened (seen device))
-books_of-unopened {B = B} kind kept device channels slots each =
-    same_lists (books_of channels) (replicate device.play_slots (unopened (seen device)))
-    (length-map channels (λ (c : PlayChannelOf B). c.book) ∙ slots ∙ sym (length-replicate device.play_slots (unopened (seen device))))
+pub books_of-unopened : {B : Type 0} (kind : B → Kind) (kept : B → Kept) (filters : Filters) (device : Device) (channels : List (PlayChannelOf B)) → length channels ≡ device.play_slots → All (IsUnopened kind kept filters device) channels
+    → books_of channels ≡ replicate device.play_slots (unopened (seen filters device))
+books_of-unopened {B = B} kind kept filters device channels slots each =
+    same_lists (books_of channels) (replicate device.play_slots (unopened (seen filters device)))
+    (length-map channels (λ (c : PlayChannelOf B). c.book) ∙ slots ∙ sym (length-replicate device.play_slots (unopened (seen filters device))))
     (λ k d within.
     let there : k < length channels = omega (arith, length-map channels (λ (c : PlayChannelOf B). c.book)) in
     let other : PlayChannelOf B = some_channel channels k there in
-    get_or-map (λ (c : PlayChannelOf B). c.book) channels k other d there ∙ (each k other there).book ∙ sym (get_or-replicate device.play_slots k (unopened (seen device)) d (omega arith)))
+    get_or-map (λ (c : PlayChannelOf B). c.book) channels k other d there ∙ (each k other there).book ∙ sym (get_or-replicate device.play_slots k (unopened (seen filters device)) d (omega arith)))
 
 -- free channels and a silent ring stand for the beginning
-pub stands-start : {B : Type 0} (kind : B → Kind) (kept : B → Kept) (device : Device) (desk : Desk) (channels : List (PlayChannelOf B)) (descriptors : List (Option Held)) (ring : List ℕ) → IsDevice (seen device)
-    → length channels ≡ device.play_slots → All (IsUnopened kind kept device) channels
-    → descriptors ≡ replicate DESCRIPTORS None → ring ≡ block_bytes (seen device) (silent_block (seen device) device.ring_frames)
-    → desk ≡ record { play = books_of channels; descriptors = descriptors; handed = 0; mixed = 0 } → PartsStand kept (seen device) desk channels ring (story_at_start (seen device))
-stands-start kind kept device desk channels descriptors ring limits slots each closed silent is = record {
-  desk_is = is ∙ ap (λ (play : List Book). record { play = play; descriptors = descriptors; handed = 0; mixed = 0 }) (books_of-unopened kind kept device channels slots each)
-      ∙ ap (λ (d : List (Option Held)). record { play = replicate device.play_slots (unopened (seen device)); descriptors = d; handed = 0; mixed = 0 }) closed;
+pub stands-start : {B : Type 0} (kind : B → Kind) (kept : B → Kept) (filters : Filters) (device : Device) (desk : Desk) (channels : List (PlayChannelOf B)) (descriptors : List (Option Held)) (ring : List ℕ) → IsDevice (seen filters device)
+    → length channels ≡ device.play_slots → All (IsUnopened kind kept filters device) channels
+    → descriptors ≡ replicate DESCRIPTORS None → ring ≡ block_bytes (seen filters device) (silent_block (seen filters device) device.ring_frames)
+    → desk ≡ record { play = books_of channels; descriptors = descriptors; handed = 0; mixed = 0 } → PartsStand kept (seen filters device) desk channels ring (story_at_start (seen filters device))
+stands-start kind kept filters device desk channels descriptors ring limits slots each closed silent is = record {
+  desk_is = is ∙ ap (λ (play : List Book). record { play = play; descriptors = descriptors; handed = 0; mixed = 0 }) (books_of-unopened kind kept filters device channels slots each)
+      ∙ ap (λ (d : List (Option Held)). record { play = replicate device.play_slots (unopened (seen filters device)); descriptors = d; handed = 0; mixed = 0 }) closed;
   slots = λ slot other there.
-      let opened : unopened (seen device) ≡ book_at (seen device) (desk_at_start (seen device)) slot = sym (get_or-same device.play_slots slot (unopened (seen device))) in
-      let nothing : [] ≡ bytes_counted (seen device) (story_at_start (seen device)) slot = ap (λ (b : Book). take b.written []) opened in
-      subst (ChannelStands kept (get_or channels slot other) (book_at (seen device) (desk_at_start (seen device)) slot)) nothing
-      (subst (λ (b : Book). ChannelStands kept (get_or channels slot other) b []) ((each slot other there).book ∙ opened) (each slot other there).stands);
+      let opened : unopened (seen filters device) ≡ book_at (seen filters device) (desk_at_start (seen filters device)) slot = sym (get_or-same device.play_slots slot (unopened (seen filters device))) in
+      let nothing : [] ≡ bytes_counted (seen filters device) (story_at_start (seen filters device)) slot = ap (λ (b : Book). take b.written []) opened in
+      subst (ChannelStands kept filters (get_or channels slot other) (book_at (seen filters device) (desk_at_start (seen filters device)) slot)) nothing
+      (subst (λ (b : Book). ChannelStands kept filters (get_or channels slot other) b []) ((each slot other there).book ∙ opened) (each slot other there).stands);
   ring_is = (
       let none : 0 * frame_bytes device.settings ≡ 0 = omega arith in
       silent ∙ sym (spelled-silence device.settings.format device.settings device.ring_frames)
       ∙ ap (spelled_frames device.settings.format) (sym (append-nil (replicate device.ring_frames (silence_in device.settings))))
       ∙ rw none refl);
-  valid = valid-start (seen device) limits;
+  valid = valid-start (seen filters device) limits;
 }
 
 -- a parent that nobody has opened, and no descriptor, stand for the beginning
-pub parent-starts : {B : Type 0} (kind : B → Kind) (kept : B → Kept) (device : Device) (parent : ParentOf B) (descriptors : List (Option Held)) → IsDevice (seen device) → descriptors ≡ replicate DESCRIPTORS None → parent.device ≡ device
+pub parent-starts : {B : Type 0} (kind : B → Kind) (kept : B → Kept) (filters : Filters) (device : Device) (parent : ParentOf B) (descriptors : List (Option Held)) → IsDevice (seen filters device) → descriptors ≡ replicate DESCRIPTORS None → parent.device ≡ device
     → length parent.channels.items ≡ device.play_slots
-    → All (IsUnopened kind kept device) parent.channels.items → parent.ring.bytes ≡ block_bytes (seen device) (silent_block (seen device) device.ring_frames) → parent.handed ≡ 0 → parent.mixed ≡ 0
-    → PartsStand kept (seen parent.device) (desk_with parent descriptors) parent.channels.items parent.ring.bytes (story_at_start (seen parent.device))
-parent-starts kind kept device parent descriptors limits closed is slots each silent handed mixed =
-    subst (λ (d : Device). PartsStand kept (seen d) (desk_with parent descriptors) parent.channels.items parent.ring.bytes (story_at_start (seen d))) (sym is)
-    (stands-start kind kept device (desk_with parent descriptors) parent.channels.items descriptors parent.ring.bytes limits slots each closed silent
+    → All (IsUnopened kind kept filters device) parent.channels.items → parent.ring.bytes ≡ block_bytes (seen filters device) (silent_block (seen filters device) device.ring_frames) → parent.handed ≡ 0 → parent.mixed ≡ 0
+    → PartsStand kept (seen filters parent.device) (desk_with parent descriptors) parent.channels.items parent.ring.bytes (story_at_start (seen filters parent.device))
+parent-starts kind kept filters device parent descriptors limits closed is slots each silent handed mixed =
+    subst (λ (d : Device). PartsStand kept (seen filters d) (desk_with parent descriptors) parent.channels.items parent.ring.bytes (story_at_start (seen filters d))) (sym is)
+    (stands-start kind kept filters device (desk_with parent descriptors) parent.channels.items descriptors parent.ring.bytes limits slots each closed silent
     (ap (λ (h : ℕ). record { play = parent_books parent; descriptors = descriptors; handed = h; mixed = parent.mixed }) handed
     ∙ ap (λ (m : ℕ). record { play = parent_books parent; descriptors = descriptors; handed = 0; mixed = m }) mixed))

@@ -10,7 +10,7 @@ use Rattle.pcm_desk.specs.Books.{BookTurn}
 use Rattle.pcm_desk.specs.Desk.{Desk, held_by, turning, unopened}
 use Rattle.pcm_play.specs.declared.channel.PlayChannelOf.{PlayChannelOf}
 use Rattle.pcm_vchan.specs.declared.parent.ParentOf.{ParentOf}
-use Rattle.pcm_vchan.specs.Slots.{AreOf, books_of}
+use Rattle.pcm_vchan.specs.Slots.{AreOf}
 use Rattle.pcm_vchan.specs.Parents.{parent_books}
 use Rattle.pcm_vchan.specs.Lending.{with_channel}
 use Rattle.pcm_vchan.proofs.Channels.{book_at-channel, books_of-set}

@@ -12,9 +12,9 @@ use Rattle.pcm_play.specs.Channels.{IsReady}
 use Rattle.pcm_engine.specs.Desks.{desk_with}
 use Rattle.pcm_engine.specs.Stands.{PartsStand}
 
--- the engine's device
+-- the engine's device, beside the filters of its run
 abbrev pub device_of : {B : Type 0} → EngineOf B → DeviceSeen
-device_of engine = seen engine.parent.device
+device_of engine = seen engine.tables engine.parent.device
 
 -- the engine's books, descriptors and counts
 abbrev pub desk_of : {B : Type 0} → EngineOf B → Desk
@@ -28,7 +28,7 @@ Stands kept engine pool events =
 -- Each box of the engine is of its place's kind, and each channel stands for its book. Every engine is so, from its first
 -- moment on; no type can say it of boxes.
 abbrev pub AreReady : {B : Type 0} → (B → Kind) → (B → Kept) → EngineOf B → Type 0
-AreReady kind kept engine = All (IsReady kind kept) engine.parent.channels.items
+AreReady kind kept engine = All (IsReady kind kept engine.tables) engine.parent.channels.items
 
 -- all but the count of steps is as before: channels with their books, rings and chains, descriptors, the device's ring and counts
 pub record IsUnchanged {B : Type 0} (old new : EngineOf B) : Type 0 where

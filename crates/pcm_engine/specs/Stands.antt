@@ -1,7 +1,7 @@
 -- What an engine's parts stand for: the story of a list of events.
 use Rattle.std.specs.Prelude.{◌≡◌, ℕ, ◌*◌, ◌<◌, List, length, drop, slice_index_or, take}
 use Rattle.pcm_feeder.specs.Kept.{Kept}
-use Rattle.pcm_desk.specs.Device.{DeviceSeen, device_frame_bytes}
+use Rattle.pcm_desk.specs.Device.{DeviceSeen, device_frame_bytes, filters_of}
 use Rattle.pcm_desk.specs.Desk.{Desk, book_at}
 use Rattle.pcm_sound.specs.Runs.{newest_bytes}
 use Rattle.pcm_sound.specs.Story.{Story}
@@ -19,6 +19,6 @@ bytes_counted device story slot = take (book_at device story.desk slot).written 
 pub record PartsStand {B : Type 0} (kept : B → Kept) (device : DeviceSeen) (desk : Desk) (channels : List (PlayChannelOf B)) (ring : List ℕ) (story : Story) : Type 0 where
   pub desk_is : desk ≡ story.desk
   pub slots : (slot : ℕ) (other : PlayChannelOf B) → slot < length channels
-      → ChannelStands kept (slice_index_or channels slot other) (book_at device story.desk slot) (bytes_counted device story slot)
+      → ChannelStands kept (filters_of device) (slice_index_or channels slot other) (book_at device story.desk slot) (bytes_counted device story slot)
   pub ring_is : ring ≡ drop (story.desk.handed * device_frame_bytes device) (device_bytes device story)
   pub valid : StoryIsValid device story

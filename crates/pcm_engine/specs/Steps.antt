@@ -5,6 +5,7 @@ use Rattle.pcm_oss.specs.declared.event.Event.TheVariants.{Open, Write, Ioctl, C
 use Rattle.pcm_wave.specs.declared.pool.Pool.{Pool}
 use Rattle.pcm_wave.specs.Pools.{bytes_at}
 use Rattle.pcm_feeder.specs.declared.kind.Kind.{Kind}
+use Rattle.pcm_feeder.specs.Filters.{Filters}
 use Rattle.pcm_feeder.specs.Kept.{Kept}
 use Rattle.pcm_desk.specs.declared.book.Book.{Book}
 use Rattle.pcm_desk.specs.Device.{DeviceSeen, device_frame_bytes}
@@ -23,8 +24,8 @@ bytes_brought pool (Close fd) = []
 bytes_brought pool (Intr n) = []
 
 -- the channels after an event
-abbrev pub ChannelsMove : {B : Type 0} → (B → Kind) → (B → Kept) → Pool → Event → List (PlayChannelOf B) → List (PlayChannelOf B) → Type 0
-ChannelsMove kind kept pool event old new = Each (Moves kind kept (bytes_brought pool event) (frames_taken event)) old new
+abbrev pub ChannelsMove : {B : Type 0} → (B → Kind) → (B → Kept) → Filters → Pool → Event → List (PlayChannelOf B) → List (PlayChannelOf B) → Type 0
+ChannelsMove kind kept filters pool event old new = Each (Moves kind kept filters (bytes_brought pool event) (frames_taken event)) old new
 
 -- the bytes of the device's ring after an event, from the books of the slots and the bytes of their runs
 abbrev pub ring_after : DeviceSeen → Event → List Book → (ℕ → List ℕ) → ℕ → List ℕ → List ℕ

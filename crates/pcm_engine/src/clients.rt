@@ -1,9 +1,12 @@
 //! What clients ask by their descriptors.
 
 ghost use Rattle.std.specs.Prelude.{◌≡◌, ◌+◌, ◌^◌, ◌<◌, [], length, vec_len, All, OnErr, None, slice_index_or};
+ghost use Rattle.pcm_feeder.specs.Filters.{Filters};
 ghost use Rattle.pcm_feeder.specs.Limits.{IsRate};
+ghost use Rattle.pcm_feeder.specs.Racks.{HaveKinds};
+ghost use Rattle.pcm_chain.specs.Chains.{boxes_in};
 ghost use Rattle.pcm_desk.specs.declared.limits.TheConstants.{DESCRIPTORS};
-ghost use Rattle.pcm_desk.specs.Device.{filters_of, seen};
+ghost use Rattle.pcm_desk.specs.Device.{seen};
 ghost use Rattle.pcm_desk.specs.Desk.{close_on, held_by, ioctl_on, open_turn, write_on};
 ghost use Rattle.pcm_vchan.specs.Slots.{AreOf, Each};
 ghost use Rattle.pcm_play.specs.Channels.{IsReady, Moves};
@@ -28,11 +31,10 @@ pub fn open<B: Feeder>(
 ) -> Result<Answer, Errno>
     requires fd { fd < DESCRIPTORS }
     requires rate { IsRate settings.rate }
-    requires tables { tables.now ≡ filters_of (seen parent.old.device) }
     requires own { AreOf parent.old.device parent.old.channels.items }
     requires size { length descriptors.old ≡ DESCRIPTORS }
     requires held { HoldWithin (vec_len parent.old.channels) descriptors.old }
-    requires ready { All (IsReady B.kind B.kept) parent.old.channels.items }
+    requires ready { All (IsReady B.kind B.kept tables.now) parent.old.channels.items }
     ensures held { HoldWithin (vec_len parent.new.channels) descriptors.new }
     ensures size { length descriptors.new ≡ length descriptors.old }
     ensures slots { length parent.new.channels.items ≡ length parent.old.channels.items }
@@ -44,7 +46,7 @@ pub fn open<B: Feeder>(
         ≡ (open_turn (desk_with parent.old descriptors.old) fd way settings).desk }
     ensures reply { result
         ≡ (open_turn (desk_with parent.old descriptors.old) fd way settings).reply }
-    ensures channels { Each (Moves B.kind B.kept [] 0)
+    ensures channels { Each (Moves B.kind B.kept tables.now [] 0)
         parent.old.channels.items parent.new.channels.items }
 {
     if held(descriptors, fd).is_some() {
@@ -72,13 +74,13 @@ pub fn write<B: Feeder>(
     ensures own { AreOf parent.new.device parent.new.channels.items }
     ensures output { KeepsOutput parent.old parent.new }
     ensures refused { OnErr result (parent.new ≡ parent.old) }
-    ensures desk { let desk = desk_with parent.old descriptors.now in
+    ensures desk { (filters : Filters) → let desk = desk_with parent.old descriptors.now in
         desk_with parent.new descriptors.now
-        ≡ (write_on (seen parent.old.device) (held_by desk fd) desk (length bytes.now)).desk }
-    ensures reply { let desk = desk_with parent.old descriptors.now in
+        ≡ (write_on (seen filters parent.old.device) (held_by desk fd) desk (length bytes.now)).desk }
+    ensures reply { (filters : Filters) → let desk = desk_with parent.old descriptors.now in
         result
-        ≡ (write_on (seen parent.old.device) (held_by desk fd) desk (length bytes.now)).reply }
-    ensures channels { Each (Moves B.kind B.kept bytes.now 0)
+        ≡ (write_on (seen filters parent.old.device) (held_by desk fd) desk (length bytes.now)).reply }
+    ensures channels { (filters : Filters) → Each (Moves B.kind B.kept filters bytes.now 0)
         parent.old.channels.items parent.new.channels.items }
 {
     let Some(held) = held(descriptors, fd) else {
@@ -98,9 +100,8 @@ pub fn ioctl<B: Feeder>(
     requires fd { fd < DESCRIPTORS }
     requires size { length descriptors.now ≡ DESCRIPTORS }
     requires held { HoldWithin (vec_len parent.old.channels) descriptors.now }
-    requires tables { tables.now ≡ filters_of (seen parent.old.device) }
     requires own { AreOf parent.old.device parent.old.channels.items }
-    requires ready { All (IsReady B.kind B.kept) parent.old.channels.items }
+    requires ready { All (IsReady B.kind B.kept tables.now) parent.old.channels.items }
     requires count { All (λ channel. channel.book.done + channel.book.written
         < 2 ^ 64) parent.old.channels.items }
     ensures slots { length parent.new.channels.items ≡ length parent.old.channels.items }
@@ -109,10 +110,10 @@ pub fn ioctl<B: Feeder>(
     ensures refused { OnErr result (parent.new ≡ parent.old) }
     ensures desk { let desk = desk_with parent.old descriptors.now in
         desk_with parent.new descriptors.now
-        ≡ (ioctl_on (seen parent.old.device) (held_by desk fd) desk request).desk }
+        ≡ (ioctl_on (seen tables.now parent.old.device) (held_by desk fd) desk request).desk }
     ensures reply { let desk = desk_with parent.old descriptors.now in
-        result ≡ (ioctl_on (seen parent.old.device) (held_by desk fd) desk request).reply }
-    ensures channels { Each (Moves B.kind B.kept [] 0)
+        result ≡ (ioctl_on (seen tables.now parent.old.device) (held_by desk fd) desk request).reply }
+    ensures channels { Each (Moves B.kind B.kept tables.now [] 0)
         parent.old.channels.items parent.new.channels.items }
 {
     let Some(held) = held(descriptors, fd) else {
@@ -131,7 +132,7 @@ pub fn close<B: Feeder>(
     requires size { length descriptors.old ≡ DESCRIPTORS }
     requires held { HoldWithin (vec_len parent.old.channels) descriptors.old }
     requires own { AreOf parent.old.device parent.old.channels.items }
-    requires ready { All (IsReady B.kind B.kept) parent.old.channels.items }
+    requires kinds { All (λ channel. HaveKinds B.kind (boxes_in channel.chain)) parent.old.channels.items }
     requires count { All (λ channel. channel.book.done + channel.book.written
         < 2 ^ 64) parent.old.channels.items }
     ensures held { HoldWithin (vec_len parent.new.channels) descriptors.new }
@@ -141,12 +142,13 @@ pub fn close<B: Feeder>(
     ensures output { KeepsOutput parent.old parent.new }
     ensures refused { OnErr result (parent.new ≡ parent.old) }
     ensures shut { OnErr result (descriptors.new ≡ descriptors.old) }
-    ensures desk { let desk = desk_with parent.old descriptors.old in
+    ensures desk { (filters : Filters)
+        → All (IsReady B.kind B.kept filters) parent.old.channels.items → let desk = desk_with parent.old descriptors.old in
         desk_with parent.new descriptors.new
-        ≡ (close_on (seen parent.old.device) (held_by desk fd) desk fd).desk }
-    ensures reply { let desk = desk_with parent.old descriptors.old in
-        result ≡ (close_on (seen parent.old.device) (held_by desk fd) desk fd).reply }
-    ensures channels { Each (Moves B.kind B.kept [] 0)
+        ≡ (close_on (seen filters parent.old.device) (held_by desk fd) desk fd).desk }
+    ensures reply { (filters : Filters) → let desk = desk_with parent.old descriptors.old in
+        result ≡ (close_on (seen filters parent.old.device) (held_by desk fd) desk fd).reply }
+    ensures channels { (filters : Filters) → Each (Moves B.kind B.kept filters [] 0)
         parent.old.channels.items parent.new.channels.items }
 {
     let Some(held) = held(descriptors, fd) else {

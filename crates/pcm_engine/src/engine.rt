@@ -3,7 +3,7 @@
 ghost use Rattle.std.specs.Prelude.{◌≡◌, [], ◌∷◌, ◌++◌, ◌+◌, ◌*◌, ◌^◌, ◌<◌, ◌≤◌, length, vec_len, take, drop, All, List, ℕ, IfOk, IsErr};
 ghost use Rattle.pcm_desk.specs.declared.limits.TheConstants.{DESCRIPTORS, EVENTS, RING_FRAMES};
 ghost use Rattle.pcm_desk.specs.Events.{Fits, bytes_handed};
-ghost use Rattle.pcm_desk.specs.Device.{filters_of, seen};
+ghost use Rattle.pcm_desk.specs.Device.{seen};
 ghost use Rattle.pcm_desk.specs.Own.{HoldApart};
 ghost use Rattle.pcm_vchan.specs.Slots.{AreOf};
 ghost use Rattle.pcm_engine.specs.Desks.{desk_with};
@@ -24,7 +24,6 @@ pub struct EngineOf<B> {
     tables: Tables,
     descriptors: [Option<Held>; DESCRIPTORS],
     steps: u32,
-    ghost tables_are: { tables ≡ filters_of (seen parent.device) },
     ghost own: { AreOf parent.device parent.channels.items },
     ghost held: { HoldWithin (vec_len parent.channels) descriptors },
     ghost apart: { HoldApart (desk_with parent descriptors) },
@@ -50,18 +49,21 @@ impl<B: Feeder> EngineOf<B> {
     ghost use Rattle.pcm_engine.specs.Steps.{ChannelsMove, ring_after};
     ghost use Rattle.pcm_engine.specs.Engines.{device_of, desk_of, AreReady, Stands, IsUnchanged};
 
-    /// The engine of a device before its first event. Its channels pick their stages from the racks, one rack a slot; after
+    /// The engine of a device with its filters, before its first event. Its channels pick their stages from the racks, one rack a slot; after
     /// a refusal the racks are dropped. All memory of the engine is taken here.
-    pub fn new(alloc: Global, device: Device, racks: RacksOf<B>) -> Result<EngineOf<B>, AllocError>
-        requires limits { IsInLimits (seen device) }
+    pub fn new(
+        alloc: Global,
+        device: Device,
+        tables: Tables,
+        racks: RacksOf<B>,
+    ) -> Result<EngineOf<B>, AllocError>
+        requires limits { IsInLimits (seen tables device) }
         requires kinds { AreRacks B.kind (list_of racks) }
-        ensures device { IfOk result (λ engine. device_of engine ≡ seen device) }
+        ensures device { IfOk result (λ engine. device_of engine ≡ seen tables device) }
         ensures steps { IfOk result (λ engine. engine.steps ≡ 0) }
         ensures ready { IfOk result (AreReady B.kind B.kept) }
         ensures stands { IfOk result (λ engine. (pool : Pool) → Stands B.kept engine pool []) }
     {
-        // No filter can be chosen so far.
-        let tables = Tables::new(Vec::new(alloc));
         let parent = ParentOf::new(alloc, device, &tables, racks)?;
         Ok(EngineOf {
             parent,
@@ -123,6 +125,7 @@ impl<B: Feeder> EngineOf<B> {
         requires count { self.old.steps < EVENTS }
         requires ready { AreReady B.kind B.kept self.old }
         ensures device { self.new.parent.device ≡ self.old.parent.device }
+        ensures tables { self.new.tables ≡ self.old.tables }
         ensures slots { length self.new.parent.channels.items
             ≡ length self.old.parent.channels.items }
         ensures steps { self.new.steps ≡ self.old.steps + 1 }
@@ -132,10 +135,10 @@ impl<B: Feeder> EngineOf<B> {
             ≡ (after (device_of self.old) (desk_of self.old) event.now).reply }
         ensures no_bytes { reply.new.bytes ≡ [] }
         ensures refused { IsErr reply.new.result → IsUnchanged self.old self.new }
-        ensures channels { ChannelsMove B.kind B.kept pool.now event.now
+        ensures channels { ChannelsMove B.kind B.kept self.old.tables pool.now event.now
             self.old.parent.channels.items self.new.parent.channels.items }
         ensures ring { (streams : ℕ → List ℕ)
-            → AllStand B.kept self.old.parent.channels.items streams
+            → AllStand B.kept self.old.tables self.old.parent.channels.items streams
             → self.new.parent.ring.bytes
             ≡ ring_after (device_of self.old) event.now (parent_books self.old.parent) streams
             (length self.old.parent.channels.items) self.old.parent.ring.bytes }

@@ -1,22 +1,23 @@
 -- The limits of what a stage is fitted to, of filters and of gains.
-use Rattle.std.specs.Prelude.{◌≡◌, ◌≤◌, ◌⊎◌, ◌*◌, ◌^◌, ◌/◌, ℕ, ℤ, pos, neg_ℤ, ◌≤ℤ◌, List, length, All, IsSomeAnd, slice_get}
+use Rattle.std.specs.Prelude.{◌≡◌, ◌≤◌, ◌⊎◌, ◌*◌, ◌/◌, ℕ, ℤ, neg_ℤ, ◌≤ℤ◌, List, length, All, IsSomeAnd, slice_get}
 use Rattle.pcm_format.specs.declared.settings.TheConstants.{RATE_LEAST, RATE_MOST}
+use Rattle.pcm_feeder.specs.declared.limits.TheConstants.{COEF_MOST, FILTERS, PHASES, SHIFT_MOST, TABLE_COEFS, TAPS}
 use Rattle.pcm_feeder.specs.declared.stage.Gain.{Gain}
 use Rattle.pcm_feeder.specs.declared.stage.Spec.{Spec}
 use Rattle.pcm_feeder.specs.declared.stage.Spec.TheVariants.{Matrix, Hold, Linear, Poly, Volume, Depth}
 use Rattle.pcm_feeder.specs.declared.table.Table.{Table}
 use Rattle.pcm_feeder.specs.Filters.{Filters}
 
--- a coefficient between -(2 ^ 24) and 2 ^ 24
+-- a coefficient at most so far from 0
 pub record IsCoef (coef : ℤ) : Type 0 where
-  pub low : neg_ℤ (pos (2 ^ 24)) ≤ℤ coef
-  pub high : coef ≤ℤ pos (2 ^ 24)
+  pub low : neg_ℤ COEF_MOST ≤ℤ coef
+  pub high : coef ≤ℤ COEF_MOST
 
--- an even number of taps from 2 to 64
+-- an even number of taps from 2 on
 pub record AreTaps (taps : ℕ) : Type 0 where
   pub even : taps ≡ 2 * (taps / 2)
   pub least : 2 ≤ taps
-  pub most : taps ≤ 64
+  pub most : taps ≤ TAPS
 
 -- a rate in frames per second
 pub record IsRate (rate : ℕ) : Type 0 where
@@ -31,17 +32,17 @@ AreTableRates src dst = ((src ≡ 0) × (dst ≡ 0)) ⊎ (IsRate src × IsRate d
 pub record IsTable (table : Table) : Type 0 where
   pub rates : AreTableRates table.src table.dst
   pub least_phases : 1 ≤ table.phases
-  pub most_phases : table.phases ≤ 512
+  pub most_phases : table.phases ≤ PHASES
   pub taps : AreTaps table.taps
   pub coefs : length table.coefs ≡ table.phases * table.taps
-  pub size : table.phases * table.taps ≤ 16384
+  pub size : table.phases * table.taps ≤ TABLE_COEFS
   pub range : All IsCoef table.coefs
   pub least_shift : 1 ≤ table.shift
-  pub most_shift : table.shift ≤ 30
+  pub most_shift : table.shift ≤ SHIFT_MOST
 
--- at most four filters
+-- at most so many filters
 pub record AreFilters (filters : List Table) : Type 0 where
-  pub count : length filters ≤ 4
+  pub count : length filters ≤ FILTERS
   pub each : All IsTable filters
 
 -- as many channels as a layout may have

@@ -9,8 +9,6 @@ use Rattle.pcm_feeder.specs.declared.rack.WrongKind.{WrongKind}
 use Rattle.pcm_feeder.specs.declared.rack.RackFault.{RackFault}
 use Rattle.pcm_feeder.specs.declared.rack.RackFault.TheVariants.{WrongBox, Count, Memory}
 use Rattle.pcm_feeder.specs.declared.rack.TheConstants.{RACKS}
-use Rattle.pcm_feeder.specs.declared.stage.Spec.{Spec}
-use Rattle.pcm_feeder.specs.declared.stage.Spec.TheVariants.{Matrix, Hold, Linear, Poly, Volume, Depth}
 
 -- a place of a rack: the kind that it asks for, and its box
 pub record Place (B : Type 0) : Type 0 where
@@ -23,6 +21,7 @@ places_of six =
     record { asks = kinds.Matrix; box = six.matrix }
     ∷ record { asks = kinds.Hold; box = six.hold }
     ∷ record { asks = kinds.Linear; box = six.linear }
+    ∷ record { asks = kinds.Poly; box = six.poly }
     ∷ record { asks = kinds.Volume; box = six.volume }
     ∷ record { asks = kinds.Depth; box = six.depth } ∷ []
 
@@ -42,6 +41,7 @@ pub record HaveKinds {B : Type 0} (kind : B → Kind) (six : SixOf B) : Type 0 w
   pub matrix : kind six.matrix ≡ kinds.Matrix
   pub hold : kind six.hold ≡ kinds.Hold
   pub linear : kind six.linear ≡ kinds.Linear
+  pub poly : kind six.poly ≡ kinds.Poly
   pub volume : kind six.volume ≡ kinds.Volume
   pub depth : kind six.depth ≡ kinds.Depth
 
@@ -80,12 +80,3 @@ abbrev pub IsRackFault : {B : Type 0} → (B → Kind) → List (SixOf B) → Ra
 IsRackFault kind boxes (WrongBox found) = IsFirstFault kind boxes found
 IsRackFault kind boxes (Count found) = (found.found ≡ length boxes) × (length boxes ≢ rack_count)
 IsRackFault kind boxes Memory = Unit {0}
-
--- A rack has a box for a stage. So far it has none for a filter.
-abbrev pub HasBox : Spec → Type 0
-HasBox (Matrix from to) = Unit {0}
-HasBox (Hold src dst channels) = Unit {0}
-HasBox (Linear src dst channels) = Unit {0}
-HasBox (Poly src dst channels table taps) = ⊥
-HasBox (Volume layout) = Unit {0}
-HasBox (Depth bits channels) = Unit {0}

@@ -6,6 +6,7 @@ mod feeder;
 mod history;
 mod kind;
 mod laws;
+mod limits;
 mod pace;
 mod rack;
 mod stage;
@@ -18,6 +19,7 @@ pub use laws::{
     a_feed_continues_its_stream, allowed_outputs_reach_no_further, frames_are_samples,
     outputs_use_what_is_needed, silence_stays_silence, stages_without_a_rate_map_frames,
 };
+pub use limits::{COEF_MOST, FILTERS, PHASES, SHIFT_MOST, TABLE_COEFS, TAPS};
 pub use pace::{Pace, Step};
 pub use rack::{RACKS, Rack, RackFault, RackOf, Racks, RacksOf, Six, SixOf, WrongCount, WrongKind};
 pub use stage::{Gain, Moved, Spec, UNITY};

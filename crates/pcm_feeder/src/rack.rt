@@ -15,6 +15,7 @@ pub struct SixOf<B> {
     pub matrix: B,
     pub hold: B,
     pub linear: B,
+    pub poly: B,
     pub volume: B,
     pub depth: B,
 }
@@ -46,6 +47,7 @@ impl<B: Feeder> RackOf<B> {
         is_of_kind(&six.matrix, Kind::Matrix)?;
         is_of_kind(&six.hold, Kind::Hold)?;
         is_of_kind(&six.linear, Kind::Linear)?;
+        is_of_kind(&six.poly, Kind::Poly)?;
         is_of_kind(&six.volume, Kind::Volume)?;
         is_of_kind(&six.depth, Kind::Depth)?;
         Ok(RackOf { boxes: six })

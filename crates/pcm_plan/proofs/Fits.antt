@@ -1,6 +1,6 @@
 -- What the stages of a plan are: they fit each other, and their filters are there.
 use Rattle.std.specs.List.{position_or_len}
-use Rattle.std.proofs.Common.{subst, nat_lt, Bool, ◌⊎◌, inl, inr, ◌≡◌, ◌≢◌, ◌≤◌, ◌<◌, ◌+◌, ◌/◌, ◌==◌, ℕ, zero, suc, nat_le, Option, Some, None, List, [], ◌∷◌, ◌++◌, length, refl, sym, ap, ◌∙◌, arith, cond}
+use Rattle.std.proofs.Common.{subst, nat_lt, Bool, ◌≡◌, ◌≢◌, ◌≤◌, ◌<◌, ◌+◌, ◌/◌, ◌==◌, ℕ, nat_le, Option, Some, None, List, [], ◌∷◌, ◌++◌, length, refl, sym, ap, ◌∙◌, arith, cond}
 use Rattle.std.specs.Prelude.{IfSome, All, position}
 use Rattle.std.proofs.lemmas.Bool.{cond_both, eqb-true, eqb-false, ltb-true}
 use Rattle.std.proofs.lemmas.List.{append_assoc, length-append}
@@ -22,7 +22,6 @@ use Rattle.pcm_feeder.specs.declared.table.Table.{Table}
 use Rattle.pcm_feeder.specs.Filters.{Filters}
 use Rattle.pcm_feeder.specs.Kinds.{kind_of}
 use Rattle.pcm_feeder.specs.Limits.{IsRate, AreTaps, AreFilters, AreChannels, IsChange, IsSpec, HasTable}
-use Rattle.pcm_feeder.specs.Racks.{HasBox}
 use Rattle.pcm_feeder.specs.Stages.{rate_of, channels_in, channels_out, table_at}
 use Rattle.pcm_feeder.proofs.Outputs.{src-above, dst-above}
 use Rattle.pcm_plan.specs.Plans.{PlanSeen, matrix_stages, is_for, or_else, filter_for, filter_or_line, converter_of, rate_stages, depth_stages, converting, plan_play, plan_record, rate_among, rate_in_plan}
@@ -239,19 +238,6 @@ play-tables tables quality client device are from to =
     (λ layout differs. each-converter (λ spec. HasTable spec tables) tables quality client.rate device.rate (channels_of layout) tt tt
     (λ place below. has-table tables client.rate device.rate (channels_of layout) place below)) tt tt
 
--- a hold and a line have a box, and where there are no filters there are no other converters
-line-box : (tables : Filters) (quality src dst channels : ℕ) → (quality ≤ 1) ⊎ (tables.list ≡ []) → HasBox (converter_of tables quality src dst channels)
-line-box tables quality src dst channels (inr none) =
-    each-converter HasBox tables quality src dst channels tt tt (λ place below. let count : length tables.list ≡ 0 = ap length none in absurd (omega arith))
-line-box tables zero src dst channels (inl low) = tt
-line-box tables (suc zero) src dst channels (inl low) = tt
-line-box tables (suc (suc quality)) src dst channels (inl low) = absurd (omega arith)
-
--- up to lines each stage has a box
-pub play-boxes : (tables : Filters) (quality : ℕ) (client device : Settings) → (quality ≤ 1) ⊎ (tables.list ≡ []) → All HasBox (plan_play tables quality client device).stages
-play-boxes tables quality client device low =
-    each-stage HasBox tables quality client device tt (λ layout differs. line-box tables quality client.rate device.rate (channels_of layout) low) tt tt
-
 -- both rates of its converter are above 0
 pub play-ratio : (tables : Filters) (quality : ℕ) (client device : Settings) → IsRate client.rate → IsRate device.rate → IsRatio (rate_in_plan (plan_play tables quality client device))
 play-ratio tables quality client device from to =
@@ -453,10 +439,6 @@ pub record-tables : (tables : Filters) (quality : ℕ) (client device : Settings
     → HaveTables (plan_record tables quality client device).stages tables
 record-tables tables quality client device are to from =
     each-recorded (λ spec. HasTable spec tables) tables quality client device (play-tables tables quality device client are from to)
-
--- up to lines each stage has a box
-pub record-boxes : (tables : Filters) (quality : ℕ) (client device : Settings) → (quality ≤ 1) ⊎ (tables.list ≡ []) → All HasBox (plan_record tables quality client device).stages
-record-boxes tables quality client device low = each-recorded HasBox tables quality client device (play-boxes tables quality device client low)
 
 -- both rates of its converter are above 0
 pub record-ratio : (tables : Filters) (quality : ℕ) (client device : Settings) → AreFilters tables.list → IsRate client.rate → IsRate device.rate

@@ -1,6 +1,6 @@
 //! What holds of all plans: each function here has no work, and its contract is a law.
 
-ghost use Rattle.std.specs.Prelude.{◌≡◌, ◌<◌, ◌≤◌, ◌+◌, ◌⊎◌, ℕ, List, [], ◌++◌, All, length};
+ghost use Rattle.std.specs.Prelude.{◌≡◌, ◌<◌, ◌≤◌, ◌+◌, ℕ, List, ◌++◌, length};
 ghost use Rattle.pcm_format.specs.declared.settings.Settings.{Settings};
 ghost use Rattle.pcm_format.specs.Formats.{bits_of};
 ghost use Rattle.pcm_format.specs.Frames.{Frame};
@@ -9,14 +9,12 @@ ghost use Rattle.pcm_rate.specs.Rates.{can, IsRatio};
 ghost use Rattle.pcm_feeder.specs.declared.stage.Gain.{Gain};
 ghost use Rattle.pcm_feeder.specs.Filters.{Filters};
 ghost use Rattle.pcm_feeder.specs.Limits.{IsRate, AreFilters};
-ghost use Rattle.pcm_feeder.specs.Racks.{HasBox};
 ghost use Rattle.pcm_feeder.specs.Streams.{HaveChannels};
 ghost use Rattle.pcm_plan.specs.Plans.{PlanSeen, plan_play, plan_record, rate_in_plan};
 ghost use Rattle.pcm_plan.specs.Fits.{IsPlan, HaveTables, HaveNoVolume, HaveBits};
 ghost use Rattle.pcm_plan.specs.Through.{out, outs, rec, recs};
 
-/// The stages of a client's plan fit each other, and the tables have its filter. Up to quality 1,
-/// which draws lines, a rack has a box for each of them, and where there are no filters too.
+/// The stages of a client's plan fit each other, and the tables have its filter.
 pub fn plans_fit()
     ensures fits { (tables : Filters) (quality : ℕ) (client device : Settings)
         → AreFilters tables.list → IsRate client.rate → IsRate device.rate
@@ -24,18 +22,12 @@ pub fn plans_fit()
     ensures tables { (tables : Filters) (quality : ℕ) (client device : Settings)
         → AreFilters tables.list → IsRate client.rate → IsRate device.rate
         → HaveTables (plan_play tables quality client device).stages tables }
-    ensures boxes { (tables : Filters) (quality : ℕ) (client device : Settings)
-        → (quality ≤ 1) ⊎ (tables.list ≡ [])
-        → All HasBox (plan_play tables quality client device).stages }
     ensures record_fits { (tables : Filters) (quality : ℕ) (client device : Settings)
         → AreFilters tables.list → IsRate client.rate → IsRate device.rate
         → IsPlan (plan_record tables quality client device) }
     ensures record_tables { (tables : Filters) (quality : ℕ) (client device : Settings)
         → AreFilters tables.list → IsRate client.rate → IsRate device.rate
         → HaveTables (plan_record tables quality client device).stages tables }
-    ensures record_boxes { (tables : Filters) (quality : ℕ) (client device : Settings)
-        → (quality ≤ 1) ⊎ (tables.list ≡ [])
-        → All HasBox (plan_record tables quality client device).stages }
     ensures record_volume { (tables : Filters) (quality : ℕ) (client device : Settings)
         → HaveNoVolume (plan_record tables quality client device).stages }
     ensures ratio { (plan : PlanSeen) → IsPlan plan → IsRatio (rate_in_plan plan) }

@@ -1,7 +1,7 @@
 //! The plan of a client that plays: its stages, in their order.
 
 ghost use Rattle.std.specs.Prelude.{◌≡◌};
-ghost use Rattle.pcm_feeder.specs.Limits.{IsRate};
+ghost use Rattle.pcm_feeder.specs.Limits.{IsRate, AreFilters};
 ghost use Rattle.pcm_plan.specs.Plans.{plan_play};
 
 use crate::Plan;
@@ -14,7 +14,9 @@ use pcm_format::Settings;
 pub fn plan_play(client: &Settings, device: &Settings, quality: u32, tables: &Tables) -> Plan
     requires client { IsRate client.now.rate }
     requires device { IsRate device.now.rate }
-    ensures { result ≡ plan_play tables.now quality client.now device.now }
+    ensures value { result ≡ plan_play tables.now quality client.now device.now }
+    // The type of the filters keeps them within their limits.
+    ensures limits { AreFilters tables.now.list }
 {
     let mut stages = ArrayVec::new();
     push_converting(&mut stages, client, device, quality, tables.list());

@@ -35,9 +35,9 @@ use Rattle.pcm_sound.specs.Blocks.{turned}
 use Rattle.pcm_sound.proofs.DeviceLists.{frames-channels}
 use Rattle.pcm_sound.proofs.Stories.{IsSafeAt, safe-mixing}
 use Rattle.pcm_play.specs.declared.channel.PlayChannelOf.{PlayChannelOf}
-use Rattle.pcm_play.specs.Channels.{ChannelStands, Moves}
+use Rattle.pcm_play.specs.Channels.{ChannelStands, IsPlanned, Moves}
 use Rattle.pcm_chain.proofs.Waiting.{frames-waiting}
-use Rattle.pcm_play.proofs.Moving.{ended}
+use Rattle.pcm_play.proofs.Moving.{ended, planned-as, safe-at}
 use Rattle.pcm_play.proofs.Stands.{nothing-more, stands-pulled}
 use Rattle.pcm_play.proofs.Refills.{Goes, GoesOrEnds, PullsAsCounted, giving-none, refilled-goes, mixing-some, eaten-written, length-eaten, length-waiting, pulls-counted, front-written}
 
@@ -53,26 +53,26 @@ PullsFor kept tables gain no_more n waiting old new pulled out_old out_new =
     (x : List Frame) (zeros before : ℕ) → ChainStands kept tables old x zeros before → IsPastTheEnd no_more zeros waiting → Pulls kept tables gain no_more n waiting old new x before pulled out_old out_new
 
 -- the frames that wait in a channel's ring
-waiting-is : {B : Type 0} (kept : B → Kept) (old : PlayChannelOf B) (bytes : List ℕ) → old.book.eaten ≤ frames_written old.book → ChannelStands kept old old.book bytes
+waiting-is : {B : Type 0} (kept : B → Kept) (filters : Filters) (old : PlayChannelOf B) (bytes : List ℕ) → IsPlanned filters old → old.book.eaten ≤ frames_written old.book → ChannelStands kept filters old old.book bytes
     → waiting_frames (plan_in old.chain) old.book.settings.format old.ring.bytes ≡ drop old.book.eaten (frames old.book.settings bytes)
-waiting-is kept old bytes within s =
+waiting-is kept filters old bytes planned within s =
     let settings : Settings = old.book.settings in
-    ap (λ (p : PlanSeen). waiting_frames p settings.format old.ring.bytes) old.plan
-    ∙ ap (waiting_frames (plan_between (seen old.device) settings) settings.format) s.ring_is
+    ap (λ (p : PlanSeen). waiting_frames p settings.format old.ring.bytes) planned.plan_is
+    ∙ ap (waiting_frames (plan_between (seen filters old.device) settings) settings.format) s.ring_is
     ∙ frames-waiting settings bytes old.book.eaten (let count = s.count in rw count within)
 
-pub pulls-run : {B : Type 0} (kept : B → Kept) (old : PlayChannelOf B) (new : ChainOf B) (tables : Filters) (gain : Gain) (no_more : Bool) (n : ℕ) (pulled : Pulled) (out_old out_new : List ℤ) (bytes : List ℕ)
-    → is_started old.book.state ≡ true → tables ≡ filters_of (seen old.device) → no_more ≡ is_draining old.book.state
-    → PullsFor kept tables gain no_more n (waiting_frames (plan_in old.chain) old.book.settings.format old.ring.bytes) old.chain new pulled out_old out_new
-    → ChannelStands kept old old.book bytes → PullsRun kept (seen old.device) gain n old.book bytes new pulled out_old out_new
-pulls-run {B = B} kept old new tables gain no_more n pulled out_old out_new bytes started tables_are drains pulls s =
-    let device : DeviceSeen = seen old.device in
+pub pulls-run : {B : Type 0} (kept : B → Kept) (filters : Filters) (old : PlayChannelOf B) (new : ChainOf B) (gain : Gain) (no_more : Bool) (n : ℕ) (pulled : Pulled) (out_old out_new : List ℤ) (bytes : List ℕ)
+    → is_started old.book.state ≡ true → IsPlanned filters old → no_more ≡ is_draining old.book.state
+    → PullsFor kept filters gain no_more n (waiting_frames (plan_in old.chain) old.book.settings.format old.ring.bytes) old.chain new pulled out_old out_new
+    → ChannelStands kept filters old old.book bytes → PullsRun kept (seen filters old.device) gain n old.book bytes new pulled out_old out_new
+pulls-run {B = B} kept filters old new gain no_more n pulled out_old out_new bytes started planned drains pulls s =
+    let device : DeviceSeen = seen filters old.device in
     let book : Book = old.book in
     let all : List Frame = frames book.settings bytes in
-    let within = eaten-written (rate_at device book) book old.safe in
+    let within = eaten-written (rate_at device book) book (safe-at filters old planned) in
     let whole : book.eaten ≤ whole_frames book.settings (length bytes) = (let count = s.count in rw count within) in
     let at_plan : PullsFor kept (filters_of device) gain (is_draining book.state) n (drop book.eaten all) old.chain new pulled out_old out_new =
-    rw (tables_are, drains, waiting-is kept old bytes within s) at pulls in
+    rw (drains, waiting-is kept filters old bytes planned within s) at pulls in
     let long : length all ≡ frames_written book = length-frames book.settings bytes ∙ ap (whole_frames book.settings) s.count in
     let p = at_plan (take book.eaten all) s.zeros book.given s.chain_is (λ some.
     let over = s.ended some in
@@ -80,8 +80,8 @@ pulls-run {B = B} kept old new tables gain no_more n pulled out_old out_new byte
     record {
       counted = pulls-counted (rate_at device book) n book pulled (length (take book.eaten all)) (length (drop book.eaten all)) started within
           (length-eaten book.settings bytes book.eaten whole) (length-waiting book.settings bytes book.eaten ∙ ap (λ m. whole_frames book.settings m - book.eaten) s.count)
-          (rw (ap (λ (plan : PlanSeen). rate_in_plan plan) old.plan) at p.far);
-      samples = p.frames ∙ ap (λ (plan : PlanSeen). written (outs plan (filters_of device) gain (take book.eaten all ++ drop book.eaten all) book.given pulled.given) out_old) old.plan
+          (rw (ap (λ (plan : PlanSeen). rate_in_plan plan) planned.plan_is) at p.far);
+      samples = p.frames ∙ ap (λ (plan : PlanSeen). written (outs plan (filters_of device) gain (take book.eaten all ++ drop book.eaten all) book.given pulled.given) out_old) planned.plan_is
           ∙ ap (λ fs. written (outs (plan_between device book.settings) (filters_of device) gain fs book.given pulled.given) out_old) (take-append-drop book.eaten all);
       behind = p.stands;
     }
@@ -163,15 +163,16 @@ turned-pulled kept device gain n book bytes new pulled out_old out_new sum acc s
     ∙ ap (λ (g : Gain). mixed (bits_of (mix_settings device).format) (take (giving (rate_at device book) n book * c) sum) (given_samples device g book.settings bytes book.given (giving (rate_at device book) n book)) ++ drop (giving (rate_at device book) n book * c) sum) gain_is
 
 -- a channel whose run goes on, once its chain was pulled
-pub moves-pulled : {B : Type 0} (kind : B → Kind) (kept : B → Kept) (old new : PlayChannelOf B) (n : ℕ) (pulled : Pulled) (gain : Gain) (out_old out_new : List ℤ)
-    → Goes (rate_at (seen old.device) old.book) n old.book new.book → (HaveKinds kind (boxes_in old.chain) → HaveKinds kind (boxes_in new.chain)) → new.ring.bytes ≡ drop (pulled.eaten * frame_bytes old.book.settings) old.ring.bytes
-    → ((bytes : List ℕ) → ChannelStands kept old old.book bytes → PullsRun kept (seen old.device) gain n old.book bytes new.chain pulled out_old out_new) → Moves kind kept [] n old new
-moves-pulled {B = B} kind kept old new n pulled gain out_old out_new go kinds ring pulls = record {
+pub moves-pulled : {B : Type 0} (kind : B → Kind) (kept : B → Kept) (filters : Filters) (old new : PlayChannelOf B) (n : ℕ) (pulled : Pulled) (gain : Gain) (out_old out_new : List ℤ)
+    → IsPlanned filters old → new.device ≡ old.device → plan_in new.chain ≡ plan_in old.chain → Goes (rate_at (seen filters old.device) old.book) n old.book new.book → (HaveKinds kind (boxes_in old.chain) → HaveKinds kind (boxes_in new.chain)) → new.ring.bytes ≡ drop (pulled.eaten * frame_bytes old.book.settings) old.ring.bytes
+    → ((bytes : List ℕ) → ChannelStands kept filters old old.book bytes → PullsRun kept (seen filters old.device) gain n old.book bytes new.chain pulled out_old out_new) → Moves kind kept filters [] n old new
+moves-pulled {B = B} kind kept filters old new n pulled gain out_old out_new planned device plan go kinds ring pulls = record {
   kinds = kinds;
+  planned = planned-as filters old new device plan go.settings;
   stands = λ bytes s.
       let p = pulls bytes s in
-      subst (ChannelStands kept new new.book) (sym (nothing-more new.book.written bytes (s.count ∙ sym go.written)))
-      (stands-pulled kept old new (rate_at (seen old.device) old.book) n pulled bytes (eaten-written (rate_at (seen old.device) old.book) old.book old.safe) go p.counted ring p.behind s);
+      subst (ChannelStands kept filters new new.book) (sym (nothing-more new.book.written bytes (s.count ∙ sym go.written)))
+      (stands-pulled kept filters old new (rate_at (seen filters old.device) old.book) n pulled bytes (eaten-written (rate_at (seen filters old.device) old.book) old.book (safe-at filters old planned)) go p.counted ring p.behind s);
   written = omega (arith, go.written);
   counted = omega (arith, go.written, go.done);
   given = omega (arith, go.given);

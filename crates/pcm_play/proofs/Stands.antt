@@ -11,21 +11,20 @@ use Rattle.pcm_feeder.specs.Kept.{Kept}
 use Rattle.pcm_chain.specs.declared.chain.Pulled.{Pulled}
 use Rattle.pcm_chain.specs.Chains.{ChainStands}
 use Rattle.pcm_chain.specs.Pulls.{StandsBehind}
-use Rattle.pcm_desk.specs.Device.{filters_of, seen}
 use Rattle.pcm_desk.specs.Books.{is_draining, frames_written}
 use Rattle.pcm_play.specs.declared.channel.PlayChannelOf.{PlayChannelOf}
 use Rattle.pcm_play.specs.Channels.{waiting_of, ChannelStands}
 use Rattle.pcm_play.proofs.Refills.{Goes, PullsAsCounted, length-waiting}
 
 -- a channel that begins, or whose run is over, stands for no bytes
-pub stands-empty : {B : Type 0} (kept : B → Kept) (channel : PlayChannelOf B) → channel.book.written ≡ 0 → channel.book.eaten ≡ 0 → channel.book.given ≡ 0 → channel.ring.bytes ≡ []
-    → ((tables : Filters) → ChainStands kept tables channel.chain [] 0 0) → ChannelStands kept channel channel.book []
-stands-empty kept channel written eaten given ring begins = record {
+pub stands-empty : {B : Type 0} (kept : B → Kept) (filters : Filters) (channel : PlayChannelOf B) → channel.book.written ≡ 0 → channel.book.eaten ≡ 0 → channel.book.given ≡ 0 → channel.ring.bytes ≡ []
+    → ((tables : Filters) → ChainStands kept tables channel.chain [] 0 0) → ChannelStands kept filters channel channel.book []
+stands-empty kept filters channel written eaten given ring begins = record {
   book_is = refl;
   count = sym written;
   ring_is = ring ∙ nothing-left;
   zeros = 0;
-  chain_is = rw (eaten, given) (begins (filters_of (seen channel.device)));
+  chain_is = rw (eaten, given) (begins filters);
   ended = λ some. absurd (omega arith);
 }
   where
@@ -33,11 +32,11 @@ stands-empty kept channel written eaten given ring begins = record {
     nothing-left = let none : 0 * frame_bytes channel.book.settings ≡ 0 = omega arith in rw (eaten, none) refl
 
 -- a channel whose run goes on stands for the same bytes, once its chain was pulled
-pub stands-pulled : {B : Type 0} (kept : B → Kept) (old new : PlayChannelOf B) (rate : Rate) (n : ℕ) (pulled : Pulled) (bytes : List ℕ) → old.book.eaten ≤ frames_written old.book
+pub stands-pulled : {B : Type 0} (kept : B → Kept) (filters : Filters) (old new : PlayChannelOf B) (rate : Rate) (n : ℕ) (pulled : Pulled) (bytes : List ℕ) → old.book.eaten ≤ frames_written old.book
     → Goes rate n old.book new.book → PullsAsCounted rate n old.book pulled → new.ring.bytes ≡ drop (pulled.eaten * frame_bytes old.book.settings) old.ring.bytes
-    → StandsBehind kept (filters_of (seen old.device)) (is_draining old.book.state) (drop old.book.eaten (frames old.book.settings bytes)) new.chain (take old.book.eaten (frames old.book.settings bytes)) old.book.given pulled
-    → ChannelStands kept old old.book bytes → ChannelStands kept new new.book bytes
-stands-pulled kept old new rate n pulled bytes within go counted ring behind s =
+    → StandsBehind kept filters (is_draining old.book.state) (drop old.book.eaten (frames old.book.settings bytes)) new.chain (take old.book.eaten (frames old.book.settings bytes)) old.book.given pulled
+    → ChannelStands kept filters old old.book bytes → ChannelStands kept filters new new.book bytes
+stands-pulled kept filters old new rate n pulled bytes within go counted ring behind s =
     let settings : Settings = old.book.settings in
     let z : ℕ = frame_bytes settings in
     let e : ℕ = old.book.eaten in
@@ -61,12 +60,12 @@ stands-pulled kept old new rate n pulled bytes within go counted ring behind s =
     }
 
 -- a channel that took bytes stands for these too
-pub stands-taking : {B : Type 0} (kept : B → Kept) (old new : PlayChannelOf B) (bytes more : List ℕ) → new.chain ≡ old.chain → new.book.settings ≡ old.book.settings → new.book.eaten ≡ old.book.eaten → new.book.given ≡ old.book.given
+pub stands-taking : {B : Type 0} (kept : B → Kept) (filters : Filters) (old new : PlayChannelOf B) (bytes more : List ℕ) → new.chain ≡ old.chain → new.book.settings ≡ old.book.settings → new.book.eaten ≡ old.book.eaten → new.book.given ≡ old.book.given
     → new.book.written ≡ old.book.written + length more → is_draining old.book.state ≡ false
     → old.book.eaten * frame_bytes old.book.settings ≤ old.book.written → new.ring.bytes ≡ old.ring.bytes ++ more
     → take old.book.eaten (frames old.book.settings (bytes ++ more)) ≡ take old.book.eaten (frames old.book.settings bytes)
-    → ChannelStands kept old old.book bytes → ChannelStands kept new new.book (bytes ++ more)
-stands-taking kept old new bytes more chain settings eaten given written busy within ring front s = record {
+    → ChannelStands kept filters old old.book bytes → ChannelStands kept filters new new.book (bytes ++ more)
+stands-taking kept filters old new bytes more chain settings eaten given written busy within ring front s = record {
   book_is = refl;
   count = omega (arith, length-append bytes more, s.count);
   ring_is = ring ∙ ap (λ waiting. waiting ++ more) s.ring_is
@@ -84,10 +83,10 @@ stands-taking kept old new bytes more chain settings eaten given written busy wi
     ]
 
 -- a channel whose state alone changed stands for the same bytes
-pub stands-state : {B : Type 0} (kept : B → Kept) (old new : PlayChannelOf B) (bytes : List ℕ) → new.chain ≡ old.chain → new.ring.bytes ≡ old.ring.bytes → new.book.settings ≡ old.book.settings → new.book.eaten ≡ old.book.eaten → new.book.given ≡ old.book.given
+pub stands-state : {B : Type 0} (kept : B → Kept) (filters : Filters) (old new : PlayChannelOf B) (bytes : List ℕ) → new.chain ≡ old.chain → new.ring.bytes ≡ old.ring.bytes → new.book.settings ≡ old.book.settings → new.book.eaten ≡ old.book.eaten → new.book.given ≡ old.book.given
     → new.book.written ≡ old.book.written → (is_draining old.book.state ≡ true → is_draining new.book.state ≡ true)
-    → ChannelStands kept old old.book bytes → ChannelStands kept new new.book bytes
-stands-state kept old new bytes chain ring settings eaten given written drains s = record {
+    → ChannelStands kept filters old old.book bytes → ChannelStands kept filters new new.book bytes
+stands-state kept filters old new bytes chain ring settings eaten given written drains s = record {
   book_is = refl;
   count = s.count ∙ sym written;
   ring_is = ring ∙ s.ring_is ∙ ap (λ m. drop (m * frame_bytes old.book.settings) bytes) (sym eaten) ∙ ap (λ (r : Settings). drop (new.book.eaten * frame_bytes r) bytes) (sym settings);

@@ -2,14 +2,16 @@
 
 ghost use Rattle.std.specs.Prelude.{◌≡◌, []};
 ghost use Rattle.pcm_ring.specs.Ring.{empty_ring};
+ghost use Rattle.pcm_rate.specs.Rates.{IsRatio};
 ghost use Rattle.pcm_feeder.specs.Filters.{Filters};
-ghost use Rattle.pcm_feeder.specs.Limits.{IsRate};
+ghost use Rattle.pcm_feeder.specs.Limits.{AreFilters, IsRate};
 ghost use Rattle.pcm_feeder.specs.Racks.{HaveKinds};
 ghost use Rattle.pcm_oss.specs.declared.fragments.TheConstants.{RING_BYTES};
 ghost use Rattle.pcm_oss.specs.Fragments.{AreFragments};
+ghost use Rattle.pcm_plan.specs.Plans.{rate_in_plan};
 ghost use Rattle.pcm_chain.specs.Chains.{ChainStands, boxes_in, plan_in};
 ghost use Rattle.pcm_desk.specs.Books.{ring_bytes};
-ghost use Rattle.pcm_desk.specs.Device.{IsDevice, filters_of, plan_between, seen};
+ghost use Rattle.pcm_desk.specs.Device.{plan_between, seen};
 
 use pcm_chain::ChainOf;
 use pcm_desk::{Book, Device};
@@ -25,14 +27,15 @@ pub fn begin_anew<B: Feeder>(
     ring: &mut ByteRing,
     chain: &mut ChainOf<B>,
 )
-    requires device { IsDevice (seen device.now) }
-    requires tables { tables.now ≡ filters_of (seen device.now) }
+    requires device { IsRate device.now.settings.rate }
     requires rate { IsRate book.now.settings.rate }
     requires fragments { AreFragments book.now.fragments }
     requires room { ring.old.max ≡ RING_BYTES }
     requires kinds { HaveKinds B.kind (boxes_in chain.old) }
     ensures ring { ring.new ≡ record (empty_ring RING_BYTES) { size = ring_bytes book.now } }
-    ensures plan { plan_in chain.new ≡ plan_between (seen device.now) book.now.settings }
+    ensures limits { AreFilters tables.now.list }
+    ensures plan { plan_in chain.new ≡ plan_between (seen tables.now device.now) book.now.settings }
+    ensures ratio { IsRatio (rate_in_plan (plan_in chain.new)) }
     ensures kinds { HaveKinds B.kind (boxes_in chain.new) }
     ensures begins { (tables : Filters) → ChainStands B.kept tables chain.new [] 0 0 }
 {

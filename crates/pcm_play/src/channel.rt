@@ -6,14 +6,16 @@ ghost use Rattle.pcm_format.specs.Layouts.{channels_of};
 ghost use Rattle.pcm_format.specs.Frames.{frame_bytes};
 ghost use Rattle.pcm_num.specs.Limit.{FitsBits};
 ghost use Rattle.pcm_oss.specs.declared.fragments.TheConstants.{RING_BYTES};
+ghost use Rattle.pcm_rate.specs.Rates.{IsRatio};
 ghost use Rattle.pcm_feeder.specs.Limits.{IsRate};
 ghost use Rattle.pcm_feeder.specs.Racks.{HaveKinds, IsRack};
+ghost use Rattle.pcm_plan.specs.Plans.{rate_in_plan};
 ghost use Rattle.pcm_chain.specs.Chains.{boxes_in, plan_in};
-ghost use Rattle.pcm_desk.specs.Device.{IsDevice, filters_of, plan_between, seen};
+ghost use Rattle.pcm_desk.specs.Device.{seen};
 ghost use Rattle.pcm_desk.specs.Books.{is_free, fill_of, ring_bytes, begun, write_turn};
 ghost use Rattle.pcm_desk.specs.Safe.{BookIsSafe};
 ghost use Rattle.pcm_desk.proofs.Props.{book_props};
-ghost use Rattle.pcm_desk.specs.Desk.{asking, closing, mixing, rate_at, unopened};
+ghost use Rattle.pcm_desk.specs.Desk.{asking, closing, mixing, unopened};
 ghost use Rattle.pcm_sound.specs.Blocks.{turned};
 
 use crate::anew::begin_anew;
@@ -33,18 +35,19 @@ pub struct PlayChannelOf<B> {
     pub book: Book,
     pub ring: ByteRing,
     pub chain: ChainOf<B>,
-    ghost device_is: { IsDevice (seen device) },
+    ghost device_rate: { IsRate device.settings.rate },
     ghost rate: { IsRate book.settings.rate },
-    ghost plan: { plan_in chain ≡ plan_between (seen device) book.settings },
+    ghost ratio: { IsRatio (rate_in_plan (plan_in chain)) },
     ghost room: { ring.max ≡ RING_BYTES },
     ghost size: { ring.size ≡ ring_bytes book },
     ghost fill: { length ring.bytes ≡ fill_of book },
     ghost within: { book.eaten * frame_bytes book.settings ≤ book.written },
-    ghost safe: { BookIsSafe (rate_at (seen device) book) book } by { Prim.hlevel book_props },
+    ghost safe: { BookIsSafe (rate_in_plan (plan_in chain)) book } by { Prim.hlevel book_props },
 }
 
 impl<B: Feeder> PlayChannelOf<B> {
-    ghost use Rattle.pcm_play.specs.Channels.{ChannelStands, Moves, StandsForSome};
+    ghost use Rattle.pcm_feeder.specs.Filters.{Filters};
+    ghost use Rattle.pcm_play.specs.Channels.{ChannelStands, IsPlanned, Moves, StandsForSome};
 
     /// A channel of a device that nobody has opened.
     pub fn new(
@@ -53,13 +56,13 @@ impl<B: Feeder> PlayChannelOf<B> {
         tables: &Tables,
         rack: RackOf<B>,
     ) -> Result<PlayChannelOf<B>, AllocError>
-        requires device { IsDevice (seen device) }
-        requires tables { tables.now ≡ filters_of (seen device) }
+        requires device { IsRate device.settings.rate }
         requires kinds { IsRack B.kind rack }
-        ensures book { IfOk result (λ made. made.book ≡ unopened (seen device)) }
+        ensures book { IfOk result (λ made. made.book ≡ unopened (seen tables.now device)) }
         ensures device { IfOk result (λ made. made.device ≡ device) }
         ensures kinds { IfOk result (λ made. HaveKinds B.kind (boxes_in made.chain)) }
-        ensures stands { IfOk result (λ made. ChannelStands B.kept made made.book []) }
+        ensures planned { IfOk result (λ made. IsPlanned tables.now made) }
+        ensures stands { IfOk result (λ made. ChannelStands B.kept tables.now made made.book []) }
     {
         let mut ring = ByteRing::new(alloc, RING_BYTES as usize)?;
         let mut chain = ChainOf::new(alloc, rack)?;
@@ -86,11 +89,10 @@ impl<B: Feeder> PlayChannelOf<B> {
     /// A new opening begins, whose sound goes through the plan of its settings.
     pub fn begin(&mut self, tables: &Tables, settings: Settings)
         requires rate { IsRate settings.rate }
-        requires tables { tables.now ≡ filters_of (seen self.old.device) }
         requires kinds { HaveKinds B.kind (boxes_in self.old.chain) }
         ensures book { self.new.book ≡ begun settings }
         ensures device { self.new.device ≡ self.old.device }
-        ensures moves { Moves B.kind B.kept [] 0 self.old self.new }
+        ensures moves { Moves B.kind B.kept tables.now [] 0 self.old self.new }
     {
         self.book = Book::begun(settings);
         begin_anew(
@@ -109,7 +111,7 @@ impl<B: Feeder> PlayChannelOf<B> {
         ensures reply { result ≡ (write_turn (length bytes.now) self.old.book).reply }
         ensures device { self.new.device ≡ self.old.device }
         ensures refused { OnErr result (self.new ≡ self.old) }
-        ensures moves { Moves B.kind B.kept bytes.now 0 self.old self.new }
+        ensures moves { (filters : Filters) → Moves B.kind B.kept filters bytes.now 0 self.old self.new }
     {
         if self.book.is_draining() {
             return Err(Errno::Busy);
@@ -124,14 +126,16 @@ impl<B: Feeder> PlayChannelOf<B> {
 
     /// Does what a request asks. Where nothing of a run is left, the ring and the chain begin anew, as the book says.
     pub fn ioctl(&mut self, tables: &Tables, request: Request) -> Result<Answer, Errno>
-        requires tables { tables.now ≡ filters_of (seen self.old.device) }
         requires kinds { HaveKinds B.kind (boxes_in self.old.chain) }
+        requires planned { IsPlanned tables.now self.old }
         requires count { self.old.book.done + self.old.book.written < 2 ^ 64 }
-        ensures book { self.new.book ≡ (asking (seen self.old.device) request self.old.book).book }
-        ensures reply { result ≡ (asking (seen self.old.device) request self.old.book).reply }
+        ensures book { self.new.book
+            ≡ (asking (seen tables.now self.old.device) request self.old.book).book }
+        ensures reply { result
+            ≡ (asking (seen tables.now self.old.device) request self.old.book).reply }
         ensures device { self.new.device ≡ self.old.device }
         ensures refused { OnErr result (self.new ≡ self.old) }
-        ensures moves { Moves B.kind B.kept [] 0 self.old self.new }
+        ensures moves { Moves B.kind B.kept tables.now [] 0 self.old self.new }
     {
         let turn = self.book.asked(self.chain.plan().rate(), request)?;
         self.book = turn.book;
@@ -151,9 +155,10 @@ impl<B: Feeder> PlayChannelOf<B> {
     pub fn close(&mut self)
         requires kinds { HaveKinds B.kind (boxes_in self.old.chain) }
         requires count { self.old.book.done + self.old.book.written < 2 ^ 64 }
-        ensures book { self.new.book ≡ closing (seen self.old.device) self.old.book }
+        ensures book { (filters : Filters) → IsPlanned filters self.old
+            → self.new.book ≡ closing (seen filters self.old.device) self.old.book }
         ensures device { self.new.device ≡ self.old.device }
-        ensures moves { Moves B.kind B.kept [] 0 self.old self.new }
+        ensures moves { (filters : Filters) → Moves B.kind B.kept filters [] 0 self.old self.new }
     {
         let rate = self.chain.plan().rate();
         self.book = self.book.closed(rate);
@@ -167,19 +172,19 @@ impl<B: Feeder> PlayChannelOf<B> {
     /// `frames` holds them meanwhile.
     pub fn refill(&mut self, tables: &Tables, n: usize, frames: &mut [i32], sum: &mut [i32])
         requires some { 0 < n }
-        requires tables { tables.now ≡ filters_of (seen self.old.device) }
         requires kinds { HaveKinds B.kind (boxes_in self.old.chain) }
-        requires stands { StandsForSome B.kept self.old }
+        requires planned { IsPlanned tables.now self.old }
+        requires stands { StandsForSome B.kept tables.now self.old }
         requires frames { length frames.old ≡ n * channels_of self.old.device.settings.layout }
         requires sum { length sum.old ≡ n * channels_of self.old.device.settings.layout }
         requires fits { All (FitsBits (bits_of self.old.device.settings.format)) sum.old }
         requires count { self.old.book.given + n < 2 ^ 64 }
         requires counted { self.old.book.done + self.old.book.written < 2 ^ 64 }
-        ensures book { self.new.book ≡ mixing (seen self.old.device) n self.old.book }
+        ensures book { self.new.book ≡ mixing (seen tables.now self.old.device) n self.old.book }
         ensures device { self.new.device ≡ self.old.device }
-        ensures moves { Moves B.kind B.kept [] n self.old self.new }
-        ensures sum { (bytes : List ℕ) → ChannelStands B.kept self.old self.old.book bytes
-            → sum.new ≡ turned (seen self.old.device) n self.old.book bytes sum.old }
+        ensures moves { Moves B.kind B.kept tables.now [] n self.old self.new }
+        ensures sum { (bytes : List ℕ) → ChannelStands B.kept tables.now self.old self.old.book bytes
+            → sum.new ≡ turned (seen tables.now self.old.device) n self.old.book bytes sum.old }
         ensures fits { All (FitsBits (bits_of self.old.device.settings.format)) sum.new }
     {
         if !self.book.is_started() {

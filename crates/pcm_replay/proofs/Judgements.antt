@@ -12,7 +12,7 @@ use Rattle.pcm_config.specs.declared.fault.ConfigKind.TheVariants as config_kind
 use Rattle.pcm_config.specs.declared.limits.TheConstants.{CONFIG_BYTES}
 use Rattle.pcm_config.specs.declared.place.ConfigPlace.TheVariants as places
 use Rattle.pcm_config.specs.Configs.{config_read, usual_config}
-use Rattle.pcm_desk.specs.Device.{seen}
+use Rattle.pcm_desk.specs.Device.{unfiltered}
 use Rattle.pcm_script.specs.declared.limits.TheConstants.{TEXT_BYTES}
 use Rattle.pcm_script.specs.declared.script.Script.{Script}
 use Rattle.pcm_script.specs.Lines.{script_read}
@@ -55,15 +55,15 @@ may-name config name named = subst MayNameFiles (sym named) tt
 -- ---- the script
 
 pub script-comes : (config : Config) (waves : List DataFileSeen) (name bytes : List ℕ) (files : FilesSeen) (came : Result Script Fault) → ReadsFile files name (TEXT_BYTES + 1) bytes
-    → or_bad_script (script_read (seen config.device) waves bytes) ≡ came → Comes (script_part config waves name) came files
+    → or_bad_script (script_read (unfiltered config.device) waves bytes) ≡ came → Comes (script_part config waves name) came files
 script-comes config waves name bytes files came reads is =
-    comes-judged (λ text. or_bad_script (script_read (seen config.device) waves text)) name (λ other. other ≡ name) TEXT_BYTES files bytes came
-    (record { long = λ one other first second. ap or_bad_script (script_read-long (seen config.device) waves one first) ∙ sym (ap or_bad_script (script_read-long (seen config.device) waves other second)) })
+    comes-judged (λ text. or_bad_script (script_read (unfiltered config.device) waves text)) name (λ other. other ≡ name) TEXT_BYTES files bytes came
+    (record { long = λ one other first second. ap or_bad_script (script_read-long (unfiltered config.device) waves one first) ∙ sym (ap or_bad_script (script_read-long (unfiltered config.device) waves other second)) })
     reads is
 
 pub script-begins : (config : Config) (waves : List DataFileSeen) (name : List ℕ) (files : FilesSeen) → LeadsTo (script_part config waves name) (file_part name) files
 script-begins config waves name files =
-    leads-first (file_part name) (λ content text. judge (or_bad_script (script_read (seen config.device) waves text))) (λ other. other ≡ name) files (λ other same. same)
+    leads-first (file_part name) (λ content text. judge (or_bad_script (script_read (unfiltered config.device) waves text))) (λ other. other ≡ name) files (λ other same. same)
 
 -- ---- the wave that is to be converted
 

@@ -6,7 +6,8 @@ use Rattle.pcm_oss.specs.declared.event.Event.{Event}
 use Rattle.pcm_oss.specs.declared.event.Event.TheVariants.{Open, Write, Ioctl, Close, Intr}
 use Rattle.pcm_wave.specs.declared.pool.Pool.{Pool}
 use Rattle.pcm_oss.specs.Replies.{Reply}
-use Rattle.pcm_desk.specs.Device.{DeviceSeen, device_frame_bytes, seen}
+use Rattle.pcm_desk.specs.Device.{DeviceSeen, device_frame_bytes}
+use Rattle.pcm_config.specs.Configs.{device_seen}
 use Rattle.pcm_desk.specs.Events.{Fits, bytes_handed}
 use Rattle.pcm_sound.specs.DeviceList.{device_text}
 use Rattle.pcm_sound.specs.Replies.{replies, reply_to}
@@ -133,13 +134,13 @@ handed-within device pool events at count other fits there is =
 
 -- what is kept of a run is what it is to leave
 left-played : (P : Output → Type 0) (name head text lines : List ℕ) (inputs : Inputs) (device : DeviceSeen) (events : List Event)
-    → head ≡ file_header inputs.config.container (seen inputs.config.device) inputs.script.device_frames
+    → head ≡ file_header inputs.config.container (device_seen inputs.config) inputs.script.device_frames
     → text ≡ device_text device (inputs_pool inputs) events → lines ≡ transcript device (inputs_pool inputs) events
-    → device ≡ seen inputs.config.device → events ≡ inputs.script.events
+    → device ≡ device_seen inputs.config → events ≡ inputs.script.events
     → P (record { file = Some (record { name = name; bytes = head ++ text }); lines = lines }) → P (output_of (Runs name inputs))
 left-played P name head text lines inputs device events is_head is_text is_lines is_device are holds =
     let pool : Pool = inputs_pool inputs in
-    let is : DeviceSeen = seen inputs.config.device in
+    let is : DeviceSeen = device_seen inputs.config in
     let before : List ℕ = file_header inputs.config.container is inputs.script.device_frames in
     let bytes : text ≡ device_text is pool inputs.script.events =
     is_text ∙ ap (λ (d : DeviceSeen). device_text d pool events) is_device ∙ ap (λ (e : List Event). device_text is pool e) are in
@@ -149,18 +150,18 @@ left-played P name head text lines inputs device events is_head is_text is_lines
     (ap (λ (b : List ℕ). b ++ text) is_head ∙ ap (λ (b : List ℕ). before ++ b) bytes) printed holds
 
 pub cut-played : (before after : Outside) (name head text lines : List ℕ) (inputs : Inputs) (device : DeviceSeen) (events : List Event)
-    → head ≡ file_header inputs.config.container (seen inputs.config.device) inputs.script.device_frames
+    → head ≡ file_header inputs.config.container (device_seen inputs.config) inputs.script.device_frames
     → text ≡ device_text device (inputs_pool inputs) events → lines ≡ transcript device (inputs_pool inputs) events
-    → device ≡ seen inputs.config.device → events ≡ inputs.script.events
+    → device ≡ device_seen inputs.config → events ≡ inputs.script.events
     → CutsOutput (record { file = Some (record { name = name; bytes = head ++ text }); lines = lines }) before after
     → CutsOutput (output_of (Runs name inputs)) before after
 cut-played before after name head text lines inputs device events is_head is_text is_lines is_device are cut =
     left-played (λ output. CutsOutput output before after) name head text lines inputs device events is_head is_text is_lines is_device are cut
 
 pub written-played : (before after : Outside) (name head text lines : List ℕ) (inputs : Inputs) (device : DeviceSeen) (events : List Event)
-    → head ≡ file_header inputs.config.container (seen inputs.config.device) inputs.script.device_frames
+    → head ≡ file_header inputs.config.container (device_seen inputs.config) inputs.script.device_frames
     → text ≡ device_text device (inputs_pool inputs) events → lines ≡ transcript device (inputs_pool inputs) events
-    → device ≡ seen inputs.config.device → events ≡ inputs.script.events
+    → device ≡ device_seen inputs.config → events ≡ inputs.script.events
     → WritesAll (record { file = Some (record { name = name; bytes = head ++ text }); lines = lines }) before after
     → WritesAll (output_of (Runs name inputs)) before after
 written-played before after name head text lines inputs device events is_head is_text is_lines is_device are written =

@@ -9,7 +9,7 @@ use Rattle.pcm_wave.specs.declared.pool.TheConstants.{DATA_BYTES}
 use Rattle.pcm_wave.specs.declared.written.TheConstants.{BODY_BYTES}
 use Rattle.pcm_wave.specs.declared.wave.Wave.{Wave}
 use Rattle.pcm_config.specs.Configs.{config_read}
-use Rattle.pcm_desk.specs.Device.{seen}
+use Rattle.pcm_desk.specs.Device.{unfiltered}
 use Rattle.pcm_script.specs.Lines.{script_read}
 use Rattle.pcm_wave.specs.declared.wave.WaveFault.{WaveFault}
 use Rattle.pcm_config.specs.declared.config.Config.{Config}
@@ -136,7 +136,7 @@ of-files content config before (file ∷ files) =
     (λ next. of-files content config (before ++ next ∷ []) files)
 
 of-script : (content : Contents) (config : Config) (files : List DataFileSeen) (name : List ℕ) → ComesOfFiles (script_judged content config files name).came
-of-script content config files name = of-read content name (λ text. or_bad_script (script_read (seen config.device) files text)) (λ text. of-bad_script (script_read (seen config.device) files text))
+of-script content config files name = of-read content name (λ text. or_bad_script (script_read (unfiltered config.device) files text)) (λ text. of-bad_script (script_read (unfiltered config.device) files text))
 
 of-under : (content : Contents) (config : Config) (name : List ℕ) → ComesOfFiles (inputs_under content config name).came
 of-under content config name =

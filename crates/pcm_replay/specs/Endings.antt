@@ -1,7 +1,7 @@
 -- What a call did, by its ending.
 use Rattle.std.specs.Prelude.{◌≡◌, ℕ, List, Option, Some, None, Ok}
 use Rattle.pcm_outside.specs.Sink.{SinkSeen, FailsToPut}
-use Rattle.pcm_desk.specs.Device.{seen}
+use Rattle.pcm_config.specs.Configs.{device_seen}
 use Rattle.pcm_feeder.specs.Kept.{Kept}
 use Rattle.pcm_engine.specs.declared.engine.EngineOf.{EngineOf}
 use Rattle.pcm_verdict.specs.Commands.{Command}
@@ -47,7 +47,7 @@ CutsLines NoMemory lines old new = new ≡ old
 
 -- an engine ran the script of these inputs
 abbrev pub RanInputs : {B : Type 0} → (B → Kept) → EngineOf B → Inputs → Type 0
-RanInputs kept engine inputs = RanThrough kept engine (seen inputs.config.device) (inputs_pool inputs) inputs.script.events
+RanInputs kept engine inputs = RanThrough kept engine (device_seen inputs.config) (inputs_pool inputs) inputs.script.events
 
 -- an engine ran where a script was to be run, and there is none elsewhere
 abbrev pub HasRun : {B : Type 0} → (B → Kept) → Option (EngineOf B) → Accepted → Type 0

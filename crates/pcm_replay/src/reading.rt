@@ -3,8 +3,8 @@
 ghost use Rattle.std.specs.Prelude.{◌+◌, ◌^◌, ◌<◌, ◌≤◌, IfErr, IfOk, List, OnOk, length, option_map, ℕ};
 ghost use Rattle.pcm_outside.specs.Files.{ReadsFile};
 ghost use Rattle.pcm_desk.specs.declared.limits.TheConstants.{DEVICE_BYTES, EVENTS};
-ghost use Rattle.pcm_desk.specs.Device.{IsInLimits, seen};
-ghost use Rattle.pcm_config.specs.Configs.{IsHeld};
+ghost use Rattle.pcm_desk.specs.Device.{IsInLimits};
+ghost use Rattle.pcm_config.specs.Configs.{IsHeld, device_seen};
 ghost use Rattle.pcm_script.specs.Lines.{AllFit, bytes_taken};
 ghost use Rattle.pcm_replay.specs.Commands.{MayNameFiles};
 ghost use Rattle.pcm_replay.specs.Outside.{both};
@@ -54,7 +54,7 @@ pub fn read_config<F: Files, K: Sink>(
 ) -> Result<Config, Ending>
     ensures ok { IfOk result (λ config. GivesValue (config_part (option_map (λ n. n.now) name.entry)) config
         (both (F.seen files.old) (K.seen out.old)) (both (F.seen files.new) (K.seen out.new))) }
-    ensures limits { IfOk result (λ config. IsInLimits (seen config.device)) }
+    ensures limits { IfOk result (λ config. IsInLimits (device_seen config)) }
     ensures container { IfOk result IsHeld }
     ensures paths { IfOk result (λ config. (path : List ℕ) → IsPath config path
         → MayNameFiles (option_map (λ n. n.now) name.entry)) }
@@ -81,13 +81,13 @@ pub fn read_script<F: Files, K: Sink>(
     files: &mut F,
     out: &mut K,
 ) -> Result<Script, Ending>
-    requires limits { IsInLimits (seen config.now.device) }
+    requires limits { IsInLimits (device_seen config.now) }
     ensures ok { IfOk result (λ script. GivesValue (script_part config.now waves.now name.now) script
         (both (F.seen files.old) (K.seen out.old)) (both (F.seen files.new) (K.seen out.new))) }
-    ensures fits { IfOk result (λ script. AllFit (seen config.now.device) waves.now script) }
+    ensures fits { IfOk result (λ script. AllFit (device_seen config.now) waves.now script) }
     ensures count { IfOk result (λ script. length script.events ≤ EVENTS) }
     ensures frames { IfOk result
-        (λ script. bytes_taken (seen config.now.device) script ≤ DEVICE_BYTES) }
+        (λ script. bytes_taken (device_seen config.now) script ≤ DEVICE_BYTES) }
     ensures err { IfErr result (λ ending. Ends (script_part config.now waves.now name.now) ending
         (both (F.seen files.old) (K.seen out.old)) (both (F.seen files.new) (K.seen out.new))) }
 {
@@ -110,13 +110,13 @@ pub fn read_inputs<F: Files, K: Sink>(
     ensures ok { IfOk result (λ inputs. GivesValue
         (inputs_part script.now (option_map (λ n. n.now) config.entry)) (inputs_seen inputs)
         (both (F.seen files.old) (K.seen out.old)) (both (F.seen files.new) (K.seen out.new))) }
-    ensures limits { IfOk result (λ inputs. IsInLimits (seen inputs.config.device)) }
+    ensures limits { IfOk result (λ inputs. IsInLimits (device_seen inputs.config)) }
     ensures fits { IfOk result
-        (λ inputs. AllFit (seen inputs.config.device) inputs.files inputs.script) }
+        (λ inputs. AllFit (device_seen inputs.config) inputs.files inputs.script) }
     ensures count { IfOk result (λ inputs. length inputs.script.events ≤ EVENTS) }
     ensures container { IfOk result (λ inputs. IsHeld inputs.config) }
     ensures frames { IfOk result (λ inputs.
-        bytes_taken (seen inputs.config.device) inputs.script ≤ DEVICE_BYTES) }
+        bytes_taken (device_seen inputs.config) inputs.script ≤ DEVICE_BYTES) }
     ensures err { IfErr result (λ ending. Ends
         (inputs_part script.now (option_map (λ n. n.now) config.entry)) ending
         (both (F.seen files.old) (K.seen out.old)) (both (F.seen files.new) (K.seen out.new))) }

@@ -1,13 +1,15 @@
 //! The run of a script, which is kept whole until it is written.
 
 ghost use Rattle.pcm_replay.specs.declared.ending.Ending.TheVariants.{NoMemory};
-ghost use Rattle.std.specs.Prelude.{◌≡◌, ◌*◌, ◌+◌, ◌<◌, ◌≤◌, [], All, IfErr, IfOk, OnOk, length, take};
+ghost use Rattle.std.specs.Prelude.{◌≡◌, ◌*◌, ◌+◌, ◌<◌, ◌≤◌, [], All, IfErr, IfOk, OnOk, length, take, true};
 ghost use Rattle.pcm_wave.specs.declared.pool.Pool.{Pool};
 ghost use Rattle.pcm_desk.specs.declared.limits.TheConstants.{DEVICE_BYTES, EVENTS};
 ghost use Rattle.pcm_desk.specs.Events.{Fits};
-ghost use Rattle.pcm_desk.specs.Device.{IsInLimits, device_frame_bytes, seen};
+ghost use Rattle.pcm_desk.specs.Device.{IsInLimits, device_frame_bytes, seen, unfiltered};
+ghost use Rattle.pcm_feeder.specs.Filters.{Filters};
+ghost use Rattle.pcm_feeder.specs.Limits.{IsRate};
 ghost use Rattle.pcm_feeder.specs.Racks.{AreRacks, list_of};
-ghost use Rattle.pcm_config.specs.Configs.{IsHeld};
+ghost use Rattle.pcm_config.specs.Configs.{IsHeld, can_hold, device_seen};
 ghost use Rattle.pcm_engine.specs.Engines.{device_of};
 ghost use Rattle.pcm_script.specs.Lines.{AllFit, bytes_taken};
 ghost use Rattle.pcm_verdict.specs.Outputs.{file_header, output_of};
@@ -24,7 +26,7 @@ use crate::writing::write_all;
 use pcm_config::{Config, Container};
 use pcm_desk::Device;
 use pcm_engine::EngineOf;
-use pcm_feeder::{Feeder, RacksOf};
+use pcm_feeder::{Feeder, RacksOf, Tables};
 use pcm_oss::{Event, ReplyBuf};
 use pcm_outside::{Files, Sink};
 use pcm_report::{LINE_BYTES, write_line};
@@ -45,16 +47,21 @@ pub struct ReplayOf<B> {
 
 impl<B: Feeder> ReplayOf<B> {
     // Takes the engine's memory, before the first event.
-    fn new(alloc: Global, device: &Device, racks: RacksOf<B>) -> Result<ReplayOf<B>, AllocError>
-        requires limits { IsInLimits (seen device.now) }
+    fn new(
+        alloc: Global,
+        device: &Device,
+        tables: Tables,
+        racks: RacksOf<B>,
+    ) -> Result<ReplayOf<B>, AllocError>
+        requires limits { IsInLimits (seen tables device.now) }
         requires kinds { AreRacks B.kind (list_of racks) }
         ensures played { IfOk result (λ replay. (pool : Pool) → HasPlayed B.kind B.kept replay pool []) }
-        ensures device { IfOk result (λ replay. device_of replay.engine ≡ seen device.now) }
+        ensures device { IfOk result (λ replay. device_of replay.engine ≡ seen tables device.now) }
     {
         // The greatest interrupt takes the device's whole ring.
         let room = device.ring_frames as usize * device.settings.frame_bytes();
         Ok(ReplayOf {
-            engine: EngineOf::new(alloc, *device, racks)?,
+            engine: EngineOf::new(alloc, *device, tables, racks)?,
             reply: ReplyBuf::new(alloc)?,
             block: vec![in alloc; 0; room]?,
             line: vec![in alloc; 0; LINE_BYTES]?,
@@ -82,22 +89,23 @@ impl<B: Feeder> ReplayOf<B> {
     }
 }
 
-/// Runs all events of a script on a device.
+/// Runs all events of a script on a device with its filters.
 pub fn play<B: Feeder>(
     alloc: Global,
     device: &Device,
+    tables: Tables,
     racks: RacksOf<B>,
     events: &[Event],
     pool: &Pool,
 ) -> Result<ReplayOf<B>, AllocError>
-    requires limits { IsInLimits (seen device.now) }
+    requires limits { IsInLimits (seen tables device.now) }
     requires kinds { AreRacks B.kind (list_of racks) }
-    requires fits { All (Fits (seen device.now) pool.now) events.now }
+    requires fits { All (Fits (seen tables device.now) pool.now) events.now }
     requires count { length events.now ≤ EVENTS }
     ensures played { IfOk result (λ replay. HasPlayed B.kind B.kept replay pool.now events.now) }
-    ensures device { IfOk result (λ replay. device_of replay.engine ≡ seen device.now) }
+    ensures device { IfOk result (λ replay. device_of replay.engine ≡ seen tables device.now) }
 {
-    let mut replay = ReplayOf::new(alloc, device, racks)?;
+    let mut replay = ReplayOf::new(alloc, device, tables, racks)?;
     for at in 0..events.len() {
         replay.step_at(events, pool, at)?;
     }
@@ -114,11 +122,11 @@ pub fn run_script<B: Feeder, F: Files, K: Sink>(
     name: &str,
 ) -> Result<EngineOf<B>, Ending>
     requires kinds { AreRacks B.kind (list_of racks) }
-    requires limits { IsInLimits (seen inputs.config.device) }
+    requires limits { IsInLimits (device_seen inputs.config) }
     requires container { IsHeld inputs.config }
-    requires fits { AllFit (seen inputs.config.device) inputs.files inputs.script }
+    requires fits { AllFit (device_seen inputs.config) inputs.files inputs.script }
     requires count { length inputs.script.events ≤ EVENTS }
-    requires frames { bytes_taken (seen inputs.config.device) inputs.script ≤ DEVICE_BYTES }
+    requires frames { bytes_taken (device_seen inputs.config) inputs.script ≤ DEVICE_BYTES }
     ensures ran { IfOk result (λ engine. RanInputs B.kept engine (inputs_seen inputs)) }
     ensures ok { OnOk result (WritesAll (output_of (Runs name.now (inputs_seen inputs)))
         (both (F.seen files.old) (K.seen out.old)) (both (F.seen files.new) (K.seen out.new))) }
@@ -130,6 +138,12 @@ pub fn run_script<B: Feeder, F: Files, K: Sink>(
         files: data,
         script,
     } = inputs;
+    let Config {
+        device,
+        tables,
+        container,
+        ..
+    } = config;
     let Script {
         events,
         inline_bytes,
@@ -139,10 +153,10 @@ pub fn run_script<B: Feeder, F: Files, K: Sink>(
         files: data,
         inline_bytes,
     };
-    let Ok(replay) = play(alloc, &config.device, racks, events.as_slice(), &pool) else {
+    let Ok(replay) = play(alloc, &device, tables, racks, events.as_slice(), &pool) else {
         return Err(Ending::NoMemory);
     };
-    let head = file_head(alloc, &config, device_frames)?;
+    let head = file_head(alloc, container, &device, device_frames)?;
     let written = write_all(files, out, name, &head, &replay.text, &replay.lines);
     let Ok(()) = written else {
         return Err(Ending::CannotWrite);
@@ -151,19 +165,24 @@ pub fn run_script<B: Feeder, F: Files, K: Sink>(
 }
 
 // What stands before the frames of a device file.
-fn file_head(alloc: Global, config: &Config, frames: u32) -> Result<Vec<u8>, Ending>
-    requires limits { IsInLimits (seen config.now.device) }
-    requires container { IsHeld config.now }
-    requires frames { frames * device_frame_bytes (seen config.now.device) ≤ DEVICE_BYTES }
-    ensures ok { IfOk result (λ head. head.items
-        ≡ file_header config.now.container (seen config.now.device) frames) }
+fn file_head(
+    alloc: Global,
+    container: Container,
+    device: &Device,
+    frames: u32,
+) -> Result<Vec<u8>, Ending>
+    requires rate { IsRate device.now.settings.rate }
+    requires container { can_hold container device.now.settings ≡ true }
+    requires frames { frames * device_frame_bytes (unfiltered device.now) ≤ DEVICE_BYTES }
+    ensures ok { IfOk result (λ head. (filters : Filters)
+        → head.items ≡ file_header container (seen filters device.now) frames) }
     ensures err { IfErr result (λ ending. ending ≡ NoMemory) }
 {
     let mut head = Vec::new(alloc);
-    if config.container == Container::Raw {
+    if container == Container::Raw {
         return Ok(head);
     }
-    let bytes = header(&config.device.settings, frames);
+    let bytes = header(&device.settings, frames);
     match head.extend_from_slice(&bytes) {
         Ok(()) => Ok(head),
         Err(_) => Err(Ending::NoMemory),

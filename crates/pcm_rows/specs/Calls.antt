@@ -8,7 +8,7 @@ use Rattle.pcm_format.specs.declared.settings.Settings.{Settings}
 use Rattle.pcm_desk.specs.declared.book.Book.{Book}
 use Rattle.pcm_desk.specs.declared.book.State.{State}
 use Rattle.pcm_desk.specs.Desk.{desk_at_start, book_at}
-use Rattle.pcm_desk.specs.Device.{DeviceSeen}
+use Rattle.pcm_desk.specs.Device.{DeviceSeen, no_filters}
 use Rattle.pcm_desk.specs.Events.{after_all}
 use Rattle.pcm_desk.specs.Usual.{usual_settings}
 use Rattle.pcm_sound.specs.DeviceList.{device_text}
@@ -24,7 +24,7 @@ use Rattle.pcm_verdict.specs.Transcript.{transcript}
 
 -- a ring of four frames, where a row looks at single frames
 abbrev pub small_device : DeviceSeen
-small_device = record { settings = usual_settings; slots = 4; ring = 4; block = 2; quality = 1 }
+small_device = record { settings = usual_settings; slots = 4; ring = 4; block = 2; quality = 1; filters = no_filters }
 
 -- an open with the settings of the device
 abbrev pub opens : ℕ → Event

@@ -1,20 +1,24 @@
 -- Scripts with one client at another rate than the device's.
-use Rattle.std.specs.Prelude.{ℕ, List, [], ◌∷◌, codes, Some, None, true}
+use Rattle.std.specs.Prelude.{ℕ, zero, suc, ◌+◌, List, [], ◌∷◌, ◌++◌, codes, replicate, Some, None, true}
 use Rattle.pcm_oss.specs.declared.event.Event.{Event}
-use Rattle.pcm_oss.specs.declared.event.Event.TheVariants.{Open, Write, Close, Intr}
+use Rattle.pcm_oss.specs.declared.event.Event.TheVariants.{Open, Write, Ioctl, Close, Intr}
+use Rattle.pcm_oss.specs.declared.request.Request.TheVariants.{SetFragment, Sync}
 use Rattle.pcm_wave.specs.declared.pool.Source.TheVariants.{Inline}
 use Rattle.pcm_oss.specs.declared.event.Way.TheVariants.{Play}
 use Rattle.pcm_format.specs.declared.format.Format.TheVariants.{S16Le, S32Le}
 use Rattle.pcm_format.specs.declared.layout.Layout.TheVariants.{One, Two, Eight}
 use Rattle.pcm_format.specs.declared.settings.Settings.{Settings}
 use Rattle.pcm_desk.specs.declared.book.Book.{Book}
-use Rattle.pcm_desk.specs.declared.book.State.TheVariants.{Free, Running, Draining}
+use Rattle.pcm_desk.specs.declared.book.State.TheVariants.{Free, Setup, Running, Draining}
 use Rattle.pcm_desk.specs.declared.device.TheConstants.{OPENING}
 use Rattle.pcm_desk.specs.Device.{DeviceSeen}
+use Rattle.pcm_desk.specs.Usual.{usual_device}
 use Rattle.pcm_sound.specs.Runs.{Run}
 use Rattle.pcm_script.specs.declared.script.Script.{Script}
 use Rattle.pcm_rows.specs.Calls.{book_in, joined, piece, small_device}
 use Rattle.pcm_rows.specs.ClientFormats.{client_script}
+use Rattle.pcm_rows.specs.FilterRows.{sixty_four_taps}
+use Rattle.pcm_rows.specs.Stages.{two_taps}
 
 -- an open without settings, which is 8000 frames of one byte each second: 0, 6 and -6
 abbrev pub opening_text : List ℕ
@@ -113,3 +117,62 @@ wide_events = Open 0 Play wide_settings ∷ Write 0 Inline 0 4096 ∷ Intr 254 �
 -- its book while it runs
 abbrev pub wide_book : ℕ → ℕ → ℕ → ℕ → Book
 wide_book written eaten given underruns = record (book_in wide_settings Running written eaten given) { underruns = underruns }
+
+-- a device of one channel of 32 bits, whose filter doubles rates with two taps
+abbrev pub filtered_device : DeviceSeen
+filtered_device = record usual_device { settings = record { format = S32Le; layout = One; rate = 48000 }; quality = 2; filters = two_taps }
+
+-- half its rate
+abbrev pub filtered_settings : Settings
+filtered_settings = record { format = S32Le; layout = One; rate = 24000 }
+
+-- two frames: -3 and 4
+abbrev pub filtered_text : List ℕ
+filtered_text = joined (
+    codes "open 0 play s32le 1 24000" ∷
+    codes "write 0 fdffffff04000000" ∷
+    codes "ioctl 0 sync" ∷
+    codes "intr 1024" ∷
+    codes "intr 4" ∷ [])
+
+abbrev pub filtered_script : Script
+filtered_script = record {
+  events = Open 0 Play filtered_settings ∷ Write 0 Inline 0 8 ∷ Ioctl 0 Sync ∷ Intr 1024 ∷ Intr 4 ∷ [];
+  inline_bytes = 0xfd ∷ 0xff ∷ 0xff ∷ 0xff ∷ 4 ∷ 0 ∷ 0 ∷ 0 ∷ [];
+  device_frames = 1028;
+}
+
+abbrev pub filtered_lines : List ℕ
+filtered_lines = joined (
+    codes "1: ok 0" ∷ codes "2: ok 8" ∷ codes "3: ok" ∷ codes "4: ok 1024" ∷ codes "5: ok 4" ∷ [])
+
+-- its book once both frames were played
+abbrev pub filtered_book : Book
+filtered_book = record (book_in filtered_settings Setup 0 0 0) { done = 8 }
+
+-- a device of eight channels over a ring of four frames, whose filter has 64 taps
+abbrev pub ahead_device : DeviceSeen
+ahead_device = record small_device { settings = record wide_settings { rate = 48000 }; quality = 2; filters = sixty_four_taps }
+
+-- a frame of eight channels: 256, 257 and so on
+abbrev pub ahead_frame : List ℕ
+ahead_frame =
+    0 ∷ 1 ∷ 0 ∷ 0 ∷ 1 ∷ 1 ∷ 0 ∷ 0 ∷ 2 ∷ 1 ∷ 0 ∷ 0 ∷ 3 ∷ 1 ∷ 0 ∷ 0
+    ∷ 4 ∷ 1 ∷ 0 ∷ 0 ∷ 5 ∷ 1 ∷ 0 ∷ 0 ∷ 6 ∷ 1 ∷ 0 ∷ 0 ∷ 7 ∷ 1 ∷ 0 ∷ 0 ∷ []
+
+-- so many frames, each written alone and followed by an interrupt of one frame
+abbrev pub frame_by_frame : ℕ → ℕ → List Event
+frame_by_frame place zero = []
+frame_by_frame place (suc count) = Write 0 Inline place 32 ∷ Intr 1 ∷ frame_by_frame (place + 32) count
+
+-- 33 frames at half the rate, over a client's ring that has room for one, and the frame of the mix behind the last one
+abbrev pub ahead_script : Script
+ahead_script = record {
+  events = Open 0 Play wide_settings ∷ Ioctl 0 (SetFragment 0x00020004) ∷ frame_by_frame 0 33 ++ Intr 4 ∷ [];
+  inline_bytes = ahead_frame ++ replicate 1024 0;
+  device_frames = 37;
+}
+
+-- its book while it runs
+abbrev pub ahead_book : ℕ → ℕ → ℕ → Book
+ahead_book written eaten given = record (wide_book written eaten given 32) { fragments = record { log = 4; count = 2 } }

@@ -1,10 +1,13 @@
 -- A configuration that settles all, and what it settles.
-use Rattle.std.specs.Prelude.{ℕ, List, [], ◌∷◌, codes, Some}
+use Rattle.std.specs.Prelude.{ℕ, pos, negsuc, List, [], ◌∷◌, codes, Some}
 use Rattle.pcm_format.specs.declared.format.Format.TheVariants.{S24Le}
 use Rattle.pcm_format.specs.declared.layout.Layout.TheVariants.{Six}
+use Rattle.pcm_feeder.specs.declared.table.Table.{Table}
+use Rattle.pcm_desk.specs.Device.{no_filters}
 use Rattle.pcm_config.specs.declared.config.Config.{Config}
 use Rattle.pcm_config.specs.declared.config.Container.TheVariants.{Wav}
 use Rattle.pcm_config.specs.declared.config.FilePath.{FilePath}
+use Rattle.pcm_config.specs.Configs.{usual_config}
 use Rattle.pcm_rows.specs.Calls.{joined}
 
 -- all that may be settled
@@ -44,8 +47,21 @@ whole_config = record {
     play_slots = 16;
     quality = 4;
   };
+  tables = no_filters;
   container = Wav;
   record_slots = 0;
   capture = Some (codes "room");
   files = whole_files;
 }
+
+-- a filter of two rows for any rates
+abbrev pub half_way : Table
+half_way = record { src = 0; dst = 0; phases = 2; taps = 2; shift = 1; coefs = pos 2 ∷ pos 0 ∷ pos 1 ∷ pos 1 ∷ [] }
+
+-- a filter between the furthest rates, with the greatest shift and coefficients
+abbrev pub widest : Table
+widest = record { src = 4000; dst = 192000; phases = 1; taps = 2; shift = 30; coefs = negsuc 16777215 ∷ pos 16777216 ∷ [] }
+
+-- what is usual, but for the filters
+abbrev pub config_of_filters : List Table → Config
+config_of_filters list = record usual_config { tables = record { list = list } }

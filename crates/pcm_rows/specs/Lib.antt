@@ -12,6 +12,7 @@ pub mod Requests
 pub mod RequestTable
 pub mod Stages
 pub mod PlanRows
+pub mod FilterRows
 pub mod Waves
 pub mod Configurations
 pub mod ConversionRows

@@ -6,11 +6,10 @@ use Rattle.pcm_format.specs.declared.layout.Layout.TheVariants.{One, Two}
 use Rattle.pcm_format.specs.declared.settings.Settings.{Settings}
 use Rattle.pcm_format.specs.Frames.{Frame}
 use Rattle.pcm_desk.specs.Usual.{usual_device}
-use Rattle.pcm_desk.specs.Device.{DeviceSeen}
+use Rattle.pcm_desk.specs.Device.{DeviceSeen, no_filters}
 use Rattle.pcm_feeder.specs.declared.stage.Spec.TheVariants.{Matrix, Linear, Volume}
 use Rattle.pcm_feeder.specs.Filters.{Filters}
 use Rattle.pcm_plan.specs.Plans.{PlanSeen, plan_play}
-use Rattle.pcm_rows.specs.Stages.{no_filters}
 
 -- settings of 16 bits
 abbrev pub sixteen_bits : Layout → ℕ → Settings

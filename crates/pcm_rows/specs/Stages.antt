@@ -1,6 +1,7 @@
 -- Stages of a chain over streams of one channel, and what comes out.
 use Rattle.std.specs.Prelude.{ℕ, ℤ, pos, List, [], ◌∷◌, map}
 use Rattle.pcm_format.specs.Frames.{Frame}
+use Rattle.pcm_desk.specs.Device.{no_filters}
 use Rattle.pcm_feeder.specs.declared.stage.Gain.{Gain}
 use Rattle.pcm_feeder.specs.declared.stage.Spec.{Spec}
 use Rattle.pcm_feeder.specs.Filters.{Filters}
@@ -17,10 +18,6 @@ mono samples = map (λ sample. sample ∷ []) samples
 -- half as loud on the right side
 abbrev pub half_right : Gain
 half_right = record { left = 65536; right = 32768 }
-
--- no filter
-abbrev pub no_filters : Filters
-no_filters = record { list = [] }
 
 -- two phases of two taps for a doubled rate, coefficients in halves
 abbrev pub two_taps : Filters

@@ -2,11 +2,11 @@
 #![tactic(auto, unfolding(crate::proofs::Computing::row))]
 
 ghost use Rattle.std.specs.Prelude.{◌≡◌, codes, Ok, [], ◌∷◌};
-ghost use Rattle.pcm_config.specs.declared.fault.ConfigKind.TheVariants.{Capture, Container, Key, Kind, Name, Range, Toml, Unbuilt};
+ghost use Rattle.pcm_config.specs.declared.fault.ConfigKind.TheVariants.{Capture, Coef, Container, Count, Key, Kind, Missing, Name, Range, Shape, Toml};
 ghost use Rattle.pcm_config.specs.declared.place.ConfigPlace.TheVariants.{Device, DeviceCapture, DeviceChannels, DeviceContainer, DeviceFormat, DeviceHwBlock, DeviceHwBlocks, DeviceRate, Files, Tables, Top, Vchans, VchansPlay, VchansQuality, VchansRecord};
 ghost use Rattle.pcm_config.specs.Configs.{config_read, usual_config};
 ghost use Rattle.pcm_config.specs.Judgements.{refused};
-ghost use Rattle.pcm_rows.specs.Configurations.{whole_config, whole_text};
+ghost use Rattle.pcm_rows.specs.Configurations.{config_of_filters, half_way, whole_config, whole_text, widest};
 
 /// All that may be settled, and nothing.
 pub fn configuration_that_settles_all()
@@ -24,13 +24,44 @@ pub fn configurations_that_are_no_toml()
 
 /// Keys that aren't there, and tables that are none, in the order in which they are judged.
 pub fn keys_and_tables_of_a_configuration()
-    ensures unbuilt { config_read (codes "nosuch = 1\ntables = 1\n") ≡ refused Unbuilt Tables }
     ensures top { config_read (codes "device = 1\nnosuch = 1\n") ≡ refused Key Top }
     ensures device { config_read (codes "vchans = 1\ndevice = []\n") ≡ refused Kind Device }
     ensures vchans { config_read (codes "files = 1\nvchans = 1\n") ≡ refused Kind Vchans }
     ensures files { config_read (codes "files = 1\n[device]\nnosuch = 1\n") ≡ refused Kind Files }
+    ensures filters { config_read (codes "tables = 1\n[device]\nnosuch = 1\n") ≡ refused Kind Tables }
+    ensures filter { config_read (codes "tables = [1]\n[device]\nnosuch = 1\n") ≡ refused Kind Tables }
     ensures device_key { config_read (codes "vchans.nosuch = 1\n[device]\nnosuch = 1\n") ≡ refused Key Device }
+    ensures filter_key { config_read (codes "[device]\nrate = 1\n[[tables]]\ntaps = 2\n") ≡ refused Key Tables }
     ensures vchans_key { config_read (codes "vchans.nosuch = 1\n[device]\nrate = 1\n") ≡ refused Key Vchans }
+{}
+
+/// A filter for any rates, and one for two.
+pub fn filters_that_are_settled()
+    ensures any { config_read (codes "[[tables]]\nshift = 1\nrows = [[2, 0], [1, 1]]\n")
+        ≡ Ok (config_of_filters (half_way ∷ [])) }
+    ensures both { config_read (codes "[[tables]]\nrows = [[-16777216, 16777216]]\nshift = 30\nsrc = 4000\ndst = 192000\n[[tables]]\nshift = 1\nrows = [[2, 0], [1, 1]]\n")
+        ≡ Ok (config_of_filters (widest ∷ half_way ∷ [])) }
+    ensures none { config_read (codes "tables = []\n") ≡ Ok usual_config }
+{}
+
+/// What is wrong with a filter, in the order in which it is judged.
+pub fn filters_that_are_refused()
+    ensures count { config_read (codes "[[tables]]\n[[tables]]\n[[tables]]\n[[tables]]\n[[tables]]\n") ≡ refused Count Tables }
+    ensures no_shift { config_read (codes "[[tables]]\nrows = 1\n") ≡ refused Missing Tables }
+    ensures no_rows { config_read (codes "[[tables]]\nshift = \"1\"\n") ≡ refused Missing Tables }
+    ensures one_rate { config_read (codes "[[tables]]\ndst = 48000\nshift = 1\nrows = [[1, 1]]\n") ≡ refused Missing Tables }
+    ensures kind { config_read (codes "[[tables]]\nshift = 0\nrows = [[1], 1]\n") ≡ refused Kind Tables }
+    ensures number { config_read (codes "[[tables]]\nshift = 0\nrows = [[1.0]]\n") ≡ refused Kind Tables }
+    ensures shift { config_read (codes "[[tables]]\nshift = 31\nrows = []\n") ≡ refused Range Tables }
+    ensures rate { config_read (codes "[[tables]]\nsrc = 0\ndst = 0\nshift = 1\nrows = []\n") ≡ refused Range Tables }
+    ensures no_row { config_read (codes "[[tables]]\nshift = 1\nrows = []\n") ≡ refused Shape Tables }
+    ensures odd { config_read (codes "[[tables]]\nshift = 1\nrows = [[99999999]]\n") ≡ refused Shape Tables }
+    ensures unequal { config_read (codes "[[tables]]\nshift = 1\nrows = [[1, 1], [1, 1, 1, 1]]\n") ≡ refused Shape Tables }
+    ensures coef { config_read (codes "[[tables]]\nshift = 1\nrows = [[16777217, 0]]\n") ≡ refused Coef Tables }
+    ensures negative { config_read (codes "[[tables]]\nshift = 1\nrows = [[0, -16777217]]\n") ≡ refused Coef Tables }
+    // A filter is judged wholly before the next, and all of them before the container.
+    ensures first { config_read (codes "[[tables]]\nshift = 1\nrows = [[16777217, 0]]\n[[tables]]\nshift = 1\n") ≡ refused Coef Tables }
+    ensures container { config_read (codes "[device]\ncontainer = \"wav\"\nformat = \"s16be\"\n[[tables]]\nshift = 1\n") ≡ refused Missing Tables }
 {}
 
 /// A value of another kind is refused, whatever it holds.

@@ -4,14 +4,14 @@
 ghost use Rattle.std.specs.Prelude.{◌≡◌, ◌∷◌, [], pos};
 ghost use Rattle.pcm_format.specs.declared.format.Format.TheVariants.{S16Le};
 ghost use Rattle.pcm_format.specs.declared.layout.Layout.TheVariants.{One, Two, Six};
-ghost use Rattle.pcm_desk.specs.Device.{plan_between};
+ghost use Rattle.pcm_desk.specs.Device.{no_filters, plan_between};
 ghost use Rattle.pcm_desk.specs.Usual.{usual_device, usual_settings};
 ghost use Rattle.pcm_feeder.specs.declared.stage.Spec.TheVariants.{Matrix, Hold, Linear, Poly, Volume, Depth};
 ghost use Rattle.pcm_feeder.specs.Layouts.{unity};
 ghost use Rattle.pcm_plan.specs.Through.{outs};
 ghost use Rattle.pcm_rows.specs.ClientFormats.{at_usual_rate};
 ghost use Rattle.pcm_rows.specs.PlanRows.{sixteen_bits, wide_device, plan_by_lines, doubling_plan, downmix_plan, late_downmix_plan, downmix_frames};
-ghost use Rattle.pcm_rows.specs.Stages.{mono, no_filters, two_taps};
+ghost use Rattle.pcm_rows.specs.Stages.{mono, two_taps};
 
 /// A client with the device's settings goes through the volume and the depth, one of six channels
 /// through a matrix before, and a device of 32 bits has no depth.

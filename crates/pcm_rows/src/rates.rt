@@ -1,11 +1,11 @@
-//! Clients at another rate than the device's: lines are drawn between their frames.
+//! Clients at another rate than the device's: lines are drawn between their frames, or they go through a filter.
 #![tactic(auto, unfolding(crate::proofs::Computing::row))]
 
 ghost use Rattle.std.specs.Prelude.{◌≡◌, ◌∷◌, ◌++◌, [], codes, replicate, take};
 ghost use Rattle.pcm_desk.specs.Usual.{usual_device};
 ghost use Rattle.pcm_rows.specs.Calls.{small_device, accepted, judged, played, printed, book_after, story_after};
 ghost use Rattle.pcm_rows.specs.ClientFormats.{client_text, client_lines};
-ghost use Rattle.pcm_rows.specs.ClientRates.{opening_text, opening_script, opening_bytes, tail_text, tail_script, tail_lines, tail_book, tail_over_book, tail_run, narrow_device, downmix_text, downmix_script, downmix_lines, wide_events, wide_book};
+ghost use Rattle.pcm_rows.specs.ClientRates.{opening_text, opening_script, opening_bytes, tail_text, tail_script, tail_lines, tail_book, tail_over_book, tail_run, narrow_device, downmix_text, downmix_script, downmix_lines, wide_events, wide_book, filtered_device, filtered_text, filtered_script, filtered_lines, filtered_book, ahead_device, ahead_frame, ahead_script, ahead_book};
 
 /// An open without settings is one channel of unsigned bytes at 8000, so each of its frames makes
 /// six on both sides, of which the first is the frame itself.
@@ -42,4 +42,22 @@ pub fn shortage_at_half_the_rate()
     ensures all { book_after usual_device (take 3 wide_events) ≡ wide_book 4096 128 254 0 }
     ensures short { book_after usual_device (take 4 wide_events) ≡ wide_book 4096 128 254 1 }
     ensures late { book_after usual_device wide_events ≡ wide_book 4128 129 256 1 }
+{}
+
+/// A filter of two taps: each frame as it is, and then its mean with the next one. -3 and 4 give
+/// -3, 1, 4 and 2.
+pub fn two_taps_at_half_the_rate()
+    ensures verdict { judged filtered_device filtered_text ≡ accepted filtered_script }
+    ensures device { played filtered_device filtered_script ≡ replicate 4096 0
+        ++ 0xfd ∷ 0xff ∷ 0xff ∷ 0xff ∷ 1 ∷ 0 ∷ 0 ∷ 0 ∷ 4 ∷ 0 ∷ 0 ∷ 0 ∷ 2 ∷ 0 ∷ 0 ∷ 0 ∷ [] }
+    ensures lines { printed filtered_device filtered_script ≡ filtered_lines }
+    ensures over { book_after filtered_device (take 4 filtered_script.events) ≡ filtered_book }
+{}
+
+/// A filter of 64 taps eats 32 frames before it gives the first one, so that a ring of one frame is
+/// enough: it is short 32 times, and then the first frame is heard.
+pub fn sixty_four_taps_eat_ahead()
+    ensures before { book_after ahead_device (take 66 ahead_script.events) ≡ ahead_book 1024 32 0 }
+    ensures first { book_after ahead_device (take 68 ahead_script.events) ≡ ahead_book 1056 33 1 }
+    ensures device { played ahead_device ahead_script ≡ replicate 1152 0 ++ ahead_frame }
 {}

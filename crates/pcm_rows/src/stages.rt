@@ -3,11 +3,12 @@
 
 ghost use Rattle.std.specs.Prelude.{◌≡◌, ℤ, pos, negsuc, [], ◌∷◌};
 ghost use Rattle.pcm_format.specs.declared.layout.Layout.TheVariants as layouts;
+ghost use Rattle.pcm_desk.specs.Device.{no_filters};
 ghost use Rattle.pcm_feeder.specs.declared.stage.Spec.TheVariants as specs;
 ghost use Rattle.pcm_feeder.specs.Layouts.{unity};
 ghost use Rattle.pcm_rate.specs.Rates.{need, can, len};
 ghost use Rattle.pcm_feeder.specs.Stages.{rate_of};
-ghost use Rattle.pcm_rows.specs.Stages.{mono, half_right, no_filters, two_taps, first_outputs, first_feed};
+ghost use Rattle.pcm_rows.specs.Stages.{mono, half_right, two_taps, first_outputs, first_feed};
 
 /// Twice the rate by linear interpolation: between 0, 100 and the silence after them.
 pub fn linear_doubles()

@@ -5,3 +5,4 @@ pub mod Judgements
 pub mod Asked
 pub mod Kept
 pub mod Reading
+pub mod Fitting

@@ -1,7 +1,7 @@
 //! What each command asks for.
 
 ghost use Rattle.std.specs.Prelude.{◌≡◌, ◌∷◌, []};
-ghost use Rattle.pcm_desk.specs.Device.{seen};
+ghost use Rattle.pcm_desk.specs.Device.{unfiltered};
 ghost use Rattle.pcm_script.specs.Answers.{Asks};
 ghost use Rattle.pcm_script.specs.Commands.{close_line, command_line, interrupt_line, ioctl_line, line_event, open_line, send_line, write_line};
 ghost use Rattle.pcm_script.specs.Words.{lent};
@@ -28,7 +28,7 @@ pub(crate) fn line_event(
     files: &[DataFile],
     words: &[&[u8]],
 ) -> Result<Option<LineEvent>, LineFault>
-    ensures { Asks result (line_event (seen device.now) files.now (lent words.now)) }
+    ensures { Asks result (line_event (unfiltered device.now) files.now (lent words.now)) }
 {
     match words {
         [] => Ok(None),
@@ -45,7 +45,7 @@ fn command_line(
     arguments: &[&[u8]],
 ) -> Result<LineEvent, LineFault>
     ensures { Asks result
-        (command_line (seen device.now) files.now word.now (lent arguments.now)) }
+        (command_line (unfiltered device.now) files.now word.now (lent arguments.now)) }
 {
     if word == b"open".as_slice() {
         Ok(open_line(arguments)?)
@@ -212,7 +212,7 @@ fn close_line(arguments: &[&[u8]]) -> Result<LineEvent, ScriptKind>
 
 #[tactic(auto, unfolding(crate::specs::Commands::interrupt_line))]
 fn interrupt_line(device: &Device, arguments: &[&[u8]]) -> Result<LineEvent, ScriptKind>
-    ensures { result ≡ interrupt_line (seen device.now) (lent arguments.now) }
+    ensures { result ≡ interrupt_line (unfiltered device.now) (lent arguments.now) }
 {
     let frames = match arguments {
         [] => device.block_frames,

@@ -2,7 +2,7 @@
 
 ghost use Rattle.std.specs.Prelude.{◌≡◌, ◌≤◌, length};
 ghost use Rattle.pcm_desk.specs.declared.limits.TheConstants.{WRITE_BYTES};
-ghost use Rattle.pcm_desk.specs.Device.{seen};
+ghost use Rattle.pcm_desk.specs.Device.{unfiltered};
 ghost use Rattle.pcm_script.specs.Answers.{Gives};
 ghost use Rattle.pcm_script.specs.Collecting.{has_room, own_bytes, with_event};
 ghost use Rattle.pcm_script.specs.Lines.{empty_script};
@@ -64,7 +64,7 @@ impl Draft {
     // Adds the event of a line, where the limits allow it and it is built.
     pub(crate) fn add(&mut self, device: &Device, line: &LineEvent) -> Result<(), LineFault>
         requires { length (own_bytes line.now) ≤ WRITE_BYTES }
-        ensures { Gives (λ _. self.new) result (with_event (seen device.now) self.old line.now) }
+        ensures { Gives (λ _. self.new) result (with_event (unfiltered device.now) self.old line.now) }
     {
         if !self.has_room(device, line.frames()) {
             return Err(LineFault::Refused(ScriptKind::Long));
@@ -82,7 +82,7 @@ impl Draft {
 
     // Whether there is room for one event more, which takes so many frames.
     fn has_room(&self, device: &Device, frames: u32) -> bool
-        ensures { result ≡ has_room (seen device.now) self.now frames }
+        ensures { result ≡ has_room (unfiltered device.now) self.now frames }
     {
         let frames = u64::from(self.device_frames) + u64::from(frames);
         self.events.len() < EVENTS && frames * device.settings.frame_bytes() as u64 <= DEVICE_BYTES

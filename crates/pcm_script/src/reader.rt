@@ -2,7 +2,7 @@
 
 ghost use Rattle.std.specs.Prelude.{◌≡◌, ◌<◌, ◌≤◌, length, IfOk};
 ghost use Rattle.pcm_desk.specs.declared.limits.TheConstants.{DEVICE_BYTES, EVENTS};
-ghost use Rattle.pcm_desk.specs.Device.{seen};
+ghost use Rattle.pcm_desk.specs.Device.{unfiltered};
 ghost use Rattle.pcm_desk.specs.Events.{all_frames_taken};
 ghost use Rattle.pcm_script.specs.Answers.{Gives, Reads};
 ghost use Rattle.pcm_script.specs.Collecting.{with_line};
@@ -32,12 +32,12 @@ pub fn script_of(
     requires ring { device.now.block_frames ≤ device.now.ring_frames }
 
     // Only memory is free: else the answer is the one that the text, the device and the files determine.
-    ensures read { Reads result (script_read (seen device.now) files.now bytes.now) }
+    ensures read { Reads result (script_read (unfiltered device.now) files.now bytes.now) }
 
     // What a script keeps.
-    ensures fits { IfOk result (λ script. AllFit (seen device.now) files.now script) }
+    ensures fits { IfOk result (λ script. AllFit (unfiltered device.now) files.now script) }
     ensures counts { IfOk result (λ script. length script.events ≤ EVENTS) }
-    ensures frames { IfOk result (λ script. bytes_taken (seen device.now) script ≤ DEVICE_BYTES) }
+    ensures frames { IfOk result (λ script. bytes_taken (unfiltered device.now) script ≤ DEVICE_BYTES) }
     ensures sum { IfOk result (λ script. script.device_frames ≡ all_frames_taken script.events) }
 {
     if bytes.len() > TEXT_BYTES {
@@ -67,8 +67,8 @@ fn read_line(
     text: &[u8],
 ) -> Result<(), LineFault>
     ensures { Gives (λ _. draft.new) result
-        (with_line (seen device.now) draft.old
-        (line_event (seen device.now) files.now (words_of text.now))) }
+        (with_line (unfiltered device.now) draft.old
+        (line_event (unfiltered device.now) files.now (words_of text.now))) }
 {
     let words = words_of(alloc, text)?;
     match line_event(alloc, device, files, &words)? {

@@ -369,7 +369,7 @@ pub valid-start : (device : DeviceSeen) → IsDevice device → StoryIsValid dev
 valid-start device d = record {
   limits = d;
   slots = λ slot. subst (λ (b : Book). SlotIsValid device 0 b []) (sym (get_or-same (play_slots device) slot (unopened device))) (record {
-    settings = d;
+    settings = d.rate;
     started = λ e. cc;
     newest = λ h. absurd (omega arith);
     pieces = All-nil (RunIsValid device 0);

@@ -46,7 +46,7 @@ const ROWS: [Row; 24] = [
     (b"device.container = \"wav\"", Ok((48000, 1024, 0))),
     (b"#\xff", Err(("toml", "top"))),
     (b"[device]\n[device]\n", Err(("toml", "top"))),
-    (b"[[tables]]\n", Err(("unbuilt", "tables"))),
+    (b"[[tables]]\n", Err(("missing", "tables"))),
     (b"Device = {}", Err(("key", "top"))),
     (b"[[device]]\n", Err(("kind", "device"))),
     (b"vchans = []", Err(("kind", "vchans"))),

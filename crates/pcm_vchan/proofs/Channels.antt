@@ -11,10 +11,11 @@ use Rattle.std.specs.List.{position_or_len, prefix_len}
 use Rattle.std.proofs.lemmas.List.{get_or-map, map-set, length-map, length-set, set-get_or, get_or_default, same_lists}
 use Rattle.std.proofs.lemmas.Bool.{cases_eq}
 use Rattle.pcm_feeder.specs.declared.kind.Kind.{Kind}
+use Rattle.pcm_feeder.specs.Filters.{Filters}
 use Rattle.pcm_feeder.specs.Kept.{Kept}
 use Rattle.pcm_desk.specs.declared.book.Book.{Book}
 use Rattle.pcm_desk.specs.declared.device.Device.{Device}
-use Rattle.pcm_desk.specs.Device.{seen}
+use Rattle.pcm_desk.specs.Device.{DeviceSeen}
 use Rattle.pcm_desk.specs.Books.{is_free}
 use Rattle.pcm_desk.specs.Desk.{least_free, mixing}
 use Rattle.pcm_play.specs.declared.channel.PlayChannelOf.{PlayChannelOf}
@@ -66,17 +67,18 @@ own_set {B = B} device channels at old new there is same own = λ slot other wit
     each_set How channels at old new there is (λ e. same ∙ e) (λ channel e. e) slot other before (own slot other before)
 
 -- so channels that were ready are ready after an event
-ready-moved : {B : Type 0} (kind : B → Kind) (kept : B → Kept) (more : List ℕ) (frames : ℕ) (old new : PlayChannelOf B) → Moves kind kept more frames old new → IsReady kind kept old → IsReady kind kept new
-ready-moved kind kept more frames old new m r = record {
+ready-moved : {B : Type 0} (kind : B → Kind) (kept : B → Kept) (filters : Filters) (more : List ℕ) (frames : ℕ) (old new : PlayChannelOf B) → Moves kind kept filters more frames old new → IsReady kind kept filters old → IsReady kind kept filters new
+ready-moved kind kept filters more frames old new m r = record {
   kinds = m.kinds r.kinds;
+  planned = m.planned r.planned;
   stands = record { bytes = take new.book.written (r.stands.bytes ++ more); stands = m.stands r.stands.bytes r.stands.stands };
 }
 
-pub ready-after : {B : Type 0} (kind : B → Kind) (kept : B → Kept) (more : List ℕ) (frames : ℕ) (old new : List (PlayChannelOf B)) → length new ≡ length old → Each (Moves kind kept more frames) old new
-    → All (IsReady kind kept) old → All (IsReady kind kept) new
-ready-after kind kept more frames old new same each ready = λ slot other within.
+pub ready-after : {B : Type 0} (kind : B → Kind) (kept : B → Kept) (filters : Filters) (more : List ℕ) (frames : ℕ) (old new : List (PlayChannelOf B)) → length new ≡ length old → Each (Moves kind kept filters more frames) old new
+    → All (IsReady kind kept filters) old → All (IsReady kind kept filters) new
+ready-after kind kept filters more frames old new same each ready = λ slot other within.
     let there : slot < length old = omega arith in
-    ready-moved kind kept more frames (get_or old slot other) (get_or new slot other) (each slot other there) (ready slot other there)
+    ready-moved kind kept filters more frames (get_or old slot other) (get_or new slot other) (each slot other there) (ready slot other there)
 
 -- some element of a list that has one
 pub some_channel : {B : Type 0} (channels : List (PlayChannelOf B)) (k : ℕ) → k < length channels → PlayChannelOf B
@@ -84,18 +86,18 @@ some_channel [] k h = absurd (omega arith)
 some_channel (channel ∷ channels) k h = channel
 
 -- the books after an interrupt
-pub books_of-mixed : {B : Type 0} (device : Device) (n : ℕ) (old new : List (PlayChannelOf B)) → length new ≡ length old → Each (λ (o : PlayChannelOf B) (c : PlayChannelOf B). c.book ≡ mixing (seen device) n o.book) old new
-    → books_of new ≡ map (mixing (seen device) n) (books_of old)
+pub books_of-mixed : {B : Type 0} (device : DeviceSeen) (n : ℕ) (old new : List (PlayChannelOf B)) → length new ≡ length old → Each (λ (o : PlayChannelOf B) (c : PlayChannelOf B). c.book ≡ mixing device n o.book) old new
+    → books_of new ≡ map (mixing device n) (books_of old)
 books_of-mixed {B = B} device n old new same each =
-    same_lists (books_of new) (map (mixing (seen device) n) (books_of old))
-    (length-map new (λ (c : PlayChannelOf B). c.book) ∙ same ∙ sym (length-map (books_of old) (mixing (seen device) n) ∙ length-map old (λ (c : PlayChannelOf B). c.book)))
+    same_lists (books_of new) (map (mixing device n) (books_of old))
+    (length-map new (λ (c : PlayChannelOf B). c.book) ∙ same ∙ sym (length-map (books_of old) (mixing device n) ∙ length-map old (λ (c : PlayChannelOf B). c.book)))
     (λ k d within.
     let there : k < length new = omega (arith, length-map new (λ (c : PlayChannelOf B). c.book)) in
     let before : k < length old = omega arith in
     let listed : k < length (books_of old) = omega (arith, length-map old (λ (c : PlayChannelOf B). c.book)) in
     let other : PlayChannelOf B = some_channel old k before in
     get_or-map (λ (c : PlayChannelOf B). c.book) new k other d there ∙ each k other before
-    ∙ ap (mixing (seen device) n) (sym (get_or-map (λ (c : PlayChannelOf B). c.book) old k other d before)) ∙ sym (get_or-map (mixing (seen device) n) (books_of old) k d d listed))
+    ∙ ap (mixing device n) (sym (get_or-map (λ (c : PlayChannelOf B). c.book) old k other d before)) ∙ sym (get_or-map (mixing device n) (books_of old) k d d listed))
 
 -- an element that is written back changes nothing of a vector
 pub vec_same : {X Z : Type 0} (v : Vec X Z) (at : ℕ) (x d : X) → x ≡ get_or v.items at d → with_item v at x ≡ v

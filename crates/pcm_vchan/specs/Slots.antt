@@ -1,5 +1,6 @@
 -- The channels of a device, by slot.
 use Rattle.std.specs.Prelude.{◌≡◌, ℕ, ◌<◌, List, length, map, slice_index_or, All}
+use Rattle.pcm_feeder.specs.Filters.{Filters}
 use Rattle.pcm_feeder.specs.Kept.{Kept}
 use Rattle.pcm_desk.specs.declared.book.Book.{Book}
 use Rattle.pcm_desk.specs.declared.device.Device.{Device}
@@ -19,6 +20,6 @@ abbrev pub Each : {B : Type 0} → (PlayChannelOf B → PlayChannelOf B → Type
 Each how old new = (slot : ℕ) (other : PlayChannelOf _) → slot < length old → how (slice_index_or old slot other) (slice_index_or new slot other)
 
 -- each channel stands for its book and the bytes of its slot
-abbrev pub AllStand : {B : Type 0} → (B → Kept) → List (PlayChannelOf B) → (ℕ → List ℕ) → Type 0
-AllStand kept channels streams = (slot : ℕ) (other : PlayChannelOf _) → slot < length channels
-    → ChannelStands kept (slice_index_or channels slot other) (slice_index_or channels slot other).book (streams slot)
+abbrev pub AllStand : {B : Type 0} → (B → Kept) → Filters → List (PlayChannelOf B) → (ℕ → List ℕ) → Type 0
+AllStand kept filters channels streams = (slot : ℕ) (other : PlayChannelOf _) → slot < length channels
+    → ChannelStands kept filters (slice_index_or channels slot other) (slice_index_or channels slot other).book (streams slot)

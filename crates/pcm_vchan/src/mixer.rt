@@ -5,7 +5,7 @@ ghost use Rattle.pcm_num.specs.Limit.{FitsBits};
 ghost use Rattle.pcm_format.specs.Formats.{bits_of};
 ghost use Rattle.pcm_format.specs.Layouts.{channels_of};
 ghost use Rattle.pcm_format.specs.Frames.{frame_bytes};
-ghost use Rattle.pcm_desk.specs.Device.{filters_of, seen};
+ghost use Rattle.pcm_desk.specs.Device.{seen};
 ghost use Rattle.pcm_desk.specs.Desk.{mixing};
 ghost use Rattle.pcm_sound.specs.Blocks.{turned};
 ghost use Rattle.pcm_play.specs.declared.channel.PlayChannelOf.{PlayChannelOf};
@@ -29,8 +29,7 @@ fn mix_channels<B: Feeder>(
 )
     requires some { 0 < n }
     requires own { AreOf device channels.old }
-    requires tables { tables.now ≡ filters_of (seen device) }
-    requires ready { All (IsReady B.kind B.kept) channels.old }
+    requires ready { All (IsReady B.kind B.kept tables.now) channels.old }
     requires frames { length frames.old ≡ n * channels_of device.settings.layout }
     requires sum { length sum.old ≡ n * channels_of device.settings.layout }
     requires fits { All (FitsBits (bits_of device.settings.format)) sum.old }
@@ -38,10 +37,10 @@ fn mix_channels<B: Feeder>(
     requires counted { All (λ channel. channel.book.done + channel.book.written
         < 2 ^ 64) channels.old }
     ensures own { AreOf device channels.new }
-    ensures moves { Each (Moves B.kind B.kept [] n) channels.old channels.new }
-    ensures books { Each (λ old new. new.book ≡ mixing (seen device) n old.book) channels.old channels.new }
-    ensures sum { (streams : ℕ → List ℕ) → AllStand B.kept channels.old streams
-        → sum.new ≡ mixed_onto (seen device) n (books_of channels.old) streams (length channels.old) sum.old }
+    ensures moves { Each (Moves B.kind B.kept tables.now [] n) channels.old channels.new }
+    ensures books { Each (λ old new. new.book ≡ mixing (seen tables.now device) n old.book) channels.old channels.new }
+    ensures sum { (streams : ℕ → List ℕ) → AllStand B.kept tables.now channels.old streams
+        → sum.new ≡ mixed_onto (seen tables.now device) n (books_of channels.old) streams (length channels.old) sum.old }
     ensures fits { All (FitsBits (bits_of device.settings.format)) sum.new }
 {
     for slot in 0..channels.len() {
@@ -62,9 +61,8 @@ fn mix_slot<B: Feeder>(
     requires some { 0 < n }
     requires there { slot < length channels.old }
     requires own { (other : PlayChannelOf B) → (slice_index_or channels.old slot other).device ≡ device }
-    requires tables { tables.now ≡ filters_of (seen device) }
     requires ready { (other : PlayChannelOf B)
-        → IsReady B.kind B.kept (slice_index_or channels.old slot other) }
+        → IsReady B.kind B.kept tables.now (slice_index_or channels.old slot other) }
     requires frames { length frames.old ≡ n * channels_of device.settings.layout }
     requires sum { length sum.old ≡ n * channels_of device.settings.layout }
     requires fits { All (FitsBits (bits_of device.settings.format)) sum.old }
@@ -76,14 +74,14 @@ fn mix_slot<B: Feeder>(
     ensures others { (at : ℕ) (other : PlayChannelOf B) → at ≢ slot
         → slice_index_or channels.new at other ≡ slice_index_or channels.old at other }
     ensures own { (other : PlayChannelOf B) → (slice_index_or channels.new slot other).device ≡ device }
-    ensures moves { (other : PlayChannelOf B) → Moves B.kind B.kept [] n
+    ensures moves { (other : PlayChannelOf B) → Moves B.kind B.kept tables.now [] n
         (slice_index_or channels.old slot other) (slice_index_or channels.new slot other) }
     ensures book { (other : PlayChannelOf B) → (slice_index_or channels.new slot other).book
-        ≡ mixing (seen device) n (slice_index_or channels.old slot other).book }
+        ≡ mixing (seen tables.now device) n (slice_index_or channels.old slot other).book }
     ensures sum { (other : PlayChannelOf B) (bytes : List ℕ)
-        → ChannelStands B.kept (slice_index_or channels.old slot other)
+        → ChannelStands B.kept tables.now (slice_index_or channels.old slot other)
         (slice_index_or channels.old slot other).book bytes
-        → sum.new ≡ turned (seen device) n (slice_index_or channels.old slot other).book
+        → sum.new ≡ turned (seen tables.now device) n (slice_index_or channels.old slot other).book
         bytes sum.old }
     ensures fits { All (FitsBits (bits_of device.settings.format)) sum.new }
 {
@@ -102,8 +100,7 @@ pub fn mix_block<B: Feeder>(
 )
     requires some { 0 < n }
     requires own { AreOf device channels.old }
-    requires tables { tables.now ≡ filters_of (seen device) }
-    requires ready { All (IsReady B.kind B.kept) channels.old }
+    requires ready { All (IsReady B.kind B.kept tables.now) channels.old }
     requires bytes { n * frame_bytes device.settings ≤ length bytes.old }
     requires frames { n * channels_of device.settings.layout ≤ length frames.old }
     requires sum { n * channels_of device.settings.layout ≤ length sum.old }
@@ -111,12 +108,12 @@ pub fn mix_block<B: Feeder>(
     requires counted { All (λ channel. channel.book.done + channel.book.written
         < 2 ^ 64) channels.old }
     ensures own { AreOf device channels.new }
-    ensures moves { Each (Moves B.kind B.kept [] n) channels.old channels.new }
-    ensures books { Each (λ old new. new.book ≡ mixing (seen device) n old.book) channels.old channels.new }
-    ensures bytes { (streams : ℕ → List ℕ) → AllStand B.kept channels.old streams
+    ensures moves { Each (Moves B.kind B.kept tables.now [] n) channels.old channels.new }
+    ensures books { Each (λ old new. new.book ≡ mixing (seen tables.now device) n old.book) channels.old channels.new }
+    ensures bytes { (streams : ℕ → List ℕ) → AllStand B.kept tables.now channels.old streams
         → take (n * frame_bytes device.settings) bytes.new
-        ≡ block_bytes (seen device)
-        (block_of (seen device) n (books_of channels.old) streams (length channels.old)) }
+        ≡ block_bytes (seen tables.now device)
+        (block_of (seen tables.now device) n (books_of channels.old) streams (length channels.old)) }
 {
     let samples = n * device.settings.layout.channels();
     let bytes = &mut bytes[..n * device.settings.frame_bytes()];

@@ -7,7 +7,7 @@ ghost use Rattle.pcm_format.specs.Layouts.{channels_of};
 ghost use Rattle.pcm_feeder.specs.Limits.{IsRate};
 ghost use Rattle.pcm_feeder.specs.Racks.{AreRacks, list_of};
 ghost use Rattle.pcm_desk.specs.declared.limits.TheConstants.{RING_FRAMES, SLOTS};
-ghost use Rattle.pcm_desk.specs.Device.{IsDevice, filters_of, seen};
+ghost use Rattle.pcm_desk.specs.Device.{seen};
 ghost use Rattle.pcm_desk.specs.Books.{is_free};
 ghost use Rattle.pcm_desk.specs.Desk.{least_free, mixing};
 ghost use Rattle.pcm_vchan.specs.Slots.{AllStand, AreOf, Each};
@@ -55,17 +55,16 @@ impl<B: Feeder> ParentOf<B> {
         tables: &Tables,
         racks: RacksOf<B>,
     ) -> Result<ParentOf<B>, AllocError>
-        requires tables { tables.now ≡ filters_of (seen device) }
-        requires device { IsDevice (seen device) }
+        requires device { IsRate device.settings.rate }
         requires ring { device.ring_frames ≤ RING_FRAMES }
         requires slots { device.play_slots ≤ SLOTS }
         requires kinds { AreRacks B.kind (list_of racks) }
         ensures device { IfOk result (λ made. made.device ≡ device) }
         ensures slots { IfOk result (λ made. length made.channels.items ≡ device.play_slots) }
         ensures channels { IfOk result
-            (λ made. All (IsUnopened B.kind B.kept device) made.channels.items) }
+            (λ made. All (IsUnopened B.kind B.kept tables.now device) made.channels.items) }
         ensures ring { IfOk result (λ made. made.ring.bytes
-            ≡ block_bytes (seen device) (silent_block (seen device) device.ring_frames)) }
+            ≡ block_bytes (seen tables.now device) (silent_block (seen tables.now device) device.ring_frames)) }
         ensures handed { IfOk result (λ made. made.handed ≡ 0) }
         ensures mixed { IfOk result (λ made. made.mixed ≡ 0) }
     {
@@ -93,9 +92,8 @@ impl<B: Feeder> ParentOf<B> {
     /// An opening begins in the least free slot.
     pub fn open_slot(&mut self, tables: &Tables, settings: Settings) -> Result<usize, Errno>
         requires rate { IsRate settings.rate }
-        requires tables { tables.now ≡ filters_of (seen self.old.device) }
         requires own { AreOf self.old.device self.old.channels.items }
-        requires ready { All (IsReady B.kind B.kept) self.old.channels.items }
+        requires ready { All (IsReady B.kind B.kept tables.now) self.old.channels.items }
         ensures found { result ≡ slot_or_busy (least_free (parent_books self.old)) }
         ensures books { parent_books self.new
             ≡ books_begun (least_free (parent_books self.old)) settings (parent_books self.old) }
@@ -104,7 +102,7 @@ impl<B: Feeder> ParentOf<B> {
         ensures slots { length self.new.channels.items ≡ length self.old.channels.items }
         ensures output { KeepsOutput self.old self.new }
         ensures refused { OnErr result (self.new ≡ self.old) }
-        ensures channels { Each (Moves B.kind B.kept [] 0)
+        ensures channels { Each (Moves B.kind B.kept tables.now [] 0)
             self.old.channels.items self.new.channels.items }
     {
         let Some(slot) = self.least_free() else {
@@ -125,12 +123,11 @@ impl<B: Feeder> ParentOf<B> {
 
     /// The device's interrupt: hands the oldest `n` frames over, and mixes as many from all channels.
     pub fn interrupt(&mut self, tables: &Tables, n: usize, out: &mut [u8])
-        requires tables { tables.now ≡ filters_of (seen self.old.device) }
         requires own { AreOf self.old.device self.old.channels.items }
         requires some { 0 < n }
         requires within { n ≤ self.old.device.ring_frames }
         requires out { length out.old ≡ n * frame_bytes self.old.device.settings }
-        requires ready { All (IsReady B.kind B.kept) self.old.channels.items }
+        requires ready { All (IsReady B.kind B.kept tables.now) self.old.channels.items }
         requires count { All (λ channel. channel.book.given + n < 2 ^ 64) self.old.channels.items }
         requires counted { All (λ channel. channel.book.done + channel.book.written
             < 2 ^ 64) self.old.channels.items }
@@ -139,18 +136,18 @@ impl<B: Feeder> ParentOf<B> {
         ensures device { self.new.device ≡ self.old.device }
         ensures own { AreOf self.new.device self.new.channels.items }
         ensures slots { length self.new.channels.items ≡ length self.old.channels.items }
-        ensures channels { Each (Moves B.kind B.kept [] n)
+        ensures channels { Each (Moves B.kind B.kept tables.now [] n)
             self.old.channels.items self.new.channels.items }
-        ensures books { Each (λ old new. new.book ≡ mixing (seen self.old.device) n old.book)
+        ensures books { Each (λ old new. new.book ≡ mixing (seen tables.now self.old.device) n old.book)
             self.old.channels.items self.new.channels.items }
         ensures handed { self.new.handed ≡ self.old.handed + n }
         ensures mixed { self.new.mixed ≡ self.old.mixed + n }
         ensures out { out.new
             ≡ take (n * frame_bytes self.old.device.settings) self.old.ring.bytes }
-        ensures ring { (streams : ℕ → List ℕ) → AllStand B.kept self.old.channels.items streams
+        ensures ring { (streams : ℕ → List ℕ) → AllStand B.kept tables.now self.old.channels.items streams
             → self.new.ring.bytes
             ≡ drop (n * frame_bytes self.old.device.settings) self.old.ring.bytes
-            ++ block_bytes (seen self.old.device) (block_of (seen self.old.device) n
+            ++ block_bytes (seen tables.now self.old.device) (block_of (seen tables.now self.old.device) n
             (parent_books self.old) streams (length self.old.channels.items)) }
     {
         let size = n * self.device.settings.frame_bytes();
@@ -193,12 +190,11 @@ fn free_channels<B: Feeder>(
     tables: &Tables,
     racks: Vec<RackOf<B>>,
 ) -> Result<Vec<PlayChannelOf<B>>, AllocError>
-    requires device { IsDevice (seen device) }
-    requires tables { tables.now ≡ filters_of (seen device) }
+    requires device { IsRate device.settings.rate }
     requires enough { device.play_slots ≤ vec_len racks }
     requires kinds { AreRacks B.kind racks.items }
     ensures slots { IfOk result (λ made. length made.items ≡ device.play_slots) }
-    ensures channels { IfOk result (λ made. All (IsUnopened B.kind B.kept device) made.items) }
+    ensures channels { IfOk result (λ made. All (IsUnopened B.kind B.kept tables.now device) made.items) }
 {
     let mut racks = racks;
     racks.truncate(device.play_slots as usize);

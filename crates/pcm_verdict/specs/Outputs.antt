@@ -9,7 +9,8 @@ use Rattle.pcm_wave.specs.Waves.{settings_of}
 use Rattle.pcm_convert.specs.Conversions.{converted_body}
 use Rattle.pcm_config.specs.declared.config.Container.{Container}
 use Rattle.pcm_config.specs.declared.config.Container.TheVariants.{Raw, Wav}
-use Rattle.pcm_desk.specs.Device.{DeviceSeen, device_settings, seen}
+use Rattle.pcm_config.specs.Configs.{device_seen}
+use Rattle.pcm_desk.specs.Device.{DeviceSeen, device_settings}
 use Rattle.pcm_sound.specs.DeviceList.{device_text}
 use Rattle.pcm_script.specs.Lines.{pool_of}
 use Rattle.pcm_verdict.specs.Transcript.{transcript}
@@ -36,12 +37,12 @@ file_header Wav device frames = header_of (device_settings device) frames
 -- the device file: its header, and the device's bytes
 abbrev pub device_file : Inputs → List ℕ
 device_file inputs =
-    file_header inputs.config.container (seen inputs.config.device) inputs.script.device_frames
-    ++ device_text (seen inputs.config.device) (inputs_pool inputs) inputs.script.events
+    file_header inputs.config.container (device_seen inputs.config) inputs.script.device_frames
+    ++ device_text (device_seen inputs.config) (inputs_pool inputs) inputs.script.events
 
 -- the replies to a script's events
 abbrev pub replies_printed : Inputs → List ℕ
-replies_printed inputs = transcript (seen inputs.config.device) (inputs_pool inputs) inputs.script.events
+replies_printed inputs = transcript (device_seen inputs.config) (inputs_pool inputs) inputs.script.events
 
 -- how many events a script has, and how many frames its interrupts take
 abbrev pub check_line : Inputs → List ℕ

@@ -16,7 +16,7 @@ use Rattle.pcm_config.specs.declared.config.Config.{Config}
 use Rattle.pcm_config.specs.declared.config.FilePath.{FilePath}
 use Rattle.pcm_config.specs.declared.fault.ConfigRefusal.{ConfigRefusal}
 use Rattle.pcm_config.specs.Configs.{config_read, usual_config}
-use Rattle.pcm_desk.specs.Device.{seen}
+use Rattle.pcm_desk.specs.Device.{unfiltered}
 use Rattle.pcm_script.specs.declared.fault.Refusal.{Refusal}
 use Rattle.pcm_script.specs.declared.script.Script.{Script}
 use Rattle.pcm_script.specs.Lines.{script_read}
@@ -84,11 +84,11 @@ abbrev pub or_bad_script : Result Script Refusal → Result Script Fault
 or_bad_script (Ok script) = Ok script
 or_bad_script (Err refusal) = Err (BadScript refusal)
 
--- the script of a name, for a device and data files
+-- the script of a name, for a device and data files; filters change nothing of what it may hold
 abbrev pub script_judged : Contents → Config → List DataFileSeen → List ℕ → Judged Script
 script_judged content config files name = do
   text ← read_file content name
-  judge (or_bad_script (script_read (seen config.device) files text))
+  judge (or_bad_script (script_read (unfiltered config.device) files text))
 
 -- What a script is run on.
 pub record Inputs : Type 0 where

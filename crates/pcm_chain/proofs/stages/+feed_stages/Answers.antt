@@ -45,8 +45,8 @@ feed_stages-requires g t c κs within =
     let some : 0 < length stages = search rules in
     let cut = stages-cut stages _ (λ none. absurd (omega (arith, none, some))) in
     let asks = ask-on g.B.Feeder.kept c.args.boxes.now c.feed_stage-given.new.boxes c.args.tables.now c.args.frames c.feed_stage-given.result c.args.want c.args.source (length c.args.out.now) stages _ _ cut
-    c.requires.boxes c.requires.limits c.requires.distinct c.requires.fitted c.requires.tables c.requires.offered c.requires.wanted c.requires.level c.requires.room c.feed_stage-given.ensures.most c.feed_stage-given.ensures.others in
-    (search rules, (within, (asks.boxes, (asks.limits, (asks.distinct, (asks.fitted, (c.requires.gain, (asks.tables, (rw c.channels_out.ensures asks.channels, (asks.offered, (c.requires.wanted, (asks.level, rw c.channels_out.ensures asks.room))))))))))))
+    c.requires.limits c.requires.distinct c.requires.fitted c.requires.tables c.requires.offered c.requires.wanted c.requires.level c.requires.room c.feed_stage-given.ensures.most c.feed_stage-given.ensures.others in
+    (search rules, (within, (asks.limits, (asks.distinct, (asks.fitted, (c.requires.gain, (asks.tables, (rw c.channels_out.ensures asks.channels, (asks.offered, (c.requires.wanted, (asks.level, rw c.channels_out.ensures asks.room)))))))))))
 
 pub returns : goal.returns
 returns g t c =

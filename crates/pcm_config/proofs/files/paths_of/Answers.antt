@@ -1,7 +1,8 @@
 use Rattle.std.proofs.Common.{◌≡◌, Some, option_copied, sym, ap, ◌∙◌, subst}
 use Rattle.toml.specs.Data.{as_str}
 use Rattle.toml.specs.View.{view}
-use Rattle.pcm_config.proofs.Entries.{files_seen, joined, seen-more}
+use Rattle.pcm_config.proofs.Entries.{files_seen, seen-more}
+use Rattle.pcm_config.proofs.Arrays.{joined}
 use Rattle.pcm_config.proofs.Order.{files-in-order}
 use Rattle.pcm_config.proofs.files.paths_of.Goals as goal
 

@@ -10,7 +10,7 @@ use Rattle.pcm_engine.proofs.Turning.{desk-turned, reply-turned}
 use Rattle.pcm_engine.proofs.clients.write.Goals as goal
 
 pub returns-in_default-clause-channels : goal.returns-in_default-clause-channels
-returns-in_default-clause-channels g c = λ slot other there. moves-nothing g.B.Feeder.kind g.B.Feeder.kept c.args.bytes.now 0 (get_or c.args.parent.now.channels.items slot other)
+returns-in_default-clause-channels g c = λ filters slot other there. moves-nothing g.B.Feeder.kind g.B.Feeder.kept filters c.args.bytes.now 0 (get_or c.args.parent.now.channels.items slot other)
 
 pub write-requires : goal.write-requires
 write-requires g c =
@@ -29,28 +29,28 @@ returns-clause-own g c =
     own_set parent.device parent.channels.items held.slot c.play.result.now c.write.new.self there c.play.ensures.value c.write.ensures.device c.requires.own
 
 pub returns-clause-desk : goal.returns-clause-desk
-returns-clause-desk g c =
+returns-clause-desk g c = λ filters.
     let parent = c.args.parent.now in
     let held = c.in-Some.held in
     let e = sym c.held.ensures ∙ c.in-Some.is in
     let there : held.slot < length parent.channels.items = omega (arith, c.requires.held c.args.fd held e, parent.channels.ok.0) in
-    desk-turned (seen parent.device) (write_turn (length c.args.bytes.now)) parent c.args.descriptors.now c.args.fd held c.play.result.now c.write.new.self e there c.play.ensures.value c.write.ensures.book
+    desk-turned (seen filters parent.device) (write_turn (length c.args.bytes.now)) parent c.args.descriptors.now c.args.fd held c.play.result.now c.write.new.self e there c.play.ensures.value c.write.ensures.book
 
 pub returns-clause-reply : goal.returns-clause-reply
-returns-clause-reply g c =
+returns-clause-reply g c = λ filters.
     let parent = c.args.parent.now in
     let held = c.in-Some.held in
     let e = sym c.held.ensures ∙ c.in-Some.is in
     let there : held.slot < length parent.channels.items = omega (arith, c.requires.held c.args.fd held e, parent.channels.ok.0) in
-    reply-turned (seen parent.device) (write_turn (length c.args.bytes.now)) parent c.args.descriptors.now c.args.fd held c.play.result.now c.write.result e there c.play.ensures.value c.write.ensures.reply
+    reply-turned (seen filters parent.device) (write_turn (length c.args.bytes.now)) parent c.args.descriptors.now c.args.fd held c.play.result.now c.write.result e there c.play.ensures.value c.write.ensures.reply
 
 pub returns-clause-channels : goal.returns-clause-channels
-returns-clause-channels g c =
+returns-clause-channels g c = λ filters.
     let parent = c.args.parent.now in
     let held = c.in-Some.held in
     let there : held.slot < length parent.channels.items = omega (arith, c.requires.held c.args.fd held (sym c.held.ensures ∙ c.in-Some.is), parent.channels.ok.0) in
-    each_set (Moves g.B.Feeder.kind g.B.Feeder.kept c.args.bytes.now 0) parent.channels.items held.slot c.play.result.now c.write.new.self there c.play.ensures.value c.write.ensures.moves
-    (moves-nothing g.B.Feeder.kind g.B.Feeder.kept c.args.bytes.now 0)
+    each_set (Moves g.B.Feeder.kind g.B.Feeder.kept filters c.args.bytes.now 0) parent.channels.items held.slot c.play.result.now c.write.new.self there c.play.ensures.value (c.write.ensures.moves filters)
+    (moves-nothing g.B.Feeder.kind g.B.Feeder.kept filters c.args.bytes.now 0)
 
 pub returns-clause-refused : goal.returns-clause-refused
 returns-clause-refused g c =

@@ -1,4 +1,4 @@
-use Rattle.pcm_plan.proofs.Fits.{play-fits, play-tables, play-boxes, record-fits, record-tables, record-boxes, record-volume, ratio-in}
+use Rattle.pcm_plan.proofs.Fits.{play-fits, play-tables, record-fits, record-tables, record-volume, ratio-in}
 use Rattle.pcm_plan.proofs.laws.plans_fit.Goals as goal
 
 pub returns-clause-fits : goal.returns-clause-fits
@@ -7,17 +7,11 @@ returns-clause-fits c = play-fits
 pub returns-clause-tables : goal.returns-clause-tables
 returns-clause-tables c = play-tables
 
-pub returns-clause-boxes : goal.returns-clause-boxes
-returns-clause-boxes c = play-boxes
-
 pub returns-clause-record_fits : goal.returns-clause-record_fits
 returns-clause-record_fits c = record-fits
 
 pub returns-clause-record_tables : goal.returns-clause-record_tables
 returns-clause-record_tables c = record-tables
-
-pub returns-clause-record_boxes : goal.returns-clause-record_boxes
-returns-clause-record_boxes c = record-boxes
 
 pub returns-clause-record_volume : goal.returns-clause-record_volume
 returns-clause-record_volume c = record-volume

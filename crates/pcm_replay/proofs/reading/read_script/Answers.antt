@@ -1,5 +1,5 @@
 use Rattle.std.proofs.Common.{◌≡◌, List, ℕ, Ok, Err, ap, subst}
-use Rattle.pcm_desk.specs.Device.{seen}
+use Rattle.pcm_desk.specs.Device.{unfiltered}
 use Rattle.pcm_script.specs.Answers.{Reads}
 use Rattle.pcm_script.specs.Lines.{script_read}
 use Rattle.pcm_script.specs.declared.fault.ScriptFault.{ScriptFault}
@@ -21,7 +21,7 @@ returns-in_err-text-clause-err g c =
 -- the script is the one that the text is
 pub returns-in-Ok-clause-ok : goal.returns-in-Ok-clause-ok
 returns-in-Ok-clause-ok g c =
-    let read = subst (λ (text : List ℕ). script_read (seen c.args.config.now.device) c.args.waves.now text ≡ Ok c.in-Ok.script) c.deref.ensures.value c.in-Ok.ensures.read in
+    let read = subst (λ (text : List ℕ). script_read (unfiltered c.args.config.now.device) c.args.waves.now text ≡ Ok c.in-Ok.script) c.deref.ensures.value c.in-Ok.ensures.read in
     record {
       came = script-comes c.args.config.now c.args.waves.now c.args.name.now c.in_ok-text.text.items _ _ c.in_ok-text.ensures.ok (ap or_bad_script read);
       only = c.in_ok-text.ensures.only;
@@ -31,7 +31,7 @@ returns-in-Ok-clause-ok g c =
 pub returns-in-Err-Refused-clause-err : goal.returns-in-Err-Refused-clause-err
 returns-in-Err-Refused-clause-err g c =
     let only = c.in_ok-text.ensures.only in
-    let read = script_read (seen c.args.config.now.device) c.args.waves.now in
+    let read = script_read (unfiltered c.args.config.now.device) c.args.waves.now in
     let text = subst (λ (text : List ℕ). Reads (Err c.in-Err-Refused.field-0) (read text)) c.deref.ensures.value c.in-Err-Refused.ensures.read in
     let refused = subst (λ (fault : ScriptFault). Reads (Err fault) (read c.in_ok-text.text.items)) c.in-Err-Refused.field-0-is text in
     script-refused (script_part c.args.config.now c.args.waves.now c.args.name.now) c.in-Err-Refused.refusal _ _ _

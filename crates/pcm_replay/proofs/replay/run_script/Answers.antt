@@ -7,11 +7,11 @@ use Rattle.pcm_replay.proofs.replay.run_script.Goals as goal
 pub returns-in_default-written-clause-err : goal.returns-in_default-written-clause-err
 returns-in_default-written-clause-err g c =
     cut-played _ _ _ _ _ _ (inputs_seen c.args.inputs) (device_of c.in-Ok.replay.engine) c.as_slice.result.now
-    (c.deref.ensures.value ∙ c.in_ok-head.ensures.ok) (c.deref-2.ensures.value ∙ c.in-Ok.ensures.played.text)
+    (c.deref.ensures.value ∙ c.in_ok-head.ensures.ok c.args.inputs.config.tables) (c.deref-2.ensures.value ∙ c.in-Ok.ensures.played.text)
     (c.deref-3.ensures.value ∙ c.in-Ok.ensures.played.lines) c.in-Ok.ensures.device c.as_slice.ensures c.in_default-written.ensures.err
 
 pub returns-clause-ok : goal.returns-clause-ok
 returns-clause-ok g c =
     written-played _ _ _ _ _ _ (inputs_seen c.args.inputs) (device_of c.in-Ok.replay.engine) c.as_slice.result.now
-    (c.deref.ensures.value ∙ c.in_ok-head.ensures.ok) (c.deref-2.ensures.value ∙ c.in-Ok.ensures.played.text)
+    (c.deref.ensures.value ∙ c.in_ok-head.ensures.ok c.args.inputs.config.tables) (c.deref-2.ensures.value ∙ c.in-Ok.ensures.played.text)
     (c.deref-3.ensures.value ∙ c.in-Ok.ensures.played.lines) c.in-Ok.ensures.device c.as_slice.ensures c.in-Ok-written.ensures.ok

@@ -2,7 +2,7 @@ use Rattle.std.proofs.Common.{◌==◌, ◌≤◌, length, Ok, rules, tests, ari
 use Rattle.std.proofs.lemmas.List.{length_push}
 use Rattle.std.proofs.lemmas.Iterator.Splits.{YieldsList-from_slice_split}
 use Rattle.std.proofs.lemmas.Iterator.Consumers.{YieldsList-at, YieldsList-turn, YieldsList-end}
-use Rattle.pcm_desk.specs.Device.{seen}
+use Rattle.pcm_desk.specs.Device.{unfiltered}
 use Rattle.pcm_script.specs.Words.{lines_of}
 use Rattle.std.proofs.lemmas.Result.{IfOk-at_ok}
 use Rattle.pcm_script.proofs.Kept.{IsSound, script_read-sound}
@@ -44,16 +44,16 @@ returns-clause-read c =
 
 pub returns-clause-fits : goal.returns-clause-fits
 returns-clause-fits c =
-    (IfOk-at_ok (IsSound (seen c.args.device.now) c.args.files.now) (returns-clause-read c) (script_read-sound (seen c.args.device.now) c.args.files.now c.args.bytes.now (record { some = c.requires.block; room = c.requires.ring }))).fits
+    (IfOk-at_ok (IsSound (unfiltered c.args.device.now) c.args.files.now) (returns-clause-read c) (script_read-sound (unfiltered c.args.device.now) c.args.files.now c.args.bytes.now (record { some = c.requires.block; room = c.requires.ring }))).fits
 
 pub returns-clause-counts : goal.returns-clause-counts
 returns-clause-counts c =
-    (IfOk-at_ok (IsSound (seen c.args.device.now) c.args.files.now) (returns-clause-read c) (script_read-sound (seen c.args.device.now) c.args.files.now c.args.bytes.now (record { some = c.requires.block; room = c.requires.ring }))).counts
+    (IfOk-at_ok (IsSound (unfiltered c.args.device.now) c.args.files.now) (returns-clause-read c) (script_read-sound (unfiltered c.args.device.now) c.args.files.now c.args.bytes.now (record { some = c.requires.block; room = c.requires.ring }))).counts
 
 pub returns-clause-frames : goal.returns-clause-frames
 returns-clause-frames c =
-    (IfOk-at_ok (IsSound (seen c.args.device.now) c.args.files.now) (returns-clause-read c) (script_read-sound (seen c.args.device.now) c.args.files.now c.args.bytes.now (record { some = c.requires.block; room = c.requires.ring }))).frames
+    (IfOk-at_ok (IsSound (unfiltered c.args.device.now) c.args.files.now) (returns-clause-read c) (script_read-sound (unfiltered c.args.device.now) c.args.files.now c.args.bytes.now (record { some = c.requires.block; room = c.requires.ring }))).frames
 
 pub returns-clause-sum : goal.returns-clause-sum
 returns-clause-sum c =
-    (IfOk-at_ok (IsSound (seen c.args.device.now) c.args.files.now) (returns-clause-read c) (script_read-sound (seen c.args.device.now) c.args.files.now c.args.bytes.now (record { some = c.requires.block; room = c.requires.ring }))).sum
+    (IfOk-at_ok (IsSound (unfiltered c.args.device.now) c.args.files.now) (returns-clause-read c) (script_read-sound (unfiltered c.args.device.now) c.args.files.now c.args.bytes.now (record { some = c.requires.block; room = c.requires.ring }))).sum

@@ -30,7 +30,7 @@ spell_frames-requires-clause-lengths g c =
 
 pub returns-clause-bytes : goal.returns-clause-bytes
 returns-clause-bytes g c = λ streams stand.
-    let device = seen c.args.device in
+    let device = seen c.args.tables.now c.args.device in
     let slots = length c.args.channels.now in
     let width : c.args.n * c.channels.result ≡ c.args.n * channels_of c.args.device.settings.layout = ap (λ k. c.args.n * k) c.channels.ensures in
     let size : c.args.n * c.frame_bytes.result ≡ c.args.n * frame_bytes c.args.device.settings = ap (λ k. c.args.n * k) c.frame_bytes.ensures in

@@ -1,4 +1,4 @@
-use Rattle.std.proofs.Common.{◌≡◌, ℕ, ◌+◌, ◌<◌, [], length, get_or, sym, ap, ◌∙◌, subst, inl, inr, arith}
+use Rattle.std.proofs.Common.{◌≡◌, ℕ, ◌+◌, ◌<◌, [], length, get_or, refl, sym, ap, ◌∙◌, subst, inl, inr, arith}
 use Rattle.std.proofs.lemmas.Bool.{cases_lt, cases_eq}
 use Rattle.pcm_desk.specs.Device.{DeviceSeen, seen}
 use Rattle.pcm_desk.specs.Desk.{mixing}
@@ -11,7 +11,7 @@ use Rattle.pcm_vchan.proofs.mixer.mix_channels.Goals as goal
 
 pub mix_slot-requires-clause-ready : goal.mix_slot-requires-clause-ready
 mix_slot-requires-clause-ready g c = λ other.
-    subst (IsReady g.B.Feeder.kind g.B.Feeder.kept) (sym (c.loop-slot.invariant.rest c.loop-slot.slot other (omega arith))) (c.requires.ready c.loop-slot.slot other (omega arith))
+    subst (IsReady g.B.Feeder.kind g.B.Feeder.kept c.args.tables.now) (sym (c.loop-slot.invariant.rest c.loop-slot.slot other (omega arith))) (c.requires.ready c.loop-slot.slot other (omega arith))
 
 pub mix_slot-requires-clause-count : goal.mix_slot-requires-clause-count
 mix_slot-requires-clause-count g c = λ other.
@@ -21,11 +21,21 @@ pub mix_slot-requires-clause-counted : goal.mix_slot-requires-clause-counted
 mix_slot-requires-clause-counted g c = λ other.
     subst (λ (n : PlayChannelOf _). n.book.done + n.book.written < 18446744073709551616) (sym (c.loop-slot.invariant.rest c.loop-slot.slot other (omega arith))) (c.requires.counted c.loop-slot.slot other (omega arith))
 
+pub loop-slot-init : goal.loop-slot-init
+loop-slot-init g c = record {
+  own = λ at other h. c.requires.own at other h;
+  moved = λ at other h. absurd (omega arith);
+  mixed = λ at other h. absurd (omega arith);
+  rest = λ at other h. refl;
+  sum = λ streams stand. refl;
+  fits = c.requires.fits;
+}
+
 pub loop-slot-preserved : goal.loop-slot-preserved
 loop-slot-preserved g c =
     let n = c.args.n in
     let i = c.loop-slot.slot in
-    let device : DeviceSeen = seen c.args.device in
+    let device : DeviceSeen = seen c.args.tables.now c.args.device in
     let before = c.args.channels.now in
     let there : i < length before = omega arith in
     let first = some_channel before i there in
@@ -36,11 +46,11 @@ loop-slot-preserved g c =
         | inr differ ↦ ap (λ (channel : PlayChannelOf _). channel.device) (c.mix_slot.ensures.others at other differ) ∙ c.loop-slot.invariant.own at other h
       ];
       moved = λ at other h. elim (cases_lt at i) [
-        | inl below ↦ subst (Moves g.B.Feeder.kind g.B.Feeder.kept [] n (get_or before at other)) (sym (c.mix_slot.ensures.others at other (omega arith))) (c.loop-slot.invariant.moved at other below)
+        | inl below ↦ subst (Moves g.B.Feeder.kind g.B.Feeder.kept c.args.tables.now [] n (get_or before at other)) (sym (c.mix_slot.ensures.others at other (omega arith))) (c.loop-slot.invariant.moved at other below)
         | inr above ↦ (
             let here : at ≡ i = omega arith in
-            subst (λ (k : ℕ). Moves g.B.Feeder.kind g.B.Feeder.kept [] n (get_or before k other) (get_or c.mix_slot.new.channels k other)) (sym here)
-            (subst (λ (channel : PlayChannelOf _). Moves g.B.Feeder.kind g.B.Feeder.kept [] n channel (get_or c.mix_slot.new.channels i other)) (c.loop-slot.invariant.rest i other (omega arith)) (c.mix_slot.ensures.moves other)))
+            subst (λ (k : ℕ). Moves g.B.Feeder.kind g.B.Feeder.kept c.args.tables.now [] n (get_or before k other) (get_or c.mix_slot.new.channels k other)) (sym here)
+            (subst (λ (channel : PlayChannelOf _). Moves g.B.Feeder.kind g.B.Feeder.kept c.args.tables.now [] n channel (get_or c.mix_slot.new.channels i other)) (c.loop-slot.invariant.rest i other (omega arith)) (c.mix_slot.ensures.moves other)))
       ];
       mixed = λ at other h. elim (cases_lt at i) [
         | inl below ↦ ap (λ (channel : PlayChannelOf _). channel.book) (c.mix_slot.ensures.others at other (omega arith)) ∙ c.loop-slot.invariant.mixed at other below
@@ -51,7 +61,7 @@ loop-slot-preserved g c =
       ];
       rest = λ at other h. c.mix_slot.ensures.others at other (omega arith) ∙ c.loop-slot.invariant.rest at other (omega arith);
       sum = λ streams stand.
-          c.mix_slot.ensures.sum first (streams i) (subst (λ (channel : PlayChannelOf _). ChannelStands g.B.Feeder.kept channel channel.book (streams i)) (sym was) (stand i first there))
+          c.mix_slot.ensures.sum first (streams i) (subst (λ (channel : PlayChannelOf _). ChannelStands g.B.Feeder.kept c.args.tables.now channel channel.book (streams i)) (sym was) (stand i first there))
           ∙ ap (turned device n (get_or c.loop-slot.channels i first).book (streams i)) (c.loop-slot.invariant.sum streams stand)
           ∙ mixed-more device n before streams i (get_or c.loop-slot.channels i first) first there was c.args.sum.now;
       fits = c.mix_slot.ensures.fits;

@@ -14,6 +14,9 @@ use Rattle.pcm_vchan.proofs.mixer.mix_slot.Goals as goal
 pub refill-requires-clause-kinds : goal.refill-requires-clause-kinds
 refill-requires-clause-kinds g c = (c.requires.ready c.index-channels-slot.result).kinds
 
+pub refill-requires-clause-planned : goal.refill-requires-clause-planned
+refill-requires-clause-planned g c = (c.requires.ready c.index-channels-slot.result).planned
+
 pub refill-requires-clause-stands : goal.refill-requires-clause-stands
 refill-requires-clause-stands g c = (c.requires.ready c.index-channels-slot.result).stands
 
@@ -38,17 +41,17 @@ returns-clause-book g c = λ other.
     let old = c.args.channels.now in
     ap (λ (n : PlayChannelOf _). n.book) (get_or-set_same old c.args.slot c.refill.new.self other c.requires.there)
     ∙ c.refill.ensures.book
-    ∙ ap (λ (d : Device). mixing (seen d) c.args.n (get_or old c.args.slot held).book) (c.requires.own held)
-    ∙ ap (λ (n : PlayChannelOf _). mixing (seen c.args.device) c.args.n n.book) (get_or_default old c.args.slot held other c.requires.there)
+    ∙ ap (λ (d : Device). mixing (seen c.args.tables.now d) c.args.n (get_or old c.args.slot held).book) (c.requires.own held)
+    ∙ ap (λ (n : PlayChannelOf _). mixing (seen c.args.tables.now c.args.device) c.args.n n.book) (get_or_default old c.args.slot held other c.requires.there)
 
 pub returns-clause-sum : goal.returns-clause-sum
 returns-clause-sum g c = λ other bytes stands.
     let held = c.index-channels-slot.result in
     let old = c.args.channels.now in
     let same = get_or_default old c.args.slot held other c.requires.there in
-    c.refill.ensures.sum bytes (subst (λ (n : PlayChannelOf _). ChannelStands g.B.Feeder.kept n n.book bytes) (sym same) stands)
-    ∙ ap (λ (d : Device). turned (seen d) c.args.n (get_or old c.args.slot held).book bytes c.args.sum.now) (c.requires.own held)
-    ∙ ap (λ (n : PlayChannelOf _). turned (seen c.args.device) c.args.n n.book bytes c.args.sum.now) same
+    c.refill.ensures.sum bytes (subst (λ (n : PlayChannelOf _). ChannelStands g.B.Feeder.kept c.args.tables.now n n.book bytes) (sym same) stands)
+    ∙ ap (λ (d : Device). turned (seen c.args.tables.now d) c.args.n (get_or old c.args.slot held).book bytes c.args.sum.now) (c.requires.own held)
+    ∙ ap (λ (n : PlayChannelOf _). turned (seen c.args.tables.now c.args.device) c.args.n n.book bytes c.args.sum.now) same
 
 pub returns-clause-fits : goal.returns-clause-fits
 returns-clause-fits g c = subst (λ (d : Device). All (FitsBits (bits_of d.settings.format)) c.refill.new.sum) (c.requires.own c.index-channels-slot.result) c.refill.ensures.fits

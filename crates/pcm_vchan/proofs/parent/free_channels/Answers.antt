@@ -13,7 +13,7 @@ loop-rack-init g c =
     let none = c.new-channels.ensures.items in
     record {
       count = rw (none, rest) (omega (arith, length-take c.args.device.play_slots c.args.racks.items, c.args.racks.ok.0, c.requires.enough));
-      unopened = rw none (All-nil (IsUnopened g.B.Feeder.kind g.B.Feeder.kept c.args.device));
+      unopened = rw none (All-nil (IsUnopened g.B.Feeder.kind g.B.Feeder.kept c.args.tables.now c.args.device));
       kinds = rw rest (All-take (IsRack g.B.Feeder.kind) c.args.device.play_slots c.args.racks.items c.requires.kinds);
     }
 
@@ -24,13 +24,14 @@ new-requires-clause-kinds g c =
 pub loop-rack-preserved : goal.loop-rack-preserved
 loop-rack-preserved g c =
     let channel = c.in_ok-new.field-0 in
-    let P = IsUnopened g.B.Feeder.kind g.B.Feeder.kept c.args.device in
+    let P = IsUnopened g.B.Feeder.kind g.B.Feeder.kept c.args.tables.now c.args.device in
     let steps = c.in-Some.ensures.steps.0 in
     let before = c.loop-rack.channels.items in
     let made : P channel = record {
       device_is = c.in_ok-new.ensures.device;
       book = c.in_ok-new.ensures.book;
       kinds = c.in_ok-new.ensures.kinds;
+      planned = c.in_ok-new.ensures.planned;
       stands = c.in_ok-new.ensures.stands;
     } in
     let items = c.in_ok-push.ensures.items in

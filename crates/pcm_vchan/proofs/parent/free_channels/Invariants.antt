@@ -7,6 +7,6 @@ use Rattle.pcm_vchan.proofs.parent.free_channels.Given as goal
 abbrev pub invariant-loop-rack : goal.invariant-loop-rack
 invariant-loop-rack g l = record {
   count : length l.channels.items + length l.rack-iterator.rest.items ≡ l.device.play_slots;
-  unopened : All (IsUnopened g.B.Feeder.kind g.B.Feeder.kept l.device) l.channels.items;
+  unopened : All (IsUnopened g.B.Feeder.kind g.B.Feeder.kept l.tables l.device) l.channels.items;
   kinds : AreRacks g.B.Feeder.kind l.rack-iterator.rest.items;
 }

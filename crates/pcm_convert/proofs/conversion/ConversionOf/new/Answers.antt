@@ -1,5 +1,10 @@
-use Rattle.std.proofs.Common.{◌≡◌, ◌*◌, take, drop, sym, ap, ◌∙◌, arith}
+use Rattle.std.proofs.Common.{◌≡◌, ◌*◌, ◌≤◌, ℕ, rules, take, drop, sym, ap, ◌∙◌, arith}
 use Rattle.pcm_format.specs.Frames.{frame_bytes}
+use Rattle.pcm_format.proofs.Streams.{frame_bytes-most}
+use Rattle.pcm_plan.specs.Fits.{IsPlan}
+use Rattle.pcm_plan.specs.Plans.{rate_in_plan}
+use Rattle.pcm_plan.proofs.Fits.{record-fits}
+use Rattle.pcm_chain.proofs.Counting.{need-near, rate-near}
 use Rattle.pcm_ring.specs.Ring.{Ring}
 use Rattle.pcm_convert.specs.Conversions.{without_filters}
 use Rattle.pcm_convert.proofs.conversion.ConversionOf.new.Goals as goal
@@ -16,3 +21,14 @@ returns-clause-stands g c = λ body.
       chain_is = c.reset.ensures.begins without_filters;
       ended = λ some. absurd (omega arith);
     }
+
+product-fits : (a b : ℕ) → a ≤ 65536 → b ≤ 32 → a * b ≤ 2097152
+product-fits a b few small = grind arith
+
+pub overflow_mul-frames : goal.overflow_mul-frames
+overflow_mul-frames g c =
+    let plan : IsPlan c.plan_record-plan.result = rw c.plan_record-plan.ensures.value
+    (record-fits c.new-tables.result 1 c.args.target c.args.source c.plan_record-plan.ensures.limits c.requires.target c.requires.source) in
+    let near = need-near (rate_in_plan c.plan_record-plan.result) 1025 (rate-near c.plan_record-plan.result plan) in
+    let small = product-fits c.need-frames.result c.frame_bytes.result (omega (arith, near, c.need-frames.ensures)) (omega (arith, frame_bytes-most c.args.source, c.frame_bytes.ensures)) in
+    search (rules, small)

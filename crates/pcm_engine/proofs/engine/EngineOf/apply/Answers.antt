@@ -2,8 +2,6 @@ use Rattle.std.proofs.Common.{ℕ, ◌+◌, ◌^◌, List, length, sym, ap, ◌�
 use Rattle.pcm_oss.specs.declared.event.Event.{Event}
 use Rattle.pcm_oss.specs.declared.event.Event.TheVariants.{Open, Write, Ioctl, Close, Intr}
 use Rattle.pcm_desk.specs.declared.book.Book.{Book}
-use Rattle.pcm_desk.specs.declared.device.Device.{Device}
-use Rattle.pcm_desk.specs.Device.{filters_of, seen}
 use Rattle.pcm_desk.specs.declared.limits.TheConstants.{RING_FRAMES}
 use Rattle.pcm_desk.specs.Desk.{after}
 use Rattle.pcm_desk.specs.Own.{HoldApart}
@@ -24,14 +22,13 @@ invariant_of-self-in-Write g c =
     let same = c.write.ensures.slots in
     let output = c.write.ensures.output in
     record {
-      apart = subst HoldApart (sym c.write.ensures.desk) (apart-after (device_of old) (desk_of old) (Write c.in-Write.fd c.in-Write.source c.in-Write.at (length c.bytes_at-bytes.result.now)) old.apart);
-      tables_are = old.tables_are ∙ ap (λ (d : Device). filters_of (seen d)) (sym output.device_same);
+      apart = subst HoldApart (sym (c.write.ensures.desk old.tables)) (apart-after (device_of old) (desk_of old) (Write c.in-Write.fd c.in-Write.source c.in-Write.at (length c.bytes_at-bytes.result.now)) old.apart);
       own = c.write.ensures.own;
       held = λ fd held e. omega (arith, old.held fd held e, old.parent.channels.ok.0, new.channels.ok.0);
       counted = count-within (λ (b : Book). b.done + b.written) (2 ^ 32) old.steps old.parent.channels.items new.channels.items same
-          (λ slot other there. let more = (c.write.ensures.channels slot other there).counted in omega (arith, more, c.bytes_at-bytes.ensures.length, fits.1)) old.counted;
+          (λ slot other there. let more = (c.write.ensures.channels old.tables slot other there).counted in omega (arith, more, c.bytes_at-bytes.ensures.length, fits.1)) old.counted;
       given = count-within (λ (b : Book). b.given) RING_FRAMES old.steps old.parent.channels.items new.channels.items same
-          (λ slot other there. let more = (c.write.ensures.channels slot other there).given in omega (arith, more)) old.given;
+          (λ slot other there. let more = (c.write.ensures.channels old.tables slot other there).given in omega (arith, more)) old.given;
       mixed_within = omega (arith, output.mixed_same, old.mixed_within);
       handed_within = omega (arith, output.handed_same, old.handed_within);
     }
@@ -44,7 +41,6 @@ invariant_of-self-in-Ioctl g c =
     let output = c.ioctl.ensures.output in
     record {
       apart = subst HoldApart (sym c.ioctl.ensures.desk) (apart-after (device_of old) (desk_of old) (Ioctl c.in-Ioctl.fd c.in-Ioctl.request) old.apart);
-      tables_are = old.tables_are ∙ ap (λ (d : Device). filters_of (seen d)) (sym output.device_same);
       own = c.ioctl.ensures.own;
       held = λ fd held e. omega (arith, old.held fd held e, old.parent.channels.ok.0, new.channels.ok.0);
       counted = count-within (λ (b : Book). b.done + b.written) (2 ^ 32) old.steps old.parent.channels.items new.channels.items same
@@ -62,11 +58,10 @@ invariant_of-self-in-Intr g c =
     let fits = rw c.in-Intr.is at c.requires.fits in
     let same = c.interrupt.ensures.slots in
     let within = old.parent.within in
-    let books = books_of-mixed old.parent.device c.in-Intr.frames old.parent.channels.items new.channels.items same c.interrupt.ensures.books in
-    let desk = desk_with-mixed old.parent new old.descriptors c.in-Intr.frames books c.interrupt.ensures.handed c.interrupt.ensures.mixed in
+    let books = books_of-mixed (device_of old) c.in-Intr.frames old.parent.channels.items new.channels.items same c.interrupt.ensures.books in
+    let desk = desk_with-mixed (device_of old) old.parent new old.descriptors c.in-Intr.frames books c.interrupt.ensures.handed c.interrupt.ensures.mixed in
     record {
       apart = subst HoldApart (sym desk) (apart-after (device_of old) (desk_of old) (Intr c.in-Intr.frames) old.apart);
-      tables_are = old.tables_are ∙ ap (λ (d : Device). filters_of (seen d)) (sym c.interrupt.ensures.device);
       own = c.interrupt.ensures.own;
       held = λ fd held e. omega (arith, old.held fd held e, old.parent.channels.ok.0, new.channels.ok.0);
       counted = count-within (λ (b : Book). b.done + b.written) (2 ^ 32) old.steps old.parent.channels.items new.channels.items same
@@ -82,20 +77,20 @@ returns-in-Intr-clause-desk g c =
     let old = c.args.self.now in
     let new = c.interrupt.new.self in
     let n : ℕ = c.in-Intr.frames in
-    let books = books_of-mixed old.parent.device n old.parent.channels.items new.channels.items c.interrupt.ensures.slots c.interrupt.ensures.books in
-    desk_with-mixed old.parent new old.descriptors n books c.interrupt.ensures.handed c.interrupt.ensures.mixed
+    let books = books_of-mixed (device_of old) n old.parent.channels.items new.channels.items c.interrupt.ensures.slots c.interrupt.ensures.books in
+    desk_with-mixed (device_of old) old.parent new old.descriptors n books c.interrupt.ensures.handed c.interrupt.ensures.mixed
     ∙ sym (ap (λ (event : Event). (after (device_of old) (desk_of old) event).desk) c.in-Intr.is)
 
 pub returns-in-Write-clause-channels : goal.returns-in-Write-clause-channels
 returns-in-Write-clause-channels g c =
     let before = c.args.self.now.parent.channels.items in
     let now = c.write.new.parent.channels.items in
-    subst (λ (event : Event). ChannelsMove g.B.Feeder.kind g.B.Feeder.kept c.args.pool.now event before now) (sym c.in-Write.is)
-    (subst (λ (bytes : List ℕ). Each (Moves g.B.Feeder.kind g.B.Feeder.kept bytes 0) before now) c.bytes_at-bytes.ensures.bytes c.write.ensures.channels)
+    subst (λ (event : Event). ChannelsMove g.B.Feeder.kind g.B.Feeder.kept c.args.self.now.tables c.args.pool.now event before now) (sym c.in-Write.is)
+    (subst (λ (bytes : List ℕ). Each (Moves g.B.Feeder.kind g.B.Feeder.kept c.args.self.now.tables bytes 0) before now) c.bytes_at-bytes.ensures.bytes (c.write.ensures.channels c.args.self.now.tables))
 
 pub returns-in-Intr-clause-channels : goal.returns-in-Intr-clause-channels
 returns-in-Intr-clause-channels g c =
-    subst (λ (event : Event). ChannelsMove g.B.Feeder.kind g.B.Feeder.kept c.args.pool.now event c.args.self.now.parent.channels.items c.interrupt.new.self.channels.items) (sym c.in-Intr.is)
+    subst (λ (event : Event). ChannelsMove g.B.Feeder.kind g.B.Feeder.kept c.args.self.now.tables c.args.pool.now event c.args.self.now.parent.channels.items c.interrupt.new.self.channels.items) (sym c.in-Intr.is)
     c.interrupt.ensures.channels
 
 pub invariant_of-self : goal.invariant_of-self
@@ -105,7 +100,6 @@ invariant_of-self g c =
     let same = c.open-answer.ensures.slots in
     let output = c.open-answer.ensures.output in
     record {
-      tables_are = old.tables_are ∙ ap (λ (d : Device). filters_of (seen d)) (sym output.device_same);
       own = c.open-answer.ensures.own;
       held = c.open-answer.ensures.held;
       apart = subst HoldApart (sym c.open-answer.ensures.desk) (apart-after (device_of old) (desk_of old) (Open c.in-Open.fd c.in-Open.way c.in-Open.settings) old.apart);
@@ -124,14 +118,13 @@ invariant_of-self-in-Close g c =
     let same = c.close.ensures.slots in
     let output = c.close.ensures.output in
     record {
-      tables_are = old.tables_are ∙ ap (λ (d : Device). filters_of (seen d)) (sym output.device_same);
       own = c.close.ensures.own;
       held = c.close.ensures.held;
-      apart = subst HoldApart (sym c.close.ensures.desk) (apart-after (device_of old) (desk_of old) (Close c.in-Close.fd) old.apart);
+      apart = subst HoldApart (sym (c.close.ensures.desk old.tables c.requires.ready)) (apart-after (device_of old) (desk_of old) (Close c.in-Close.fd) old.apart);
       counted = count-within (λ (b : Book). b.done + b.written) (2 ^ 32) old.steps old.parent.channels.items new.channels.items same
-          (λ slot other there. let more = (c.close.ensures.channels slot other there).counted in omega (arith, more)) old.counted;
+          (λ slot other there. let more = (c.close.ensures.channels old.tables slot other there).counted in omega (arith, more)) old.counted;
       given = count-within (λ (b : Book). b.given) RING_FRAMES old.steps old.parent.channels.items new.channels.items same
-          (λ slot other there. let more = (c.close.ensures.channels slot other there).given in omega (arith, more)) old.given;
+          (λ slot other there. let more = (c.close.ensures.channels old.tables slot other there).given in omega (arith, more)) old.given;
       mixed_within = omega (arith, output.mixed_same, old.mixed_within);
       handed_within = omega (arith, output.handed_same, old.handed_within);
     }

@@ -1,9 +1,5 @@
-use Rattle.std.proofs.Common.{◌≡◌, List, None, Some, refl, sym, ap, ◌∙◌, arith}
-use Rattle.pcm_feeder.specs.declared.table.Table.{Table}
-use Rattle.pcm_feeder.specs.Filters.{Filters}
+use Rattle.std.proofs.Common.{◌≡◌, None, Some, refl, sym, ap, ◌∙◌, arith}
 use Rattle.pcm_desk.specs.declared.book.Book.{Book}
-use Rattle.pcm_desk.specs.declared.device.Device.{Device}
-use Rattle.pcm_desk.specs.Device.{filters_of, seen}
 use Rattle.pcm_desk.proofs.Apart.{apart-shut}
 use Rattle.pcm_sound.proofs.Stories.{get_or-same}
 use Rattle.pcm_engine.proofs.Starting.{hold_within-none, parent-starts, ready-unopened}
@@ -13,8 +9,6 @@ pub invariant_of-result : goal.invariant_of-result
 invariant_of-result g c =
     let parent = c.in_ok-parent.parent in
     record {
-      tables_are = ap (λ (list : List Table). let filters : Filters = record { list = list } in filters) (c.new-tables.ensures ∙ c.new.ensures.items)
-          ∙ ap (λ (d : Device). filters_of (seen d)) (sym c.in_ok-parent.ensures.device);
       own = λ slot other there. (c.in_ok-parent.ensures.channels slot other there).device_is ∙ sym c.in_ok-parent.ensures.device;
       apart = apart-shut _ (λ fd held e. let none : None ≡ Some held = sym (get_or-same 64 fd None) ∙ e in cc);
       held = hold_within-none parent.channels.len _ 64 refl;
@@ -30,9 +24,9 @@ invariant_of-result g c =
 
 pub returns-clause-ready : goal.returns-clause-ready
 returns-clause-ready g c =
-    ready-unopened g.B.Feeder.kind g.B.Feeder.kept c.args.device c.in_ok-parent.parent.channels.items c.in_ok-parent.ensures.channels
+    ready-unopened g.B.Feeder.kind g.B.Feeder.kept c.args.tables c.args.device c.in_ok-parent.parent.channels.items c.in_ok-parent.ensures.channels
 
 pub returns-clause-stands : goal.returns-clause-stands
 returns-clause-stands g c = λ pool.
     let e = c.in_ok-parent.ensures in
-    parent-starts g.B.Feeder.kind g.B.Feeder.kept c.args.device c.in_ok-parent.parent _ c.requires.limits.rate refl e.device e.slots e.channels e.ring e.handed e.mixed
+    parent-starts g.B.Feeder.kind g.B.Feeder.kept c.args.tables c.args.device c.in_ok-parent.parent _ c.requires.limits.device_is refl e.device e.slots e.channels e.ring e.handed e.mixed

@@ -1,6 +1,8 @@
-use Rattle.std.proofs.Common.{ℕ, List, [], ◌∷◌, ◌++◌, take, refl, sym, ap, ◌∙◌, subst}
+use Rattle.std.proofs.Common.{◌≡◌, All, ℕ, List, [], ◌∷◌, ◌++◌, take, refl, sym, ap, ◌∙◌, subst}
 use Rattle.pcm_desk.specs.declared.device.Device.{Device}
-use Rattle.pcm_desk.specs.Device.{seen}
+use Rattle.pcm_desk.specs.Device.{DeviceSeen, seen}
+use Rattle.pcm_feeder.specs.Filters.{Filters}
+use Rattle.pcm_play.specs.Channels.{IsReady}
 use Rattle.pcm_desk.specs.Desk.{Desk, after, book_at, rate_at}
 use Rattle.pcm_desk.specs.Events.{frames_taken}
 use Rattle.pcm_desk.specs.Own.{IsIsolated}
@@ -20,7 +22,8 @@ pub returns-clause-ready : goal.returns-clause-ready
 returns-clause-ready g c =
     let old = c.args.self.now in
     let new = c.apply.new.self in
-    ready-after g.B.Feeder.kind g.B.Feeder.kept (bytes_brought c.args.pool.now c.args.event.now) (frames_taken c.args.event.now) old.parent.channels.items new.parent.channels.items c.apply.ensures.slots c.apply.ensures.channels c.requires.ready
+    subst (λ (t : Filters). All (IsReady g.B.Feeder.kind g.B.Feeder.kept t) new.parent.channels.items) (sym c.apply.ensures.tables)
+    (ready-after g.B.Feeder.kind g.B.Feeder.kept old.tables (bytes_brought c.args.pool.now c.args.event.now) (frames_taken c.args.event.now) old.parent.channels.items new.parent.channels.items c.apply.ensures.slots c.apply.ensures.channels c.requires.ready)
 
 pub returns-clause-stands : goal.returns-clause-stands
 returns-clause-stands g c = λ events s.
@@ -43,7 +46,8 @@ returns-clause-stands g c = λ events s.
     let stood = stands-told g.B.Feeder.kind kept device pool story event (desk_of old) (desk_of new) old.parent.channels.items new.parent.channels.items old.parent.ring.bytes new.parent.ring.bytes c.requires.fits step s in
     let pushed : PartsStand kept device (desk_of new) new.parent.channels.items new.parent.ring.bytes (story_of device pool (events ++ event ∷ [])) =
     subst (PartsStand kept device (desk_of new) new.parent.channels.items new.parent.ring.bytes) (sym (told_all-push device pool (story_at_start device) events event)) stood in
-    subst (λ (d : Device). PartsStand kept (seen d) (desk_of new) new.parent.channels.items new.parent.ring.bytes (story_of (seen d) pool (events ++ event ∷ []))) (sym c.apply.ensures.device) pushed
+    let same : device_of new ≡ device = ap (λ (d : Device). seen new.tables d) c.apply.ensures.device ∙ ap (λ (t : Filters). seen t old.parent.device) c.apply.ensures.tables in
+    subst (λ (d : DeviceSeen). PartsStand kept d (desk_of new) new.parent.channels.items new.parent.ring.bytes (story_of d pool (events ++ event ∷ []))) (sym same) pushed
 
 pub returns-clause-bytes : goal.returns-clause-bytes
 returns-clause-bytes g c = λ events s.

@@ -1,4 +1,4 @@
-use Rattle.std.proofs.Common.{ℕ, ◌*◌, ◌∙◌, All, [], drop, length, sym, ap, subst, arith, length-drop, length-take}
+use Rattle.std.proofs.Common.{refl, ℕ, ◌*◌, ◌∙◌, All, [], drop, length, sym, ap, subst, arith, length-drop, length-take}
 use Rattle.std.proofs.Math.Nat.{mul-le-mul_right}
 use Rattle.std.proofs.lemmas.List.Elements.{All-append, All-drop}
 use Rattle.pcm_num.specs.Limit.{FitsBits}
@@ -6,38 +6,38 @@ use Rattle.pcm_format.specs.declared.settings.Settings.{Settings}
 use Rattle.pcm_format.specs.Formats.{bits_of, bytes_of}
 use Rattle.pcm_format.specs.Layouts.{channels_of}
 use Rattle.pcm_ring.specs.Ring.{Ring}
-use Rattle.pcm_feeder.specs.Filters.{Filters}
 use Rattle.pcm_oss.specs.Fragments.{ring_size}
 use Rattle.pcm_feeder.specs.Limits.{IsRate}
-use Rattle.pcm_plan.specs.Plans.{PlanSeen}
+use Rattle.pcm_rate.specs.Rates.{IsRatio}
+use Rattle.pcm_plan.specs.Plans.{PlanSeen, rate_in_plan}
 use Rattle.pcm_plan.specs.Fits.{HaveTables}
 use Rattle.pcm_chain.specs.Chains.{plan_in}
 use Rattle.pcm_chain.proofs.Standing.{stands-fitted}
-use Rattle.pcm_desk.specs.Device.{filters_of, plan_between, seen}
+use Rattle.pcm_desk.specs.Device.{plan_between, seen}
+use Rattle.pcm_desk.specs.Safe.{BookIsSafe}
 use Rattle.pcm_desk.proofs.Ratios.{tables-between}
-use Rattle.pcm_play.proofs.Moving.{moves-ended, moves-nothing}
+use Rattle.pcm_play.proofs.Moving.{device-is, moves-ended, moves-nothing, planned-as, safe-at}
 use Rattle.pcm_play.proofs.Refilling.{pulls-run, book-mixed, book-refilled, turned-none, ring-refilled, turned-pulled, moves-pulled}
 use Rattle.pcm_play.proofs.channel.PlayChannelOf.refill.Goals as goal
 
 pub returns-then-not-is_started-clause-moves : goal.returns-then-not-is_started-clause-moves
-returns-then-not-is_started-clause-moves g c = moves-nothing g.B.Feeder.kind g.B.Feeder.kept [] c.args.n c.args.self.now
+returns-then-not-is_started-clause-moves g c = moves-nothing g.B.Feeder.kind g.B.Feeder.kept c.args.tables.now [] c.args.n c.args.self.now
 
 pub returns-then-not-is_started-clause-sum : goal.returns-then-not-is_started-clause-sum
-returns-then-not-is_started-clause-sum g c = λ bytes s. turned-none (seen c.args.self.now.device) c.args.n c.args.self.now.book bytes c.args.sum.now (sym c.if-not-is_started.ensures)
+returns-then-not-is_started-clause-sum g c = λ bytes s. turned-none (seen c.args.tables.now c.args.self.now.device) c.args.n c.args.self.now.book bytes c.args.sum.now (sym c.if-not-is_started.ensures)
 
 pub pull-pulled-requires-clause-fitted : goal.pull-pulled-requires-clause-fitted
 pull-pulled-requires-clause-fitted g c =
     let old = c.args.self.now in
     let stands = c.requires.stands.stands in
-    stands-fitted g.B.Feeder.kept (filters_of (seen old.device)) old.chain _ stands.zeros old.book.given stands.chain_is
+    stands-fitted g.B.Feeder.kept c.args.tables.now old.chain _ stands.zeros old.book.given stands.chain_is
 
 pub pull-pulled-requires-clause-tables : goal.pull-pulled-requires-clause-tables
 pull-pulled-requires-clause-tables g c =
     let old = c.args.self.now in
-    let device = seen old.device in
-    let have = tables-between device old.book.settings old.device_is old.rate in
-    subst (λ (t : Filters). HaveTables (plan_in old.chain).stages t) (sym c.requires.tables)
-    (subst (λ (p : PlanSeen). HaveTables p.stages (filters_of device)) (sym old.plan) have)
+    let planned = c.requires.planned in
+    subst (λ (p : PlanSeen). HaveTables p.stages c.args.tables.now) (sym planned.plan_is)
+    (tables-between (seen c.args.tables.now old.device) old.book.settings (device-is c.args.tables.now old planned) old.rate)
 
 pub slice_bounds-mix_into-end-2 : goal.slice_bounds-mix_into-end-2
 slice_bounds-mix_into-end-2 g c =
@@ -54,87 +54,96 @@ slice_bounds-mix_into-end-4 g c =
 pub invariant_of-self : goal.invariant_of-self
 invariant_of-self g c =
     let old = c.args.self.now in
-    let device = seen old.device in
-    let k = book-refilled device c.args.n old.book c.refilled-self.result c.rate.result c.plan.result.now c.requires.some old.device_is old.rate old.safe (sym c.if-not-is_started.ensures)
-    c.refilled-self.ensures c.rate.ensures.value (c.plan.ensures ∙ c.pull-pulled.ensures.plan ∙ old.plan) in
+    let planned = c.requires.planned in
+    let device = seen c.args.tables.now old.device in
+    let k = book-refilled device c.args.n old.book c.refilled-self.result c.rate.result c.plan.result.now c.requires.some (device-is c.args.tables.now old planned) old.rate (safe-at c.args.tables.now old planned) (sym c.if-not-is_started.ensures)
+    c.refilled-self.ensures c.rate.ensures.value (c.plan.ensures ∙ c.pull-pulled.ensures.plan ∙ planned.plan_is) in
     let none = k.ended c.if-self-eq0.true in
     record {
-      device_is = old.device_is;
+      device_rate = old.device_rate;
       rate = subst (λ (s : Settings). IsRate s.rate) (sym k.settings) old.rate;
-      plan = c.restart.ensures.plan ∙ c.pull-pulled.ensures.plan ∙ old.plan ∙ ap (plan_between device) (sym k.settings);
+      ratio = subst (λ (p : PlanSeen). IsRatio (rate_in_plan p)) (sym (c.restart.ensures.plan ∙ c.pull-pulled.ensures.plan)) old.ratio;
       room = ap (λ (ring : Ring). ring.max) c.clear.ensures ∙ ap (λ (ring : Ring). ring.max) c.pull-pulled.ensures.ring ∙ old.room;
       size = ap (λ (ring : Ring). ring.size) c.clear.ensures ∙ ap (λ (ring : Ring). ring.size) c.pull-pulled.ensures.ring ∙ old.size ∙ ap ring_size (sym k.fragments);
       fill = ap (λ (ring : Ring). length ring.bytes) c.clear.ensures ∙ none.3;
       within = none.2;
-      safe = k.safe;
+      safe = subst (λ (p : PlanSeen). BookIsSafe (rate_in_plan p) c.refilled-self.result)
+          (sym (c.restart.ensures.plan ∙ c.pull-pulled.ensures.plan ∙ planned.plan_is ∙ ap (plan_between device) (sym k.settings))) k.safe;
     }
 
 pub invariant_of-self-else-self-eq0 : goal.invariant_of-self-else-self-eq0
 invariant_of-self-else-self-eq0 g c =
     let old = c.args.self.now in
-    let device = seen old.device in
-    let k = book-refilled device c.args.n old.book c.refilled-self.result c.rate.result c.plan.result.now c.requires.some old.device_is old.rate old.safe (sym c.if-not-is_started.ensures)
-    c.refilled-self.ensures c.rate.ensures.value (c.plan.ensures ∙ c.pull-pulled.ensures.plan ∙ old.plan) in
+    let planned = c.requires.planned in
+    let device = seen c.args.tables.now old.device in
+    let k = book-refilled device c.args.n old.book c.refilled-self.result c.rate.result c.plan.result.now c.requires.some (device-is c.args.tables.now old planned) old.rate (safe-at c.args.tables.now old planned) (sym c.if-not-is_started.ensures)
+    c.refilled-self.ensures c.rate.ensures.value (c.plan.ensures ∙ c.pull-pulled.ensures.plan ∙ planned.plan_is) in
     let go = k.goes c.if-self-eq0.false in
-    let p = pulls-run g.B.Feeder.kept old c.pull-pulled.new.self c.args.tables.now _ c.is_draining-ended.result c.args.n c.pull-pulled.result c.args.frames.now c.pull-pulled.new.out c.requires.stands.bytes
-    (sym c.if-not-is_started.ensures) c.requires.tables c.is_draining-ended.ensures c.pull-pulled.ensures.pulls c.requires.stands.stands in
+    let p = pulls-run g.B.Feeder.kept c.args.tables.now old c.pull-pulled.new.self _ c.is_draining-ended.result c.args.n c.pull-pulled.result c.args.frames.now c.pull-pulled.new.out c.requires.stands.bytes
+    (sym c.if-not-is_started.ensures) c.requires.planned c.is_draining-ended.ensures c.pull-pulled.ensures.pulls c.requires.stands.stands in
     let r = ring-refilled device c.args.n old.book c.refilled-self.result c.pull-pulled.result k.safe go p.counted in
-    let size = ap (λ (q : PlanSeen). c.pull-pulled.result.eaten * (channels_of q.source * bytes_of old.book.settings.format)) old.plan in
+    let size = ap (λ (q : PlanSeen). c.pull-pulled.result.eaten * (channels_of q.source * bytes_of old.book.settings.format)) planned.plan_is in
     record {
-      device_is = old.device_is;
+      device_rate = old.device_rate;
       rate = subst (λ (s : Settings). IsRate s.rate) (sym k.settings) old.rate;
-      plan = c.pull-pulled.ensures.plan ∙ old.plan ∙ ap (plan_between device) (sym k.settings);
+      ratio = subst (λ (p : PlanSeen). IsRatio (rate_in_plan p)) (sym c.pull-pulled.ensures.plan) old.ratio;
       room = ap (λ (ring : Ring). ring.max) c.pull-pulled.ensures.ring ∙ old.room;
       size = ap (λ (ring : Ring). ring.size) c.pull-pulled.ensures.ring ∙ old.size ∙ ap ring_size (sym k.fragments);
       fill = ap (λ (ring : Ring). length ring.bytes) c.pull-pulled.ensures.ring ∙ (let long = length-drop (c.pull-pulled.result.eaten * (channels_of (plan_in old.chain).source * bytes_of old.book.settings.format)) old.ring.bytes in
           let fill = old.fill in let left = r.fill in omega arith);
       within = r.within;
-      safe = k.safe;
+      safe = subst (λ (p : PlanSeen). BookIsSafe (rate_in_plan p) c.refilled-self.result)
+          (sym (c.pull-pulled.ensures.plan ∙ planned.plan_is ∙ ap (plan_between device) (sym k.settings))) k.safe;
     }
 
 pub returns-then-self-eq0-clause-book : goal.returns-then-self-eq0-clause-book
 returns-then-self-eq0-clause-book g c =
     let old = c.args.self.now in
-    book-mixed (seen old.device) c.args.n old.book c.refilled-self.result c.rate.result c.plan.result.now c.requires.some c.refilled-self.ensures c.rate.ensures.value (c.plan.ensures ∙ c.pull-pulled.ensures.plan ∙ old.plan)
+    let planned = c.requires.planned in
+    book-mixed (seen c.args.tables.now old.device) c.args.n old.book c.refilled-self.result c.rate.result c.plan.result.now c.requires.some c.refilled-self.ensures c.rate.ensures.value (c.plan.ensures ∙ c.pull-pulled.ensures.plan ∙ planned.plan_is)
 
 pub returns-else-self-eq0-clause-book : goal.returns-else-self-eq0-clause-book
 returns-else-self-eq0-clause-book g c =
     let old = c.args.self.now in
-    book-mixed (seen old.device) c.args.n old.book c.refilled-self.result c.rate.result c.plan.result.now c.requires.some c.refilled-self.ensures c.rate.ensures.value (c.plan.ensures ∙ c.pull-pulled.ensures.plan ∙ old.plan)
+    let planned = c.requires.planned in
+    book-mixed (seen c.args.tables.now old.device) c.args.n old.book c.refilled-self.result c.rate.result c.plan.result.now c.requires.some c.refilled-self.ensures c.rate.ensures.value (c.plan.ensures ∙ c.pull-pulled.ensures.plan ∙ planned.plan_is)
 
 pub returns-then-self-eq0-clause-moves : goal.returns-then-self-eq0-clause-moves
 returns-then-self-eq0-clause-moves g c =
     let old = c.args.self.now in
-    let k = book-refilled (seen old.device) c.args.n old.book c.refilled-self.result c.rate.result c.plan.result.now c.requires.some old.device_is old.rate old.safe (sym c.if-not-is_started.ensures)
-    c.refilled-self.ensures c.rate.ensures.value (c.plan.ensures ∙ c.pull-pulled.ensures.plan ∙ old.plan) in
+    let planned = c.requires.planned in
+    let k = book-refilled (seen c.args.tables.now old.device) c.args.n old.book c.refilled-self.result c.rate.result c.plan.result.now c.requires.some (device-is c.args.tables.now old planned) old.rate (safe-at c.args.tables.now old planned) (sym c.if-not-is_started.ensures)
+    c.refilled-self.ensures c.rate.ensures.value (c.plan.ensures ∙ c.pull-pulled.ensures.plan ∙ planned.plan_is) in
     let none = k.ended c.if-self-eq0.true in
-    moves-ended g.B.Feeder.kind g.B.Feeder.kept _ c.args.n old _ (c.restart.ensures.kinds) c.if-self-eq0.true none.0 none.1 (ap (λ (ring : Ring). ring.bytes) c.clear.ensures) c.restart.ensures.begins (k.done c.if-self-eq0.true)
+    moves-ended g.B.Feeder.kind g.B.Feeder.kept c.args.tables.now _ c.args.n old _ (c.restart.ensures.kinds)
+    (planned-as c.args.tables.now old _ refl (c.restart.ensures.plan ∙ c.pull-pulled.ensures.plan) k.settings) c.if-self-eq0.true none.0 none.1 (ap (λ (ring : Ring). ring.bytes) c.clear.ensures) c.restart.ensures.begins (k.done c.if-self-eq0.true)
 
 pub returns-else-self-eq0-clause-moves : goal.returns-else-self-eq0-clause-moves
 returns-else-self-eq0-clause-moves g c =
     let old = c.args.self.now in
-    let k = book-refilled (seen old.device) c.args.n old.book c.refilled-self.result c.rate.result c.plan.result.now c.requires.some old.device_is old.rate old.safe (sym c.if-not-is_started.ensures)
-    c.refilled-self.ensures c.rate.ensures.value (c.plan.ensures ∙ c.pull-pulled.ensures.plan ∙ old.plan) in
-    moves-pulled g.B.Feeder.kind g.B.Feeder.kept old _ c.args.n c.pull-pulled.result _ c.args.frames.now c.pull-pulled.new.out (k.goes c.if-self-eq0.false) c.pull-pulled.ensures.kinds
-    (ap (λ (ring : Ring). ring.bytes) c.pull-pulled.ensures.ring ∙ ap (λ (q : PlanSeen). drop (c.pull-pulled.result.eaten * (channels_of q.source * bytes_of old.book.settings.format)) old.ring.bytes) old.plan)
-    (λ bytes s. pulls-run g.B.Feeder.kept old c.pull-pulled.new.self c.args.tables.now _ c.is_draining-ended.result c.args.n c.pull-pulled.result c.args.frames.now c.pull-pulled.new.out bytes
-    (sym c.if-not-is_started.ensures) c.requires.tables c.is_draining-ended.ensures c.pull-pulled.ensures.pulls s)
+    let planned = c.requires.planned in
+    let k = book-refilled (seen c.args.tables.now old.device) c.args.n old.book c.refilled-self.result c.rate.result c.plan.result.now c.requires.some (device-is c.args.tables.now old planned) old.rate (safe-at c.args.tables.now old planned) (sym c.if-not-is_started.ensures)
+    c.refilled-self.ensures c.rate.ensures.value (c.plan.ensures ∙ c.pull-pulled.ensures.plan ∙ planned.plan_is) in
+    moves-pulled g.B.Feeder.kind g.B.Feeder.kept c.args.tables.now old _ c.args.n c.pull-pulled.result _ c.args.frames.now c.pull-pulled.new.out planned refl c.pull-pulled.ensures.plan (k.goes c.if-self-eq0.false) c.pull-pulled.ensures.kinds
+    (ap (λ (ring : Ring). ring.bytes) c.pull-pulled.ensures.ring ∙ ap (λ (q : PlanSeen). drop (c.pull-pulled.result.eaten * (channels_of q.source * bytes_of old.book.settings.format)) old.ring.bytes) planned.plan_is)
+    (λ bytes s. pulls-run g.B.Feeder.kept c.args.tables.now old c.pull-pulled.new.self _ c.is_draining-ended.result c.args.n c.pull-pulled.result c.args.frames.now c.pull-pulled.new.out bytes
+    (sym c.if-not-is_started.ensures) c.requires.planned c.is_draining-ended.ensures c.pull-pulled.ensures.pulls s)
 
 pub returns-then-self-eq0-clause-sum : goal.returns-then-self-eq0-clause-sum
 returns-then-self-eq0-clause-sum g c = λ bytes s.
     let old = c.args.self.now in
-    let p = pulls-run g.B.Feeder.kept old c.pull-pulled.new.self c.args.tables.now _ c.is_draining-ended.result c.args.n c.pull-pulled.result c.args.frames.now c.pull-pulled.new.out bytes
-    (sym c.if-not-is_started.ensures) c.requires.tables c.is_draining-ended.ensures c.pull-pulled.ensures.pulls s in
-    turned-pulled g.B.Feeder.kept (seen old.device) c.gain_of-gain.result c.args.n old.book bytes c.pull-pulled.new.self c.pull-pulled.result c.args.frames.now c.pull-pulled.new.out c.args.sum.now c.mix_into.new.acc c.channels.result c.bits.result
-    old.device_is old.rate c.gain_of-gain.ensures.value p c.channels.ensures c.bits.ensures c.mix_into.ensures.value
+    let p = pulls-run g.B.Feeder.kept c.args.tables.now old c.pull-pulled.new.self _ c.is_draining-ended.result c.args.n c.pull-pulled.result c.args.frames.now c.pull-pulled.new.out bytes
+    (sym c.if-not-is_started.ensures) c.requires.planned c.is_draining-ended.ensures c.pull-pulled.ensures.pulls s in
+    turned-pulled g.B.Feeder.kept (seen c.args.tables.now old.device) c.gain_of-gain.result c.args.n old.book bytes c.pull-pulled.new.self c.pull-pulled.result c.args.frames.now c.pull-pulled.new.out c.args.sum.now c.mix_into.new.acc c.channels.result c.bits.result
+    (device-is c.args.tables.now old c.requires.planned) old.rate c.gain_of-gain.ensures.value p c.channels.ensures c.bits.ensures c.mix_into.ensures.value
 
 pub returns-else-self-eq0-clause-sum : goal.returns-else-self-eq0-clause-sum
 returns-else-self-eq0-clause-sum g c = λ bytes s.
     let old = c.args.self.now in
-    let p = pulls-run g.B.Feeder.kept old c.pull-pulled.new.self c.args.tables.now _ c.is_draining-ended.result c.args.n c.pull-pulled.result c.args.frames.now c.pull-pulled.new.out bytes
-    (sym c.if-not-is_started.ensures) c.requires.tables c.is_draining-ended.ensures c.pull-pulled.ensures.pulls s in
-    turned-pulled g.B.Feeder.kept (seen old.device) c.gain_of-gain.result c.args.n old.book bytes c.pull-pulled.new.self c.pull-pulled.result c.args.frames.now c.pull-pulled.new.out c.args.sum.now c.mix_into.new.acc c.channels.result c.bits.result
-    old.device_is old.rate c.gain_of-gain.ensures.value p c.channels.ensures c.bits.ensures c.mix_into.ensures.value
+    let p = pulls-run g.B.Feeder.kept c.args.tables.now old c.pull-pulled.new.self _ c.is_draining-ended.result c.args.n c.pull-pulled.result c.args.frames.now c.pull-pulled.new.out bytes
+    (sym c.if-not-is_started.ensures) c.requires.planned c.is_draining-ended.ensures c.pull-pulled.ensures.pulls s in
+    turned-pulled g.B.Feeder.kept (seen c.args.tables.now old.device) c.gain_of-gain.result c.args.n old.book bytes c.pull-pulled.new.self c.pull-pulled.result c.args.frames.now c.pull-pulled.new.out c.args.sum.now c.mix_into.new.acc c.channels.result c.bits.result
+    (device-is c.args.tables.now old c.requires.planned) old.rate c.gain_of-gain.ensures.value p c.channels.ensures c.bits.ensures c.mix_into.ensures.value
 
 pub returns-then-self-eq0-clause-fits : goal.returns-then-self-eq0-clause-fits
 returns-then-self-eq0-clause-fits g c =

@@ -3,22 +3,20 @@ use Rattle.pcm_ring.specs.Ring.{Ring}
 use Rattle.pcm_format.specs.declared.settings.Settings.{Settings}
 use Rattle.pcm_feeder.specs.Limits.{IsRate}
 use Rattle.pcm_desk.specs.declared.book.Book.{Book}
-use Rattle.pcm_desk.specs.Device.{plan_between, seen}
+use Rattle.pcm_plan.specs.Plans.{rate_in_plan}
+use Rattle.pcm_chain.specs.Chains.{plan_in}
 use Rattle.pcm_desk.specs.Books.{fill_of}
-use Rattle.pcm_desk.specs.Desk.{rate_at}
 use Rattle.pcm_oss.specs.Fragments.{ring_size}
 use Rattle.pcm_desk.proofs.Leaves.{accepting-adds}
 use Rattle.pcm_desk.proofs.Safe.{safe-accepting}
-use Rattle.pcm_desk.proofs.Ratios.{ratio-between}
 use Rattle.pcm_sound.proofs.Slots.{accepts}
-use Rattle.pcm_sound.proofs.Stories.{IsSafeAt}
+use Rattle.pcm_desk.specs.Safe.{BookIsSafe}
 use Rattle.pcm_play.proofs.Moving.{fill_of-accepting, within-accepting, moves-taking}
 use Rattle.pcm_play.proofs.channel.PlayChannelOf.write.Goals as goal
 
 pub invariant_of-self : goal.invariant_of-self
 invariant_of-self g c =
     let old = c.args.self.now in
-    let device = seen old.device in
     let accepted = c.put-accepted.result in
     let is = c.accepting-self.ensures in
     let a = accepts accepted old.book in
@@ -28,22 +26,21 @@ invariant_of-self g c =
     let length_is : length c.put-accepted.new.self.bytes ≡ length old.ring.bytes + accepted =
     ap (λ (ring : Ring). length ring.bytes) c.put-accepted.ensures.kept ∙ omega (arith, length-append old.ring.bytes (take accepted c.args.bytes.now), length-take accepted c.args.bytes.now) in
     record {
-      device_is = old.device_is;
+      device_rate = old.device_rate;
       rate = subst (λ (s : Settings). IsRate s.rate) (sym settings) old.rate;
-      plan = old.plan ∙ ap (plan_between device) (sym settings);
+      ratio = old.ratio;
       room = ap (λ (ring : Ring). ring.max) c.put-accepted.ensures.kept ∙ old.room;
       size = ap (λ (ring : Ring). ring.size) c.put-accepted.ensures.kept ∙ old.size ∙ ap ring_size (sym fragments);
       fill = length_is ∙ ap (λ n. n + accepted) old.fill ∙ sym (fill_of-accepting accepted old.book old.within) ∙ sym (ap fill_of is);
       within = rw is (within-accepting accepted old.book old.within);
-      safe = subst (IsSafeAt device) (sym is)
-          (rw (a.settings) (safe-accepting (rate_at device old.book) accepted old.book (ratio-between device old.book.settings old.device_is old.rate)
-          (sym c.is_draining.ensures ∙ c.if-is_draining.false)
-          (let size = old.size in let fill = old.fill in omega (arith, count)) old.safe));
+      safe = subst (BookIsSafe (rate_in_plan (plan_in old.chain))) (sym is)
+          (safe-accepting (rate_in_plan (plan_in old.chain)) accepted old.book old.ratio (sym c.is_draining.ensures ∙ c.if-is_draining.false)
+          (let size = old.size in let fill = old.fill in omega (arith, count)) old.safe);
     }
 
 pub returns-clause-moves : goal.returns-clause-moves
-returns-clause-moves g c =
+returns-clause-moves g c = λ filters.
     let old = c.args.self.now in
     let count = c.put-accepted.ensures.count in
-    moves-taking g.B.Feeder.kind g.B.Feeder.kept c.args.bytes.now c.put-accepted.result old _ refl (ap (λ (ring : Ring). ring.bytes) c.put-accepted.ensures.kept) c.accepting-self.ensures
+    moves-taking g.B.Feeder.kind g.B.Feeder.kept filters c.args.bytes.now c.put-accepted.result old _ refl refl (ap (λ (ring : Ring). ring.bytes) c.put-accepted.ensures.kept) c.accepting-self.ensures
     (omega (arith, count)) (sym c.is_draining.ensures ∙ c.if-is_draining.false) old.within

@@ -53,13 +53,13 @@ pub returns-clause-channels : goal.returns-clause-channels
 returns-clause-channels g c =
     let old = c.args.self.now in
     let same = rewritten c.mix_block.new.channels old.channels.items old.channels.len (c.mix_block.auto.channels ∙ c.deref_mut.ensures.len) in
-    rw same (subst (λ (before : List (PlayChannelOf _)). Each (Moves g.B.Feeder.kind g.B.Feeder.kept [] c.args.n) before c.mix_block.new.channels) c.deref_mut.ensures.value c.mix_block.ensures.moves)
+    rw same (subst (λ (before : List (PlayChannelOf _)). Each (Moves g.B.Feeder.kind g.B.Feeder.kept c.args.tables.now [] c.args.n) before c.mix_block.new.channels) c.deref_mut.ensures.value c.mix_block.ensures.moves)
 
 pub returns-clause-books : goal.returns-clause-books
 returns-clause-books g c =
     let old = c.args.self.now in
     let same = rewritten c.mix_block.new.channels old.channels.items old.channels.len (c.mix_block.auto.channels ∙ c.deref_mut.ensures.len) in
-    rw same (subst (λ (before : List (PlayChannelOf _)). Each (λ (was is : PlayChannelOf _). is.book ≡ mixing (seen old.device) c.args.n was.book) before c.mix_block.new.channels) c.deref_mut.ensures.value c.mix_block.ensures.books)
+    rw same (subst (λ (before : List (PlayChannelOf _)). Each (λ (was is : PlayChannelOf _). is.book ≡ mixing (seen c.args.tables.now old.device) c.args.n was.book) before c.mix_block.new.channels) c.deref_mut.ensures.value c.mix_block.ensures.books)
 
 -- how many bytes leave the ring
 taken : (n z ring : ℕ) (took wanted there : ℕ) → n ≤ ring → took ≡ min wanted there → wanted ≡ n * z → there ≡ ring * z → took ≡ n * z
@@ -83,7 +83,7 @@ returns-clause-ring g c = λ streams stand.
     let old = c.args.self.now in
     let n = c.args.n in
     let z : ℕ = frame_bytes old.device.settings in
-    let device = seen old.device in
+    let device = seen c.args.tables.now old.device in
     let new : List ℕ = c.mix_block.new.bytes in
     let room = mul-le-mul_right z c.requires.within in
     let took = taken n z old.device.ring_frames c.take.result (length c.args.out.now) (length old.ring.bytes) c.requires.within c.take.ensures.count c.requires.out old.full in
@@ -95,7 +95,7 @@ returns-clause-ring g c = λ streams stand.
     let wide : c.take.new.self.size ≡ old.device.ring_frames * z = ap (λ (ring : Ring). ring.size) c.take.ensures.left ∙ old.size in
     let put = put-back n z old.device.ring_frames c.put.result (length (take (n * c.frame_bytes.result) c.deref.result.now)) (c.take.new.self.size - length c.take.new.self.bytes) (length old.ring.bytes) (length c.take.new.self.bytes)
     c.requires.within c.put.ensures.count all old.full left (ap (λ s. s - length c.take.new.self.bytes) wide) in
-    let stands : AllStand g.B.Feeder.kept c.deref_mut.result.now streams = subst (λ (list : List (PlayChannelOf _)). AllStand g.B.Feeder.kept list streams) (sym c.deref_mut.ensures.value) stand in
+    let stands : AllStand g.B.Feeder.kept c.args.tables.now c.deref_mut.result.now streams = subst (λ (list : List (PlayChannelOf _)). AllStand g.B.Feeder.kept c.args.tables.now list streams) (sym c.deref_mut.ensures.value) stand in
     ap (λ (ring : Ring). ring.bytes) c.put.ensures.kept
     ∙ ap (λ (ring : Ring). ring.bytes ++ take c.put.result (take (n * c.frame_bytes.result) c.deref.result.now)) c.take.ensures.left
     ∙ ap (λ k. drop k old.ring.bytes ++ take c.put.result (take (n * c.frame_bytes.result) c.deref.result.now)) took

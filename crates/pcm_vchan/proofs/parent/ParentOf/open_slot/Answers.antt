@@ -36,7 +36,7 @@ returns-in_default-clause-books g c =
     sym (ap (λ (found : Option ℕ). books_begun found c.args.settings (books_of old.channels.items)) none)
 
 pub returns-in_default-clause-channels : goal.returns-in_default-clause-channels
-returns-in_default-clause-channels g c = λ slot other there. moves-nothing g.B.Feeder.kind g.B.Feeder.kept [] 0 (get_or c.args.self.now.channels.items slot other)
+returns-in_default-clause-channels g c = λ slot other there. moves-nothing g.B.Feeder.kind g.B.Feeder.kept c.args.tables.now [] 0 (get_or c.args.self.now.channels.items slot other)
 
 pub returns-clause-found : goal.returns-clause-found
 returns-clause-found g c =
@@ -56,8 +56,8 @@ returns-clause-channels g c =
     let old = c.args.self.now in
     let within = c.in-Some.ensures.within in
     let there : c.in-Some.slot < length old.channels.items = omega (arith, old.channels.ok.0) in
-    each_set (Moves g.B.Feeder.kind g.B.Feeder.kept [] 0) old.channels.items c.in-Some.slot c.index_mut.result.now c.begin.new.self there c.index_mut.ensures.value c.begin.ensures.moves
-    (moves-nothing g.B.Feeder.kind g.B.Feeder.kept [] 0)
+    each_set (Moves g.B.Feeder.kind g.B.Feeder.kept c.args.tables.now [] 0) old.channels.items c.in-Some.slot c.index_mut.result.now c.begin.new.self there c.index_mut.ensures.value c.begin.ensures.moves
+    (moves-nothing g.B.Feeder.kind g.B.Feeder.kept c.args.tables.now [] 0)
 
 pub returns-clause-own : goal.returns-clause-own
 returns-clause-own g c =

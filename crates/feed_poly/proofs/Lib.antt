@@ -1,0 +1,5 @@
+pub mod Places
+pub mod Windows
+pub mod Sums
+pub mod Outputs
+pub mod Feeds

@@ -1,0 +1,10 @@
+use Rattle.std.proofs.Common.{◌+◌, ◌-◌, ◌*◌, take, drop, ap, ◌∙◌, sym}
+use Rattle.feed_poly.proofs.Windows.{channel-is}
+use Rattle.feed_poly.proofs.window.Window.channel.Goals as goal
+
+pub returns-clause-value : goal.returns-clause-value
+returns-clause-value c =
+    let window = c.args.self.now in
+    let at = c.args.channel * 128 + window.at in
+    ap (λ list. take (at + window.taps - at) (drop at list)) c.deref.ensures.value
+    ∙ channel-is window.channels window.taps window.at c.args.channel window.samples.items c.requires window.limits.most window.inside window.most (sym window.samples.ok.0 ∙ window.size)

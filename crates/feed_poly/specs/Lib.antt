@@ -1,0 +1,5 @@
+pub mod Places
+pub mod Window
+pub mod Rows
+pub mod Fitted
+pub mod Poly

@@ -1,0 +1,125 @@
+//! The last frames of a stream.
+
+ghost use Rattle.std.specs.Prelude.{◌≡◌, ◌<◌, ◌≤◌, ◌+◌, ◌*◌, [], ◌∷◌, length, take, drop, replicate, vec_len, IfOk};
+ghost use Rattle.pcm_feeder.specs.Kept.{moved_on};
+ghost use Rattle.pcm_feeder.specs.Limits.{AreChannels};
+ghost use Rattle.pcm_feeder.specs.declared.limits.TheConstants.{TAPS};
+ghost use Rattle.pcm_feeder.specs.Streams.{frames_of, silence};
+ghost use Rattle.feed_poly.specs.Places.{IsTwice, ArePut};
+ghost use Rattle.feed_poly.specs.Rows.{channel_in};
+
+use std::alloc::{AllocError, Global};
+
+// The places of one channel: two for each frame.
+const PLACES: usize = 128;
+
+// Those of eight channels.
+const SAMPLES: usize = 1024;
+
+/// The last `taps` frames of a stream. Each channel has its samples by itself, and each of them at
+/// two places, `taps` apart: so the last `taps` ones lie side by side, from the place on where the
+/// next goes, and nothing moves when it comes.
+#[derive(Drop)]
+pub struct Window {
+    samples: Vec<i32>,
+    channels: usize,
+    taps: usize,
+    at: usize,
+    ghost size: { vec_len samples ≡ 1024 },
+    ghost limits: { AreChannels channels },
+    ghost some: { 1 ≤ taps },
+    ghost most: { taps ≤ TAPS },
+    ghost inside: { at < taps },
+    ghost twice: { IsTwice taps samples.items },
+}
+
+impl Window {
+    ghost use Rattle.feed_poly.specs.Window.{frames_in};
+
+    /// A silent window. All memory is taken here, for 64 frames of eight channels.
+    pub fn new(alloc: Global) -> Result<Window, AllocError>
+        ensures { IfOk result (λ made. frames_in made ≡ replicate made.taps (silence made.channels)) }
+    {
+        let samples = vec![in alloc; 0i32; SAMPLES]?;
+        Ok(Window {
+            samples,
+            channels: 1,
+            taps: 2,
+            at: 0,
+        })
+    }
+
+    /// Begins again with so many silent frames.
+    pub fn clear(&mut self, channels: usize, taps: usize)
+        requires limits { AreChannels channels }
+        requires some { 1 ≤ taps }
+        requires most { taps ≤ TAPS }
+        ensures frames { frames_in self.new ≡ replicate taps (silence channels) }
+        ensures channels { self.new.channels ≡ channels }
+        ensures taps { self.new.taps ≡ taps }
+    {
+        self.samples.fill(0);
+        self.channels = channels;
+        self.taps = taps;
+        self.at = 0;
+    }
+
+    /// Takes the frames of the input from one place to another in, for as many that are the oldest.
+    pub fn eat(&mut self, input: &[i32], from: usize, to: usize)
+        requires order { from ≤ to }
+        requires there { to * self.old.channels ≤ length input.now }
+        ensures frames { frames_in self.new ≡ moved_on (frames_in self.old)
+            (drop from (take to (frames_of self.old.channels input.now))) }
+        ensures channels { self.new.channels ≡ self.old.channels }
+        ensures taps { self.new.taps ≡ self.old.taps }
+    {
+        for k in from..to {
+            let at = k * self.channels;
+            self.push(&input[at..at + self.channels]);
+        }
+    }
+
+    // Takes a frame in for the oldest.
+    fn push(&mut self, frame: &[i32])
+        requires { length frame.now ≡ self.old.channels }
+        ensures frames { frames_in self.new ≡ moved_on (frames_in self.old) (frame.now ∷ []) }
+        ensures channels { self.new.channels ≡ self.old.channels }
+        ensures taps { self.new.taps ≡ self.old.taps }
+    {
+        put_twice(&mut self.samples, self.taps, self.at, frame);
+        let next = self.at + 1;
+        self.at = if next == self.taps { 0 } else { next };
+    }
+
+    /// Lends the samples of a channel in all frames.
+    pub fn channel(&self, channel: usize) -> &[i32]
+        requires { channel < self.now.channels }
+        ensures value { result.now ≡ channel_in channel (frames_in self.now) }
+        ensures len { length result.now ≡ self.now.taps }
+    {
+        let at = channel * PLACES + self.at;
+        &self.samples[at..at + self.taps]
+    }
+
+    /// How many channels a frame has.
+    pub fn channels(&self) -> usize
+        ensures { result ≡ self.now.channels }
+    {
+        self.channels
+    }
+}
+
+// Writes each sample of a frame at a place of its channel, and again so many places behind.
+fn put_twice(samples: &mut [i32], taps: usize, at: usize, frame: &[i32])
+    requires size { length samples.old ≡ 1024 }
+    requires most { taps ≤ TAPS }
+    requires inside { at < taps }
+    requires channels { length frame.now ≤ 8 }
+    ensures { ArePut taps at frame.now (length frame.now) samples.old samples.new }
+{
+    for (channel, sample) in frame.iter().enumerate() {
+        let place = channel * PLACES + at;
+        samples[place] = *sample;
+        samples[place + taps] = *sample;
+    }
+}

@@ -1,0 +1,143 @@
+-- The filters of a configuration: a table for each, what that spells, and what it settles.
+use Rattle.std.specs.Prelude.{ℕ, ℤ, neg_ℤ, int_le, Bool, true, false, not, ◌&&◌, ◌||◌, ◌==◌, ◌*◌, ◌%◌, nat_le, nat_lt, if◌then◌else◌, List, [], ◌∷◌, length, Option, Some, None, Result, Ok, codes}
+use Rattle.std.specs.List.{list_all, flat_map}
+use Rattle.std.specs.Str.{bytes_eq}
+use Rattle.pcm_format.specs.declared.settings.TheConstants.{RATE_LEAST, RATE_MOST}
+use Rattle.pcm_feeder.specs.declared.table.Table.{Table}
+use Rattle.pcm_feeder.specs.Filters.{Filters}
+use Rattle.toml.specs.Data.{Data, Members, get_member, as_integer, as_table}
+use Rattle.pcm_config.specs.declared.fault.ConfigKind.TheVariants.{Kind, Range, Count, Missing, Shape, Coef}
+use Rattle.pcm_config.specs.declared.fault.ConfigRefusal.{ConfigRefusal}
+use Rattle.pcm_config.specs.declared.filter.Spelled.{Spelled}
+use Rattle.pcm_feeder.specs.declared.limits.TheConstants.{COEF_MOST, FILTERS, PHASES, SHIFT_MOST, TABLE_COEFS, TAPS}
+use Rattle.pcm_config.specs.declared.place.ConfigPlace.TheVariants.{Tables}
+use Rattle.pcm_config.specs.Judgements.{◌>>=◌, refused, required}
+use Rattle.pcm_config.specs.Lookups.{entries_of, value_at, of_kind, each_as, as_array_of}
+use Rattle.pcm_config.specs.Rows.{in_range}
+
+-- ---- the array of tables
+
+-- an array of tables, or the one without any
+abbrev pub or_none : Option (List Members) → List Members
+or_none None = []
+or_none (Some tables) = tables
+
+-- the tables of filters at the top
+abbrev pub filter_tables : Members → Result (List Members) ConfigRefusal
+filter_tables top = do
+  found ← value_at (as_array_of as_table) Tables top
+  Ok (or_none found)
+
+-- a key that a filter's table may have
+abbrev pub is_filter_key : List ℕ → Bool
+is_filter_key key =
+    ((bytes_eq key (codes "src") || bytes_eq key (codes "dst")) || bytes_eq key (codes "shift")) || bytes_eq key (codes "rows")
+
+-- whether a table has no key but those
+abbrev pub has_filter_keys : Members → Bool
+has_filter_keys table = list_all (λ entry. is_filter_key entry.0) (entries_of table)
+
+-- ---- what a table spells
+
+-- a value as whole numbers
+abbrev pub numbers_in : Data → Option (List ℤ)
+numbers_in value = as_array_of as_integer value
+
+-- a value as rows of whole numbers
+abbrev pub rows_in : Data → Option (List (List ℤ))
+rows_in value = as_array_of numbers_in value
+
+-- the rates and the shift, and then the rows, each of its kind
+unfoldable pub spelled_in : Option Data → Option Data → Data → Data → Result Spelled ConfigRefusal
+spelled_in src dst shift rows = do
+  from ← of_kind as_integer Tables src
+  to ← of_kind as_integer Tables dst
+  bits ← required Kind Tables (as_integer shift)
+  lists ← required Kind Tables (rows_in rows)
+  Ok (record { src = from; dst = to; shift = bits; rows = lists })
+
+-- ---- what a table settles
+
+-- a rate of a filter, which is 0 where it is left out
+abbrev pub filter_rate : Option ℤ → Option ℕ
+filter_rate None = Some 0
+filter_rate (Some rate) = in_range RATE_LEAST RATE_MOST rate
+
+-- the numbers of the first row
+abbrev pub taps_of : List (List ℤ) → ℕ
+taps_of [] = 0
+taps_of (row ∷ rows) = length row
+
+-- an even number of taps within its limit
+abbrev pub is_taps : ℕ → Bool
+is_taps taps = (nat_le 2 taps && nat_le taps TAPS) && taps % 2 == 0
+
+-- at least one row, and no more phases than there may be
+abbrev pub is_phases : ℕ → Bool
+is_phases phases = nat_le 1 phases && nat_le phases PHASES
+
+-- rows of one length, as many and as long as they may be
+abbrev pub has_filter_shape : List (List ℤ) → Bool
+has_filter_shape rows =
+    ((is_phases (length rows) && is_taps (taps_of rows)) && list_all (λ row. length row == taps_of rows) rows)
+    && nat_le (length rows * taps_of rows) TABLE_COEFS
+
+-- a coefficient, if it is within its limit on both sides of 0
+abbrev pub as_coef : ℤ → Option ℤ
+as_coef number = if int_le (neg_ℤ COEF_MOST) number && int_le number COEF_MOST then Some number else None
+
+-- the coefficients of rows, one row after another
+abbrev pub coefs_in : List (List ℤ) → Option (List ℤ)
+coefs_in rows = each_as as_coef (flat_map (λ row. row) rows)
+
+-- a filter with these rates and this shift: first the rows have a shape, and then each coefficient is within its limit
+unfoldable pub shaped : ℕ → ℕ → ℕ → List (List ℤ) → Result Table ConfigRefusal
+shaped src dst shift rows =
+    if not (has_filter_shape rows) then refused Shape Tables
+    else do
+      coefs ← required Coef Tables (coefs_in rows)
+      Ok (record { src = src; dst = dst; phases = length rows; taps = taps_of rows; shift = shift; coefs = coefs })
+
+-- what is spelled, as a filter: first its rates and its shift are in their sets
+unfoldable pub settled_filter : Spelled → Result Table ConfigRefusal
+settled_filter spelled = do
+  src ← required Range Tables (filter_rate spelled.src)
+  dst ← required Range Tables (filter_rate spelled.dst)
+  shift ← required Range Tables (in_range 1 SHIFT_MOST spelled.shift)
+  shaped src dst shift spelled.rows
+
+-- both of two values are there, or neither
+abbrev pub come_together : Option Data → Option Data → Bool
+come_together None None = true
+come_together None (Some dst) = false
+come_together (Some src) None = false
+come_together (Some src) (Some dst) = true
+
+-- The filter of what stands at the four keys. The shift and the rows must be there, and the rates both or neither.
+abbrev pub filter_with : Option Data → Option Data → Option Data → Option Data → Result Table ConfigRefusal
+filter_with src dst (Some shift) (Some rows) =
+    if come_together src dst then spelled_in src dst shift rows >>= settled_filter
+    else refused Missing Tables
+filter_with src dst (Some shift) None = refused Missing Tables
+filter_with src dst None rows = refused Missing Tables
+
+-- the filter of a table
+unfoldable pub filter_in : Members → Result Table ConfigRefusal
+filter_in table =
+    filter_with (get_member (codes "src") table) (get_member (codes "dst") table) (get_member (codes "shift") table) (get_member (codes "rows") table)
+
+-- the filters of tables, each wholly before the next
+abbrev pub each_filter : List Members → Result (List Table) ConfigRefusal
+each_filter [] = Ok []
+each_filter (table ∷ tables) = do
+  filter ← filter_in table
+  filters ← each_filter tables
+  Ok (filter ∷ filters)
+
+-- the filters of tables, of which there are only so many
+unfoldable pub filters_in : List Members → Result Filters ConfigRefusal
+filters_in tables =
+    if nat_lt FILTERS (length tables) then refused Count Tables
+    else do
+      filters ← each_filter tables
+      Ok (record { list = filters })

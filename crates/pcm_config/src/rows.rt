@@ -1,0 +1,120 @@
+//! Rows of whole numbers.
+
+ghost use Rattle.std.specs.Prelude.{◌≡◌};
+ghost use Rattle.toml.specs.View.{view};
+ghost use Rattle.pcm_config.specs.Answers.{Reads};
+ghost use Rattle.pcm_config.specs.Judgements.{required};
+ghost use Rattle.pcm_config.specs.Lookups.{each_as};
+ghost use Rattle.pcm_config.specs.Tables.{numbers_in, rows_in};
+ghost use Rattle.pcm_config.specs.declared.fault.ConfigKind.TheVariants.{Kind};
+ghost use Rattle.pcm_config.specs.declared.place.ConfigPlace.TheVariants.{Tables};
+ghost use Rattle.toml.specs.Data.{as_integer};
+
+use crate::fault::refused;
+use crate::{ConfigFault, ConfigKind, ConfigPlace};
+use std::alloc::Global;
+use std::marker::Model;
+use toml::Value;
+
+// A row of whole numbers.
+#[derive(Drop)]
+pub(crate) struct Row {
+    numbers: Vec<i64>,
+}
+
+impl Model for Row {
+    ghost use Rattle.std.specs.Prelude.{List, ℤ};
+
+    ghost Value = { List ℤ };
+
+    ghost view = { λ row. row.numbers.items };
+}
+
+impl Row {
+    // Takes the numbers of a vector over.
+    fn new(numbers: Vec<i64>) -> Self
+        ensures { result ≡ numbers.items }
+    {
+        Row { numbers }
+    }
+
+    // Lends the numbers.
+    pub(crate) fn as_slice(&self) -> &[i64]
+        ensures { result.now ≡ self.now }
+    {
+        self.numbers.as_slice()
+    }
+}
+
+// Rows, one after another.
+#[derive(Drop)]
+pub(crate) struct Rows {
+    list: Vec<Row>,
+}
+
+impl Model for Rows {
+    ghost use Rattle.std.specs.Prelude.{List, ℤ};
+
+    ghost Value = { List (List ℤ) };
+
+    ghost view = { λ rows. rows.list.items };
+}
+
+impl Rows {
+    // Takes the rows of a vector over.
+    fn new(list: Vec<Row>) -> Self
+        ensures { result ≡ list.items }
+    {
+        Rows { list }
+    }
+
+    // Lends the rows.
+    pub(crate) fn as_slice(&self) -> &[Row]
+        ensures { result.now ≡ self.now }
+    {
+        self.list.as_slice()
+    }
+}
+
+// A value as rows of whole numbers.
+pub(crate) fn rows_in(alloc: Global, value: &Value) -> Result<Rows, ConfigFault>
+    ensures { Reads result (required Kind Tables (rows_in (view value.now))) }
+{
+    match value.as_array() {
+        Some(rows) => each_row(alloc, rows.as_slice()),
+        None => Err(refused(ConfigKind::Kind, ConfigPlace::Tables)),
+    }
+}
+
+fn each_row(alloc: Global, values: &[Value]) -> Result<Rows, ConfigFault>
+    ensures { Reads result (required Kind Tables (each_as (λ value. numbers_in (view value)) values.now)) }
+{
+    let mut rows = Vec::new(alloc);
+    for value in values {
+        rows.push(numbers_in(alloc, value)?)?;
+    }
+    Ok(Rows::new(rows))
+}
+
+// A value as whole numbers.
+fn numbers_in(alloc: Global, value: &Value) -> Result<Row, ConfigFault>
+    ensures { Reads result (required Kind Tables (numbers_in (view value.now))) }
+{
+    match value.as_array() {
+        Some(numbers) => each_number(alloc, numbers.as_slice()),
+        None => Err(refused(ConfigKind::Kind, ConfigPlace::Tables)),
+    }
+}
+
+fn each_number(alloc: Global, values: &[Value]) -> Result<Row, ConfigFault>
+    ensures { Reads result (required Kind Tables (each_as (λ value. as_integer (view value)) values.now)) }
+{
+    let mut numbers = Vec::new(alloc);
+    for value in values {
+        let Some(number) = value.as_integer() else {
+            return Err(refused(ConfigKind::Kind, ConfigPlace::Tables));
+        };
+        numbers.push(number)?;
+    }
+    Ok(Row::new(numbers))
+}
