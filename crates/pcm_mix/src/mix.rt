@@ -1,7 +1,8 @@
 //! The sum of two blocks.
-ghost use Rattle.std.specs.Prelude.{◌≡◌, ◌≤◌, length, All};
-ghost use Rattle.pcm_num.specs.Limit.{FitsBits};
-ghost use Rattle.pcm_mix.specs.Mix.{limited_sum, mixed};
+ghost use Rattle.std.specs.Prelude.{◌≡◌, ◌≤◌, ◌+ℤ◌, ◌≤ℤ◌, length, All};
+ghost use Rattle.std.specs.Int.{int_max, int_min};
+ghost use Rattle.pcm_num.specs.Limit.{FitsBits, least_of, greatest_of};
+ghost use Rattle.pcm_mix.specs.Mix.{mixed};
 
 use pcm_num::clamp_bits;
 
@@ -13,16 +14,37 @@ pub fn mix_into(acc: &mut [i32], add: &[i32], bits: u32)
     ensures value { acc.new ≡ mixed bits acc.old add.now }
     ensures fits { All (FitsBits bits) acc.new }
 {
+    let least = least_sample(bits);
+    let greatest = greatest_sample(bits);
     for (at, more) in add.iter().enumerate() {
-        acc[at] = limited_sum(acc[at], *more, bits);
+        acc[at] = sum_within(acc[at], *more, least, greatest);
     }
 }
 
-// The sum of two samples, which stops at the end of the range.
-fn limited_sum(a: i32, b: i32, bits: u32) -> i32
+// The least sample of so many bits.
+fn least_sample(bits: u32) -> i32
     requires least { 1 ≤ bits }
     requires most { bits ≤ 32 }
-    ensures { result ≡ limited_sum bits a b }
+    ensures { result ≡ least_of bits }
 {
-    clamp_bits(i64::from(a) + i64::from(b), bits)
+    clamp_bits(i64::from(i32::MIN), bits)
+}
+
+// The greatest sample of so many bits.
+fn greatest_sample(bits: u32) -> i32
+    requires least { 1 ≤ bits }
+    requires most { bits ≤ 32 }
+    ensures { result ≡ greatest_of bits }
+{
+    clamp_bits(i64::from(i32::MAX), bits)
+}
+
+// The sum of two samples, or the end of the range that it passes. A sum past 32 bits stops at their
+// end first, and the limit takes it to the same end of the range. So no sample is widened, and the
+// compiler adds several at once.
+fn sum_within(a: i32, b: i32, least: i32, greatest: i32) -> i32
+    requires { least ≤ℤ greatest }
+    ensures { result ≡ int_max least (int_min (a +ℤ b) greatest) }
+{
+    a.saturating_add(b).clamp(least, greatest)
 }
