@@ -24,6 +24,7 @@ near-change src dst channels lookahead is near =
     record {
       ratio = record { src = omega (arith, source.least); dst = omega (arith, target.least) };
       src = omega (arith, source.most, target.least);
+      spread = omega (arith, source.least, target.most);
       dst = target.most;
       lookahead = near;
     }
@@ -116,7 +117,7 @@ goes-level rate ended counts waiting want advance level goes =
 
 -- the rate of a plan is within its limits
 near-among : (specs : List Spec) → All IsSpec specs → IsNear (rate_among specs)
-near-among [] limits = record { ratio = record { src = omega arith; dst = omega arith }; src = omega arith; dst = omega arith; lookahead = omega arith }
+near-among [] limits = record { ratio = record { src = omega arith; dst = omega arith }; src = omega arith; spread = omega arith; dst = omega arith; lookahead = omega arith }
 near-among (Matrix from to ∷ specs) limits = near-among specs (All-tail IsSpec (Matrix from to) specs limits)
 near-among (Hold src dst channels ∷ specs) limits = near-change src dst channels 0 (All-head IsSpec (Hold src dst channels) specs limits) (omega arith)
 near-among (Linear src dst channels ∷ specs) limits = near-change src dst channels 1 (All-head IsSpec (Linear src dst channels) specs limits) (omega arith)
@@ -561,3 +562,38 @@ none-stands rate ratio = record {
   given_is = omega arith;
   begun = λ some. absurd (omega arith);
 }
+
+-- ---- a block that is eaten whole
+
+-- a block of outputs more needs some frames more
+need-later : (rate : Rate) (c : ℕ) → IsNear rate → (need rate c + 2 ≤ need rate (c + 256)) × (need rate (c + 1) + 1 ≤ need rate (c + 256))
+need-later rate zero near =
+    let spread = near.spread in
+    let dst = near.ratio.dst in
+    let first : 1 ≤ 255 * rate.src / rate.dst = (le-div_iff_mul-le {k = rate.dst} {x = 1} {y = 255 * rate.src} dst).1 (omega arith) in
+    let place : 0 * rate.src / rate.dst ≤ 0 = div-le_of_le-mul rate.dst {m = 0 * rate.src} {n = 0} (omega arith) in
+    (omega (arith, first), omega (arith, first, place))
+need-later rate (suc c) near =
+    let spread = near.spread in
+    let dst = near.ratio.dst in
+    let here = div_grows (c * rate.src + 2 * rate.dst) ((c + 256) * rate.src) rate.dst dst (omega arith) in
+    let more = div_more (c * rate.src) (c * rate.src + 2 * rate.dst) rate.dst 2 dst refl in
+    let next = div_grows (suc c * rate.src + 1 * rate.dst) ((c + 256) * rate.src) rate.dst dst (omega arith) in
+    let after = div_more (suc c * rate.src) (suc c * rate.src + 1 * rate.dst) rate.dst 1 dst refl in
+    let late : suc c + 256 ≡ suc (c + 256) = omega arith in
+    let past : suc c + 1 ≡ suc (suc c) = omega arith in
+    (omega (arith, here, more, ap (need rate) late), omega (arith, next, after, ap (need rate) late, ap (need rate) past))
+
+-- so a frame at least makes a block
+pub piece-some : (rate : Rate) (counts : Counts) → IsNear rate → AreBounded rate counts → counts.eaten + 2 ≤ need rate (counts.given + 256)
+piece-some rate counts near bounded =
+    let later = need-later rate counts.given near in
+    omega (arith, bounded.in_time.early, later.0, later.1)
+
+-- and no more outputs come of it than have room
+pub piece-reach : (rate : Rate) (counts : Counts) (frames : ℕ) → IsNear rate → counts.eaten + frames < need rate (counts.given + 256) → can rate (counts.eaten + frames) < counts.given + 256
+piece-reach rate counts frames near below =
+    elim (cases_lt (can rate (counts.eaten + frames)) (counts.given + 256)) [
+      | inl fits ↦ fits
+      | inr past ↦ absurd (let needed = (can-greatest rate near.ratio.src near.ratio.dst (counts.given + 256) (counts.eaten + frames)).1 past in omega (arith, needed, below))
+    ]

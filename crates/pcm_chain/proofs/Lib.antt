@@ -5,3 +5,4 @@ pub mod Pulling
 pub mod Standing
 pub mod Streaming
 pub mod Waiting
+pub mod Pushing

@@ -14,6 +14,7 @@ allowed_in_all ended rate n = if ended then len rate n else can rate n
 pub record IsNear (rate : Rate) : Type 0 where
   pub ratio : IsRatio rate
   pub src : rate.src * RATE_LEAST ≤ RATE_MOST * rate.dst
+  pub spread : rate.dst * RATE_LEAST ≤ RATE_MOST * rate.src
   pub dst : rate.dst ≤ RATE_MOST
   pub lookahead : rate.lookahead ≤ 32
 
@@ -46,3 +47,11 @@ pub record StandFor (rate : Rate) (counts : Counts) (eaten given : ℕ) : Type 0
   pub eaten_is : eaten ≡ counts.eaten + eaten_before
   pub given_is : given ≡ counts.given + given_before
   pub begun : 0 < given_before → 0 < counts.given
+
+-- what a block moves that eats so many frames, and gives all outputs that are sure then
+abbrev pub eats_all : Rate → Counts → ℕ → Advance
+eats_all rate counts frames = record {
+  eaten = frames;
+  silent = 0;
+  given = can rate (counts.eaten + frames) - counts.given;
+}

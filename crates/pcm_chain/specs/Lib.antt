@@ -3,3 +3,4 @@ pub mod Counts
 pub mod Feeds
 pub mod Chains
 pub mod Pulls
+pub mod Pushes

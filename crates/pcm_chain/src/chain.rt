@@ -1,18 +1,22 @@
 //! A chain of stages between a client's ring and the frames of a device.
 
-ghost use Rattle.std.specs.Prelude.{◌≡◌, ◌≤◌, ◌*◌};
+ghost use Rattle.std.specs.Prelude.{◌≡◌, ◌≤◌, ◌*◌, vec_len};
 ghost use Rattle.std.proofs.Props.{props};
 ghost use Rattle.pcm_plan.specs.Plans.{rate_in_plan};
 ghost use Rattle.pcm_chain.specs.Counts.{AreBounded};
+ghost use Rattle.pcm_chain.specs.declared.staging.TheConstants.{BLOCK_SAMPLES};
 
 use crate::counts::Counts;
 use crate::stages::{feed_stages, fit_stages};
-use crate::staging::Staging;
-use pcm_feeder::{Feeder, Gain, RackOf, SixOf, Tables};
+use crate::staging::{BLOCK_SAMPLES, Staging};
+use pcm_feeder::{Feeder, Gain, RackOf, SixOf, Tables, UNITY};
 use pcm_format::{Format, Layout};
 use pcm_plan::Plan;
 use pcm_ring::ByteRing;
 use std::alloc::{AllocError, Global};
+
+/// How many frames are pushed at once, at most.
+pub const PUSHED_FRAMES: usize = 262_144;
 
 /// The boxes of a rack, and the plan that says which of them a stream goes through, and in what order.
 #[derive(Drop)]
@@ -20,8 +24,11 @@ pub struct ChainOf<B> {
     boxes: SixOf<B>,
     plan: Plan,
     staging: Staging,
+    // The frames of a block that come of a push.
+    block: Vec<i32>,
     counts: Counts,
     ghost bounded: { AreBounded (rate_in_plan plan) counts } by { Prim.hlevel props },
+    ghost block_size: { vec_len block ≡ BLOCK_SAMPLES },
 }
 
 /// How many frames a pull gave, and how many of the waiting ones it ate.
@@ -31,12 +38,19 @@ pub struct Pulled {
     pub eaten: usize,
 }
 
+/// How many frames came of a push, and how many of them, the first ones, were kept.
+#[derive(Clone, Copy, Debug, PartialEq, Eq)]
+pub struct Pushed {
+    pub came: usize,
+    pub kept: usize,
+}
+
 impl<B: Feeder> ChainOf<B> {
-    ghost use Rattle.std.specs.Prelude.{◌+◌, ◌<◌, ℕ, List, [], length, drop, IfOk};
+    ghost use Rattle.std.specs.Prelude.{◌+◌, ◌<◌, ◌%◌, ℕ, List, [], length, drop, min, IfOk};
     ghost use Rattle.pcm_format.specs.Formats.{bytes_of};
     ghost use Rattle.pcm_format.specs.Frames.{Frame};
     ghost use Rattle.pcm_format.specs.Layouts.{channels_of};
-    ghost use Rattle.pcm_rate.specs.Rates.{need};
+    ghost use Rattle.pcm_rate.specs.Rates.{can, need};
     ghost use Rattle.pcm_feeder.specs.Filters.{Filters};
     ghost use Rattle.pcm_feeder.specs.Limits.{IsGain};
     ghost use Rattle.pcm_feeder.specs.Racks.{HaveKinds, IsRack, boxes_of};
@@ -44,7 +58,9 @@ impl<B: Feeder> ChainOf<B> {
     ghost use Rattle.pcm_chain.specs.Chains.{boxes_in, counts_in, plan_in, AreFitted, ChainStands};
     ghost use Rattle.pcm_chain.specs.Counts.{fed_in_all};
     ghost use Rattle.pcm_chain.specs.Pulls.{waiting_frames, IsPastTheEnd, Pulls};
+    ghost use Rattle.pcm_chain.specs.Pushes.{pushed_frames, room_for, GivesBitsOf, HasRecorded, HasRecordedSome, Pushes};
     ghost use Rattle.pcm_chain.specs.declared.staging.TheConstants.{BLOCK_FRAMES};
+    ghost use Rattle.pcm_chain.specs.declared.chain.TheConstants.{PUSHED_FRAMES};
 
     /// A chain with the boxes of a rack and no stage. All memory of the chain is taken here.
     pub fn new(alloc: Global, rack: RackOf<B>) -> Result<ChainOf<B>, AllocError>
@@ -53,10 +69,12 @@ impl<B: Feeder> ChainOf<B> {
         ensures plan { IfOk result (λ made. (plan_in made).stages ≡ []) }
     {
         let staging = Staging::new(alloc)?;
+        let block = vec![in alloc; 0i32; BLOCK_SAMPLES]?;
         Ok(ChainOf {
             boxes: rack.into_boxes(),
             plan: Plan::straight(Layout::One),
             staging,
+            block,
             counts: Counts::none(),
         })
     }
@@ -75,6 +93,7 @@ impl<B: Feeder> ChainOf<B> {
         ensures kinds { HaveKinds B.kind (boxes_in self.new) }
         ensures fitted { AreFitted B.kept self.new }
         ensures begins { (tables : Filters) → ChainStands B.kept tables self.new [] 0 0 }
+        ensures records { (tables : Filters) → HasRecorded B.kept tables self.new [] }
     {
         // The old counts are of the old plan's rate.
         self.counts = Counts::none();
@@ -89,6 +108,7 @@ impl<B: Feeder> ChainOf<B> {
         ensures kinds { HaveKinds B.kind (boxes_in self.new) }
         ensures fitted { AreFitted B.kept self.new }
         ensures begins { (tables : Filters) → ChainStands B.kept tables self.new [] 0 0 }
+        ensures records { (tables : Filters) → HasRecorded B.kept tables self.new [] }
     {
         self.counts = Counts::none();
         fit_stages(&mut self.boxes, self.plan.stages());
@@ -206,6 +226,97 @@ impl<B: Feeder> ChainOf<B> {
             given: advance.given,
             eaten: advance.eaten,
         }
+    }
+
+    /// Puts all frames of `input` through the chain, and the frames that come of them behind what waits in a ring. Those that have
+    /// no room there are lost: the first ones are kept, and no part of one. Takes no memory.
+    pub fn push(
+        &mut self,
+        tables: &Tables,
+        input: &[i32],
+        ring: &mut ByteRing,
+        format: Format,
+    ) -> Pushed
+        requires records { HasRecordedSome B.kept tables.now self.old }
+        requires tables { HaveTables (plan_in self.old).stages tables.now }
+        requires bits { GivesBitsOf format (plan_in self.old) tables.now }
+        requires whole { length input.now % channels_of (plan_in self.old).source ≡ 0 }
+        requires few { length (pushed_frames (plan_in self.old) input.now) ≤ PUSHED_FRAMES }
+        ensures plan { plan_in self.new ≡ plan_in self.old }
+        ensures kinds { HaveKinds B.kind (boxes_in self.old) → HaveKinds B.kind (boxes_in self.new) }
+        ensures records { HasRecordedSome B.kept tables.now self.new }
+        ensures kept { result.kept ≡ min result.came (room_for (plan_in self.old) format ring.old) }
+        ensures ring { ring.new ≡ record ring.old { bytes = ring.new.bytes } }
+        ensures pushes { (x : List Frame) → HasRecorded B.kept tables.now self.old x
+            → Pushes B.kept tables.now format (pushed_frames (plan_in self.old) input.now)
+            self.old self.new x result ring.old.bytes ring.new.bytes }
+    {
+        let channels = self.plan.source().channels();
+        let frames = input.len() / channels;
+        let mut pushed = Pushed { came: 0, kept: 0 };
+        let mut eaten = 0;
+        while eaten < frames {
+            let block = self.counts.piece(self.plan.rate(), frames - eaten);
+            let piece = &input[eaten * channels..(eaten + block) * channels];
+            let more = self.push_block(tables, piece, block, ring, format);
+            eaten += block;
+            pushed = Pushed {
+                came: pushed.came + more.came,
+                kept: pushed.kept + more.kept,
+            };
+        }
+        pushed
+    }
+
+    // A push of so few frames that they make a block, and so do those that come of them.
+    fn push_block(
+        &mut self,
+        tables: &Tables,
+        input: &[i32],
+        frames: usize,
+        ring: &mut ByteRing,
+        format: Format,
+    ) -> Pushed
+        requires records { HasRecordedSome B.kept tables.now self.old }
+        requires tables { HaveTables (plan_in self.old).stages tables.now }
+        requires bits { GivesBitsOf format (plan_in self.old) tables.now }
+        requires whole { length input.now ≡ frames * channels_of (plan_in self.old).source }
+        requires few { frames ≤ BLOCK_FRAMES }
+        requires reach { can (rate_in_plan (plan_in self.old)) ((counts_in self.old).eaten + frames)
+            < (counts_in self.old).given + BLOCK_FRAMES }
+        ensures plan { plan_in self.new ≡ plan_in self.old }
+        ensures kinds { HaveKinds B.kind (boxes_in self.old) → HaveKinds B.kind (boxes_in self.new) }
+        ensures records { HasRecordedSome B.kept tables.now self.new }
+        ensures most { result.came ≤ BLOCK_FRAMES }
+        ensures kept { result.kept ≡ min result.came (room_for (plan_in self.old) format ring.old) }
+        ensures count { length ring.new.bytes ≡ length ring.old.bytes
+            + result.kept * (channels_of (plan_in self.old).target * bytes_of format) }
+        ensures ring { ring.new ≡ record ring.old { bytes = ring.new.bytes } }
+        ensures pushes { (x : List Frame) → HasRecorded B.kept tables.now self.old x
+            → Pushes B.kept tables.now format (pushed_frames (plan_in self.old) input.now)
+            self.old self.new x result ring.old.bytes ring.new.bytes }
+    {
+        let source = self.plan.source().channels();
+        let target = self.plan.target().channels();
+        let rate = self.plan.rate();
+        let advance = self.counts.advance_whole(rate, frames);
+        self.staging.copy(input);
+        // One more is asked for than comes: so all frames are eaten.
+        feed_stages(
+            &mut self.boxes,
+            self.plan.stages(),
+            source,
+            tables,
+            UNITY,
+            frames,
+            advance.given + 1,
+            &mut self.staging,
+            &mut self.block,
+        );
+        self.counts = self.counts.after(rate, self.plan.period(), advance);
+        let came = advance.given;
+        let kept = self.staging.spell(&self.block, target, came, ring, format);
+        Pushed { came, kept }
     }
 }
 

@@ -1,8 +1,8 @@
 //! How many frames a chain has eaten and given.
 
 ghost use Rattle.std.specs.Prelude.{◌≡◌, ◌<◌, ◌≤◌, ◌+◌, ◌-◌, min, ℕ};
-ghost use Rattle.pcm_rate.specs.Rates.{IsPeriod, need};
-ghost use Rattle.pcm_chain.specs.Counts.{allowed_in_all, fed_in_all, AreBounded, Goes, IsNear, InTime, StandFor};
+ghost use Rattle.pcm_rate.specs.Rates.{IsPeriod, need, can};
+ghost use Rattle.pcm_chain.specs.Counts.{allowed_in_all, eats_all, fed_in_all, AreBounded, Goes, IsNear, InTime, StandFor};
 ghost use Rattle.pcm_chain.specs.declared.staging.TheConstants.{BLOCK_FRAMES};
 
 use crate::staging::BLOCK_FRAMES;
@@ -92,6 +92,38 @@ impl Counts {
         };
         let more = allowed.saturating_sub(u128::from(self.given));
         more.min(want as u128) as usize
+    }
+
+    /// How many of so many frames make a block that is eaten whole: no more outputs come of it than
+    /// have room in a block, and one more.
+    pub fn piece(self, rate: Rate, offered: usize) -> usize
+        requires near { IsNear rate }
+        requires bounded { AreBounded rate self }
+        requires some { 0 < offered }
+        ensures some { 0 < result }
+        ensures offered { result ≤ offered }
+        ensures few { result ≤ BLOCK_FRAMES }
+        ensures reach { can rate (self.eaten + result) < self.given + BLOCK_FRAMES }
+    {
+        let past = rate.need(self.given + BLOCK_FRAMES as u64) as u64;
+        let more = past - 1 - self.eaten;
+        offered.min(BLOCK_FRAMES).min(more as usize)
+    }
+
+    /// What a block of so many frames moves that is eaten whole.
+    pub fn advance_whole(self, rate: Rate, frames: usize) -> Advance
+        requires near { IsNear rate }
+        requires bounded { AreBounded rate self }
+        requires few { frames ≤ BLOCK_FRAMES }
+        requires reach { can rate (self.eaten + frames) < self.given + BLOCK_FRAMES }
+        ensures { result ≡ eats_all rate self frames }
+    {
+        let allowed = rate.can(self.eaten + frames as u64);
+        Advance {
+            eaten: frames,
+            silent: 0,
+            given: allowed.saturating_sub(u128::from(self.given)) as usize,
+        }
     }
 
     /// The counts after a block, without whole periods of so many frames and outputs.

@@ -7,4 +7,4 @@ mod counts;
 mod stages;
 mod staging;
 
-pub use chain::{Chain, ChainOf, Pulled};
+pub use chain::{Chain, ChainOf, PUSHED_FRAMES, Pulled, Pushed};

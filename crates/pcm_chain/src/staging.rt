@@ -1,19 +1,22 @@
 //! Where the frames of a block lie between its stages.
 
-ghost use Rattle.std.specs.Prelude.{◌≡◌, ◌≤◌, ◌+◌, ◌*◌, ◌++◌, pos, length, take, drop, replicate, vec_len};
-ghost use Rattle.pcm_format.specs.Formats.{bytes_of};
-ghost use Rattle.pcm_format.specs.Samples.{samples};
-ghost use Rattle.pcm_chain.specs.declared.staging.TheConstants.{BLOCK_SAMPLES, BLOCK_BYTES};
+ghost use Rattle.std.specs.Prelude.{◌≡◌, ◌≤◌, ◌+◌, ◌*◌, ◌/◌, ◌++◌, min, pos, length, take, drop, replicate, flat_map, All, vec_len};
+ghost use Rattle.pcm_num.specs.Limit.{FitsBits};
+ghost use Rattle.pcm_format.specs.Formats.{bits_of, bytes_of};
+ghost use Rattle.pcm_format.specs.Samples.{samples, spelled};
+ghost use Rattle.pcm_ring.specs.Ring.{free_bytes};
+ghost use Rattle.pcm_feeder.specs.Limits.{AreChannels};
+ghost use Rattle.pcm_chain.specs.declared.staging.TheConstants.{BLOCK_FRAMES, BLOCK_SAMPLES, BLOCK_BYTES};
 
-use pcm_format::{Format, load_frames};
+use pcm_format::{Format, load_frames, spell_frames};
 use pcm_ring::ByteRing;
 use std::alloc::{AllocError, Global};
 
 /// How many frames go through the stages at once, at most.
 pub const BLOCK_FRAMES: usize = 256;
 
-// The samples of a block of eight channels.
-const BLOCK_SAMPLES: usize = 2048;
+/// The samples of a block of eight channels.
+pub const BLOCK_SAMPLES: usize = 2048;
 
 // Their bytes in the widest format.
 const BLOCK_BYTES: usize = 8192;
@@ -51,6 +54,40 @@ impl Staging {
         self.now[count..count + silent].fill(0);
     }
 
+    /// Copies samples to the front of `now`.
+    pub fn copy(&mut self, samples: &[i32])
+        requires within { length samples.now ≤ BLOCK_SAMPLES }
+        ensures loaded { take (length samples.now) self.new.now.items ≡ samples.now }
+        ensures fits { All (FitsBits 32) samples.now }
+    {
+        copy_front(samples, &mut self.now);
+    }
+
+    /// Spells the first of `count` frames behind what waits in a ring, as many as have room. Answers how many these are.
+    pub fn spell(
+        &mut self,
+        samples: &[i32],
+        channels: usize,
+        count: usize,
+        ring: &mut ByteRing,
+        format: Format,
+    ) -> usize
+        requires channels { AreChannels channels }
+        requires count { count ≤ BLOCK_FRAMES }
+        requires samples { count * channels ≤ length samples.now }
+        requires range { All (FitsBits (bits_of format)) (take (count * channels) samples.now) }
+        ensures kept { result ≡ min count (free_bytes ring.old / (channels * bytes_of format)) }
+        ensures ring { ring.new ≡ record ring.old {
+          bytes = ring.old.bytes
+              ++ flat_map (spelled format) (take (result * channels) samples.now);
+        } }
+    {
+        let size = channels * format.bytes();
+        let kept = count.min(ring.free() / size);
+        spell_behind(ring, format, &samples[..kept * channels], &mut self.bytes);
+        kept
+    }
+
     /// The samples given are those that the next stage takes.
     pub fn turn(&mut self)
         ensures { self.new.now.items ≡ self.old.next.items }
@@ -78,4 +115,28 @@ fn load_front(
     let taken = &mut bytes[..count * format.bytes()];
     ring.take(taken);
     load_frames(format, taken, &mut frames[..count]);
+}
+
+// Copies samples to the front of `frames`.
+fn copy_front(samples: &[i32], frames: &mut [i32])
+    requires within { length samples.now ≤ length frames.old }
+    ensures loaded { take (length samples.now) frames.new ≡ samples.now }
+    ensures fits { All (FitsBits 32) samples.now }
+{
+    for i in 0..samples.len() {
+        frames[i] = samples[i];
+    }
+}
+
+// Spells samples behind what waits in a ring that has room for them. The bytes are scratch.
+fn spell_behind(ring: &mut ByteRing, format: Format, samples: &[i32], bytes: &mut [u8])
+    requires bytes { length samples.now * bytes_of format ≤ length bytes.old }
+    requires room { length samples.now * bytes_of format ≤ free_bytes ring.old }
+    requires range { All (FitsBits (bits_of format)) samples.now }
+    ensures ring { ring.new
+        ≡ record ring.old { bytes = ring.old.bytes ++ flat_map (spelled format) samples.now } }
+{
+    let spelled = &mut bytes[..samples.len() * format.bytes()];
+    spell_frames(format, samples, spelled);
+    ring.put(spelled);
 }

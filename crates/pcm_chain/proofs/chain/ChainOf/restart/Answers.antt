@@ -6,6 +6,7 @@ use Rattle.pcm_plan.specs.Plans.{rate_in_plan}
 use Rattle.pcm_plan.proofs.Fits.{ratio-in}
 use Rattle.pcm_chain.specs.Boxes.{kept_in}
 use Rattle.pcm_chain.proofs.Counting.{none-stands}
+use Rattle.pcm_chain.proofs.Pushing.{begun}
 use Rattle.pcm_chain.proofs.Standing.{fresh-stages}
 use Rattle.pcm_chain.proofs.chain.ChainOf.restart.Goals as goal
 
@@ -20,3 +21,6 @@ returns-clause-begins g c tables =
       silent = omega arith;
       stages = fresh-stages keeps tables plan.stages (rw c.stages.ensures.value at c.fit_stages.ensures.fresh) c.stages.ensures.fits.specs;
     }
+
+pub returns-clause-records : goal.returns-clause-records
+returns-clause-records g c tables = begun g.B.Feeder.kept tables _ (returns-clause-begins g c tables)

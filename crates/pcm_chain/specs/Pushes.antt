@@ -1,0 +1,56 @@
+-- What a push eats, gives and keeps.
+use Rattle.std.specs.Prelude.{◌≡◌, ℕ, ◌+◌, ◌-◌, ◌*◌, ◌/◌, ℤ, List, ◌++◌, length}
+use Rattle.pcm_format.specs.declared.format.Format.{Format}
+use Rattle.pcm_format.specs.Formats.{bits_of, bytes_of}
+use Rattle.pcm_format.specs.Frames.{Frame, spelled_frames}
+use Rattle.pcm_format.specs.Layouts.{channels_of}
+use Rattle.pcm_rate.specs.Rates.{can}
+use Rattle.pcm_feeder.specs.Filters.{Filters}
+use Rattle.pcm_feeder.specs.Kept.{Kept}
+use Rattle.pcm_feeder.specs.Streams.{frames_of}
+use Rattle.pcm_plan.specs.Fits.{HaveBits}
+use Rattle.pcm_plan.specs.Plans.{PlanSeen, rate_in_plan}
+use Rattle.pcm_plan.specs.Through.{recs}
+use Rattle.pcm_ring.specs.Ring.{Ring, free_bytes}
+use Rattle.pcm_chain.specs.declared.chain.ChainOf.{ChainOf}
+use Rattle.pcm_chain.specs.declared.chain.Pushed.{Pushed}
+use Rattle.pcm_chain.specs.Chains.{plan_in, ChainStands}
+
+-- A chain that records has eaten the frames x, with no silence behind them, and has given all outputs
+-- that they allow.
+abbrev pub HasRecorded : {B : Type 0} → (B → Kept) → Filters → ChainOf B → List Frame → Type 0
+HasRecorded kept tables chain x =
+    ChainStands kept tables chain x 0 (can (rate_in_plan (plan_in chain)) (length x))
+
+-- a chain has recorded some frames of 32 bits
+pub record HasRecordedSome {B : Type 0} (kept : B → Kept) (tables : Filters) (chain : ChainOf B)
+    : Type 0 where
+  pub frames : List Frame
+  pub bits : HaveBits 32 frames
+  pub records : HasRecorded kept tables chain frames
+
+-- what a plan without a volume makes of frames of 32 bits has the bits of a format
+abbrev pub GivesBitsOf : Format → PlanSeen → Filters → Type 0
+GivesBitsOf format plan tables =
+    (frames : List Frame) (from count : ℕ) → HaveBits 32 frames
+    → HaveBits (bits_of format) (recs plan tables frames from count)
+
+-- how many frames of a plan's target have room in a ring, in a format
+abbrev pub room_for : PlanSeen → Format → Ring → ℕ
+room_for plan format ring = free_bytes ring / (channels_of plan.target * bytes_of format)
+
+-- samples of a plan's source as frames
+abbrev pub pushed_frames : PlanSeen → List ℤ → List Frame
+pushed_frames plan samples = frames_of (channels_of plan.source) samples
+
+-- What a push of frames means to whoever knows the frames x that were recorded before: all are eaten,
+-- and all frames come that the plan allows by then. The first ones are kept: they are spelled behind
+-- the bytes that wait.
+pub record Pushes {B : Type 0} (kept : B → Kept) (tables : Filters) (format : Format)
+    (input : List Frame) (old new : ChainOf B) (x : List Frame) (pushed : Pushed)
+    (bytes_old bytes_new : List ℕ) : Type 0 where
+  pub came : pushed.came ≡ can (rate_in_plan (plan_in old)) (length x + length input)
+      - can (rate_in_plan (plan_in old)) (length x)
+  pub records : HasRecorded kept tables new (x ++ input)
+  pub bytes : bytes_new ≡ bytes_old ++ spelled_frames format
+      (recs (plan_in old) tables (x ++ input) (can (rate_in_plan (plan_in old)) (length x)) pushed.kept)
