@@ -39,159 +39,160 @@ const SONG: &[u8] = b"[files]\nsong = \"w\"\n";
 
 const MICROPHONE: &[u8] = b"[device]\ncapture = \"song\"\n[files]\nsong = \"w\"\n";
 
+// Runs, and what each leaves.
+const RUNS: [Row<'static>; 4] = [
+    // A converter of quality 0 holds each frame.
+    (
+        &[
+            (
+                "s",
+                b"open 0 play s16le 2 24000\nwrite 0 0100020003000400\nioctl 0 sync\nintr 1024\nintr 4\n",
+            ),
+            ("c", b"[vchans]\nquality = 0\n"),
+        ],
+        RUN,
+        (
+            0,
+            b"1: ok 0\n2: ok 8\n3: ok\n4: ok 1024\n5: ok 4\n",
+            Some((4096, b"\x01\0\x02\0\x01\0\x02\0\x03\0\x04\0\x03\0\x04\0")),
+        ),
+    ),
+    // The frames stand behind a header.
+    (
+        &[
+            ("s", b"intr 4\nintr 4\n"),
+            ("c", b"[device]\ncontainer = \"wav\"\n"),
+        ],
+        RUN,
+        (0, b"1: ok 4\n2: ok 4\n", Some((0, SILENT_WAVE))),
+    ),
+    // The bytes of a wave's body are sent, from the body's begin on.
+    (
+        &[
+            (
+                "s",
+                b"open 0 play s16le 2 48000\nsend 0 song 0 2\nsend 0 song 2 2\nclose 0\nintr 1024\nintr 1\n",
+            ),
+            ("c", SONG),
+            ("w", ONE_FRAME),
+        ],
+        RUN,
+        (
+            0,
+            b"1: ok 0\n2: ok 2\n3: ok 2\n4: ok\n5: ok 1024\n6: ok 1\n",
+            Some((4096, b"\x01\0\x02\0")),
+        ),
+    ),
+    // One slot alone: it is free again once the closed channel was played.
+    (
+        &[
+            ("s", b"open 0 play\nopen 1 play\n"),
+            ("c", b"[vchans]\nplay = 1\n"),
+        ],
+        RUN,
+        (0, b"1: ok 0\n2: refused busy\n", Some((0, b""))),
+    ),
+];
+
 #[test]
 fn runs_with_a_configuration(rt: HostRuntime) -> Result<(), Fail> {
-    let rows: [Row; 4] = [
-        // A converter of quality 0 holds each frame.
-        (
-            &[
-                (
-                    "s",
-                    b"open 0 play s16le 2 24000\nwrite 0 0100020003000400\nioctl 0 sync\nintr 1024\nintr 4\n",
-                ),
-                ("c", b"[vchans]\nquality = 0\n"),
-            ],
-            RUN,
-            (
-                0,
-                b"1: ok 0\n2: ok 8\n3: ok\n4: ok 1024\n5: ok 4\n",
-                Some((4096, b"\x01\0\x02\0\x01\0\x02\0\x03\0\x04\0\x03\0\x04\0")),
-            ),
-        ),
-        // The frames stand behind a header.
-        (
-            &[
-                ("s", b"intr 4\nintr 4\n"),
-                ("c", b"[device]\ncontainer = \"wav\"\n"),
-            ],
-            RUN,
-            (0, b"1: ok 4\n2: ok 4\n", Some((0, SILENT_WAVE))),
-        ),
-        // The bytes of a wave's body are sent, from the body's begin on.
-        (
-            &[
-                (
-                    "s",
-                    b"open 0 play s16le 2 48000\nsend 0 song 0 2\nsend 0 song 2 2\nclose 0\nintr 1024\nintr 1\n",
-                ),
-                ("c", SONG),
-                ("w", ONE_FRAME),
-            ],
-            RUN,
-            (
-                0,
-                b"1: ok 0\n2: ok 2\n3: ok 2\n4: ok\n5: ok 1024\n6: ok 1\n",
-                Some((4096, b"\x01\0\x02\0")),
-            ),
-        ),
-        // One slot alone: it is free again once the closed channel was played.
-        (
-            &[
-                ("s", b"open 0 play\nopen 1 play\n"),
-                ("c", b"[vchans]\nplay = 1\n"),
-            ],
-            RUN,
-            (0, b"1: ok 0\n2: refused busy\n", Some((0, b""))),
-        ),
-    ];
-    for (row, (held, words, expected)) in rows.into_iter().enumerate() {
-        assert!(rt;
-            call_comes_to(rt.alloc(), held, words, expected)?,
-            "row {row}"
-        );
-    }
+    assert_eq!(rt; first_wrong(rt.alloc(), &RUNS)?, None);
     Ok(())
 }
+
+// Scripts that are judged alone, and calls that are refused.
+const JUDGED: [Row<'static>; 8] = [
+    (
+        &[("s", b""), ("c", SONG), ("w", ONE_FRAME)],
+        CHECK,
+        (0, b"events 0 frames 0\n", None),
+    ),
+    (
+        &[("s", b"intr 4\nclose 5\nintr\n"), ("c", b"")],
+        CHECK,
+        (0, b"events 3 frames 260\n", None),
+    ),
+    (
+        &[("s", b""), ("c", b"[device]\nrate = 3999\n")],
+        RUN,
+        (
+            4,
+            b"dsp_replay: bad configuration: range device.rate\n",
+            None,
+        ),
+    ),
+    (
+        &[("s", b"x"), ("c", SONG), ("w", b"RIFF\x28\0\0\0WAV")],
+        CHECK,
+        (6, b"dsp_replay: bad wave: w: notriff\n", None),
+    ),
+    // The data files are judged before the script is read.
+    (
+        &[("c", SONG), ("w", b"")],
+        CHECK,
+        (6, b"dsp_replay: bad wave: w: notriff\n", None),
+    ),
+    (
+        &[("s", b""), ("c", MICROPHONE), ("w", STEP)],
+        CHECK,
+        (6, b"dsp_replay: bad wave: w: shape\n", None),
+    ),
+    (
+        &[("s", b""), ("c", MICROPHONE), ("w", ONE_FRAME)],
+        CHECK,
+        (0, b"events 0 frames 0\n", None),
+    ),
+    (
+        &[
+            ("s", b"open 0 play\nsend 0 song 3 2\n"),
+            ("c", SONG),
+            ("w", ONE_FRAME),
+        ],
+        CHECK,
+        (5, b"dsp_replay: bad script: line 2: range\n", None),
+    ),
+];
 
 #[test]
 fn checks_and_what_is_refused(rt: HostRuntime) -> Result<(), Fail> {
-    let rows: [Row; 8] = [
-        (
-            &[("s", b""), ("c", SONG), ("w", ONE_FRAME)],
-            CHECK,
-            (0, b"events 0 frames 0\n", None),
-        ),
-        (
-            &[("s", b"intr 4\nclose 5\nintr\n"), ("c", b"")],
-            CHECK,
-            (0, b"events 3 frames 260\n", None),
-        ),
-        (
-            &[("s", b""), ("c", b"[device]\nrate = 3999\n")],
-            RUN,
-            (
-                4,
-                b"dsp_replay: bad configuration: range device.rate\n",
-                None,
-            ),
-        ),
-        (
-            &[("s", b"x"), ("c", SONG), ("w", b"RIFF\x28\0\0\0WAV")],
-            CHECK,
-            (6, b"dsp_replay: bad wave: w: notriff\n", None),
-        ),
-        // The data files are judged before the script is read.
-        (
-            &[("c", SONG), ("w", b"")],
-            CHECK,
-            (6, b"dsp_replay: bad wave: w: notriff\n", None),
-        ),
-        (
-            &[("s", b""), ("c", MICROPHONE), ("w", STEP)],
-            CHECK,
-            (6, b"dsp_replay: bad wave: w: shape\n", None),
-        ),
-        (
-            &[("s", b""), ("c", MICROPHONE), ("w", ONE_FRAME)],
-            CHECK,
-            (0, b"events 0 frames 0\n", None),
-        ),
-        (
-            &[
-                ("s", b"open 0 play\nsend 0 song 3 2\n"),
-                ("c", SONG),
-                ("w", ONE_FRAME),
-            ],
-            CHECK,
-            (5, b"dsp_replay: bad script: line 2: range\n", None),
-        ),
-    ];
-    for (row, (held, words, expected)) in rows.into_iter().enumerate() {
-        assert!(rt;
-            call_comes_to(rt.alloc(), held, words, expected)?,
-            "row {row}"
-        );
-    }
+    assert_eq!(rt; first_wrong(rt.alloc(), &JUDGED)?, None);
     Ok(())
 }
 
+// Waves at other settings.
+const CONVERTED: [Row<'static>; 3] = [
+    (
+        &[("w", STEP)],
+        CONVERT,
+        (0, b"frames 4\n", Some((0, STEP_DOUBLED))),
+    ),
+    // 1 and 2 in 16 bits are nothing in 8: the byte is the midpoint.
+    (
+        &[("w", ONE_FRAME)],
+        &["convert", "w", "o", "48000", "u8", "1"],
+        (0, b"frames 1\n", Some((0, ONE_FRAME_IN_BYTES))),
+    ),
+    (
+        &[("w", b"RIFF")],
+        CONVERT,
+        (6, b"dsp_replay: bad wave: w: notriff\n", None),
+    ),
+];
+
 #[test]
 fn conversions(rt: HostRuntime) -> Result<(), Fail> {
-    let rows: [Row; 3] = [
-        (
-            &[("w", STEP)],
-            CONVERT,
-            (0, b"frames 4\n", Some((0, STEP_DOUBLED))),
-        ),
-        // 1 and 2 in 16 bits are nothing in 8: the byte is the midpoint.
-        (
-            &[("w", ONE_FRAME)],
-            &["convert", "w", "o", "48000", "u8", "1"],
-            (0, b"frames 1\n", Some((0, ONE_FRAME_IN_BYTES))),
-        ),
-        (
-            &[("w", b"RIFF")],
-            CONVERT,
-            (6, b"dsp_replay: bad wave: w: notriff\n", None),
-        ),
-    ];
-    for (row, (held, words, expected)) in rows.into_iter().enumerate() {
-        assert!(rt;
-            call_comes_to(rt.alloc(), held, words, expected)?,
-            "row {row}"
-        );
-    }
+    assert_eq!(rt; first_wrong(rt.alloc(), &CONVERTED)?, None);
     Ok(())
+}
+
+// The first row whose call comes to something else.
+fn first_wrong(alloc: Global, rows: &[Row]) -> Result<Option<usize>, AllocError> {
+    for (at, (held, words, expected)) in rows.iter().enumerate() {
+        if !call_comes_to(alloc, held, words, *expected)? {
+            return Ok(Some(at));
+        }
+    }
+    Ok(None)
 }
 
 // Whether a call over these files comes to that, with ample room.
