@@ -29,6 +29,9 @@ pub const FOUR_FRAMES_HEARD: &[u8] = b"\x01\0\x02\0\x03\0\x04\0\x05\0\x06\0\x07\
 /// What a call is to come to: the status, what is printed, and the device file, as bytes of silence and then others.
 pub type Expected<'a> = (u8, &'a [u8], Option<(usize, &'a [u8])>);
 
+/// The files that are there, the words, and what the call is to come to.
+pub type Row<'a> = (&'a [(&'a str, &'a [u8])], &'a [&'a str], Expected<'a>);
+
 /// A folder with a script of the name `s`.
 pub fn folder(alloc: Global, room: usize, script: &[u8]) -> Result<MemFiles, AllocError>
     ensures { IfOk result (λ files. files.created ≡ None) }
@@ -49,7 +52,7 @@ pub fn folder_of(alloc: Global, room: usize, held: &[(&str, &[u8])]) -> Result<M
     Ok(files)
 }
 
-/// Whether a call with these words comes to that. A run that ends with 0, and only that, leaves an engine.
+/// Whether a call with these words comes to that. A run or a soak that ends with 0, and only that, leaves an engine.
 pub fn comes_to(
     alloc: Global,
     words: &[&str],
@@ -62,8 +65,30 @@ pub fn comes_to(
     Ok(has_ended && out.bytes() == printed && has_file(files, content))
 }
 
-// Whether a call with these words, over racks of boxes, ends with that status. A run that ends with 0, and only that,
-// leaves an engine.
+/// The first row whose call comes to something else.
+pub fn first_wrong(alloc: Global, rows: &[Row]) -> Result<Option<usize>, AllocError> {
+    for (at, (held, words, expected)) in rows.iter().enumerate() {
+        if !call_comes_to(alloc, held, words, *expected)? {
+            return Ok(Some(at));
+        }
+    }
+    Ok(None)
+}
+
+// Whether a call over these files comes to that, with ample room.
+fn call_comes_to(
+    alloc: Global,
+    held: &[(&str, &[u8])],
+    words: &[&str],
+    expected: Expected,
+) -> Result<bool, AllocError> {
+    let mut files = folder_of(alloc, ROOM, held)?;
+    let mut out = MemSink::new(alloc, ROOM)?;
+    comes_to(alloc, words, &mut files, &mut out, expected)
+}
+
+// Whether a call with these words, over racks of boxes, ends with that status. A run or a soak that ends with 0, and only
+// that, leaves an engine.
 fn ends_with(
     alloc: Global,
     words: &[&str],
@@ -85,7 +110,7 @@ fn ends_with(
     let Ok(racks) = Racks::of_boxes(alloc, boxes) else {
         return Ok(false);
     };
-    let runs = words.first() == Some(&"run");
+    let runs = words.first() == Some(&"run") || words.first() == Some(&"soak");
     let words = owned(alloc, words)?;
     let mut ran = None;
     let found = dsp_main(alloc, &words, files, out, racks, &mut ran);

@@ -7,6 +7,8 @@ mod calls;
 #[cfg(test)]
 mod faults;
 #[cfg(test)]
+mod recordings;
+#[cfg(test)]
 mod scripts;
 #[cfg(test)]
 mod usage;

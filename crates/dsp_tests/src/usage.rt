@@ -11,7 +11,7 @@ const USAGE: &[u8] =
 #[test]
 fn words_and_names(rt: HostRuntime) -> Result<(), Fail> {
     // The words, the status, and what is printed. There is no file.
-    let rows: [(&[&str], u8, &[u8]); 21] = [
+    let rows: [(&[&str], u8, &[u8]); 25] = [
         (&[], 2, USAGE),
         (&["run", "s"], 2, USAGE),
         (&["run", "", "o"], 2, USAGE),
@@ -20,7 +20,11 @@ fn words_and_names(rt: HostRuntime) -> Result<(), Fail> {
         (&["run", "s", "o", "c", "x"], 2, USAGE),
         (&["check"], 2, USAGE),
         (&["check", "s", "c", "x"], 2, USAGE),
-        (&["soak", "7"], 2, USAGE),
+        (&["soak"], 2, USAGE),
+        (&["soak", ""], 2, USAGE),
+        (&["soak", "x"], 2, USAGE),
+        (&["soak", "4294967296"], 2, USAGE),
+        (&["soak", "7", "7"], 2, USAGE),
         (&["--help"], 2, USAGE),
         (&["convert", "w", "o", "48000", "s16le"], 2, USAGE),
         (&["convert", "w", "o", "3999", "s16le", "2"], 2, USAGE),

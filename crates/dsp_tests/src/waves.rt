@@ -1,12 +1,7 @@
 //! Configurations, data files and conversions, with their exact output.
 
-use crate::calls::{Expected, ROOM, comes_to, folder_of};
-use pcm_outside::MemSink;
-use std::alloc::{AllocError, Global};
+use crate::calls::{Row, first_wrong};
 use std::test::Fail;
-
-// The files that are there, the words, and what the call is to come to.
-type Row<'a> = (&'a [(&'a str, &'a [u8])], &'a [&'a str], Expected<'a>);
 
 // One frame of two channels of 16 bits at 48000 frames each second, behind a header.
 const ONE_FRAME: &[u8] =
@@ -183,26 +178,4 @@ const CONVERTED: [Row<'static>; 3] = [
 fn conversions(rt: HostRuntime) -> Result<(), Fail> {
     assert_eq!(rt; first_wrong(rt.alloc(), &CONVERTED)?, None);
     Ok(())
-}
-
-// The first row whose call comes to something else.
-fn first_wrong(alloc: Global, rows: &[Row]) -> Result<Option<usize>, AllocError> {
-    for (at, (held, words, expected)) in rows.iter().enumerate() {
-        if !call_comes_to(alloc, held, words, *expected)? {
-            return Ok(Some(at));
-        }
-    }
-    Ok(None)
-}
-
-// Whether a call over these files comes to that, with ample room.
-fn call_comes_to(
-    alloc: Global,
-    held: &[(&str, &[u8])],
-    words: &[&str],
-    expected: Expected,
-) -> Result<bool, AllocError> {
-    let mut files = folder_of(alloc, ROOM, held)?;
-    let mut out = MemSink::new(alloc, ROOM)?;
-    comes_to(alloc, words, &mut files, &mut out, expected)
 }

@@ -46,7 +46,8 @@ pub struct Pushed {
 }
 
 impl<B: Feeder> ChainOf<B> {
-    ghost use Rattle.std.specs.Prelude.{◌+◌, ◌<◌, ◌%◌, ℕ, List, [], length, drop, min, IfOk};
+    ghost use Rattle.std.specs.Prelude.{◌+◌, ◌<◌, ◌%◌, ℕ, List, [], length, drop, min, All, IfOk};
+    ghost use Rattle.pcm_num.specs.Limit.{FitsBits};
     ghost use Rattle.pcm_format.specs.Formats.{bytes_of};
     ghost use Rattle.pcm_format.specs.Frames.{Frame};
     ghost use Rattle.pcm_format.specs.Layouts.{channels_of};
@@ -54,7 +55,7 @@ impl<B: Feeder> ChainOf<B> {
     ghost use Rattle.pcm_feeder.specs.Filters.{Filters};
     ghost use Rattle.pcm_feeder.specs.Limits.{IsGain};
     ghost use Rattle.pcm_feeder.specs.Racks.{HaveKinds, IsRack, boxes_of};
-    ghost use Rattle.pcm_plan.specs.Fits.{HaveTables};
+    ghost use Rattle.pcm_plan.specs.Fits.{HaveBits, HaveTables};
     ghost use Rattle.pcm_chain.specs.Chains.{boxes_in, counts_in, plan_in, AreFitted, ChainStands};
     ghost use Rattle.pcm_chain.specs.Counts.{fed_in_all};
     ghost use Rattle.pcm_chain.specs.Pulls.{waiting_frames, IsPastTheEnd, Pulls};
@@ -245,6 +246,8 @@ impl<B: Feeder> ChainOf<B> {
         ensures plan { plan_in self.new ≡ plan_in self.old }
         ensures kinds { HaveKinds B.kind (boxes_in self.old) → HaveKinds B.kind (boxes_in self.new) }
         ensures records { HasRecordedSome B.kept tables.now self.new }
+        // The type of the samples keeps them within 32 bits.
+        ensures fits { HaveBits 32 (pushed_frames (plan_in self.old) input.now) }
         ensures kept { result.kept ≡ min result.came (room_for (plan_in self.old) format ring.old) }
         ensures ring { ring.new ≡ record ring.old { bytes = ring.new.bytes } }
         ensures pushes { (x : List Frame) → HasRecorded B.kept tables.now self.old x
@@ -287,6 +290,7 @@ impl<B: Feeder> ChainOf<B> {
         ensures plan { plan_in self.new ≡ plan_in self.old }
         ensures kinds { HaveKinds B.kind (boxes_in self.old) → HaveKinds B.kind (boxes_in self.new) }
         ensures records { HasRecordedSome B.kept tables.now self.new }
+        ensures fits { All (FitsBits 32) input.now }
         ensures most { result.came ≤ BLOCK_FRAMES }
         ensures kept { result.kept ≡ min result.came (room_for (plan_in self.old) format ring.old) }
         ensures count { length ring.new.bytes ≡ length ring.old.bytes

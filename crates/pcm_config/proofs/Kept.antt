@@ -1,12 +1,12 @@
 -- What holds of each configuration that is read.
-use Rattle.std.proofs.Common.{ℕ, ◌*◌, ◌≤◌, ℤ, not, nat_lt, List, length, Option, Some, None, arith, IfOk}
+use Rattle.std.proofs.Common.{ℕ, ◌*◌, ℤ, not, nat_lt, List, length, Option, Some, None, arith, IfOk}
 use Rattle.std.specs.List.{list_all}
 use Rattle.pcm_feeder.specs.Limits.{IsRate, AreFilters}
 use Rattle.pcm_desk.specs.Device.{IsInLimits}
 use Rattle.toml.specs.Data.{Members, as_integer}
 use Rattle.pcm_config.specs.declared.config.Config.{Config}
 use Rattle.pcm_config.specs.declared.fault.ConfigKind.TheVariants as kinds
-use Rattle.pcm_config.specs.declared.limits.TheConstants.{CONFIG_BYTES, RECORD_SLOTS}
+use Rattle.pcm_config.specs.declared.limits.TheConstants.{CONFIG_BYTES}
 use Rattle.pcm_config.specs.declared.place.ConfigPlace.{ConfigPlace}
 use Rattle.pcm_config.specs.declared.place.ConfigPlace.TheVariants as places
 use Rattle.pcm_config.specs.Judgements.{required}
@@ -23,7 +23,6 @@ use Rattle.pcm_config.specs.Configs.{HasCapture, IsHeld, can_hold, config_read, 
 -- a configuration within its limits, which has what it names
 pub record IsKept (config : Config) : Type 0 where
   pub limits : IsInLimits (device_seen config)
-  pub recording : config.record_slots ≤ RECORD_SLOTS
   pub container : IsHeld config
   pub capture : HasCapture config
 
@@ -73,11 +72,11 @@ slots-kept vchans =
 
 -- ---- the whole
 
-whole-kept : (config : Config) → IsInLimits (device_seen config) → config.record_slots ≤ RECORD_SLOTS → IfOk (whole_read config) IsKept
-whole-kept config limits recording =
+whole-kept : (config : Config) → IsInLimits (device_seen config) → IfOk (whole_read config) IsKept
+whole-kept config limits =
     passed (not (can_hold config.container config.device.settings)) _ _ IsKept (λ holds.
     passed (not (has_capture config.files config.capture)) _ _ IsKept (λ has.
-    record { limits = limits; recording = recording; container = not-false _ holds; capture = not-false _ has }))
+    record { limits = limits; container = not-false _ holds; capture = not-false _ has }))
 
 values-kept : (device vchans table : Members) (tables : List Members) → IfOk (values_read device vchans table tables) IsKept
 unfolding values_read
@@ -88,8 +87,7 @@ values-kept device vchans table tables =
     after-any (files_in table) _ IsKept (λ files.
     after-kept (filters_in tables) _ (λ filters. AreFilters filters.list) IsKept (filters-kept tables) (λ filters f.
     whole-kept (config_with hardware capture slots files filters)
-    (record { device_is = record { rate = h.rate; filters = f }; block = h.block; ring = h.ring; ring_most = h.ring_most; slots_most = s.play; quality = s.quality })
-    s.recording)))))
+    (record { device_is = record { rate = h.rate; filters = f }; block = h.block; ring = h.ring; ring_most = h.ring_most; slots_most = s.play; recorders_most = s.recording; quality = s.quality }))))))
 
 tables-kept : (device vchans table : Members) (tables : List Members) → IfOk (tables_read device vchans table tables) IsKept
 unfolding tables_read

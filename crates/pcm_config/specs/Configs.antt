@@ -1,5 +1,5 @@
 -- The configuration that a text is, or why it is none.
-use Rattle.std.specs.Prelude.{◌≡◌, ◌≤◌, ℕ, Bool, true, not, ◌&&◌, ◌==◌, ◌%◌, nat_lt, if◌then◌else◌, List, [], length, Option, Some, None, Result, Ok}
+use Rattle.std.specs.Prelude.{◌≡◌, ℕ, Bool, true, not, ◌&&◌, ◌==◌, ◌%◌, nat_lt, if◌then◌else◌, List, [], length, Option, Some, None, Result, Ok}
 use Rattle.std.specs.Str.{is_utf8}
 use Rattle.std.specs.Cmp.Lexicographic.{slice_cmp}
 use Rattle.std.specs.List.{list_all}
@@ -19,7 +19,7 @@ use Rattle.pcm_config.specs.declared.config.FilePath.{FilePath}
 use Rattle.pcm_config.specs.declared.fault.ConfigKind.TheVariants as kinds
 use Rattle.pcm_config.specs.declared.fault.ConfigRefusal.{ConfigRefusal}
 use Rattle.pcm_config.specs.declared.hardware.Hardware.{Hardware}
-use Rattle.pcm_config.specs.declared.limits.TheConstants.{CONFIG_BYTES, RECORD_SLOTS}
+use Rattle.pcm_config.specs.declared.limits.TheConstants.{CONFIG_BYTES}
 use Rattle.pcm_config.specs.declared.place.ConfigPlace.TheVariants as places
 use Rattle.pcm_config.specs.declared.slots.Slots.{Slots}
 use Rattle.pcm_config.specs.Judgements.{◌>>=◌, refused, required}
@@ -33,9 +33,8 @@ use Rattle.pcm_config.specs.Tables.{filter_tables, filters_in, has_filter_keys}
 -- what is settled of a run without a configuration
 abbrev pub usual_config : Config
 usual_config = record {
-  device = record { settings = usual_settings; block_frames = 256; ring_frames = 1024; play_slots = 4; quality = 1 };
+  device = record { settings = usual_settings; block_frames = 256; ring_frames = 1024; play_slots = 4; record_slots = 4; quality = 1 };
   container = Raw;
-  record_slots = 4;
   capture = None;
   files = [];
   tables = no_filters;
@@ -59,10 +58,10 @@ config_with hardware capture slots files filters = record {
     block_frames = hardware.block_frames;
     ring_frames = hardware.ring_frames;
     play_slots = slots.play;
+    record_slots = slots.recording;
     quality = slots.quality;
   };
   container = hardware.container;
-  record_slots = slots.recording;
   capture = capture;
   files = files;
   tables = filters;
@@ -139,7 +138,6 @@ AreInOrder files = IsStrictlySortedBy (slice_cmp nat_cmp) (names_of files)
 -- a configuration within its limits, whose files are in order and which has what it names
 pub record IsSettled (config : Config) : Type 0 where
   pub limits : IsInLimits (device_seen config)
-  pub recording : config.record_slots ≤ RECORD_SLOTS
   pub order : AreInOrder config.files
   pub container : IsHeld config
   pub capture : HasCapture config

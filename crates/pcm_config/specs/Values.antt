@@ -7,7 +7,6 @@ use Rattle.pcm_desk.specs.declared.limits.TheConstants.{RING_FRAMES, SLOTS}
 use Rattle.toml.specs.Data.{Members, as_str}
 use Rattle.pcm_config.specs.declared.fault.ConfigRefusal.{ConfigRefusal}
 use Rattle.pcm_config.specs.declared.hardware.Hardware.{Hardware}
-use Rattle.pcm_config.specs.declared.limits.TheConstants.{RECORD_SLOTS}
 use Rattle.pcm_config.specs.declared.place.ConfigPlace.TheVariants.{DeviceCapture}
 use Rattle.pcm_config.specs.declared.slots.Slots.{Slots}
 use Rattle.pcm_config.specs.Judgements.{◌>>=◌, required}
@@ -64,5 +63,5 @@ pub record IsHardware (hardware : Hardware) : Type 0 where
 -- channels within the limits of a run
 pub record AreSlots (slots : Slots) : Type 0 where
   pub play : slots.play ≤ SLOTS
-  pub recording : slots.recording ≤ RECORD_SLOTS
+  pub recording : slots.recording ≤ SLOTS
   pub quality : slots.quality ≤ QUALITY_MOST

@@ -87,13 +87,12 @@ impl FilePaths {
     }
 }
 
-/// What is settled of a run: its device, the form of the file that is played to, how many channels record,
-/// the files by their names, with the one that is recorded from, and the filters of the converters.
+/// What is settled of a run: its device, the form of the file that is played to, the files by their names,
+/// with the one that is recorded from, and the filters of the converters.
 #[derive(Debug, Drop)]
 pub struct Config {
     pub device: Device,
     pub container: Container,
-    pub record_slots: u32,
     pub capture: Option<Name>,
     pub files: FilePaths,
     pub tables: Tables,
@@ -106,7 +105,6 @@ pub fn default_config(alloc: Global) -> Config
     Config {
         device: Device::usual(),
         container: Container::Raw,
-        record_slots: 4,
         capture: None,
         files: FilePaths::new(Vec::new(alloc)),
         tables: Tables::new(Vec::new(alloc)),

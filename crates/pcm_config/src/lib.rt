@@ -22,6 +22,6 @@ mod whole;
 pub use config::{Config, Container, FilePath, FilePaths, Name, default_config};
 pub use fault::{ConfigFault, ConfigKind, ConfigRefusal};
 pub use laws::an_empty_text_is_the_usual;
-pub use limits::{CONFIG_BYTES, RECORD_SLOTS};
+pub use limits::CONFIG_BYTES;
 pub use place::ConfigPlace;
 pub use reader::config_of;

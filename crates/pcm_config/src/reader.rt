@@ -1,10 +1,9 @@
 //! The walk over a configuration, judgement after judgement.
 
-ghost use Rattle.std.specs.Prelude.{◌≡◌, ◌≤◌, IfOk, option_copied};
+ghost use Rattle.std.specs.Prelude.{◌≡◌, IfOk, option_copied};
 ghost use Rattle.pcm_desk.specs.Device.{IsInLimits};
 ghost use Rattle.toml.specs.View.{table_view};
 ghost use Rattle.pcm_config.specs.declared.fault.ConfigKind.TheVariants.{Toml};
-ghost use Rattle.pcm_config.specs.declared.limits.TheConstants.{RECORD_SLOTS};
 ghost use Rattle.pcm_config.specs.declared.place.ConfigPlace.TheVariants.{Top};
 ghost use Rattle.pcm_config.specs.Answers.{Reads};
 ghost use Rattle.pcm_config.specs.Configs.{AreInOrder, HasCapture, IsHeld, IsSettled, config_read, device_seen, document_of, document_read, tables_read, top_read, values_read};
@@ -56,7 +55,6 @@ pub fn config_of(alloc: Global, bytes: &[u8]) -> Result<Config, ConfigFault>
 
     // What a configuration keeps.
     ensures limits { IfOk result (λ config. IsInLimits (device_seen config)) }
-    ensures recording { IfOk result (λ config. config.record_slots ≤ RECORD_SLOTS) }
     ensures order { IfOk result (λ config. AreInOrder config.files) }
     ensures container { IfOk result IsHeld }
     ensures capture { IfOk result HasCapture }

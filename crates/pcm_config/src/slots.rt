@@ -5,7 +5,7 @@ ghost use Rattle.pcm_config.specs.Lookups.{members_seen};
 ghost use Rattle.pcm_config.specs.Values.{AreSlots, slots_in};
 
 use crate::number::{NumberRow, number_in};
-use crate::{ConfigPlace, ConfigRefusal, RECORD_SLOTS};
+use crate::{ConfigPlace, ConfigRefusal};
 use pcm_desk::{QUALITY_MOST, SLOTS};
 use toml::Table;
 
@@ -21,7 +21,7 @@ const PLAY: NumberRow = NumberRow {
 const RECORDING: NumberRow = NumberRow {
     place: ConfigPlace::VchansRecord,
     least: 0,
-    most: RECORD_SLOTS,
+    most: SLOTS,
     usual: 4,
 };
 

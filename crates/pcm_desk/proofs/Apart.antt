@@ -1,133 +1,169 @@
--- Two open descriptors never hold one slot, whatever events come.
-use Rattle.std.proofs.Common.{◌≡◌, ℕ, zero, suc, ◌+◌, ◌<◌, ◌≤◌, Bool, true, false, cond, eqb, List, length, set, get_or, map, replicate, min, Option, Some, None, Ok, Err, ◌⊎◌, inl, inr, refl, sym, ap, ◌∙◌, subst, arith, get_or-set_same, get_or-set_other}
-use Rattle.std.specs.Prelude.{is_some, nat_lt, ◌&&◌}
+-- Two open descriptors never hold one channel, whatever events come.
+use Rattle.std.proofs.Common.{◌≡◌, ◌≢◌, ℕ, ◌<◌, ◌≤◌, Bool, true, false, cond, List, length, set, get_or, map, replicate, Option, Some, None, ◌⊎◌, inl, inr, refl, sym, ap, ◌∙◌, subst, arith, get_or-set_same, get_or-set_other}
+use Rattle.std.specs.Prelude.{is_some}
 use Rattle.std.proofs.lemmas.Bool.{cases_lt, cases_eq}
 use Rattle.std.proofs.lemmas.List.{get_or-map, get_or_past, get_or-replicate, length-map, length-replicate, length-set, set_past}
 use Rattle.std.proofs.lemmas.List.Quantifiers.{position-Some}
 use Rattle.pcm_format.specs.declared.settings.Settings.{Settings}
 use Rattle.pcm_oss.specs.declared.event.Event.{Event}
-use Rattle.pcm_oss.specs.declared.event.Event.TheVariants.{Open, Write, Ioctl, Close, Intr}
+use Rattle.pcm_oss.specs.declared.event.Event.TheVariants.{Open, Write, Read, Ioctl, Close, Intr}
 use Rattle.pcm_oss.specs.declared.event.Way.{Way}
-use Rattle.pcm_oss.specs.declared.reply.Answer.TheVariants.{Number}
-use Rattle.pcm_oss.specs.declared.reply.Errno.TheVariants.{Again, Busy, Exist}
+use Rattle.pcm_oss.specs.declared.event.Way.TheVariants.{Play, Rec}
+use Rattle.pcm_oss.specs.declared.reply.Errno.TheVariants.{Exist, Inval}
 use Rattle.pcm_oss.specs.declared.request.Request.{Request}
-use Rattle.pcm_rate.specs.declared.rate.Rate.{Rate}
-use Rattle.pcm_rate.specs.Rates.{len}
 use Rattle.pcm_desk.specs.declared.book.Book.{Book}
 use Rattle.pcm_desk.specs.declared.book.State.{State}
 use Rattle.pcm_desk.specs.declared.book.State.TheVariants.{Free, Setup, Primed, Running, Draining}
+use Rattle.pcm_desk.specs.declared.record_book.RecordBook.{RecordBook}
 use Rattle.pcm_desk.specs.declared.device.Held.{Held}
 use Rattle.pcm_desk.specs.declared.limits.TheConstants.{DESCRIPTORS}
 use Rattle.pcm_desk.specs.Device.{DeviceSeen}
-use Rattle.pcm_desk.specs.Books.{BookTurn, accepting, begun, drained_in, emptied, finished, frames_written, free_of, gives, is_draining, is_free, may_start, refilled, started_in, write_turn}
-use Rattle.pcm_desk.specs.Requests.{ask_turn, roused_in, stopped_in}
-use Rattle.pcm_desk.specs.Desk.{Desk, DeskTurn, after, asking, book_at, close_on, closing, desk_at_start, held_by, interrupt_turn, least_free, mixing, open_in, rate_at, refusing, turning, unopened, with_book}
-use Rattle.pcm_desk.specs.Own.{HoldApart, is_held}
-use Rattle.pcm_desk.proofs.States.{Lasts, ask-lasts}
+use Rattle.pcm_desk.specs.Books.{BookTurn, begun, is_free, write_turn}
+use Rattle.pcm_desk.specs.RecordBooks as records
+use Rattle.pcm_desk.specs.RecordBooks.{RecordTurn}
+use Rattle.pcm_desk.specs.RecordRequests as record_requests
+use Rattle.pcm_desk.specs.Desk.{Desk, DeskTurn, after, asking, book_at, by_way, capturing, close_on, close_play, close_record, closing, desk_at_start, held_by, interrupt_turn, ioctl_on, least_free, least_free_record, mixing, open_play, open_record, play_turn, rate_at, read_on, record_at, record_rate_at, record_turn, refusing, turning, unopened, record_unopened, with_book, with_record, write_on}
+use Rattle.pcm_desk.specs.Own.{HoldApart, MayBeHeld, is_held, slots_of}
+use Rattle.pcm_desk.proofs.Holding.{held-ask, held-mixing, held-write}
+use Rattle.pcm_desk.proofs.RecordHolding.{record-held-ask, record-held-captured, record-held-read}
 
--- ---- a channel that is held stays so
+-- ---- books by slot
 
-held_started : (b : Bool) (more : Book) → is_held (cond b (record more { state = Running }) (record more { state = Primed })).state ≡ true
-held_started true more = refl
-held_started false more = refl
+-- a slot is there, and its book is so
+record HasAt {B : Type 0} (P : B → Type 0) (books : List B) (slot : ℕ) : Type 0 where
+  within : slot < length books
+  book : (other : B) → P (get_or books slot other)
 
-held_primed : (b : Bool) (more : Book) → is_held (let primed : Book = cond b (record more { state = Primed }) (record more { state = Setup }) in started_in primed.state primed).state ≡ true
-held_primed true more = held_started (may_start more) more
-held_primed false more = refl
-
-held_accepting : (state : State) (accepted : ℕ) (book : Book) → is_held state ≡ true → is_held (accepting accepted (record book { state = state })).state ≡ true
-held_accepting Free accepted book e = cc
-held_accepting Setup accepted book e = held_primed (nat_lt 0 (book.written + accepted)) (record book { written = book.written + accepted })
-held_accepting Primed accepted book e = held_started (may_start (record book { written = book.written + accepted })) (record book { written = book.written + accepted })
-held_accepting Running accepted book e = refl
-held_accepting (Draining closed) accepted book e = e
-
-held_write : (busy full : Bool) (count : ℕ) (book : Book) → is_held book.state ≡ true
-    → is_held (cond {A = BookTurn} busy (record { book = book; reply = Err Busy }) (cond {A = BookTurn} full (record { book = book; reply = Err Again }) (record { book = accepting (min count (free_of book)) book; reply = Ok (Number (min count (free_of book))) }))).book.state ≡ true
-held_write true full count book e = e
-held_write false true count book e = e
-held_write false false count book e = held_accepting book.state (min count (free_of book)) book e
-
--- a write
-pub held-write : (count : ℕ) (book : Book) → is_held book.state ≡ true → is_held (write_turn count book).book.state ≡ true
-held-write count book e = held_write (is_draining book.state) (nat_lt 0 count && eqb (free_of book) 0) count book e
-
-held_roused : (state : State) (book : Book) → is_held state ≡ true → is_held (roused_in state (record book { state = state })).state ≡ true
-held_roused Free book e = cc
-held_roused Setup book e = refl
-held_roused Primed book e = held_started (nat_lt 0 (frames_written book)) book
-held_roused Running book e = refl
-held_roused (Draining closed) book e = e
-
-held_stopped : (state : State) (book : Book) → is_held state ≡ true → is_held (stopped_in state (record book { state = state })).state ≡ true
-held_stopped Free book e = cc
-held_stopped Setup book e = refl
-held_stopped Primed book e = refl
-held_stopped Running book e = refl
-held_stopped (Draining closed) book e = e
-
-held_drain_primed : (b : Bool) (book : Book) → is_held (cond b (record book { state = Draining false }) (emptied Setup book)).state ≡ true
-held_drain_primed true book = refl
-held_drain_primed false book = refl
-
-held_drain_running : (b : Bool) (book : Book) → is_held (cond b (finished Setup book) (record book { state = Draining false })).state ≡ true
-held_drain_running true book = refl
-held_drain_running false book = refl
-
-held_drained : (state : State) (rate : Rate) (book : Book) → is_held state ≡ true → is_held (drained_in rate state (record book { state = state })).state ≡ true
-held_drained Free rate book e = cc
-held_drained Setup rate book e = refl
-held_drained Primed rate book e = held_drain_primed (nat_lt 0 (frames_written book)) book
-held_drained Running rate book e = held_drain_running (eqb book.given (len rate (frames_written book))) book
-held_drained (Draining closed) rate book e = e
-
-held_lasts : Lasts is_held
-held_lasts = record { roused = held_roused; stopped = held_stopped; drained = held_drained; dropped = refl }
-
--- a request
-pub held-ask : (rate : Rate) (request : Request) (book : Book) → is_held book.state ≡ true → is_held (ask_turn rate request book).book.state ≡ true
-held-ask rate request book e = ask-lasts is_held held_lasts rate request book e
-
-held_settled : (b closed : Bool) (given : Book) → is_held given.state ≡ true → is_held (Draining closed) ≡ true → is_held (cond {A = Book} b (finished (cond closed Free Setup) given) given).state ≡ true
-held_settled true true given e stays = cc
-held_settled true false given e stays = refl
-held_settled false closed given e stays = e
-
-held_refilled : (state : State) (rate : Rate) (n : ℕ) (book : Book) → is_held state ≡ true → is_held (refilled rate n (record book { state = state })).state ≡ true
-held_refilled Free rate n book e = cc
-held_refilled Setup rate n book e = refl
-held_refilled Primed rate n book e = refl
-held_refilled Running rate n book e = refl
-held_refilled (Draining closed) rate n book e =
-    let given : Book = gives rate n (record book { state = Draining closed }) in
-    held_settled (eqb given.given (len rate (frames_written given))) closed given e e
-
--- an interrupt
-pub held-mixing : (device : DeviceSeen) (n : ℕ) (book : Book) → is_held book.state ≡ true → is_held (mixing device n book).state ≡ true
-held-mixing device zero book e = e
-held-mixing device (suc n) book e = held_refilled book.state (rate_at device book) (suc n) book e
-
--- ---- desks
-
--- a book that is held is in the place of another
-with_held : (desk : Desk) (slot : ℕ) (book : Book) → is_held book.state ≡ true → HoldApart desk → HoldApart (with_book desk slot book)
-with_held desk slot book e h = record {
-  within = λ fd held there. let before = h.within fd held there in omega (arith, length-set desk.play slot book);
-  taken = λ fd held other there. elim (cases_eq held.slot slot) [
-    | inl same ↦ elim (cases_lt slot (length desk.play)) [
-      | inl here ↦ subst (λ (k : ℕ). is_held (get_or (set desk.play slot book) k other).state ≡ true) (sym same) (subst (λ (b : Book). is_held b.state ≡ true) (sym (get_or-set_same desk.play slot book other here)) e)
-      | inr past ↦ subst (λ (books : List Book). is_held (get_or books held.slot other).state ≡ true) (sym (set_past desk.play slot book past)) (h.taken fd held other there)
-    ]
-    | inr differ ↦ subst (λ (b : Book). is_held b.state ≡ true) (sym (get_or-set_other desk.play slot held.slot book other differ)) (h.taken fd held other there)
-  ];
-  apart = h.apart;
+-- a book that was set
+has_set : {B : Type 0} (P : B → Type 0) (books : List B) (slot : ℕ) (book : B) → slot < length books → P book → HasAt P (set books slot book) slot
+has_set P books slot book here is = record {
+  within = omega (arith, here, length-set books slot book);
+  book = λ other. subst P (sym (get_or-set_same books slot book other here)) is;
 }
 
--- an event of a descriptor
-turned : (device : DeviceSeen) (turn : Book → BookTurn) (held : Option Held) (desk : Desk) (fd : ℕ) → held_by desk fd ≡ held → ((book : Book) → is_held book.state ≡ true → is_held (turn book).book.state ≡ true) → HoldApart desk
-    → HoldApart (turning device turn held desk).desk
-turned device turn None desk fd e keeps h = h
-turned device turn (Some held) desk fd e keeps h = with_held desk held.slot (turn (book_at device desk held.slot)).book (keeps (book_at device desk held.slot) (h.taken fd held (unopened device) e)) h
+-- another one stays
+has_other : {B : Type 0} (P : B → Type 0) (books : List B) (slot at : ℕ) (book : B) → (slot ≡ at → ⊥) → HasAt P books slot → HasAt P (set books at book) slot
+has_other P books slot at book differ has = record {
+  within = omega (arith, has.within, length-set books at book);
+  book = λ other. subst P (sym (get_or-set_other books at slot book other differ)) (has.book other);
+}
+
+-- so does any, where the book that is set is so too
+has_either : {B : Type 0} (P : B → Type 0) (books : List B) (slot at : ℕ) (book : B) → P book → HasAt P books slot → HasAt P (set books at book) slot
+has_either P books slot at book is has =
+    elim (cases_eq slot at) [
+      | inl same ↦ subst (λ (k : ℕ). HasAt P (set books k book) slot) same (has_set P books slot book has.within is)
+      | inr differ ↦ has_other P books slot at book differ has
+    ]
+
+-- all books change
+has_map : {B : Type 0} (P : B → Type 0) (f : B → B) (books : List B) (slot : ℕ) → ((book : B) → P book → P (f book)) → HasAt P books slot → HasAt P (map f books) slot
+has_map P f books slot keeps has = record {
+  within = omega (arith, has.within, length-map books f);
+  book = λ other. subst P (sym (get_or-map f books slot other other has.within)) (keeps (get_or books slot other) (has.book other));
+}
+
+-- ---- channels
+
+abbrev IsHeld : Book → Type 0
+IsHeld book = is_held book.state ≡ true
+
+abbrev IsRecordHeld : RecordBook → Type 0
+IsRecordHeld book = records.is_free book.state ≡ false
+
+-- the channel with this way and slot
+abbrev channel : Way → ℕ → Held
+channel way slot = record { way = way; slot = slot }
+
+-- a channel is there and may be held
+abbrev IsTaken : Desk → Way → ℕ → Type 0
+IsTaken desk Play slot = HasAt IsHeld desk.play slot
+IsTaken desk Rec slot = HasAt IsRecordHeld desk.recording slot
+
+-- the channel that a descriptor holds
+abbrev HoldsTaken : Desk → Held → Type 0
+HoldsTaken desk held = IsTaken desk held.way held.slot
+
+taken_in : (way : Way) (desk : Desk) (slot : ℕ) → slot < slots_of desk way → MayBeHeld desk way slot → IsTaken desk way slot
+taken_in Play desk slot within may = record { within = within; book = may }
+taken_in Rec desk slot within may = record { within = within; book = may }
+
+-- each descriptor holds one
+taken : (desk : Desk) (fd : ℕ) (held : Held) → HoldApart desk → held_by desk fd ≡ Some held → HoldsTaken desk held
+taken desk fd held h e = taken_in held.way desk held.slot (h.within fd held e) (h.taken fd held e)
+
+within_of : (way : Way) (desk : Desk) (slot : ℕ) → IsTaken desk way slot → slot < slots_of desk way
+within_of Play desk slot t = t.within
+within_of Rec desk slot t = t.within
+
+may_of : (way : Way) (desk : Desk) (slot : ℕ) → IsTaken desk way slot → MayBeHeld desk way slot
+may_of Play desk slot t = t.book
+may_of Rec desk slot t = t.book
+
+-- which is all that descriptors are to hold
+hold_apart : (desk : Desk) → ((fd : ℕ) (held : Held) → held_by desk fd ≡ Some held → HoldsTaken desk held)
+    → ((fd other : ℕ) (held theirs : Held) → held_by desk fd ≡ Some held → held_by desk other ≡ Some theirs → held ≡ theirs → fd ≡ other)
+    → HoldApart desk
+hold_apart desk each apart = record {
+  within = λ fd held there. within_of held.way desk held.slot (each fd held there);
+  taken = λ fd held there. may_of held.way desk held.slot (each fd held there);
+  apart = apart;
+}
+
+-- the descriptors stay, and each channel that may be held may be so still
+moved : (desk new : Desk) → ((fd : ℕ) → held_by new fd ≡ held_by desk fd) → ((way : Way) (slot : ℕ) → IsTaken desk way slot → IsTaken new way slot) → HoldApart desk → HoldApart new
+moved desk new same moves h =
+    hold_apart new (λ fd held there. moves held.way held.slot (taken desk fd held h (sym (same fd) ∙ there)))
+    (λ fd other held theirs there here. h.apart fd other held theirs (sym (same fd) ∙ there) (sym (same other) ∙ here))
+
+-- ---- an event of a descriptor
+
+-- it goes by the channel that the descriptor holds
+turned_in : (way : Way) (slot : ℕ) (play recording : ℕ → DeskTurn) (desk : Desk) (fd : ℕ) → held_by desk fd ≡ Some (channel way slot)
+    → ((slot : ℕ) → held_by desk fd ≡ Some (channel Play slot) → HoldApart (play slot).desk)
+    → ((slot : ℕ) → held_by desk fd ≡ Some (channel Rec slot) → HoldApart (recording slot).desk)
+    → HoldApart (by_way way (play slot) (recording slot)).desk
+turned_in Play slot play recording desk fd e p r = p slot e
+turned_in Rec slot play recording desk fd e p r = r slot e
+
+turned : (play recording : ℕ → DeskTurn) (held : Option Held) (desk : Desk) (fd : ℕ) → held_by desk fd ≡ held → HoldApart desk
+    → ((slot : ℕ) → held_by desk fd ≡ Some (channel Play slot) → HoldApart (play slot).desk)
+    → ((slot : ℕ) → held_by desk fd ≡ Some (channel Rec slot) → HoldApart (recording slot).desk)
+    → HoldApart (turning play recording held desk).desk
+turned play recording None desk fd e h p r = h
+turned play recording (Some held) desk fd e h p r = turned_in held.way held.slot play recording desk fd e p r
+
+-- a channel that plays
+play_turned : (device : DeviceSeen) (turn : Book → BookTurn) (desk : Desk) (fd slot : ℕ) → ((book : Book) → IsHeld book → IsHeld (turn book).book) → HoldApart desk
+    → held_by desk fd ≡ Some (channel Play slot) → HoldApart (play_turn device turn desk slot).desk
+play_turned device turn desk fd slot keeps h e = moved desk (play_turn device turn desk slot).desk (λ other. refl) moves h
+  where
+    book : Book
+    book = (turn (book_at device desk slot)).book
+
+    is : IsHeld book
+    is = keeps (book_at device desk slot) (h.taken fd (channel Play slot) e (unopened device))
+
+    moves : (way : Way) (other : ℕ) → IsTaken desk way other → IsTaken (with_book desk slot book) way other
+    moves Play other has = has_either IsHeld desk.play other slot book is has
+    moves Rec other has = has
+
+-- a channel that records
+record_turned : (device : DeviceSeen) (turn : RecordBook → RecordTurn) (desk : Desk) (fd slot : ℕ) → ((book : RecordBook) → IsRecordHeld book → IsRecordHeld (turn book).book) → HoldApart desk
+    → held_by desk fd ≡ Some (channel Rec slot) → HoldApart (record_turn device turn desk slot).desk
+record_turned device turn desk fd slot keeps h e = moved desk (record_turn device turn desk slot).desk (λ other. refl) moves h
+  where
+    book : RecordBook
+    book = (turn (record_at device desk slot)).book
+
+    is : IsRecordHeld book
+    is = keeps (record_at device desk slot) (h.taken fd (channel Rec slot) e (record_unopened device))
+
+    moves : (way : Way) (other : ℕ) → IsTaken desk way other → IsTaken (with_record desk slot book) way other
+    moves Play other has = has
+    moves Rec other has = has_either IsRecordHeld desk.recording other slot book is has
+
+-- ---- a descriptor that is set
 
 -- what stands at a descriptor, one of which was set
 reads : (descriptors : List (Option Held)) (at fd : ℕ) (put : Option Held) (held : Held) → get_or (set descriptors at put) fd None ≡ Some held
@@ -141,18 +177,30 @@ reads descriptors at fd put held e =
       | inr differ ↦ inr (sym (get_or-set_other descriptors at fd put None differ) ∙ e, λ same. absurd (differ same))
     ]
 
--- a close
-shut : (device : DeviceSeen) (held : Option Held) (desk : Desk) (fd : ℕ) → held_by desk fd ≡ held → HoldApart desk → HoldApart (close_on device held desk fd).desk
-shut device None desk fd e h = h
-shut device (Some held) desk fd e h = record {
-  within = λ d mine there. let before = h.within d mine (was d mine there) in omega (arith, length-set desk.play held.slot book);
-  taken = λ d mine other there. subst (λ (b : Book). is_held b.state ≡ true) (sym (get_or-set_other desk.play held.slot mine.slot book other (differ d mine there))) (h.taken d mine other (was d mine there));
-  apart = λ d other mine theirs there here same. h.apart d other mine theirs (was d mine there) (was other theirs here) same;
-}
-  where
-    book : Book
-    book = closing device (book_at device desk held.slot)
+-- each channel but this one may be held as before
+abbrev Spares : Desk → Desk → Held → Type 0
+Spares desk new held = (other : Held) → other ≢ held → HoldsTaken desk other → HoldsTaken new other
 
+play_spared : (slot : ℕ) (book : Book) (descriptors : List (Option Held)) (desk : Desk) → Spares desk (record desk { play = set desk.play slot book; descriptors = descriptors }) (channel Play slot)
+play_spared slot book descriptors desk other differ has = at other.way other.slot differ has
+  where
+    at : (way : Way) (k : ℕ) → channel way k ≢ channel Play slot → IsTaken desk way k → IsTaken (record desk { play = set desk.play slot book; descriptors = descriptors }) way k
+    at Play k differ has = has_other IsHeld desk.play k slot book (λ same. differ (ap (channel Play) same)) has
+    at Rec k differ has = has
+
+record_spared : (slot : ℕ) (book : RecordBook) (descriptors : List (Option Held)) (desk : Desk) → Spares desk (record desk { recording = set desk.recording slot book; descriptors = descriptors }) (channel Rec slot)
+record_spared slot book descriptors desk other differ has = at other.way other.slot differ has
+  where
+    at : (way : Way) (k : ℕ) → channel way k ≢ channel Rec slot → IsTaken desk way k → IsTaken (record desk { recording = set desk.recording slot book; descriptors = descriptors }) way k
+    at Play k differ has = has
+    at Rec k differ has = has_other IsRecordHeld desk.recording k slot book (λ same. differ (ap (channel Rec) same)) has
+
+-- a descriptor is shut
+shut : (desk new : Desk) (fd : ℕ) (held : Held) → held_by desk fd ≡ Some held → new.descriptors ≡ set desk.descriptors fd None → Spares desk new held → HoldApart desk → HoldApart new
+shut desk new fd held e put spares h =
+    hold_apart new (λ d mine there. spares mine (λ same. (was d mine there).1 (h.apart d fd mine held (was d mine there).0 e same)) (taken desk d mine h (was d mine there).0))
+    (λ d other mine theirs there here. h.apart d other mine theirs (was d mine there).0 (was other theirs here).0)
+  where
     -- the descriptor is there, since it holds something
     there_is : fd < length desk.descriptors
     there_is = elim (cases_lt fd (length desk.descriptors)) [
@@ -161,14 +209,49 @@ shut device (Some held) desk fd e h = record {
     ]
 
     -- what is open still was open before, and is another
-    was : (d : ℕ) (mine : Held) → get_or (set desk.descriptors fd None) d None ≡ Some mine → held_by desk d ≡ Some mine
-    was d mine there = elim (reads desk.descriptors fd d None mine there) [ inl new ↦ absurd (let none : None ≡ Some mine = new.1 in cc) | inr old ↦ old.0 ]
-
-    differ : (d : ℕ) (mine : Held) → get_or (set desk.descriptors fd None) d None ≡ Some mine → mine.slot ≡ held.slot → ⊥
-    differ d mine there same = elim (reads desk.descriptors fd d None mine there) [
-      | inl new ↦ (let none : None ≡ Some mine = new.1 in cc)
-      | inr old ↦ (let past = old.1 (h.apart d fd mine held old.0 e same) in omega (arith, there_is))
+    was : (d : ℕ) (mine : Held) → held_by new d ≡ Some mine → (held_by desk d ≡ Some mine) × (d ≢ fd)
+    was d mine there = elim (reads desk.descriptors fd d None mine (ap (λ (l : List (Option Held)). get_or l d None) (sym put) ∙ there)) [
+      | inl new ↦ absurd (let none : None ≡ Some mine = new.1 in cc)
+      | inr old ↦ (old.0, λ same. let past = old.1 same in omega (arith, there_is))
     ]
+
+-- a descriptor is opened, with a channel that none holds
+opened : (desk new : Desk) (fd : ℕ) (held : Held) → new.descriptors ≡ set desk.descriptors fd (Some held) → HoldsTaken new held → (HoldsTaken desk held → ⊥) → Spares desk new held → HoldApart desk → HoldApart new
+opened desk new fd held put has free spares h = hold_apart new each apart
+  where
+    -- what stands at a descriptor is the new channel at this one, or what stood there
+    at : (d : ℕ) (mine : Held) → held_by new d ≡ Some mine → ((d ≡ fd) × (held ≡ mine)) ⊎ (held_by desk d ≡ Some mine)
+    at d mine there = elim (reads desk.descriptors fd d (Some held) mine (ap (λ (l : List (Option Held)). get_or l d None) (sym put) ∙ there)) [
+      | inl is ↦ inl (is.0, ap (λ (o : Option Held). or_this o) is.1)
+      | inr old ↦ inr old.0
+    ]
+      where
+        or_this : Option Held → Held
+        or_this None = held
+        or_this (Some other) = other
+
+    differ : (d : ℕ) (mine : Held) → held_by desk d ≡ Some mine → mine ≢ held
+    differ d mine there same = free (subst (HoldsTaken desk) same (taken desk d mine h there))
+
+    each : (d : ℕ) (mine : Held) → held_by new d ≡ Some mine → HoldsTaken new mine
+    each d mine there = elim (at d mine there) [
+      | inl is ↦ subst (HoldsTaken new) is.1 has
+      | inr old ↦ spares mine (differ d mine old) (taken desk d mine h old)
+    ]
+
+    apart : (d other : ℕ) (mine theirs : Held) → held_by new d ≡ Some mine → held_by new other ≡ Some theirs → mine ≡ theirs → d ≡ other
+    apart d other mine theirs there here same = elim (at d mine there) [
+      | inl is ↦ elim (at other theirs here) [
+        | inl too ↦ is.0 ∙ sym too.0
+        | inr old ↦ absurd (differ other theirs old (sym same ∙ sym is.1))
+      ]
+      | inr old ↦ elim (at other theirs here) [
+        | inl too ↦ absurd (differ d mine old (same ∙ sym too.1))
+        | inr both ↦ h.apart d other mine theirs old both same
+      ]
+    ]
+
+-- ---- an open
 
 -- what is free isn't held
 pub free-unheld : (state : State) → is_free state ≡ true → is_held state ≡ true → ⊥
@@ -178,77 +261,97 @@ free-unheld Primed e held = cc
 free-unheld Running e held = cc
 free-unheld (Draining closed) e held = cc
 
--- an open that found a free slot
-opened : (found : Option ℕ) (desk : Desk) (fd : ℕ) (way : Way) (settings : Settings) → least_free desk.play ≡ found → HoldApart desk → HoldApart (open_in found desk fd way settings).desk
-opened None desk fd way settings e h = h
-opened (Some slot) desk fd way settings e h = record {
-  within = λ d mine there. elim (reads desk.descriptors fd d (Some new) mine there) [
-    | inl is ↦ (let slot_is : slot ≡ mine.slot = slot_of new mine is.1 in omega (arith, free.0, length-set desk.play slot (begun settings)))
-    | inr old ↦ (let before = h.within d mine old.0 in omega (arith, length-set desk.play slot (begun settings)))
-  ];
-  taken = λ d mine other there. elim (reads desk.descriptors fd d (Some new) mine there) [
-    | inl is ↦ subst (λ (k : ℕ). is_held (get_or (set desk.play slot (begun settings)) k other).state ≡ true) (slot_of new mine is.1)
-        (subst (λ (b : Book). is_held b.state ≡ true) (sym (get_or-set_same desk.play slot (begun settings) other free.0)) refl)
-    | inr old ↦ subst (λ (b : Book). is_held b.state ≡ true) (sym (get_or-set_other desk.play slot mine.slot (begun settings) other (differ d mine old.0))) (h.taken d mine other old.0)
-  ];
-  apart = λ d other mine theirs there here same. elim (reads desk.descriptors fd d (Some new) mine there) [
-    | inl is ↦ elim (reads desk.descriptors fd other (Some new) theirs here) [
-      | inl too ↦ is.0 ∙ sym too.0
-      | inr old ↦ absurd (differ other theirs old.0 (sym same ∙ sym (slot_of new mine is.1)))
-    ]
-    | inr old ↦ elim (reads desk.descriptors fd other (Some new) theirs here) [
-      | inl too ↦ absurd (differ d mine old.0 (same ∙ sym (slot_of new theirs too.1)))
-      | inr both ↦ h.apart d other mine theirs old.0 both.0 same
-    ]
-  ];
-}
+-- the least free slot
+play_opened : (found : Option ℕ) (desk : Desk) (fd : ℕ) (settings : Settings) → least_free desk.play ≡ found → HoldApart desk → HoldApart (open_play found desk fd settings).desk
+play_opened None desk fd settings e h = h
+play_opened (Some slot) desk fd settings e h =
+    opened desk (open_play (Some slot) desk fd settings).desk fd new refl
+    (has_set IsHeld desk.play slot book free.0 refl) (λ has. free-unheld (get_or desk.play slot book).state free.1 (has.book book))
+    (play_spared slot book (set desk.descriptors fd (Some new)) desk) h
   where
     new : Held
-    new = record { way = way; slot = slot }
+    new = channel Play slot
 
-    other_book : Book
-    other_book = begun settings
+    book : Book
+    book = begun settings
 
-    free : (slot < length desk.play) × (is_free (get_or desk.play slot other_book).state ≡ true)
-    free = let is = position-Some (λ (book : Book). is_free book.state) desk.play slot other_book e in (is.0, is.1)
+    free : (slot < length desk.play) × (is_free (get_or desk.play slot book).state ≡ true)
+    free = let is = position-Some (λ (book : Book). is_free book.state) desk.play slot book e in (is.0, is.1)
 
-    differ : (d : ℕ) (mine : Held) → held_by desk d ≡ Some mine → mine.slot ≡ slot → ⊥
-    differ d mine there same = free-unheld (get_or desk.play slot other_book).state free.1 (subst (λ (k : ℕ). is_held (get_or desk.play k other_book).state ≡ true) same (h.taken d mine other_book there))
+record_opened : (found : Option ℕ) (desk : Desk) (fd : ℕ) (settings : Settings) → least_free_record desk.recording ≡ found → HoldApart desk → HoldApart (open_record found desk fd settings).desk
+record_opened None desk fd settings e h = h
+record_opened (Some slot) desk fd settings e h =
+    opened desk (open_record (Some slot) desk fd settings).desk fd new refl
+    (has_set IsRecordHeld desk.recording slot book free.0 refl) (λ has. let both : true ≡ false = sym free.1 ∙ has.book book in cc)
+    (record_spared slot book (set desk.descriptors fd (Some new)) desk) h
+  where
+    new : Held
+    new = channel Rec slot
 
-    slot_at : Option Held → ℕ
-    slot_at None = 0
-    slot_at (Some held) = held.slot
+    book : RecordBook
+    book = records.begun settings
 
-    slot_of : (a b : Held) → Some a ≡ Some b → a.slot ≡ b.slot
-    slot_of a b is = ap slot_at is
+    free : (slot < length desk.recording) × (records.is_free (get_or desk.recording slot book).state ≡ true)
+    free = let is = position-Some (λ (book : RecordBook). records.is_free book.state) desk.recording slot book e in (is.0, is.1)
 
-opened_or : (b : Bool) (desk : Desk) (fd : ℕ) (way : Way) (settings : Settings) → HoldApart desk → HoldApart (cond {A = DeskTurn} b (refusing desk Exist) (open_in (least_free desk.play) desk fd way settings)).desk
-opened_or true desk fd way settings h = h
-opened_or false desk fd way settings h = opened (least_free desk.play) desk fd way settings refl h
+opened_by : (way : Way) (desk : Desk) (fd : ℕ) (settings : Settings) → HoldApart desk
+    → HoldApart (by_way way (open_play (least_free desk.play) desk fd settings) (open_record (least_free_record desk.recording) desk fd settings)).desk
+opened_by Play desk fd settings h = play_opened (least_free desk.play) desk fd settings refl h
+opened_by Rec desk fd settings h = record_opened (least_free_record desk.recording) desk fd settings refl h
+
+opened_or : (b : Bool) (way : Way) (desk : Desk) (fd : ℕ) (settings : Settings) → HoldApart desk
+    → HoldApart (cond {A = DeskTurn} b (refusing desk Exist) (by_way way (open_play (least_free desk.play) desk fd settings) (open_record (least_free_record desk.recording) desk fd settings))).desk
+opened_or true way desk fd settings h = h
+opened_or false way desk fd settings h = opened_by way desk fd settings h
+
+-- ---- each event
+
+wrote : (device : DeviceSeen) (desk : Desk) (fd count : ℕ) → HoldApart desk → HoldApart (write_on device (held_by desk fd) desk count).desk
+wrote device desk fd count h =
+    turned (play_turn device (write_turn count) desk) (λ slot. refusing desk Inval) (held_by desk fd) desk fd refl h
+    (λ slot e. play_turned device (write_turn count) desk fd slot (held-write count) h e) (λ slot e. h)
+
+read : (device : DeviceSeen) (desk : Desk) (fd count : ℕ) → HoldApart desk → HoldApart (read_on device (held_by desk fd) desk count).desk
+read device desk fd count h =
+    turned (λ slot. refusing desk Inval) (record_turn device (records.read_turn count) desk) (held_by desk fd) desk fd refl h
+    (λ slot e. h) (λ slot e. record_turned device (records.read_turn count) desk fd slot (record-held-read count) h e)
+
+asked : (device : DeviceSeen) (request : Request) (desk : Desk) (fd : ℕ) → HoldApart desk → HoldApart (ioctl_on device (held_by desk fd) desk request).desk
+asked device request desk fd h =
+    turned (play_turn device (asking device request) desk) (record_turn device (record_requests.ask_turn request) desk) (held_by desk fd) desk fd refl h
+    (λ slot e. play_turned device (asking device request) desk fd slot (λ book is. held-ask (rate_at device book) request book is) h e)
+    (λ slot e. record_turned device (record_requests.ask_turn request) desk fd slot (record-held-ask request) h e)
+
+closed : (device : DeviceSeen) (desk : Desk) (fd : ℕ) → HoldApart desk → HoldApart (close_on device (held_by desk fd) desk fd).desk
+closed device desk fd h =
+    turned (close_play device desk fd) (close_record device desk fd) (held_by desk fd) desk fd refl h
+    (λ slot e. shut desk (close_play device desk fd slot).desk fd (channel Play slot) e refl
+    (play_spared slot (closing device (book_at device desk slot)) (set desk.descriptors fd None) desk) h)
+    (λ slot e. shut desk (close_record device desk fd slot).desk fd (channel Rec slot) e refl
+    (record_spared slot (records.closed (record_at device desk slot)) (set desk.descriptors fd None) desk) h)
 
 -- an interrupt
-mixed : (device : DeviceSeen) (n : ℕ) (desk : Desk) → HoldApart desk → HoldApart (interrupt_turn device desk n).desk
-mixed device n desk h = record {
-  within = λ fd held there. let before = h.within fd held there in omega (arith, length-map desk.play (mixing device n));
-  taken = λ fd held other there.
-      let here = h.within fd held there in
-      subst (λ (b : Book). is_held b.state ≡ true) (sym (get_or-map (mixing device n) desk.play held.slot other other here)) (held-mixing device n (get_or desk.play held.slot other) (h.taken fd held other there));
-  apart = h.apart;
-}
+passed : (device : DeviceSeen) (n : ℕ) (desk : Desk) → HoldApart desk → HoldApart (interrupt_turn device desk n).desk
+passed device n desk h = moved desk (interrupt_turn device desk n).desk (λ fd. refl) moves h
+  where
+    moves : (way : Way) (slot : ℕ) → IsTaken desk way slot → IsTaken (interrupt_turn device desk n).desk way slot
+    moves Play slot has = has_map IsHeld (mixing device n) desk.play slot (held-mixing device n) has
+    moves Rec slot has = has_map IsRecordHeld (capturing device n) desk.recording slot (λ book is. record-held-captured (record_rate_at device book) n book is) has
 
--- Two descriptors hold two slots after every event.
+-- Two descriptors hold two channels after every event.
 pub apart-after : (device : DeviceSeen) (desk : Desk) (event : Event) → HoldApart desk → HoldApart (after device desk event).desk
-apart-after device desk (Open fd way settings) h = opened_or (is_some (held_by desk fd)) desk fd way settings h
-apart-after device desk (Write fd source at count) h = turned device (write_turn count) (held_by desk fd) desk fd refl (held-write count) h
-apart-after device desk (Ioctl fd request) h = turned device (asking device request) (held_by desk fd) desk fd refl (λ book e. held-ask (rate_at device book) request book e) h
-apart-after device desk (Close fd) h = shut device (held_by desk fd) desk fd refl h
-apart-after device desk (Intr n) h = mixed device n desk h
+apart-after device desk (Open fd way settings) h = opened_or (is_some (held_by desk fd)) way desk fd settings h
+apart-after device desk (Write fd source at count) h = wrote device desk fd count h
+apart-after device desk (Read fd count) h = read device desk fd count h
+apart-after device desk (Ioctl fd request) h = asked device request desk fd h
+apart-after device desk (Close fd) h = closed device desk fd h
+apart-after device desk (Intr n) h = passed device n desk h
 
 -- a desk with no open descriptor
 pub apart-shut : (desk : Desk) → ((fd : ℕ) (held : Held) → held_by desk fd ≡ Some held → ⊥) → HoldApart desk
 apart-shut desk none = record {
   within = λ fd held there. absurd (none fd held there);
-  taken = λ fd held other there. absurd (none fd held there);
+  taken = λ fd held there. absurd (none fd held there);
   apart = λ fd other held theirs there here same. absurd (none fd held there);
 }
 

@@ -2,6 +2,12 @@ pub mod Safe
 pub mod States
 pub mod Asking
 pub mod Leaves
+pub mod Holding
+pub mod RecordAsking
+pub mod RecordSafe
+pub mod RecordLeaves
+pub mod RecordHolding
 pub mod Apart
+pub mod Silent
 pub mod Props
 pub mod Ratios

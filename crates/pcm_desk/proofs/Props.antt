@@ -1,10 +1,21 @@
--- The set for `by { Prim.hlevel book_props }` after a ghost field: that the counts of a book are in order has one proof at most.
+-- The sets for `by { Prim.hlevel book_props }` and `by { Prim.hlevel record_props }` after a ghost field: that the counts of a book are
+-- in order has one proof at most.
 use Rattle.std.proofs.Props.{props}
+use Rattle.std.specs.Prelude.{ℕ}
+use Rattle.pcm_oss.specs.declared.event.Way.{Way}
+use Rattle.pcm_oss.specs.declared.event.Way.TheVariants.{Play, Rec}
 use Rattle.pcm_rate.specs.declared.rate.Rate.{Rate}
 use Rattle.pcm_desk.specs.declared.book.Book.{Book}
 use Rattle.pcm_desk.specs.declared.book.State.{State}
 use Rattle.pcm_desk.specs.declared.book.State.TheVariants.{Free, Setup, Primed, Running, Draining}
+use Rattle.pcm_desk.specs.declared.record_book.RecordBook.{RecordBook}
+use Rattle.pcm_desk.specs.declared.record_book.RecordState.{RecordState}
+use Rattle.pcm_desk.specs.declared.record_book.RecordState.TheVariants as record_states
+use Rattle.pcm_desk.specs.Desk.{Desk}
+use Rattle.pcm_desk.specs.Own.{HoldApart, MayBeHeld}
 use Rattle.pcm_desk.specs.Safe.{IsInOrder, BookIsSafe}
+use Rattle.pcm_desk.specs.RecordSafe.{RecordIsSafe}
+use Rattle.pcm_desk.specs.RecordSafe as records
 
 pub IsInOrder-prop : (rate : Rate) (state : State) (book : Book) → IsProp (IsInOrder rate state book)
 IsInOrder-prop rate Free book = Prim.hlevel props
@@ -19,3 +30,26 @@ pub BookIsSafe-prop : (rate : Rate) (book : Book) → IsProp (BookIsSafe rate bo
 BookIsSafe-prop rate book = Prim.hlevel order_props
 
 pub ruleset book_props = (BookIsSafe-prop, props)
+
+pub record-IsInOrder-prop : (state : RecordState) (book : RecordBook) → IsProp (records.IsInOrder state book)
+record-IsInOrder-prop record_states.Free book = Prim.hlevel props
+record-IsInOrder-prop record_states.Setup book = Prim.hlevel props
+record-IsInOrder-prop record_states.Running book = Prim.hlevel props
+
+pub ruleset record_order_props = (record-IsInOrder-prop, props)
+
+pub RecordIsSafe-prop : (rate : Rate) (book : RecordBook) → IsProp (RecordIsSafe rate book)
+RecordIsSafe-prop rate book = Prim.hlevel record_order_props
+
+pub ruleset record_props = (RecordIsSafe-prop, props)
+
+pub MayBeHeld-prop : (desk : Desk) (way : Way) (slot : ℕ) → IsProp (MayBeHeld desk way slot)
+MayBeHeld-prop desk Play slot = Prim.hlevel props
+MayBeHeld-prop desk Rec slot = Prim.hlevel props
+
+pub ruleset held_props = (MayBeHeld-prop, props)
+
+pub HoldApart-prop : (desk : Desk) → IsProp (HoldApart desk)
+HoldApart-prop desk = Prim.hlevel held_props
+
+pub ruleset hold_props = (HoldApart-prop, props)

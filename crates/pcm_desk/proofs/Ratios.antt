@@ -1,10 +1,26 @@
--- The plan from a client to the mix fits the device, whatever rate the client has.
+-- The plans between a client and the device fit, whatever rate the client has.
+use Rattle.std.proofs.Common.{◌≤◌, ◌<◌, ◌*◌, ℕ, List, [], ◌∷◌, inl, inr, arith}
+use Rattle.std.specs.Prelude.{All}
+use Rattle.std.proofs.Math.Nat.{mul-le-mul_right}
+use Rattle.std.proofs.lemmas.Bool.{cases_lt}
+use Rattle.std.proofs.lemmas.List.Elements.{All-head, All-tail}
+use Rattle.pcm_format.specs.Formats.{bits_of}
+use Rattle.pcm_format.specs.Frames.{Frame}
 use Rattle.pcm_format.specs.declared.settings.Settings.{Settings}
-use Rattle.pcm_rate.specs.Rates.{IsRatio}
-use Rattle.pcm_feeder.specs.Limits.{IsRate}
-use Rattle.pcm_plan.specs.Fits.{IsPlan, HaveTables}
-use Rattle.pcm_plan.proofs.Fits.{play-fits, play-ratio, play-tables}
-use Rattle.pcm_desk.specs.Device.{DeviceSeen, IsDevice, filters_of, quality_of, plan_between, rate_between, mix_settings}
+use Rattle.pcm_rate.specs.declared.rate.Rate.{Rate}
+use Rattle.pcm_rate.specs.Rates.{IsRatio, can, len}
+use Rattle.pcm_rate.proofs.Counts.{below_div_up, can-le-len}
+use Rattle.pcm_feeder.specs.declared.stage.Spec.{Spec}
+use Rattle.pcm_feeder.specs.declared.stage.Spec.TheVariants.{Matrix, Hold, Linear, Poly, Volume, Depth}
+use Rattle.pcm_feeder.specs.Limits.{IsRate, IsSpec}
+use Rattle.pcm_plan.specs.Fits.{HaveBits, IsPlan, HaveTables}
+use Rattle.pcm_plan.specs.Plans.{rate_among}
+use Rattle.pcm_plan.specs.Through.{recs}
+use Rattle.pcm_plan.proofs.Bits.{recs-bits}
+use Rattle.pcm_plan.proofs.Fits.{play-fits, play-ratio, play-tables, record-fits, record-ratio, record-tables}
+use Rattle.pcm_desk.specs.Device.{DeviceSeen, IsDevice, device_settings, filters_of, quality_of, plan_between, rate_between, mix_settings, record_plan_between, record_rate_between}
+
+-- ---- from a client that plays to the mix
 
 -- the stages between a client and the mix fit each other
 pub plan-between-fits : (device : DeviceSeen) (settings : Settings) → IsDevice device → IsRate settings.rate → IsPlan (plan_between device settings)
@@ -17,3 +33,61 @@ tables-between device settings d s = play-tables (filters_of device) (quality_of
 -- both rates between a client and the mix are above 0
 pub ratio-between : (device : DeviceSeen) (settings : Settings) → IsDevice device → IsRate settings.rate → IsRatio (rate_between device settings)
 ratio-between device settings d s = play-ratio (filters_of device) (quality_of device) settings (mix_settings device) s d.rate
+
+-- ---- from the device to a client that records
+
+-- the stages between the device and a client that records fit each other
+pub record-plan-between-fits : (device : DeviceSeen) (settings : Settings) → IsDevice device → IsRate settings.rate → IsPlan (record_plan_between device settings)
+record-plan-between-fits device settings d s = record-fits (filters_of device) (quality_of device) settings (device_settings device) d.filters s d.rate
+
+-- the device's filters are those that these stages ask for
+pub record-tables-between : (device : DeviceSeen) (settings : Settings) → IsDevice device → IsRate settings.rate → HaveTables (record_plan_between device settings).stages (filters_of device)
+record-tables-between device settings d s = record-tables (filters_of device) (quality_of device) settings (device_settings device) d.filters s d.rate
+
+-- both rates between the device and such a client are above 0
+pub record-ratio-between : (device : DeviceSeen) (settings : Settings) → IsDevice device → IsRate settings.rate → IsRatio (record_rate_between device settings)
+record-ratio-between device settings d s = record-ratio (filters_of device) (quality_of device) settings (device_settings device) d.filters s d.rate
+
+-- what such a client gets of the device's frames is within the bits of its format
+pub record-bits-between : (device : DeviceSeen) (settings : Settings) → IsDevice device → IsRate settings.rate → (frames : List Frame) (from count : ℕ) → HaveBits 32 frames
+    → HaveBits (bits_of settings.format) (recs (record_plan_between device settings) (filters_of device) frames from count)
+record-bits-between device settings d s frames from count have =
+    recs-bits (filters_of device) (quality_of device) settings (device_settings device) frames from count s have
+
+-- ---- how many frames come
+
+-- a rate is at most 48 times the other
+record IsFew (rate : Rate) : Type 0 where
+  src : 0 < rate.src
+  dst : rate.dst ≤ 48 * rate.src
+
+-- so is that of stages within their limits
+few-among : (specs : List Spec) → All IsSpec specs → IsFew (rate_among specs)
+few-among [] all = record { src = omega arith; dst = omega arith }
+few-among (Matrix from to ∷ specs) all = few-among specs (All-tail IsSpec (Matrix from to) specs all)
+few-among (Hold src dst channels ∷ specs) all =
+    let is = All-head IsSpec (Hold src dst channels) specs all in
+    record { src = omega (arith, is.source.least); dst = omega (arith, is.source.least, is.target.most) }
+few-among (Linear src dst channels ∷ specs) all =
+    let is = All-head IsSpec (Linear src dst channels) specs all in
+    record { src = omega (arith, is.source.least); dst = omega (arith, is.source.least, is.target.most) }
+few-among (Poly src dst channels table taps ∷ specs) all =
+    let is = All-head IsSpec (Poly src dst channels table taps) specs all in
+    record { src = omega (arith, is.change.source.least); dst = omega (arith, is.change.source.least, is.change.target.most) }
+few-among (Volume layout ∷ specs) all = few-among specs (All-tail IsSpec (Volume layout) specs all)
+few-among (Depth bits channels ∷ specs) all = few-among specs (All-tail IsSpec (Depth bits channels) specs all)
+
+-- n frames allow at most 48 times as many
+few-can : (rate : Rate) (n : ℕ) → IsFew rate → can rate n ≤ 48 * n
+few-can rate n few =
+    elim (cases_lt (48 * n) (len rate n)) [
+      | inl more ↦ absurd (
+          let up = (below_div_up (48 * n) (n * rate.dst) rate.src few.src).0 more in
+          let most = mul-le-mul_right {m = rate.dst} {n = 48 * rate.src} n few.dst in
+          omega (arith, up, most))
+      | inr within ↦ (let least = can-le-len rate n few.src in omega (arith, least, within))
+    ]
+
+-- at most 48 frames of a client that records come of each frame of the device, since both rates are within their limits
+pub record-few : (device : DeviceSeen) (settings : Settings) (n : ℕ) → IsDevice device → IsRate settings.rate → can (record_rate_between device settings) n ≤ 48 * n
+record-few device settings n d s = few-can (record_rate_between device settings) n (few-among (record_plan_between device settings).stages (record-plan-between-fits device settings d s).specs)

@@ -2,25 +2,33 @@
 use Rattle.std.specs.Prelude.{ℕ, zero, suc, ◌+◌, Option, Some, None, is_some, if◌then◌else◌, List, map, position, replicate, slice_index_or, slice_set, Result, Ok, Err}
 use Rattle.pcm_format.specs.declared.settings.Settings.{Settings}
 use Rattle.pcm_oss.specs.declared.event.Event.{Event}
-use Rattle.pcm_oss.specs.declared.event.Event.TheVariants.{Open, Write, Ioctl, Close, Intr}
+use Rattle.pcm_oss.specs.declared.event.Event.TheVariants.{Open, Write, Read, Ioctl, Close, Intr}
 use Rattle.pcm_oss.specs.declared.event.Way.{Way}
+use Rattle.pcm_oss.specs.declared.event.Way.TheVariants.{Play, Rec}
 use Rattle.pcm_oss.specs.declared.request.Request.{Request}
 use Rattle.pcm_oss.specs.declared.reply.Answer.{Answer}
 use Rattle.pcm_oss.specs.declared.reply.Answer.TheVariants.{Done, Number}
 use Rattle.pcm_oss.specs.declared.reply.Errno.{Errno}
-use Rattle.pcm_oss.specs.declared.reply.Errno.TheVariants.{BadF, Busy, Exist}
+use Rattle.pcm_oss.specs.declared.reply.Errno.TheVariants.{BadF, Busy, Exist, Inval}
 use Rattle.pcm_rate.specs.declared.rate.Rate.{Rate}
 use Rattle.pcm_desk.specs.declared.book.Book.{Book}
 use Rattle.pcm_desk.specs.declared.book.State.TheVariants.{Free}
+use Rattle.pcm_desk.specs.declared.record_book.RecordBook.{RecordBook}
+use Rattle.pcm_desk.specs.declared.record_book.RecordState.TheVariants as record_states
 use Rattle.pcm_desk.specs.declared.device.Held.{Held}
 use Rattle.pcm_desk.specs.declared.limits.TheConstants.{DESCRIPTORS}
-use Rattle.pcm_desk.specs.Device.{DeviceSeen, mix_settings, play_slots, rate_between}
+use Rattle.pcm_desk.specs.Device.{DeviceSeen, device_settings, mix_settings, play_slots, rate_between, record_rate_between, record_slots}
 use Rattle.pcm_desk.specs.Books.{BookTurn, is_free, begun, write_turn, close_turn, refilled}
 use Rattle.pcm_desk.specs.Requests.{ask_turn}
+use Rattle.pcm_desk.specs.RecordBooks as records
+use Rattle.pcm_desk.specs.RecordBooks.{RecordTurn}
+use Rattle.pcm_desk.specs.RecordRequests as record_requests
 
 pub record Desk : Type 0 where
-  -- by slot
+  -- by slot: those that play
   pub play : List Book
+  -- by slot: those that record
+  pub recording : List RecordBook
   -- by descriptor: the channel that it holds, if it is open
   pub descriptors : List (Option Held)
   -- the frames of all interrupts so far
@@ -37,10 +45,15 @@ pub record DeskTurn : Type 0 where
 abbrev pub unopened : DeviceSeen → Book
 unopened device = record (begun (mix_settings device)) { state = Free }
 
+-- a record book that nobody has opened yet
+abbrev pub record_unopened : DeviceSeen → RecordBook
+record_unopened device = record (records.begun (device_settings device)) { state = record_states.Free }
+
 -- before the first event
 abbrev pub desk_at_start : DeviceSeen → Desk
 desk_at_start device = record {
   play = replicate (play_slots device) (unopened device);
+  recording = replicate (record_slots device) (record_unopened device);
   descriptors = replicate DESCRIPTORS None;
   handed = 0;
   mixed = 0;
@@ -58,6 +71,14 @@ least_free books = position (λ book. is_free book.state) books
 abbrev pub book_at : DeviceSeen → Desk → ℕ → Book
 book_at device desk slot = slice_index_or desk.play slot (unopened device)
 
+-- the least slot for recording that is free
+abbrev pub least_free_record : List RecordBook → Option ℕ
+least_free_record books = position (λ book. records.is_free book.state) books
+
+-- the record book of a slot
+abbrev pub record_at : DeviceSeen → Desk → ℕ → RecordBook
+record_at device desk slot = slice_index_or desk.recording slot (record_unopened device)
+
 -- after a refusal the desk is the old one
 abbrev pub refusing : Desk → Errno → DeskTurn
 refusing desk errno = record { desk = desk; reply = Err errno }
@@ -65,36 +86,70 @@ refusing desk errno = record { desk = desk; reply = Err errno }
 abbrev pub with_book : Desk → ℕ → Book → Desk
 with_book desk slot book = record desk { play = slice_set desk.play slot book }
 
+abbrev pub with_record : Desk → ℕ → RecordBook → Desk
+with_record desk slot book = record desk { recording = slice_set desk.recording slot book }
+
 abbrev pub with_descriptor : Desk → ℕ → Option Held → Desk
 with_descriptor desk fd held = record desk { descriptors = slice_set desk.descriptors fd held }
 
--- an open takes the least free slot
-abbrev pub open_in : Option ℕ → Desk → ℕ → Way → Settings → DeskTurn
-open_in None desk fd way settings = refusing desk Busy
-open_in (Some slot) desk fd way settings = record {
-  desk = with_descriptor (with_book desk slot (begun settings)) fd (Some (record { way = way; slot = slot }));
+-- what is so of a channel that plays, or of one that records
+abbrev pub by_way : {X : Type 0} → Way → X → X → X
+by_way Play play recording = play
+by_way Rec play recording = recording
+
+-- an open takes the least free slot of its way
+abbrev pub open_play : Option ℕ → Desk → ℕ → Settings → DeskTurn
+open_play None desk fd settings = refusing desk Busy
+open_play (Some slot) desk fd settings = record {
+  desk = with_descriptor (with_book desk slot (begun settings)) fd (Some (record { way = Play; slot = slot }));
+  reply = Ok (Number slot);
+}
+
+abbrev pub open_record : Option ℕ → Desk → ℕ → Settings → DeskTurn
+open_record None desk fd settings = refusing desk Busy
+open_record (Some slot) desk fd settings = record {
+  desk = with_descriptor (with_record desk slot (records.begun settings)) fd (Some (record { way = Rec; slot = slot }));
   reply = Ok (Number slot);
 }
 
 -- an open descriptor is refused first, and then a desk with no free slot
 abbrev pub open_turn : Desk → ℕ → Way → Settings → DeskTurn
 open_turn desk fd way settings =
-    if is_some (held_by desk fd) then refusing desk Exist else open_in (least_free desk.play) desk fd way settings
+    if is_some (held_by desk fd) then refusing desk Exist
+    else by_way way (open_play (least_free desk.play) desk fd settings) (open_record (least_free_record desk.recording) desk fd settings)
 
--- an event of a descriptor, whose book alone changes
-abbrev pub turning : DeviceSeen → (Book → BookTurn) → Option Held → Desk → DeskTurn
-turning device turn None desk = refusing desk BadF
-turning device turn (Some held) desk =
-    let turned : BookTurn = turn (book_at device desk held.slot) in
-    record { desk = with_book desk held.slot turned.book; reply = turned.reply }
+-- an event of a channel that plays, whose book alone changes
+abbrev pub play_turn : DeviceSeen → (Book → BookTurn) → Desk → ℕ → DeskTurn
+play_turn device turn desk slot =
+    let turned : BookTurn = turn (book_at device desk slot) in
+    record { desk = with_book desk slot turned.book; reply = turned.reply }
 
--- a write
+-- an event of a channel that records, whose book alone changes
+abbrev pub record_turn : DeviceSeen → (RecordBook → RecordTurn) → Desk → ℕ → DeskTurn
+record_turn device turn desk slot =
+    let turned : RecordTurn = turn (record_at device desk slot) in
+    record { desk = with_record desk slot turned.book; reply = turned.reply }
+
+-- an event of a descriptor, by the way of the channel that it holds: at its slot
+abbrev pub turning : (ℕ → DeskTurn) → (ℕ → DeskTurn) → Option Held → Desk → DeskTurn
+turning play recording None desk = refusing desk BadF
+turning play recording (Some held) desk = by_way held.way (play held.slot) (recording held.slot)
+
+-- a write, which no recording takes
 abbrev pub write_on : DeviceSeen → Option Held → Desk → ℕ → DeskTurn
-write_on device held desk length = turning device (write_turn length) held desk
+write_on device held desk length = turning (play_turn device (write_turn length) desk) (λ slot. refusing desk Inval) held desk
+
+-- a read, which gets nothing of a channel that plays
+abbrev pub read_on : DeviceSeen → Option Held → Desk → ℕ → DeskTurn
+read_on device held desk length = turning (λ slot. refusing desk Inval) (record_turn device (records.read_turn length) desk) held desk
 
 -- the rate between a book and the mix
 abbrev pub rate_at : DeviceSeen → Book → Rate
 rate_at device book = rate_between device book.settings
+
+-- the rate between the device and a record book
+abbrev pub record_rate_at : DeviceSeen → RecordBook → Rate
+record_rate_at device book = record_rate_between device book.settings
 
 -- the book after a request, and the reply
 abbrev pub asking : DeviceSeen → Request → Book → BookTurn
@@ -102,19 +157,28 @@ asking device request book = ask_turn (rate_at device book) request book
 
 -- a request
 abbrev pub ioctl_on : DeviceSeen → Option Held → Desk → Request → DeskTurn
-ioctl_on device held desk request = turning device (asking device request) held desk
+ioctl_on device held desk request =
+    turning (play_turn device (asking device request) desk) (record_turn device (record_requests.ask_turn request) desk) held desk
 
 -- the book after a close
 abbrev pub closing : DeviceSeen → Book → Book
 closing device book = close_turn (rate_at device book) book
 
 -- a close, which opens the descriptor for others
-abbrev pub close_on : DeviceSeen → Option Held → Desk → ℕ → DeskTurn
-close_on device None desk fd = refusing desk BadF
-close_on device (Some held) desk fd = record {
-  desk = with_descriptor (with_book desk held.slot (closing device (book_at device desk held.slot))) fd None;
+abbrev pub close_play : DeviceSeen → Desk → ℕ → ℕ → DeskTurn
+close_play device desk fd slot = record {
+  desk = with_descriptor (with_book desk slot (closing device (book_at device desk slot))) fd None;
   reply = Ok Done;
 }
+
+abbrev pub close_record : DeviceSeen → Desk → ℕ → ℕ → DeskTurn
+close_record device desk fd slot = record {
+  desk = with_descriptor (with_record desk slot (records.closed (record_at device desk slot))) fd None;
+  reply = Ok Done;
+}
+
+abbrev pub close_on : DeviceSeen → Option Held → Desk → ℕ → DeskTurn
+close_on device held desk fd = turning (close_play device desk fd) (close_record device desk fd) held desk
 
 -- how many frames an interrupt of n mixes
 abbrev pub mixed_by : DeviceSeen → Desk → ℕ → ℕ
@@ -125,12 +189,16 @@ abbrev pub mixing : DeviceSeen → ℕ → Book → Book
 mixing device zero book = book
 mixing device (suc frames) book = refilled (rate_at device book) (suc frames) book
 
--- an interrupt of n frames hands them over, and mixes what stands for them
+-- a record book once so many frames were captured
+abbrev pub capturing : DeviceSeen → ℕ → RecordBook → RecordBook
+capturing device n book = records.captured (record_rate_at device book) n book
+
+-- an interrupt of n frames hands them over, mixes what stands for them, and then captures as many
 abbrev pub interrupt_turn : DeviceSeen → Desk → ℕ → DeskTurn
 interrupt_turn device desk n =
     let frames = mixed_by device desk n in
     record {
-      desk = record desk { play = map (mixing device frames) desk.play; handed = desk.handed + n; mixed = desk.mixed + frames };
+      desk = record desk { play = map (mixing device frames) desk.play; recording = map (capturing device n) desk.recording; handed = desk.handed + n; mixed = desk.mixed + frames };
       reply = Ok (Number n);
     }
 
@@ -138,6 +206,7 @@ interrupt_turn device desk n =
 abbrev pub after : DeviceSeen → Desk → Event → DeskTurn
 after device desk (Open fd way settings) = open_turn desk fd way settings
 after device desk (Write fd source at length) = write_on device (held_by desk fd) desk length
+after device desk (Read fd length) = read_on device (held_by desk fd) desk length
 after device desk (Ioctl fd request) = ioctl_on device (held_by desk fd) desk request
 after device desk (Close fd) = close_on device (held_by desk fd) desk fd
 after device desk (Intr frames) = interrupt_turn device desk frames

@@ -5,7 +5,7 @@ use Rattle.pcm_format.specs.Frames.{frame_bytes}
 use Rattle.pcm_rate.specs.declared.rate.Rate.{Rate}
 use Rattle.pcm_feeder.specs.Filters.{Filters}
 use Rattle.pcm_feeder.specs.Limits.{IsRate, AreFilters}
-use Rattle.pcm_plan.specs.Plans.{PlanSeen, plan_play, rate_in_plan}
+use Rattle.pcm_plan.specs.Plans.{PlanSeen, plan_play, plan_record, rate_in_plan}
 use Rattle.pcm_desk.specs.declared.device.Device.{Device}
 use Rattle.pcm_desk.specs.declared.device.TheConstants.{QUALITY_MOST}
 use Rattle.pcm_desk.specs.declared.limits.TheConstants.{RING_FRAMES, SLOTS}
@@ -13,6 +13,7 @@ use Rattle.pcm_desk.specs.declared.limits.TheConstants.{RING_FRAMES, SLOTS}
 pub record DeviceSeen : Type 0 where
   pub settings : Settings
   pub slots : ℕ
+  pub recorders : ℕ
   pub ring : ℕ
   pub block : ℕ
   pub quality : ℕ
@@ -23,6 +24,7 @@ abbrev pub seen : Filters → Device → DeviceSeen
 seen filters device = record {
   settings = device.settings;
   slots = device.play_slots;
+  recorders = device.record_slots;
   ring = device.ring_frames;
   block = device.block_frames;
   quality = device.quality;
@@ -48,6 +50,10 @@ mix_settings device = device.settings
 -- how many clients can play at once
 abbrev pub play_slots : DeviceSeen → ℕ
 play_slots device = device.slots
+
+-- how many clients can record at once
+abbrev pub record_slots : DeviceSeen → ℕ
+record_slots device = device.recorders
 
 -- the frames of the device's ring
 abbrev pub ring_frames : DeviceSeen → ℕ
@@ -77,6 +83,14 @@ plan_between device settings = plan_play (filters_of device) (quality_of device)
 abbrev pub rate_between : DeviceSeen → Settings → Rate
 rate_between device settings = rate_in_plan (plan_between device settings)
 
+-- the plan from the device to a client that records with these settings
+abbrev pub record_plan_between : DeviceSeen → Settings → PlanSeen
+record_plan_between device settings = plan_record (filters_of device) (quality_of device) settings (device_settings device)
+
+-- the change of rate from the device to a client that records with these settings
+abbrev pub record_rate_between : DeviceSeen → Settings → Rate
+record_rate_between device settings = rate_in_plan (record_plan_between device settings)
+
 -- a device whose mix has a rate within the limits, as its filters are
 pub record IsDevice (device : DeviceSeen) : Type 0 where
   pub rate : IsRate (mix_settings device).rate
@@ -89,4 +103,5 @@ pub record IsInLimits (device : DeviceSeen) : Type 0 where
   pub ring : block_frames device ≤ ring_frames device
   pub ring_most : ring_frames device ≤ RING_FRAMES
   pub slots_most : play_slots device ≤ SLOTS
+  pub recorders_most : record_slots device ≤ SLOTS
   pub quality : quality_of device ≤ QUALITY_MOST

@@ -2,13 +2,13 @@
 use Rattle.std.specs.Prelude.{ℕ, ◌*◌, ◌<◌, ◌≤◌, List, [], ◌∷◌}
 use Rattle.std.specs.List.{sum_by}
 use Rattle.pcm_oss.specs.declared.event.Event.{Event}
-use Rattle.pcm_oss.specs.declared.event.Event.TheVariants.{Open, Write, Ioctl, Close, Intr}
+use Rattle.pcm_oss.specs.declared.event.Event.TheVariants.{Open, Write, Read, Ioctl, Close, Intr}
 use Rattle.pcm_wave.specs.declared.pool.Pool.{Pool}
 use Rattle.pcm_wave.specs.declared.pool.Source.{Source}
 use Rattle.pcm_wave.specs.declared.pool.Source.TheVariants.{Inline, File}
 use Rattle.pcm_wave.specs.Pools.{HasBytes}
 use Rattle.pcm_feeder.specs.Limits.{IsRate}
-use Rattle.pcm_desk.specs.declared.limits.TheConstants.{DESCRIPTORS, WRITE_BYTES}
+use Rattle.pcm_desk.specs.declared.limits.TheConstants.{DESCRIPTORS, READ_BYTES, WRITE_BYTES}
 use Rattle.pcm_desk.specs.Device.{DeviceSeen, device_frame_bytes, ring_frames}
 use Rattle.pcm_desk.specs.Desk.{Desk, after}
 
@@ -21,6 +21,7 @@ IsWriteOf (File place) count = Unit {0}
 abbrev pub Fits : DeviceSeen → Pool → Event → Type 0
 Fits device pool (Open fd way settings) = (fd < DESCRIPTORS) × IsRate settings.rate
 Fits device pool (Write fd source at count) = (fd < DESCRIPTORS) × IsWriteOf source count × HasBytes pool source at count
+Fits device pool (Read fd count) = (fd < DESCRIPTORS) × (count ≤ READ_BYTES)
 Fits device pool (Ioctl fd request) = fd < DESCRIPTORS
 Fits device pool (Close fd) = fd < DESCRIPTORS
 Fits device pool (Intr frames) = (0 < frames) × (frames ≤ ring_frames device)
@@ -29,6 +30,7 @@ Fits device pool (Intr frames) = (0 < frames) × (frames ≤ ring_frames device)
 abbrev pub frames_taken : Event → ℕ
 frames_taken (Open fd way settings) = 0
 frames_taken (Write fd source at count) = 0
+frames_taken (Read fd count) = 0
 frames_taken (Ioctl fd request) = 0
 frames_taken (Close fd) = 0
 frames_taken (Intr frames) = frames

@@ -3,6 +3,9 @@ pub mod Usual
 pub mod Books
 pub mod Requests
 pub mod Safe
+pub mod RecordBooks
+pub mod RecordRequests
+pub mod RecordSafe
 pub mod Desk
 pub mod Own
 pub mod Events

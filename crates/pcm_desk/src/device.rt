@@ -26,6 +26,8 @@ pub struct Device {
     pub ring_frames: u32,
     /// How many channels can play at once.
     pub play_slots: u32,
+    /// How many channels can record at once.
+    pub record_slots: u32,
     /// How the rates of clients are converted: 0 to `QUALITY_MOST`.
     pub quality: u32,
 }
@@ -35,7 +37,7 @@ impl Device {
     ghost use Rattle.pcm_desk.specs.Usual.{usual_device};
 
     /// The device of a run without a configuration: 16 bits, stereo, 48 kHz, a ring of four blocks of 256 frames,
-    /// four channels that play, and converters that draw lines.
+    /// four channels that play and four that record, and converters that draw lines.
     pub fn usual() -> Device
         ensures value { unfiltered result ≡ usual_device }
         ensures limits { IsInLimits (unfiltered result) }
@@ -49,6 +51,7 @@ impl Device {
             block_frames: 256,
             ring_frames: 1024,
             play_slots: 4,
+            record_slots: 4,
             quality: 1,
         }
     }

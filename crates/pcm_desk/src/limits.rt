@@ -6,6 +6,9 @@ pub const DESCRIPTORS: usize = 64;
 /// How many bytes a write has at most.
 pub const WRITE_BYTES: usize = 4096;
 
+/// How many bytes a read asks for at most.
+pub const READ_BYTES: u32 = 4096;
+
 /// How many events a script has at most.
 pub const EVENTS: usize = 1048576;
 
@@ -15,5 +18,5 @@ pub const DEVICE_BYTES: u64 = 268435456;
 /// The greatest ring of a device, in frames.
 pub const RING_FRAMES: u32 = 262144;
 
-/// How many clients a device has at most.
+/// How many clients of each way a device has at most.
 pub const SLOTS: u32 = 16;

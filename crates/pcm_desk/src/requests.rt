@@ -272,7 +272,7 @@ impl Book {
 }
 
 // The same settings but for the rate, where that is within its limits.
-fn at_rate(settings: Settings, rate: u32) -> Option<Settings>
+pub(crate) fn at_rate(settings: Settings, rate: u32) -> Option<Settings>
     ensures { result ≡ at_rate settings rate }
 {
     if rate < RATE_LEAST || rate > RATE_MOST {

@@ -4,7 +4,7 @@ use Rattle.std.proofs.lemmas.List.{append-nil, take-append-le, drop-append-le, d
 use Rattle.std.proofs.Math.Seq.{take-add}
 use Rattle.std.proofs.Math.Nat.{mul-le-mul_right}
 use Rattle.pcm_oss.specs.declared.event.Event.{Event}
-use Rattle.pcm_oss.specs.declared.event.Event.TheVariants.{Open, Write, Ioctl, Close, Intr}
+use Rattle.pcm_oss.specs.declared.event.Event.TheVariants.{Open, Write, Read, Ioctl, Close, Intr}
 use Rattle.pcm_wave.specs.declared.pool.Pool.{Pool}
 use Rattle.pcm_feeder.specs.declared.kind.Kind.{Kind}
 use Rattle.pcm_feeder.specs.Kept.{Kept}
@@ -78,6 +78,10 @@ counts_told device pool story (Write fd source at count) slot fits v more =
           ∙ counted-written device story.desk.mixed pool source at count w.accepted (book_at device story.desk slot) (book_at device (told device pool story (Write fd source at count)).desk slot).written (story.runs slot)
           (v.slots slot) fits.2.within w.accepts.written w.within;
     }
+counts_told device pool story (Read fd count) slot fits v more = record {
+  are = marks device pool story (Read fd count) slot
+      ∙ counted-kept (book_at device story.desk slot) (book_at device (told device pool story (Read fd count)).desk slot).written (newest_bytes (story.runs slot)) (omega arith);
+}
 counts_told device pool story (Ioctl fd request) slot fits v more = record {
   are = marks device pool story (Ioctl fd request) slot
       ∙ counted-kept (book_at device story.desk slot) (book_at device (told device pool story (Ioctl fd request)).desk slot).written (newest_bytes (story.runs slot)) (omega arith);
@@ -138,6 +142,8 @@ ring_told kind kept device pool story (Open fd way settings) before now ring_bef
     ring_kept device pool story (Open fd way settings) ring_before ring_now fits refl (st.ring (bytes_counted device story) (all_stand kept device story before ring_before st.play_before s)) s.valid s.ring_is
 ring_told kind kept device pool story (Write fd source at count) before now ring_before ring_now fits st s =
     ring_kept device pool story (Write fd source at count) ring_before ring_now fits refl (st.ring (bytes_counted device story) (all_stand kept device story before ring_before st.play_before s)) s.valid s.ring_is
+ring_told kind kept device pool story (Read fd count) before now ring_before ring_now fits st s =
+    ring_kept device pool story (Read fd count) ring_before ring_now fits refl (st.ring (bytes_counted device story) (all_stand kept device story before ring_before st.play_before s)) s.valid s.ring_is
 ring_told kind kept device pool story (Ioctl fd request) before now ring_before ring_now fits st s =
     ring_kept device pool story (Ioctl fd request) ring_before ring_now fits refl (st.ring (bytes_counted device story) (all_stand kept device story before ring_before st.play_before s)) s.valid s.ring_is
 ring_told kind kept device pool story (Close fd) before now ring_before ring_now fits st s =
@@ -200,6 +206,7 @@ pub body-told : {B : Type 0} (kept : B → Kept) (device : DeviceSeen) (pool : P
     → device_body device (told device pool story event) ≡ device_body device story ++ take (bytes_handed device event) ring
 body-told kept device pool story (Open fd way settings) desk channels ring fits s = body_kept device pool story (Open fd way settings) ring fits refl s.valid
 body-told kept device pool story (Write fd source at count) desk channels ring fits s = body_kept device pool story (Write fd source at count) ring fits refl s.valid
+body-told kept device pool story (Read fd count) desk channels ring fits s = body_kept device pool story (Read fd count) ring fits refl s.valid
 body-told kept device pool story (Ioctl fd request) desk channels ring fits s = body_kept device pool story (Ioctl fd request) ring fits refl s.valid
 body-told kept device pool story (Close fd) desk channels ring fits s = body_kept device pool story (Close fd) ring fits refl s.valid
 body-told kept device pool story (Intr n) desk channels ring fits s =

@@ -1,5 +1,5 @@
 -- Free channels and a silent ring stand for the story before the first event.
-use Rattle.std.proofs.Common.{◌≡◌, ℕ, zero, suc, ◌+◌, ◌*◌, ◌<◌, List, [], ◌++◌, length, get_or, take, replicate, Option, Some, None, All, pos, refl, sym, ap, ◌∙◌, subst, arith}
+use Rattle.std.proofs.Common.{◌≡◌, ℕ, zero, suc, ◌+◌, ◌*◌, ◌<◌, List, [], ◌++◌, length, get_or, take, replicate, Option, None, All, pos, refl, sym, ap, ◌∙◌, subst, arith}
 use Rattle.std.specs.List.{flat_map}
 use Rattle.std.proofs.lemmas.List.{get_or-map, get_or-replicate, length-map, length-replicate, same_lists, replicate-append-replicate, append-nil}
 use Rattle.std.proofs.lemmas.List.Concat.{flat_map-append}
@@ -16,28 +16,26 @@ use Rattle.pcm_desk.specs.declared.device.Device.{Device}
 use Rattle.pcm_desk.specs.declared.device.Held.{Held}
 use Rattle.pcm_desk.specs.declared.limits.TheConstants.{DESCRIPTORS}
 use Rattle.pcm_desk.specs.Device.{IsDevice, seen}
-use Rattle.pcm_desk.specs.Desk.{Desk, book_at, unopened, desk_at_start}
+use Rattle.pcm_desk.specs.Desk.{Desk, book_at, desk_at_start, record_at, record_unopened, unopened}
 use Rattle.pcm_sound.specs.Story.{story_at_start}
 use Rattle.pcm_format.specs.Frames.{spelled_frames}
 use Rattle.pcm_sound.specs.DeviceList.{silence_in}
+use Rattle.pcm_wave.specs.declared.pool.Pool.{Pool}
+use Rattle.pcm_wave.specs.Pools.{captured_frames}
+use Rattle.pcm_desk.specs.declared.record_book.RecordBook.{RecordBook}
+use Rattle.pcm_sound.proofs.Recorded.{recordings-start}
 use Rattle.pcm_sound.proofs.Stories.{valid-start, get_or-same}
 use Rattle.pcm_play.specs.declared.channel.PlayChannelOf.{PlayChannelOf}
 use Rattle.pcm_vchan.specs.declared.parent.ParentOf.{ParentOf}
-use Rattle.pcm_engine.specs.Holds.{HoldWithin}
-use Rattle.pcm_vchan.specs.Slots.{books_of}
+use Rattle.pcm_record.specs.declared.channel.RecChannelOf.{RecChannelOf}
+use Rattle.pcm_record.specs.Channels.{IsRecordReady, IsRecordUnopened, RecordStands}
+use Rattle.pcm_vchan.specs.Slots.{books_of, record_books_of}
 use Rattle.pcm_play.specs.Channels.{ChannelStands, IsReady, IsUnopened}
 use Rattle.pcm_vchan.specs.Blocks.{silent_block, block_bytes}
 use Rattle.pcm_engine.specs.Desks.{desk_with}
-use Rattle.pcm_vchan.specs.Parents.{parent_books}
-use Rattle.pcm_engine.specs.Stands.{bytes_counted, PartsStand}
+use Rattle.pcm_vchan.specs.Parents.{parent_books, record_books}
+use Rattle.pcm_engine.specs.Stands.{bytes_counted, PartsStand, RecordersStand}
 use Rattle.pcm_vchan.proofs.Channels.{some_channel}
-
--- where no descriptor is open, none holds a slot
-pub hold_within-none : (slots : ℕ) (descriptors : List (Option Held)) (count : ℕ) → descriptors ≡ replicate count None → HoldWithin slots descriptors
-hold_within-none slots descriptors count is = λ fd held e.
-    let none : get_or descriptors fd None ≡ None = ap (λ (l : List (Option Held)). get_or l fd None) is ∙ get_or-same count fd None in
-    let clash : None ≡ Some held = sym none ∙ e in
-    cc
 
 -- frames of silence are spelled as samples of silence
 pub spelled-silence : (format : Format) (settings : Settings) (n : ℕ) → spelled_frames format (replicate n (silence_in settings)) ≡ flat_map (spelled format) (replicate (n * channels_of settings.layout) (pos 0))
@@ -69,10 +67,12 @@ books_of-unopened {B = B} kind kept filters device channels slots each =
 pub stands-start : {B : Type 0} (kind : B → Kind) (kept : B → Kept) (filters : Filters) (device : Device) (desk : Desk) (channels : List (PlayChannelOf B)) (descriptors : List (Option Held)) (ring : List ℕ) → IsDevice (seen filters device)
     → length channels ≡ device.play_slots → All (IsUnopened kind kept filters device) channels
     → descriptors ≡ replicate DESCRIPTORS None → ring ≡ block_bytes (seen filters device) (silent_block (seen filters device) device.ring_frames)
-    → desk ≡ record { play = books_of channels; descriptors = descriptors; handed = 0; mixed = 0 } → PartsStand kept (seen filters device) desk channels ring (story_at_start (seen filters device))
-stands-start kind kept filters device desk channels descriptors ring limits slots each closed silent is = record {
-  desk_is = is ∙ ap (λ (play : List Book). record { play = play; descriptors = descriptors; handed = 0; mixed = 0 }) (books_of-unopened kind kept filters device channels slots each)
-      ∙ ap (λ (d : List (Option Held)). record { play = replicate device.play_slots (unopened (seen filters device)); descriptors = d; handed = 0; mixed = 0 }) closed;
+    → (recorders : List RecordBook) → recorders ≡ replicate device.record_slots (record_unopened (seen filters device))
+    → desk ≡ record { play = books_of channels; recording = recorders; descriptors = descriptors; handed = 0; mixed = 0 } → PartsStand kept (seen filters device) desk channels ring (story_at_start (seen filters device))
+stands-start kind kept filters device desk channels descriptors ring limits slots each closed silent recorders recorded is = record {
+  desk_is = is ∙ ap (λ (play : List Book). record { play = play; recording = recorders; descriptors = descriptors; handed = 0; mixed = 0 }) (books_of-unopened kind kept filters device channels slots each)
+      ∙ ap (λ (r : List RecordBook). record { play = replicate device.play_slots (unopened (seen filters device)); recording = r; descriptors = descriptors; handed = 0; mixed = 0 }) recorded
+      ∙ ap (λ (d : List (Option Held)). record { play = replicate device.play_slots (unopened (seen filters device)); recording = replicate device.record_slots (record_unopened (seen filters device)); descriptors = d; handed = 0; mixed = 0 }) closed;
   slots = λ slot other there.
       let opened : unopened (seen filters device) ≡ book_at (seen filters device) (desk_at_start (seen filters device)) slot = sym (get_or-same device.play_slots slot (unopened (seen filters device))) in
       let nothing : [] ≡ bytes_counted (seen filters device) (story_at_start (seen filters device)) slot = ap (λ (b : Book). take b.written []) opened in
@@ -88,11 +88,42 @@ stands-start kind kept filters device desk channels descriptors ring limits slot
 
 -- a parent that nobody has opened, and no descriptor, stand for the beginning
 pub parent-starts : {B : Type 0} (kind : B → Kind) (kept : B → Kept) (filters : Filters) (device : Device) (parent : ParentOf B) (descriptors : List (Option Held)) → IsDevice (seen filters device) → descriptors ≡ replicate DESCRIPTORS None → parent.device ≡ device
-    → length parent.channels.items ≡ device.play_slots
+    → length parent.channels.items ≡ device.play_slots → record_books parent ≡ replicate device.record_slots (record_unopened (seen filters device))
     → All (IsUnopened kind kept filters device) parent.channels.items → parent.ring.bytes ≡ block_bytes (seen filters device) (silent_block (seen filters device) device.ring_frames) → parent.handed ≡ 0 → parent.mixed ≡ 0
     → PartsStand kept (seen filters parent.device) (desk_with parent descriptors) parent.channels.items parent.ring.bytes (story_at_start (seen filters parent.device))
-parent-starts kind kept filters device parent descriptors limits closed is slots each silent handed mixed =
+parent-starts kind kept filters device parent descriptors limits closed is slots recorded each silent handed mixed =
     subst (λ (d : Device). PartsStand kept (seen filters d) (desk_with parent descriptors) parent.channels.items parent.ring.bytes (story_at_start (seen filters d))) (sym is)
-    (stands-start kind kept filters device (desk_with parent descriptors) parent.channels.items descriptors parent.ring.bytes limits slots each closed silent
-    (ap (λ (h : ℕ). record { play = parent_books parent; descriptors = descriptors; handed = h; mixed = parent.mixed }) handed
-    ∙ ap (λ (m : ℕ). record { play = parent_books parent; descriptors = descriptors; handed = 0; mixed = m }) mixed))
+    (stands-start kind kept filters device (desk_with parent descriptors) parent.channels.items descriptors parent.ring.bytes limits slots each closed silent (record_books parent) recorded
+    (ap (λ (h : ℕ). record { play = parent_books parent; recording = record_books parent; descriptors = descriptors; handed = h; mixed = parent.mixed }) handed
+    ∙ ap (λ (m : ℕ). record { play = parent_books parent; recording = record_books parent; descriptors = descriptors; handed = 0; mixed = m }) mixed))
+
+-- ---- channels that record
+
+-- channels that nobody has opened are ready
+pub record-ready-unopened : {B : Type 0} (kind : B → Kind) (kept : B → Kept) (filters : Filters) (device : Device) (recorders : List (RecChannelOf B)) → All (IsRecordUnopened kind kept filters device) recorders → All (IsRecordReady kind kept filters) recorders
+record-ready-unopened kind kept filters device recorders each = λ slot other there.
+    let u = each slot other there in
+    record { kinds = u.kinds; planned = u.planned; stands = record { bytes = []; frames = []; stands = u.stands } }
+
+-- their books
+pub record_books_of-unopened : {B : Type 0} (kind : B → Kind) (kept : B → Kept) (filters : Filters) (device : Device) (recorders : List (RecChannelOf B)) → length recorders ≡ device.record_slots → All (IsRecordUnopened kind kept filters device) recorders
+    → record_books_of recorders ≡ replicate device.record_slots (record_unopened (seen filters device))
+record_books_of-unopened {B = B} kind kept filters device recorders slots each =
+    same_lists (record_books_of recorders) (replicate device.record_slots (record_unopened (seen filters device)))
+    (length-map recorders (λ (c : RecChannelOf B). c.book) ∙ slots ∙ sym (length-replicate device.record_slots (record_unopened (seen filters device))))
+    (λ k d within.
+    let there : k < length recorders = omega (arith, length-map recorders (λ (c : RecChannelOf B). c.book)) in
+    let other : RecChannelOf B = some_channel recorders k there in
+    get_or-map (λ (c : RecChannelOf B). c.book) recorders k other d there ∙ (each k other there).book ∙ sym (get_or-replicate device.record_slots k (record_unopened (seen filters device)) d (omega arith)))
+
+-- they stand for the beginning
+pub recorders-start : {B : Type 0} (kind : B → Kind) (kept : B → Kept) (filters : Filters) (device : Device) (pool : Pool) (recorders : List (RecChannelOf B)) → IsDevice (seen filters device) → All (IsRecordUnopened kind kept filters device) recorders
+    → RecordersStand kept (seen filters device) pool recorders (story_at_start (seen filters device))
+recorders-start kind kept filters device pool recorders limits each = record {
+  slots = λ slot other there.
+      let opened : record_unopened (seen filters device) ≡ record_at (seen filters device) (desk_at_start (seen filters device)) slot = sym (get_or-same device.record_slots slot (record_unopened (seen filters device))) in
+      let u = each slot other there in
+      subst (λ (b : RecordBook). RecordStands kept filters (get_or recorders slot other) b (take b.kept []) (captured_frames device.settings.layout pool 0 b.captured)) opened
+      (subst (λ (b : RecordBook). RecordStands kept filters (get_or recorders slot other) b [] []) u.book u.stands);
+  valid = recordings-start (seen filters device) pool limits;
+}

@@ -1,4 +1,3 @@
-pub mod Holds
 pub mod Desks
 pub mod Steps
 pub mod Stands

@@ -1,14 +1,19 @@
 -- What an engine's parts stand for: the story of a list of events.
 use Rattle.std.specs.Prelude.{◌≡◌, ℕ, ◌*◌, ◌<◌, List, length, drop, slice_index_or, take}
 use Rattle.pcm_feeder.specs.Kept.{Kept}
-use Rattle.pcm_desk.specs.Device.{DeviceSeen, device_frame_bytes, filters_of}
-use Rattle.pcm_desk.specs.Desk.{Desk, book_at}
+use Rattle.pcm_format.specs.Frames.{Frame}
+use Rattle.pcm_wave.specs.declared.pool.Pool.{Pool}
+use Rattle.pcm_wave.specs.Pools.{captured_frames}
+use Rattle.pcm_desk.specs.Device.{DeviceSeen, device_frame_bytes, device_settings, filters_of}
+use Rattle.pcm_desk.specs.Desk.{Desk, book_at, record_at}
 use Rattle.pcm_sound.specs.Runs.{newest_bytes}
 use Rattle.pcm_sound.specs.Story.{Story}
 use Rattle.pcm_sound.specs.DeviceList.{device_bytes}
-use Rattle.pcm_sound.specs.Valid.{StoryIsValid}
+use Rattle.pcm_sound.specs.Valid.{RecordingsAreValid, StoryIsValid}
 use Rattle.pcm_play.specs.declared.channel.PlayChannelOf.{PlayChannelOf}
 use Rattle.pcm_play.specs.Channels.{ChannelStands}
+use Rattle.pcm_record.specs.declared.channel.RecChannelOf.{RecChannelOf}
+use Rattle.pcm_record.specs.Channels.{RecordStands}
 
 -- the bytes that a slot's book counts: those of its newest run, unless it is over
 abbrev pub bytes_counted : DeviceSeen → Story → ℕ → List ℕ
@@ -22,3 +27,18 @@ pub record PartsStand {B : Type 0} (kept : B → Kept) (device : DeviceSeen) (de
       → ChannelStands kept (filters_of device) (slice_index_or channels slot other) (book_at device story.desk slot) (bytes_counted device story slot)
   pub ring_is : ring ≡ drop (story.desk.handed * device_frame_bytes device) (device_bytes device story)
   pub valid : StoryIsValid device story
+
+-- the bytes that a record book counts of its recording
+abbrev pub bytes_kept : DeviceSeen → Story → ℕ → List ℕ
+bytes_kept device story slot = take (record_at device story.desk slot).kept (story.recordings slot).kept
+
+-- the frames of the device that a record book counts, from its recording's start on
+abbrev pub frames_captured : DeviceSeen → Pool → Story → ℕ → List Frame
+frames_captured device pool story slot =
+    captured_frames (device_settings device).layout pool (story.recordings slot).start (record_at device story.desk slot).captured
+
+-- Channels that record stand for a story: each for its slot's book, the bytes that were kept and the frames that were captured.
+pub record RecordersStand {B : Type 0} (kept : B → Kept) (device : DeviceSeen) (pool : Pool) (recorders : List (RecChannelOf B)) (story : Story) : Type 0 where
+  pub slots : (slot : ℕ) (other : RecChannelOf B) → slot < length recorders
+      → RecordStands kept (filters_of device) (slice_index_or recorders slot other) (record_at device story.desk slot) (bytes_kept device story slot) (frames_captured device pool story slot)
+  pub valid : RecordingsAreValid device pool story

@@ -1,24 +1,32 @@
 -- What one event leaves of an engine's parts.
-use Rattle.std.specs.Prelude.{ℕ, ◌*◌, List, [], ◌++◌, drop}
+use Rattle.std.specs.Prelude.{ℕ, ◌*◌, min, List, [], ◌++◌, take, drop, Option, Some, None}
 use Rattle.pcm_oss.specs.declared.event.Event.{Event}
-use Rattle.pcm_oss.specs.declared.event.Event.TheVariants.{Open, Write, Ioctl, Close, Intr}
+use Rattle.pcm_oss.specs.declared.event.Event.TheVariants.{Open, Write, Read, Ioctl, Close, Intr}
 use Rattle.pcm_wave.specs.declared.pool.Pool.{Pool}
-use Rattle.pcm_wave.specs.Pools.{bytes_at}
+use Rattle.pcm_wave.specs.Pools.{bytes_at, captured_frames}
 use Rattle.pcm_feeder.specs.declared.kind.Kind.{Kind}
 use Rattle.pcm_feeder.specs.Filters.{Filters}
 use Rattle.pcm_feeder.specs.Kept.{Kept}
+use Rattle.pcm_feeder.specs.Streams.{interleaved}
 use Rattle.pcm_desk.specs.declared.book.Book.{Book}
-use Rattle.pcm_desk.specs.Device.{DeviceSeen, device_frame_bytes}
+use Rattle.pcm_desk.specs.declared.device.Held.{Held}
+use Rattle.pcm_desk.specs.Device.{DeviceSeen, device_frame_bytes, device_settings, filters_of}
+use Rattle.pcm_desk.specs.Desk.{Desk, by_way, held_by, record_at}
+use Rattle.pcm_desk.specs.RecordBooks.{fill_of}
 use Rattle.pcm_desk.specs.Events.{frames_taken}
 use Rattle.pcm_play.specs.declared.channel.PlayChannelOf.{PlayChannelOf}
 use Rattle.pcm_play.specs.Channels.{Moves}
+use Rattle.pcm_record.specs.declared.channel.RecChannelOf.{RecChannelOf}
+use Rattle.pcm_record.specs.Channels.{RecordMoves}
 use Rattle.pcm_vchan.specs.Slots.{Each}
 use Rattle.pcm_vchan.specs.Blocks.{block_bytes, block_of}
+use Rattle.pcm_vchan.specs.Captures.{Captures}
 
 -- the bytes that an event brings
 abbrev pub bytes_brought : Pool → Event → List ℕ
 bytes_brought pool (Open fd way settings) = []
 bytes_brought pool (Write fd source at count) = bytes_at pool source at count
+bytes_brought pool (Read fd count) = []
 bytes_brought pool (Ioctl fd request) = []
 bytes_brought pool (Close fd) = []
 bytes_brought pool (Intr n) = []
@@ -31,6 +39,32 @@ ChannelsMove kind kept filters pool event old new = Each (Moves kind kept filter
 abbrev pub ring_after : DeviceSeen → Event → List Book → (ℕ → List ℕ) → ℕ → List ℕ → List ℕ
 ring_after device (Open fd way settings) books streams slots ring = ring
 ring_after device (Write fd source at count) books streams slots ring = ring
+ring_after device (Read fd count) books streams slots ring = ring
 ring_after device (Ioctl fd request) books streams slots ring = ring
 ring_after device (Close fd) books streams slots ring = ring
 ring_after device (Intr n) books streams slots ring = drop (n * device_frame_bytes device) ring ++ block_bytes device (block_of device n books streams slots)
+
+-- the channels that record after an event, once so many frames were handed over
+abbrev pub RecordersMove : {B : Type 0} → (B → Kind) → (B → Kept) → DeviceSeen → Pool → ℕ → Event → List (RecChannelOf B) → List (RecChannelOf B) → Type 0
+RecordersMove kind kept device pool handed (Open fd way settings) old new = Each (RecordMoves kind kept (filters_of device) [] 0) old new
+RecordersMove kind kept device pool handed (Write fd source at count) old new = Each (RecordMoves kind kept (filters_of device) [] 0) old new
+RecordersMove kind kept device pool handed (Read fd count) old new = Each (RecordMoves kind kept (filters_of device) [] 0) old new
+RecordersMove kind kept device pool handed (Ioctl fd request) old new = Each (RecordMoves kind kept (filters_of device) [] 0) old new
+RecordersMove kind kept device pool handed (Close fd) old new = Each (RecordMoves kind kept (filters_of device) [] 0) old new
+RecordersMove kind kept device pool handed (Intr n) old new =
+    Each (Captures kind kept device n (interleaved (captured_frames (device_settings device).layout pool handed n))) old new
+
+-- the bytes that a read gets of what a descriptor holds, from the bytes that were kept in each slot
+abbrev pub bytes_read : DeviceSeen → Desk → (ℕ → List ℕ) → ℕ → Option Held → List ℕ
+bytes_read device desk bytes count None = []
+bytes_read device desk bytes count (Some held) =
+    by_way held.way [] (take (min count (fill_of (record_at device desk held.slot))) (drop (record_at device desk held.slot).read (bytes held.slot)))
+
+-- the bytes that come with the reply to an event
+abbrev pub bytes_answered : DeviceSeen → Desk → (ℕ → List ℕ) → Event → List ℕ
+bytes_answered device desk bytes (Open fd way settings) = []
+bytes_answered device desk bytes (Write fd source at count) = []
+bytes_answered device desk bytes (Read fd count) = bytes_read device desk bytes count (held_by desk fd)
+bytes_answered device desk bytes (Ioctl fd request) = []
+bytes_answered device desk bytes (Close fd) = []
+bytes_answered device desk bytes (Intr n) = []

@@ -6,10 +6,14 @@ ghost use Rattle.pcm_desk.specs.Events.{Fits, bytes_handed};
 ghost use Rattle.pcm_desk.specs.Device.{seen};
 ghost use Rattle.pcm_desk.specs.Own.{HoldApart};
 ghost use Rattle.pcm_vchan.specs.Slots.{AreOf};
+ghost use Rattle.pcm_desk.proofs.Props.{hold_props};
 ghost use Rattle.pcm_engine.specs.Desks.{desk_with};
-ghost use Rattle.pcm_engine.specs.Holds.{HoldWithin};
+ghost use Rattle.pcm_vchan.specs.Slots.{RecordersAreOf};
+ghost use Rattle.pcm_oss.specs.declared.fragments.TheConstants.{RING_BYTES};
+ghost use Rattle.pcm_format.specs.Layouts.{channels_of};
 
 use crate::clients::{close, ioctl, open, write};
+use crate::recordings::{answer_read, interrupt};
 use pcm_desk::{DESCRIPTORS, Device, Held};
 use pcm_feeder::{Feeder, RacksOf, Tables};
 use pcm_oss::{Answer, Event, ReplyBuf};
@@ -23,12 +27,16 @@ pub struct EngineOf<B> {
     parent: ParentOf<B>,
     tables: Tables,
     descriptors: [Option<Held>; DESCRIPTORS],
+    captured: Vec<i32>,
     steps: u32,
     ghost own: { AreOf parent.device parent.channels.items },
-    ghost held: { HoldWithin (vec_len parent.channels) descriptors },
-    ghost apart: { HoldApart (desk_with parent descriptors) },
+    ghost recorders_own: { RecordersAreOf parent.device parent.recorders.items },
+    ghost apart: { HoldApart (desk_with parent descriptors) } by { Prim.hlevel hold_props },
     ghost counted: { All (λ channel. channel.book.done + channel.book.written ≤ 2 ^ 32 * steps) parent.channels.items },
     ghost given: { All (λ channel. channel.book.given ≤ RING_FRAMES * steps) parent.channels.items },
+    ghost kept: { All (λ channel. channel.book.kept ≤ RING_BYTES * steps) parent.recorders.items },
+    ghost captured_within: { All (λ channel. channel.book.captured ≤ RING_FRAMES * steps) parent.recorders.items },
+    ghost captured_size: { vec_len captured ≡ parent.device.ring_frames * channels_of parent.device.settings.layout },
     ghost mixed_within: { parent.mixed ≤ RING_FRAMES * steps },
     ghost handed_within: { parent.handed ≤ RING_FRAMES * steps },
 }
@@ -36,17 +44,20 @@ pub struct EngineOf<B> {
 impl<B: Feeder> EngineOf<B> {
     ghost use Rattle.pcm_oss.specs.declared.event.Event.{Event};
     ghost use Rattle.pcm_wave.specs.declared.pool.Pool.{Pool};
-    ghost use Rattle.pcm_desk.specs.Device.{IsInLimits};
-    ghost use Rattle.pcm_desk.specs.Desk.{after, book_at, rate_at};
+    ghost use Rattle.pcm_wave.specs.Pools.{IsCaptureIn};
+    ghost use Rattle.pcm_format.specs.Frames.{Frame};
+    ghost use Rattle.pcm_desk.specs.Device.{IsInLimits, device_settings};
+    ghost use Rattle.pcm_desk.specs.Desk.{after, book_at, rate_at, record_at, record_rate_at};
     ghost use Rattle.pcm_desk.specs.Own.{IsIsolated};
     ghost use Rattle.pcm_desk.specs.Safe.{BookIsSafe};
+    ghost use Rattle.pcm_desk.specs.RecordSafe.{RecordIsSafe};
     ghost use Rattle.pcm_sound.specs.Story.{story_of};
     ghost use Rattle.pcm_sound.specs.Replies.{reply_to};
     ghost use Rattle.pcm_sound.specs.DeviceList.{device_text};
     ghost use Rattle.pcm_feeder.specs.Racks.{AreRacks, list_of};
-    ghost use Rattle.pcm_vchan.specs.Slots.{AllStand};
+    ghost use Rattle.pcm_vchan.specs.Slots.{AllRecord, AllStand};
     ghost use Rattle.pcm_vchan.specs.Parents.{parent_books};
-    ghost use Rattle.pcm_engine.specs.Steps.{ChannelsMove, ring_after};
+    ghost use Rattle.pcm_engine.specs.Steps.{ChannelsMove, RecordersMove, bytes_answered, ring_after};
     ghost use Rattle.pcm_engine.specs.Engines.{device_of, desk_of, AreReady, Stands, IsUnchanged};
 
     /// The engine of a device with its filters, before its first event. Its channels pick their stages from the racks, one rack a slot; after
@@ -65,10 +76,13 @@ impl<B: Feeder> EngineOf<B> {
         ensures stands { IfOk result (λ engine. (pool : Pool) → Stands B.kept engine pool []) }
     {
         let parent = ParentOf::new(alloc, device, &tables, racks)?;
+        let samples = device.ring_frames as usize * device.settings.layout.channels();
+        let captured = vec![in alloc; 0i32; samples]?;
         Ok(EngineOf {
             parent,
             tables,
             descriptors: [None; DESCRIPTORS],
+            captured,
             steps: 0,
         })
     }
@@ -84,6 +98,7 @@ impl<B: Feeder> EngineOf<B> {
     ) -> usize
         requires fits { Fits (device_of self.old) pool.now event.now }
         requires room { bytes_handed (device_of self.old) event.now ≤ length out.old }
+        requires captures { IsCaptureIn (device_settings (device_of self.old)).layout pool.now }
         requires count { self.old.steps < EVENTS }
         requires ready { AreReady B.kind B.kept self.old }
 
@@ -105,6 +120,9 @@ impl<B: Feeder> EngineOf<B> {
         ensures safe { (events : List Event) → Stands B.kept self.old pool.now events
             → (slot : ℕ) → let book = book_at (device_of self.new) (desk_of self.new) slot in
             BookIsSafe (rate_at (device_of self.new) book) book }
+        ensures records_safe { (events : List Event) → Stands B.kept self.old pool.now events
+            → (slot : ℕ) → let book = record_at (device_of self.new) (desk_of self.new) slot in
+            RecordIsSafe (record_rate_at (device_of self.new) book) book }
         ensures refused { IsErr reply.new.result → IsUnchanged self.old self.new }
 
         // No client sees what others do, but that a slot is taken: no two descriptors hold one, and no book looks at another.
@@ -122,21 +140,29 @@ impl<B: Feeder> EngineOf<B> {
     fn apply(&mut self, event: &Event, pool: &Pool, out: &mut [u8], reply: &mut ReplyBuf) -> usize
         requires fits { Fits (device_of self.old) pool.now event.now }
         requires room { bytes_handed (device_of self.old) event.now ≤ length out.old }
+        requires captures { IsCaptureIn (device_settings (device_of self.old)).layout pool.now }
         requires count { self.old.steps < EVENTS }
         requires ready { AreReady B.kind B.kept self.old }
         ensures device { self.new.parent.device ≡ self.old.parent.device }
         ensures tables { self.new.tables ≡ self.old.tables }
         ensures slots { length self.new.parent.channels.items
             ≡ length self.old.parent.channels.items }
+        ensures recorders_slots { length self.new.parent.recorders.items
+            ≡ length self.old.parent.recorders.items }
         ensures steps { self.new.steps ≡ self.old.steps + 1 }
         ensures desk { desk_of self.new
             ≡ (after (device_of self.old) (desk_of self.old) event.now).desk }
         ensures reply { reply.new.result
             ≡ (after (device_of self.old) (desk_of self.old) event.now).reply }
-        ensures no_bytes { reply.new.bytes ≡ [] }
+        ensures bytes { (bytes : ℕ → List ℕ) (frames : ℕ → List Frame)
+            → AllRecord B.kept self.old.tables self.old.parent.recorders.items bytes frames
+            → reply.new.bytes
+            ≡ bytes_answered (device_of self.old) (desk_of self.old) bytes event.now }
         ensures refused { IsErr reply.new.result → IsUnchanged self.old self.new }
         ensures channels { ChannelsMove B.kind B.kept self.old.tables pool.now event.now
             self.old.parent.channels.items self.new.parent.channels.items }
+        ensures recorders { RecordersMove B.kind B.kept (device_of self.old) pool.now self.old.parent.handed event.now
+            self.old.parent.recorders.items self.new.parent.recorders.items }
         ensures ring { (streams : ℕ → List ℕ)
             → AllStand B.kept self.old.tables self.old.parent.channels.items streams
             → self.new.parent.ring.bytes
@@ -165,6 +191,10 @@ impl<B: Feeder> EngineOf<B> {
                 reply.keep(write(parent, &self.descriptors, fd, bytes), &[]);
                 0
             }
+            Event::Read { fd, len } => {
+                answer_read(parent, &self.descriptors, fd, len, reply);
+                0
+            }
             Event::Ioctl { fd, request } => {
                 reply.keep(ioctl(parent, tables, &self.descriptors, fd, request), &[]);
                 0
@@ -174,8 +204,16 @@ impl<B: Feeder> EngineOf<B> {
                 0
             }
             Event::Intr { frames } => {
-                let size = frames as usize * parent.device.settings.frame_bytes();
-                parent.interrupt(tables, frames as usize, &mut out[..size]);
+                let n = frames as usize;
+                let size = n * parent.device.settings.frame_bytes();
+                interrupt(
+                    parent,
+                    tables,
+                    pool,
+                    n,
+                    &mut self.captured,
+                    &mut out[..size],
+                );
                 reply.keep(Ok(Answer::Number(frames)), &[]);
                 size
             }

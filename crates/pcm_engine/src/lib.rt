@@ -4,5 +4,6 @@
 
 mod clients;
 mod engine;
+mod recordings;
 
 pub use engine::{Engine, EngineOf};

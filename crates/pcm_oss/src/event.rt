@@ -9,6 +9,8 @@ use pcm_wave::Source;
 pub enum Way {
     /// From the client to the device.
     Play,
+    /// From the device to the client.
+    Rec,
 }
 
 /// One step of a run: a client's call, or the device's interrupt.
@@ -25,6 +27,11 @@ pub enum Event {
         fd: u8,
         source: Source,
         at: u32,
+        len: u32,
+    },
+    /// A client reads at most `len` bytes of what was recorded.
+    Read {
+        fd: u8,
         len: u32,
     },
     /// A client asks something of its channel.

@@ -1,6 +1,6 @@
 //! What an event is answered.
 
-ghost use Rattle.std.specs.Prelude.{◌≡◌, [], length, IfOk};
+ghost use Rattle.std.specs.Prelude.{◌≡◌, ◌≤◌, [], length, take, IfOk};
 
 use std::alloc::{AllocError, Global};
 use std::marker::Model;
@@ -44,6 +44,8 @@ pub enum Answer {
         underruns: u32,
         overruns: u32,
     },
+    /// How many bytes a read got, which stand beside the answer.
+    Got(u32),
 }
 
 /// How many bytes a reply has at most, beside its answer.
@@ -71,6 +73,7 @@ impl Model for ReplyBuf {
 
 impl ReplyBuf {
     ghost use Rattle.pcm_oss.specs.Replies.{bytes_due};
+    ghost use Rattle.pcm_oss.specs.declared.reply.TheConstants.{REPLY_BYTES};
 
     /// Begins with the reply of an event that has no more to say. All memory of the buffer is taken here.
     pub fn new(alloc: Global) -> Result<ReplyBuf, AllocError>
@@ -85,12 +88,13 @@ impl ReplyBuf {
 
     /// Makes this the reply: as many bytes as a read got, and none with any other result.
     pub fn keep(&mut self, reply: Result<Answer, Errno>, bytes: &[u8])
-        requires { length bytes.now ≡ bytes_due reply }
+        requires due { length bytes.now ≡ bytes_due reply }
+        requires few { length bytes.now ≤ REPLY_BYTES }
         ensures { self.new ≡ record { result = reply; bytes = bytes.now } }
     {
         self.result = reply;
         self.count = bytes.len();
-        self.bytes[..bytes.len()].copy_from_slice(bytes);
+        copy_front(bytes, &mut self.bytes);
     }
 
     /// The result that was kept last.
@@ -102,8 +106,18 @@ impl ReplyBuf {
 
     /// The bytes that were kept last.
     pub fn bytes(&self) -> &[u8]
-        ensures { result.now ≡ self.now.bytes }
+        ensures value { result.now ≡ self.now.bytes }
+        ensures few { length result.now ≤ REPLY_BYTES }
     {
         &self.bytes[..self.count]
     }
+}
+
+// Copies bytes to the front of others.
+fn copy_front(bytes: &[u8], out: &mut [u8])
+    requires { length bytes.now ≤ length out.old }
+    ensures front { take (length bytes.now) out.new ≡ bytes.now }
+    ensures length { length out.new ≡ length out.old }
+{
+    out[..bytes.len()].copy_from_slice(bytes);
 }

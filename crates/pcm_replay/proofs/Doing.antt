@@ -1,23 +1,23 @@
 -- What a command comes to: of what it reads, and then of what it writes.
-use Rattle.std.proofs.Common.{◌≡◌, ℕ, List, Option, Ok, IsTrue, refl, sym, ap, ◌∙◌, subst}
+use Rattle.std.proofs.Common.{◌≡◌, ℕ, List, Option, None, Some, Ok, IsTrue, refl, sym, ap, ◌∙◌, subst}
 use Rattle.pcm_format.specs.declared.settings.Settings.{Settings}
 use Rattle.pcm_outside.specs.Files.{FilesSeen, OnlyReads}
-use Rattle.pcm_outside.specs.Sink.{SinkSeen, Puts}
+use Rattle.pcm_outside.specs.Sink.{SinkSeen, FailsToPut, Puts}
 use Rattle.pcm_feeder.specs.Kept.{Kept}
 use Rattle.pcm_engine.specs.declared.engine.EngineOf.{EngineOf}
-use Rattle.pcm_verdict.specs.Commands.{Command, RunScript, CheckScript, ConvertWave}
+use Rattle.pcm_verdict.specs.Commands.{Command, command_of, RunScript, CheckScript, ConvertWave, SoakRun}
 use Rattle.pcm_verdict.specs.Judging.{given}
-use Rattle.pcm_verdict.specs.Outputs.{check_line, output_of}
-use Rattle.pcm_verdict.specs.Verdict.{Accepted, Runs, Checks, Converts, Conversion, Inputs, if_command}
+use Rattle.pcm_verdict.specs.Outputs.{Output, output_of}
+use Rattle.pcm_verdict.specs.Verdict.{Accepted, Runs, Checks, Converts, Soaks, Conversion, Inputs, if_command}
 use Rattle.pcm_replay.specs.declared.ending.Ending.{Ending}
 use Rattle.pcm_replay.specs.declared.ending.Ending.TheVariants.{Usage, CannotRead, BadConfig, BadScript, BadWave, CannotWrite, NoMemory}
 use Rattle.pcm_replay.specs.Commands.{MayRead}
-use Rattle.pcm_replay.specs.Endings.{CutsLines, CutsShort, DoesCommand, EndsCall, EndsCommand, HasRun, InAccepted, InLine, IsCommandCut}
+use Rattle.pcm_replay.specs.Endings.{CutsLines, CutsShort, DoesCommand, DoesWords, EndsCall, EndsCommand, HasRun, InAccepted, InLine, IsCommandCut, IsOf}
 use Rattle.pcm_replay.specs.Outcomes.{InFaultLine, InOutput, IsCut, Spells, command_part, verdict_on}
 use Rattle.pcm_replay.specs.Outside.{Outside, both}
 use Rattle.pcm_replay.specs.Parts.{conversion_part, inputs_part}
 use Rattle.pcm_replay.specs.Reads.{Comes, Ends, OnlyHasRead, Part}
-use Rattle.pcm_replay.specs.Written.{AtPut, WritesAll}
+use Rattle.pcm_replay.specs.Written.{AtPut, CutsOutput, WritesAll}
 use Rattle.pcm_replay.proofs.Cuts.{cut-later, written-later}
 use Rattle.pcm_replay.proofs.Parts.{LeadsTo, comes-next, ends-as, leads-first, reads-nothing}
 
@@ -46,6 +46,10 @@ pub comes-convert : (input out : List ℕ) (target : Settings) (conversion : Con
     → Comes (command_part (ConvertWave input out target)) (Ok (Converts out conversion)) files
 comes-convert input out target conversion files came =
     comes-next (conversion_part input target) (λ content read. given (Converts out read)) (MayRead (ConvertWave input out target)) files conversion (Ok (Converts out conversion)) came (λ told. refl)
+
+-- a number that makes a script says all: nothing is read
+pub comes-soak : (n : ℕ) (files : FilesSeen) → Comes (command_part (SoakRun n)) (Ok (Soaks n)) files
+comes-soak n files = λ told. refl
 
 -- ---- how it ends
 
@@ -79,10 +83,11 @@ cuts-command command accepted NoMemory before between after came only same = rec
 }
 
 -- it was done to its end
-pub does-command : {B : Type 0} (kept : B → Kept) (command : Command) (accepted : Accepted) (engine : Option (EngineOf B)) (before between after : Outside) → Comes (command_part command) (Ok accepted) before.files
-    → OnlyHasRead before between → HasRun kept engine accepted → WritesAll (output_of accepted) between after → DoesCommand kept command engine before after
-does-command kept command accepted engine before between after came only ran writes = record {
+pub does-command : {B : Type 0} (kept : B → Kept) (command : Command) (accepted : Accepted) (engine : Option (EngineOf B)) (before between after : Outside) → IsOf command accepted
+    → Comes (command_part command) (Ok accepted) before.files → OnlyHasRead before between → HasRun kept engine accepted → WritesAll (output_of accepted) between after → DoesCommand kept command engine before after
+does-command kept command accepted engine before between after is_of came only ran writes = record {
   accepted = accepted;
+  is_of = is_of;
   came = came;
   ran = ran;
   writes = written-later (output_of accepted) before between after only writes;
@@ -90,17 +95,26 @@ does-command kept command accepted engine before between after came only ran wri
 
 -- ---- lines alone
 
-pub writes-lines : (inputs : Inputs) (files : FilesSeen) (old new : SinkSeen) → Puts old new (check_line inputs) → WritesAll (output_of (Checks inputs)) (both files old) (both files new)
-writes-lines inputs files old new puts = record { written = record { only = reads-nothing files; kept = record { read_faults = refl; failed = refl } }; put = puts }
+-- lines that were put are all that a call was to leave which writes no file
+pub writes-lines : (accepted : Accepted) (lines : List ℕ) (files : FilesSeen) (old new : SinkSeen) → output_of accepted ≡ record { file = None; lines = lines } → Puts old new lines
+    → WritesAll (output_of accepted) (both files old) (both files new)
+writes-lines accepted lines files old new is puts = subst (λ (output : Output). WritesAll output (both files old) (both files new)) (sym is)
+    (record { written = record { only = reads-nothing files; kept = record { read_faults = refl; failed = refl } }; put = puts })
 
-pub cuts-lines : (ending : Ending) (inputs : Inputs) (files : FilesSeen) (old new : SinkSeen) → CutsLines ending (check_line inputs) old new → CutsShort ending (Checks inputs) (both files old) (both files new)
-cuts-lines Usage inputs files old new cut = cut
-cuts-lines CannotRead inputs files old new cut = cut
-cuts-lines BadConfig inputs files old new cut = cut
-cuts-lines BadScript inputs files old new cut = cut
-cuts-lines BadWave inputs files old new cut = cut
-cuts-lines CannotWrite inputs files old new cut = AtPut (record { written = record { only = reads-nothing files; kept = record { read_faults = refl; failed = refl } }; put = cut })
-cuts-lines NoMemory inputs files old new same = ap (both files) same
+-- lines of which the put failed
+cuts-put : (lines : List ℕ) (files : FilesSeen) (old new : SinkSeen) → FailsToPut old new lines → CutsOutput (record { file = None; lines = lines }) (both files old) (both files new)
+cuts-put lines files old new cut = AtPut (record { written = record { only = reads-nothing files; kept = record { read_faults = refl; failed = refl } }; put = cut })
+
+pub cuts-lines : (ending : Ending) (accepted : Accepted) (lines : List ℕ) (files : FilesSeen) (old new : SinkSeen) → output_of accepted ≡ record { file = None; lines = lines } → CutsLines ending lines old new
+    → CutsShort ending accepted (both files old) (both files new)
+cuts-lines Usage accepted lines files old new is cut = cut
+cuts-lines CannotRead accepted lines files old new is cut = cut
+cuts-lines BadConfig accepted lines files old new is cut = cut
+cuts-lines BadScript accepted lines files old new is cut = cut
+cuts-lines BadWave accepted lines files old new is cut = cut
+cuts-lines CannotWrite accepted lines files old new is cut =
+    subst (λ (output : Output). CutsOutput output (both files old) (both files new)) (sym is) (cuts-put lines files old new cut)
+cuts-lines NoMemory accepted lines files old new is same = ap (both files) same
 
 -- ---- the words that spell it
 
@@ -125,3 +139,32 @@ ends-call words spells BadScript before after ends = record { spells = spells; r
 ends-call words spells BadWave before after ends = record { spells = spells; refuses = ends }
 ends-call words spells CannotWrite before after ends = cut-words words spells before after ends
 ends-call words spells NoMemory before after ends = record { spells = spells; lacks = ends }
+
+-- ---- the words of a soak
+
+-- what a call did whose words ask for the script of a number
+pub record DoesSoak {B : Type 0} (kept : B → Kept) (n : ℕ) (engine : Option (EngineOf B)) (before after : Outside) : Type 0 where
+  pub ran : HasRun kept engine (Soaks n)
+  pub writes : WritesAll (output_of (Soaks n)) before after
+
+-- the number says all
+soaks-of : (n : ℕ) (accepted : Accepted) → IsOf (SoakRun n) accepted → accepted ≡ Soaks n
+soaks-of n (Runs name inputs) is = absurd is
+soaks-of n (Checks inputs) is = absurd is
+soaks-of n (Converts name conversion) is = absurd is
+soaks-of n (Soaks number) is = ap (λ (m : ℕ). Soaks m) is
+
+-- words spell one command
+spells-same : (words : List (List ℕ)) (spells : Spells words) (command : Command) → command_of words ≡ Some command → spells.command ≡ command
+spells-same words spells command asked = let e : Some spells.command ≡ Some command = sym spells.is ∙ asked in cc
+
+pub does-soak : {B : Type 0} (kept : B → Kept) (words : List (List ℕ)) (n : ℕ) (engine : Option (EngineOf B)) (before after : Outside) → command_of words ≡ Some (SoakRun n) → DoesWords kept words engine before after
+    → DoesSoak kept n engine before after
+does-soak kept words n engine before after asked does =
+    let is_of : IsOf (SoakRun n) does.does.accepted =
+    subst (λ (command : Command). IsOf command does.does.accepted) (spells-same words does.spells (SoakRun n) asked) does.does.is_of in
+    let is : does.does.accepted ≡ Soaks n = soaks-of n does.does.accepted is_of in
+    record {
+      ran = subst (λ (accepted : Accepted). HasRun kept engine accepted) is does.does.ran;
+      writes = subst (λ (accepted : Accepted). WritesAll (output_of accepted) before after) is does.does.writes;
+    }

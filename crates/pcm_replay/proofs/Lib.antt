@@ -8,6 +8,7 @@ pub mod Doing
 pub mod Statuses
 pub mod Cuts
 pub mod Plays
+pub mod Soaking
 pub mod Texts
 pub mod Blocks
 pub mod Waves

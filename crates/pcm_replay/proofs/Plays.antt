@@ -3,7 +3,7 @@ use Rattle.std.proofs.Common.{◌≡◌, ℕ, Some, suc, ◌+◌, List, [], ◌�
 use Rattle.std.proofs.Math.Nat.{mul-le-mul_right}
 use Rattle.std.proofs.lemmas.List.{take-append-le, take_all}
 use Rattle.pcm_oss.specs.declared.event.Event.{Event}
-use Rattle.pcm_oss.specs.declared.event.Event.TheVariants.{Open, Write, Ioctl, Close, Intr}
+use Rattle.pcm_oss.specs.declared.event.Event.TheVariants.{Open, Write, Read, Ioctl, Close, Intr}
 use Rattle.pcm_wave.specs.declared.pool.Pool.{Pool}
 use Rattle.pcm_oss.specs.Replies.{Reply}
 use Rattle.pcm_desk.specs.Device.{DeviceSeen, device_frame_bytes}
@@ -25,7 +25,7 @@ use Rattle.pcm_replay.specs.Playing.{HasPlayed, ring_room}
 use Rattle.pcm_replay.specs.Written.{CutsOutput, WritesAll}
 use Rattle.pcm_replay.proofs.Cuts.{output-as}
 
-length-push : (events : List Event) (event : Event) → length events + 1 ≡ length (events ++ event ∷ [])
+pub length-push : (events : List Event) (event : Event) → length events + 1 ≡ length (events ++ event ∷ [])
 length-push events event = omega (arith, length-append events (event ∷ []))
 
 -- the replies to one event more
@@ -119,6 +119,7 @@ front n a b e =
 handed-one : (device : DeviceSeen) (pool : Pool) (event : Event) → Fits device pool event → bytes_handed device event ≤ ring_room device
 handed-one device pool (Open fd way settings) fits = omega arith
 handed-one device pool (Write fd source at count) fits = omega arith
+handed-one device pool (Read fd count) fits = omega arith
 handed-one device pool (Ioctl fd request) fits = omega arith
 handed-one device pool (Close fd) fits = omega arith
 handed-one device pool (Intr frames) fits = mul-le-mul_right (device_frame_bytes device) fits.1

@@ -17,7 +17,7 @@ use Rattle.pcm_config.specs.declared.config.FilePath.{FilePath}
 use Rattle.pcm_config.specs.declared.fault.ConfigRefusal.{ConfigRefusal}
 use Rattle.pcm_script.specs.declared.fault.Refusal.{Refusal}
 use Rattle.pcm_script.specs.declared.script.Script.{Script}
-use Rattle.pcm_verdict.specs.Commands.{Command, RunScript, CheckScript, ConvertWave}
+use Rattle.pcm_verdict.specs.Commands.{Command, RunScript, CheckScript, ConvertWave, SoakRun}
 use Rattle.pcm_verdict.specs.Faults as faults
 use Rattle.pcm_verdict.specs.Faults.{Fault}
 use Rattle.pcm_verdict.specs.Judging.{◌>>=◌, Contents, Judged, came_after, given, judge, or_missing}
@@ -153,6 +153,7 @@ of-command content (RunScript script out config) = of-next (inputs_judged conten
 of-command content (CheckScript script config) = of-next (inputs_judged content script config).came (λ inputs. given (Checks inputs)) (of-inputs content script config) (λ inputs. tt)
 of-command content (ConvertWave input out target) = of-next (conversion_judged content input target).came (λ conversion. given (Converts out conversion))
     (of-read content input (conversion_of input target) (of-conversion input target)) (λ conversion. tt)
+of-command content (SoakRun n) = tt
 
 -- ---- the statuses that a verdict may come to
 

@@ -3,15 +3,16 @@ use Rattle.std.specs.Prelude.{◌≡◌, ◌⊎◌, ℕ, List, Option, Some, Non
 use Rattle.pcm_feeder.specs.Limits.{IsRate}
 use Rattle.pcm_wave.specs.Headers.{IsWaveFormat}
 use Rattle.pcm_verdict.specs.Commands as verdicts
-use Rattle.pcm_verdict.specs.Commands.{RunScript, CheckScript, ConvertWave}
+use Rattle.pcm_verdict.specs.Commands.{RunScript, CheckScript, ConvertWave, SoakRun}
 use Rattle.pcm_replay.specs.declared.words.Command.{Command}
-use Rattle.pcm_replay.specs.declared.words.Command.TheVariants.{Run, Check, Convert}
+use Rattle.pcm_replay.specs.declared.words.Command.TheVariants.{Run, Check, Convert, Soak}
 
 -- the names and the settings that a command has
 abbrev pub command_seen : Command → verdicts.Command
 command_seen (Run script out config) = RunScript script.now out.now (option_map (λ name. name.now) config)
 command_seen (Check script config) = CheckScript script.now (option_map (λ name. name.now) config)
 command_seen (Convert input out target) = ConvertWave input.now out.now target
+command_seen (Soak seed) = SoakRun seed
 
 -- a configuration is read, and may name files of any names
 abbrev pub MayNameFiles : Option (List ℕ) → Type 0
@@ -23,9 +24,11 @@ abbrev pub MayRead : verdicts.Command → List ℕ → Type 0
 MayRead (RunScript script out config) name = (name ≡ script) ⊎ MayNameFiles config
 MayRead (CheckScript script config) name = (name ≡ script) ⊎ MayNameFiles config
 MayRead (ConvertWave input out target) name = name ≡ input
+MayRead (SoakRun n) name = ⊥
 
 -- a command asks for settings within the limits
 abbrev pub AreLimits : Command → Type 0
 AreLimits (Run script out config) = Unit {0}
 AreLimits (Check script config) = Unit {0}
 AreLimits (Convert input out target) = IsRate target.rate × IsWaveFormat target.format
+AreLimits (Soak seed) = Unit {0}

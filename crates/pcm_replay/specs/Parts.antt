@@ -7,6 +7,7 @@ use Rattle.pcm_wave.specs.Waves.{wave_of}
 use Rattle.pcm_config.specs.declared.config.Config.{Config}
 use Rattle.pcm_config.specs.declared.config.FilePath.{FilePath}
 use Rattle.pcm_script.specs.declared.script.Script.{Script}
+use Rattle.pcm_verdict.specs.Captures.{IsShaped}
 use Rattle.pcm_verdict.specs.Judging.{read_file}
 use Rattle.pcm_verdict.specs.Faults.{BadWave}
 use Rattle.pcm_verdict.specs.Verdict as verdicts
@@ -63,11 +64,12 @@ conversion_part name target = record { judged = λ content. conversion_judged co
 abbrev pub inputs_seen : Inputs → verdicts.Inputs
 inputs_seen inputs = record { config = inputs.config; files = inputs.files; script = inputs.script }
 
--- one data file more was read
+-- one data file more was read, which has the shape of the device if it is recorded from
 pub record AddsFile (config : Config) (file : FilePath) (old new : Loaded) (before after : Outside) : Type 0 where
   pub next : DataFileSeen
   pub gives : GivesValue (data_part config old.files file) next before after
   pub files : new.files ≡ old.files ++ next ∷ []
+  pub shaped : IsShaped config next
 
 -- what a file with these bytes is judged to be under its name
 abbrev pub FileJudged : Config → List ℕ → List ℕ → Result DataFile FileKind → Type 0

@@ -1,16 +1,20 @@
 -- How far a run has come: what its engine stands for, and what it is to leave.
-use Rattle.std.specs.Prelude.{◌≡◌, ℕ, ◌*◌, List, length, vec_len}
+use Rattle.std.specs.Prelude.{◌≡◌, ℕ, ◌*◌, ◌^◌, ◌≤◌, List, length, vec_len}
 use Rattle.pcm_oss.specs.declared.event.Event.{Event}
 use Rattle.pcm_wave.specs.declared.pool.Pool.{Pool}
 use Rattle.pcm_desk.specs.Device.{DeviceSeen, device_frame_bytes, ring_frames}
+use Rattle.pcm_desk.specs.Usual.{usual_device}
 use Rattle.pcm_sound.specs.DeviceList.{device_text}
 use Rattle.pcm_feeder.specs.declared.kind.Kind.{Kind}
 use Rattle.pcm_feeder.specs.Kept.{Kept}
 use Rattle.pcm_engine.specs.declared.engine.EngineOf.{EngineOf}
 use Rattle.pcm_engine.specs.Engines.{AreReady, Stands, device_of}
 use Rattle.pcm_report.specs.declared.line.TheConstants.{LINE_BYTES}
+use Rattle.pcm_soak.specs.Tallies.{IsWithin}
+use Rattle.pcm_verdict.specs.Soaks.{tally_of}
 use Rattle.pcm_verdict.specs.Transcript.{transcript}
 use Rattle.pcm_replay.specs.declared.replay.ReplayOf.{ReplayOf}
+use Rattle.pcm_replay.specs.declared.soak.SoakOf.{SoakOf}
 
 -- the bytes of the greatest interrupt: a device's whole ring
 abbrev pub ring_room : DeviceSeen → ℕ
@@ -21,6 +25,15 @@ pub record RanThrough {B : Type 0} (kept : B → Kept) (engine : EngineOf B) (de
   pub device_is : device_of engine ≡ device
   pub stands : Stands kept engine pool events
   pub steps : engine.steps ≡ length events
+
+-- so many events of a script that a number makes were run, and what they came to was added up
+pub record HasSoaked {B : Type 0} (kind : B → Kind) (kept : B → Kept) (soak : SoakOf B) (pool : Pool) (events : List Event) : Type 0 where
+  pub engine : RanThrough kept soak.engine usual_device pool events
+  pub ready : AreReady kind kept soak.engine
+  pub tally : soak.tally ≡ tally_of usual_device pool events
+  pub within : IsWithin (length events) soak.tally
+  pub sum : soak.tally.sum ≤ 2 ^ 33 * length events
+  pub room : vec_len soak.block ≡ ring_room usual_device
 
 -- these events were run, and what they leave is kept
 pub record HasPlayed {B : Type 0} (kind : B → Kind) (kept : B → Kept) (replay : ReplayOf B) (pool : Pool) (events : List Event) : Type 0 where

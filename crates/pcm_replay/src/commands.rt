@@ -4,7 +4,7 @@ ghost use Rattle.std.specs.Prelude.{IfErr, IfOk, option_map};
 ghost use Rattle.pcm_feeder.specs.Limits.{IsRate};
 ghost use Rattle.pcm_feeder.specs.Racks.{AreRacks, list_of};
 ghost use Rattle.pcm_wave.specs.Headers.{IsWaveFormat};
-ghost use Rattle.pcm_verdict.specs.Commands.{CheckScript, ConvertWave, RunScript};
+ghost use Rattle.pcm_verdict.specs.Commands.{CheckScript, ConvertWave, RunScript, SoakRun};
 ghost use Rattle.pcm_replay.specs.Commands.{AreLimits, command_seen};
 ghost use Rattle.pcm_replay.specs.Endings.{DoesCommand, EndsCommand};
 ghost use Rattle.pcm_replay.specs.Outside.{both};
@@ -14,6 +14,7 @@ use crate::convert::convert_wave;
 use crate::ending::Ending;
 use crate::reading::read_inputs;
 use crate::replay::run_script;
+use crate::soak::soak;
 use crate::source::read_source;
 use crate::words::Command;
 use pcm_engine::EngineOf;
@@ -49,6 +50,7 @@ pub fn do_command<B: Feeder, F: Files, K: Sink>(
             out: name,
             target,
         } => convert(alloc, input, target, files, out, racks, name),
+        Command::Soak { seed } => soak_run(alloc, seed, files, out, racks),
     }
 }
 
@@ -117,4 +119,22 @@ fn convert<B: Feeder, F: Files, K: Sink>(
     let source = read_source(alloc, input, target, files, out)?;
     convert_wave(alloc, racks, &source, target, files, out, name)?;
     Ok(None)
+}
+
+// Runs the script that a number makes. No file is read or written.
+fn soak_run<B: Feeder, F: Files, K: Sink>(
+    alloc: Global,
+    seed: u32,
+    files: &mut F,
+    out: &mut K,
+    racks: RacksOf<B>,
+) -> Result<Option<EngineOf<B>>, Ending>
+    requires kinds { AreRacks B.kind (list_of racks) }
+    ensures ok { IfOk result (λ engine. DoesCommand B.kept (SoakRun seed) engine
+        (both (F.seen files.old) (K.seen out.old)) (both (F.seen files.new) (K.seen out.new))) }
+    ensures err { IfErr result (λ ending. EndsCommand (SoakRun seed) ending
+        (both (F.seen files.old) (K.seen out.old)) (both (F.seen files.new) (K.seen out.new))) }
+{
+    let engine = soak(alloc, racks, seed, out)?;
+    Ok(Some(engine))
 }

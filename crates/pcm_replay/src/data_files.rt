@@ -1,6 +1,7 @@
 //! The data files of a configuration: each is judged before the next is read.
 
-ghost use Rattle.std.specs.Prelude.{◌≡◌, [], IfErr, IfOk, OnOk, string_bytes};
+ghost use Rattle.std.specs.Prelude.{◌≡◌, [], All, IfErr, IfOk, OnOk, string_bytes};
+ghost use Rattle.pcm_verdict.specs.Captures.{IsShaped};
 ghost use Rattle.pcm_verdict.specs.Verdict.{has_shape, is_capture};
 ghost use Rattle.pcm_replay.specs.Parts.{AddsFile, FileJudged, data_behind, data_part};
 ghost use Rattle.pcm_replay.specs.Outside.{both};
@@ -26,6 +27,7 @@ pub fn read_data_files<F: Files, K: Sink>(
 ) -> Result<DataFiles, Ending>
     ensures ok { IfOk result (λ read. GivesValue (data_behind config.now [] config.now.files) read
         (both (F.seen files.old) (K.seen out.old)) (both (F.seen files.new) (K.seen out.new))) }
+    ensures shaped { IfOk result (λ read. All (IsShaped config.now) read) }
     ensures err { IfErr result (λ ending. Ends (data_behind config.now [] config.now.files) ending
         (both (F.seen files.old) (K.seen out.old)) (both (F.seen files.new) (K.seen out.new))) }
 {
@@ -70,6 +72,7 @@ fn read_next<F: Files, K: Sink>(
 fn file_of(config: &Config, name: String, bytes: Vec<u8>) -> Result<DataFile, FileKind>
     ensures judged { FileJudged config.now (string_bytes name) bytes.items result }
     ensures bytes { IfOk result (λ file. file.bytes ≡ bytes.items) }
+    ensures shaped { IfOk result (IsShaped config.now) }
 {
     let is_capture = is_capture(&config.capture, &name);
     let data = match DataFile::read(name, bytes) {

@@ -71,7 +71,7 @@ pub fn line_of(alloc: Global, fault: Fault<'_>) -> Result<String, AllocError>
     }
 }
 
-/// All forms of words, also the one that isn't built yet.
+/// All forms of words.
 pub fn usage_line() -> &'static str
     ensures { result.now ≡ usage_line }
 {

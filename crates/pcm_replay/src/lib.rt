@@ -13,6 +13,7 @@ mod loaded;
 mod reading;
 mod refusals;
 mod replay;
+mod soak;
 mod source;
 mod top;
 mod words;

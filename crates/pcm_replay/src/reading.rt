@@ -5,7 +5,9 @@ ghost use Rattle.pcm_outside.specs.Files.{ReadsFile};
 ghost use Rattle.pcm_desk.specs.declared.limits.TheConstants.{DEVICE_BYTES, EVENTS};
 ghost use Rattle.pcm_desk.specs.Device.{IsInLimits};
 ghost use Rattle.pcm_config.specs.Configs.{IsHeld, device_seen};
+ghost use Rattle.pcm_wave.specs.Pools.{IsCaptureIn};
 ghost use Rattle.pcm_script.specs.Lines.{AllFit, bytes_taken};
+ghost use Rattle.pcm_verdict.specs.Outputs.{inputs_pool};
 ghost use Rattle.pcm_replay.specs.Commands.{MayNameFiles};
 ghost use Rattle.pcm_replay.specs.Outside.{both};
 ghost use Rattle.pcm_replay.specs.Parts.{IsPath, config_part, file_part, inputs_part, inputs_seen, script_part};
@@ -114,6 +116,8 @@ pub fn read_inputs<F: Files, K: Sink>(
     ensures fits { IfOk result
         (λ inputs. AllFit (device_seen inputs.config) inputs.files inputs.script) }
     ensures count { IfOk result (λ inputs. length inputs.script.events ≤ EVENTS) }
+    ensures captures { IfOk result (λ inputs. IsCaptureIn inputs.config.device.settings.layout
+        (inputs_pool (inputs_seen inputs))) }
     ensures container { IfOk result (λ inputs. IsHeld inputs.config) }
     ensures frames { IfOk result (λ inputs.
         bytes_taken (device_seen inputs.config) inputs.script ≤ DEVICE_BYTES) }

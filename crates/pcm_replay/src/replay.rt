@@ -3,16 +3,17 @@
 ghost use Rattle.pcm_replay.specs.declared.ending.Ending.TheVariants.{NoMemory};
 ghost use Rattle.std.specs.Prelude.{◌≡◌, ◌*◌, ◌+◌, ◌<◌, ◌≤◌, [], All, IfErr, IfOk, OnOk, length, take, true};
 ghost use Rattle.pcm_wave.specs.declared.pool.Pool.{Pool};
+ghost use Rattle.pcm_wave.specs.Pools.{IsCaptureIn};
 ghost use Rattle.pcm_desk.specs.declared.limits.TheConstants.{DEVICE_BYTES, EVENTS};
 ghost use Rattle.pcm_desk.specs.Events.{Fits};
-ghost use Rattle.pcm_desk.specs.Device.{IsInLimits, device_frame_bytes, seen, unfiltered};
+ghost use Rattle.pcm_desk.specs.Device.{IsInLimits, device_frame_bytes, device_settings, seen, unfiltered};
 ghost use Rattle.pcm_feeder.specs.Filters.{Filters};
 ghost use Rattle.pcm_feeder.specs.Limits.{IsRate};
 ghost use Rattle.pcm_feeder.specs.Racks.{AreRacks, list_of};
 ghost use Rattle.pcm_config.specs.Configs.{IsHeld, can_hold, device_seen};
 ghost use Rattle.pcm_engine.specs.Engines.{device_of};
 ghost use Rattle.pcm_script.specs.Lines.{AllFit, bytes_taken};
-ghost use Rattle.pcm_verdict.specs.Outputs.{file_header, output_of};
+ghost use Rattle.pcm_verdict.specs.Outputs.{file_header, inputs_pool, output_of};
 ghost use Rattle.pcm_verdict.specs.Verdict.{Runs};
 ghost use Rattle.pcm_replay.specs.Endings.{CutsShort, RanInputs};
 ghost use Rattle.pcm_replay.specs.Outside.{both};
@@ -21,7 +22,7 @@ ghost use Rattle.pcm_replay.specs.Playing.{HasPlayed};
 ghost use Rattle.pcm_replay.specs.Written.{WritesAll};
 
 use crate::ending::Ending;
-use crate::inputs::Inputs;
+use crate::inputs::{Inputs, pool_from};
 use crate::writing::write_all;
 use pcm_config::{Config, Container};
 use pcm_desk::Device;
@@ -74,6 +75,7 @@ impl<B: Feeder> ReplayOf<B> {
     fn step_at(&mut self, events: &[Event], pool: &Pool, at: usize) -> Result<(), AllocError>
         requires there { at < length events.now }
         requires fits { All (Fits (device_of self.old.engine) pool.now) events.now }
+        requires captures { IsCaptureIn (device_settings (device_of self.old.engine)).layout pool.now }
         requires count { length events.now ≤ EVENTS }
         requires played { HasPlayed B.kind B.kept self.old pool.now (take at events.now) }
         ensures played { OnOk result (HasPlayed B.kind B.kept self.new pool.now (take (at + 1) events.now)) }
@@ -101,6 +103,7 @@ pub fn play<B: Feeder>(
     requires limits { IsInLimits (seen tables device.now) }
     requires kinds { AreRacks B.kind (list_of racks) }
     requires fits { All (Fits (seen tables device.now) pool.now) events.now }
+    requires captures { IsCaptureIn device.now.settings.layout pool.now }
     requires count { length events.now ≤ EVENTS }
     ensures played { IfOk result (λ replay. HasPlayed B.kind B.kept replay pool.now events.now) }
     ensures device { IfOk result (λ replay. device_of replay.engine ≡ seen tables device.now) }
@@ -125,6 +128,7 @@ pub fn run_script<B: Feeder, F: Files, K: Sink>(
     requires limits { IsInLimits (device_seen inputs.config) }
     requires container { IsHeld inputs.config }
     requires fits { AllFit (device_seen inputs.config) inputs.files inputs.script }
+    requires captures { IsCaptureIn inputs.config.device.settings.layout (inputs_pool (inputs_seen inputs)) }
     requires count { length inputs.script.events ≤ EVENTS }
     requires frames { bytes_taken (device_seen inputs.config) inputs.script ≤ DEVICE_BYTES }
     ensures ran { IfOk result (λ engine. RanInputs B.kept engine (inputs_seen inputs)) }
@@ -142,6 +146,7 @@ pub fn run_script<B: Feeder, F: Files, K: Sink>(
         device,
         tables,
         container,
+        capture,
         ..
     } = config;
     let Script {
@@ -149,10 +154,7 @@ pub fn run_script<B: Feeder, F: Files, K: Sink>(
         inline_bytes,
         device_frames,
     } = script;
-    let pool = Pool {
-        files: data,
-        inline_bytes,
-    };
+    let pool = pool_from(&capture, data, inline_bytes);
     let Ok(replay) = play(alloc, &device, tables, racks, events.as_slice(), &pool) else {
         return Err(Ending::NoMemory);
     };

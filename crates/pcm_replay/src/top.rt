@@ -1,13 +1,13 @@
 //! The top call: words, files and a sink go in, and a status comes out.
 
-ghost use Rattle.std.specs.Prelude.{◌≡◌, ◌≢◌, ◌⊎◌, None, IfErr, IfOk, IsSomeAnd, IsTrue, List, ℕ, map, string_bytes};
+ghost use Rattle.std.specs.Prelude.{◌≡◌, ◌≢◌, ◌⊎◌, None, Some, IfErr, IfOk, IsSomeAnd, IsTrue, List, ℕ, map, string_bytes};
 ghost use Rattle.pcm_outside.specs.Counts.{Rose};
 ghost use Rattle.pcm_feeder.specs.Racks.{AreRacks, list_of};
-ghost use Rattle.pcm_verdict.specs.Commands.{command_of};
+ghost use Rattle.pcm_verdict.specs.Commands.{SoakRun, command_of};
 ghost use Rattle.pcm_verdict.specs.Outputs.{output_of};
-ghost use Rattle.pcm_verdict.specs.Verdict.{Conversion, Inputs, Checks, Converts, Runs};
+ghost use Rattle.pcm_verdict.specs.Verdict.{Conversion, Inputs, Checks, Converts, Runs, Soaks};
 ghost use Rattle.pcm_replay.specs.declared.ending.Ending.TheVariants.{BadConfig, BadScript, BadWave};
-ghost use Rattle.pcm_replay.specs.Endings.{DoesWords, EndsCall, Finishes, RanInputs};
+ghost use Rattle.pcm_replay.specs.Endings.{DoesWords, EndsCall, Finishes, RanInputs, RanSoak};
 ghost use Rattle.pcm_replay.specs.Outcomes.{CannotReadOne, IsAccepted, IsAcceptedBy, IsCut, IsRefusedBy, IsStatus};
 ghost use Rattle.pcm_replay.specs.Outcomes.{LacksMemory, MayEnd, RefusesFile, RefusesWords, verdict_on};
 ghost use Rattle.pcm_replay.specs.Outside.{NoneRose, OneRose, WriteRose, both};
@@ -59,6 +59,12 @@ pub fn dsp_main<B: Feeder, F: Files, K: Sink>(
         → IsAccepted (map string_bytes words.now) (F.seen files.old) (Checks inputs)
         → WritesAll (output_of (Checks inputs))
         (both (F.seen files.old) (K.seen out.old)) (both (F.seen files.new) (K.seen out.new)) }
+    // A soak, whatever the files tell: nothing was written, exactly its line was put, and its engine ran through the number's script.
+    ensures soaked { (n : ℕ) → result ≡ 0 → command_of (map string_bytes words.now) ≡ Some (SoakRun n)
+        → WritesAll (output_of (Soaks n))
+        (both (F.seen files.old) (K.seen out.old)) (both (F.seen files.new) (K.seen out.new)) }
+    ensures soak_engine { (n : ℕ) → result ≡ 0 → command_of (map string_bytes words.now) ≡ Some (SoakRun n)
+        → IsSomeAnd ran.new (λ engine. RanSoak B.kept engine n) }
     // A conversion: the file is exactly the converted wave, and exactly its line was put.
     ensures converted { (name : List ℕ) (conversion : Conversion) → result ≡ 0
         → IsAccepted (map string_bytes words.now) (F.seen files.old) (Converts name conversion)

@@ -1,7 +1,7 @@
 //! What the words after the program's name ask for.
 
 ghost use Rattle.std.specs.Prelude.{◌≡◌, IfSome, map, option_map, string_bytes};
-ghost use Rattle.pcm_verdict.specs.Commands.{check_words, command_of, convert_words, name_in, rate_within, run_words, target_asked};
+ghost use Rattle.pcm_verdict.specs.Commands.{check_words, command_of, convert_words, name_in, rate_within, run_words, seed_within, soak_words, target_asked};
 ghost use Rattle.pcm_format.specs.Layouts.{layout_of};
 ghost use Rattle.pcm_wave.specs.Formats.{wave_format};
 ghost use Rattle.pcm_wave.specs.Headers.{IsWaveFormat};
@@ -32,6 +32,10 @@ pub enum Command<'a> {
         out: &'a str,
         target: Settings,
     },
+    /// To run the script that a number makes.
+    Soak {
+        seed: u32,
+    },
 }
 
 /// The command that the words spell, if they match a form.
@@ -45,6 +49,7 @@ pub fn command_in(words: &[String]) -> Option<Command<'_>>
         "run" => run_in(words),
         "check" => check_in(words),
         "convert" => convert_in(words),
+        "soak" => soak_in(words),
         _ => None,
     }
 }
@@ -114,6 +119,27 @@ fn convert_in(words: &[String]) -> Option<Command<'_>>
     let out = name_in(o)?;
     let target = target_in(r, f, c)?;
     Some(Command::Convert { input, out, target })
+}
+
+// `soak N`.
+#[tactic(auto, unfolding(pcm_verdict::specs::Commands::soak_words))]
+fn soak_in(words: &[String]) -> Option<Command<'_>>
+    ensures value { option_map command_seen result ≡ soak_words (map string_bytes words.now) }
+    ensures limits { IfSome result AreLimits }
+{
+    let [n] = words else {
+        return None;
+    };
+    let number = decimal_in(n.as_bytes())?;
+    let seed = seed_within(number)?;
+    Some(Command::Soak { seed })
+}
+
+// A number that makes a script has 32 bits.
+fn seed_within(number: u64) -> Option<u32>
+    ensures { result ≡ seed_within number }
+{
+    u32::try_from(number).ok()
 }
 
 // A name isn't empty.

@@ -1,8 +1,10 @@
 -- Texts that are put one behind another.
-use Rattle.std.proofs.Common.{◌≡◌, ℕ, ◌+◌, ◌-◌, ◌≤◌, List, ◌++◌, take, drop, length, sym, subst, ◌∙◌, ap, arith, append_assoc}
+use Rattle.std.proofs.Common.{◌≡◌, ℕ, ◌+◌, ◌-◌, ◌*◌, ◌≤◌, List, ◌++◌, take, drop, length, sym, subst, ◌∙◌, ap, arith, append_assoc}
 use Rattle.std.proofs.Math.Seq.{drop-drop}
 use Rattle.std.proofs.lemmas.Slice.{take-put_mid, drop-put_mid}
 use borrow.Rule.Slice.PartMut.{put_mid}
+use Rattle.hex.specs.Hex.{encode_lower, lower_digits}
+use Rattle.hex.proofs.HexLemmas.{length-encode_with}
 use Rattle.pcm_report.specs.Texts.{IsPut}
 
 -- what is the same from one place on is the same from a later one on
@@ -27,3 +29,11 @@ put-part text copied old at copy room = subst (λ (bytes : List ℕ). IsPut text
   front = take-put_mid at (at + length text - at) old text (at + length text) (omega arith) (omega arith);
   rest = drop-put_mid at (at + length text - at) old text (at + length text) (omega arith) (omega arith) (omega arith);
 })
+
+-- bytes are spelled in hexadecimal at their place
+pub put-hexadecimal : (bytes spelled old : List ℕ) (at : ℕ) → spelled ≡ encode_lower bytes → at + 2 * length bytes ≤ length old
+    → IsPut (encode_lower bytes) at (at + 2 * length bytes) old (put_mid at (at + 2 * length bytes - at) old spelled)
+put-hexadecimal bytes spelled old at same room =
+    let twice = length-encode_with lower_digits bytes in
+    subst (λ (count : ℕ). IsPut (encode_lower bytes) at (at + count) old (put_mid at (at + count - at) old spelled)) twice
+    (put-part (encode_lower bytes) spelled old at same (omega arith))

@@ -1,11 +1,12 @@
 //! The line of one reply.
 
-ghost use Rattle.std.specs.Prelude.{◌≡◌, ◌+◌, ◌≤◌, length, take, drop};
-ghost use Rattle.pcm_oss.specs.declared.reply.Answer.TheVariants.{Space, Pointer, Errors};
+ghost use Rattle.std.specs.Prelude.{◌≡◌, ◌+◌, ◌≤◌, [], length, take, drop};
+ghost use Rattle.pcm_oss.specs.declared.reply.Answer.TheVariants.{Space, Pointer, Errors, Got};
+ghost use Rattle.pcm_oss.specs.declared.reply.TheConstants.{REPLY_BYTES};
 ghost use Rattle.pcm_report.specs.Lines.{answer_text, errno_word, reply_line, result_text};
 ghost use Rattle.pcm_report.specs.Texts.{IsPut};
 
-use crate::texts::{put_field, put_number, put_text};
+use crate::texts::{put_bytes, put_field, put_number, put_text};
 use pcm_oss::{Answer, Errno, ReplyBuf};
 
 /// How many bytes a line has at most.
@@ -23,17 +24,18 @@ pub fn write_line(number: u32, reply: &ReplyBuf, out: &mut [u8]) -> usize
 {
     let at = put_number(out, 0, u64::from(number));
     let at = put_text(out, at, ": ");
-    let at = put_result(out, at, reply.result());
+    let at = put_result(out, at, reply.result(), reply.bytes());
     put_text(out, at, "\n")
 }
 
-fn put_result(out: &mut [u8], at: usize, reply: Result<Answer, Errno>) -> usize
+fn put_result(out: &mut [u8], at: usize, reply: Result<Answer, Errno>, read: &[u8]) -> usize
     requires room { at + TEXT_BYTES ≤ length out.old }
-    ensures put { IsPut (result_text reply) at result out.old out.new }
+    requires few { length read.now ≤ REPLY_BYTES }
+    ensures put { IsPut (result_text reply read.now) at result out.old out.new }
     ensures within { result ≤ at + TEXT_BYTES }
 {
     match reply {
-        Ok(answer) => put_answer(out, at, answer),
+        Ok(answer) => put_answer(out, at, answer, read),
         Err(errno) => {
             let at = put_text(out, at, "refused ");
             put_text(out, at, errno_word(errno))
@@ -55,9 +57,10 @@ fn errno_word(errno: Errno) -> &'static str
     }
 }
 
-fn put_answer(out: &mut [u8], at: usize, answer: Answer) -> usize
+fn put_answer(out: &mut [u8], at: usize, answer: Answer, read: &[u8]) -> usize
     requires room { at + TEXT_BYTES ≤ length out.old }
-    ensures put { IsPut (answer_text answer) at result out.old out.new }
+    requires few { length read.now ≤ REPLY_BYTES }
+    ensures put { IsPut (answer_text answer read.now) at result out.old out.new }
     ensures within { result ≤ at + TEXT_BYTES }
 {
     match answer {
@@ -77,6 +80,7 @@ fn put_answer(out: &mut [u8], at: usize, answer: Answer) -> usize
             underruns,
             overruns,
         } => put_errors(out, at, underruns, overruns),
+        Answer::Got(count) => put_got(out, at, count, read),
     }
 }
 
@@ -89,7 +93,7 @@ fn put_space(
     bytes: u32,
 ) -> usize
     requires room { at + TEXT_BYTES ≤ length out.old }
-    ensures put { IsPut (answer_text (Space fragments fragstotal fragsize bytes)) at result out.old out.new }
+    ensures put { IsPut (answer_text (Space fragments fragstotal fragsize bytes) []) at result out.old out.new }
     ensures within { result ≤ at + TEXT_BYTES }
 {
     let at = put_text(out, at, "ok");
@@ -101,7 +105,7 @@ fn put_space(
 
 fn put_pointer(out: &mut [u8], at: usize, bytes: u64, blocks: u64, ptr: u32) -> usize
     requires room { at + TEXT_BYTES ≤ length out.old }
-    ensures put { IsPut (answer_text (Pointer bytes blocks ptr)) at result out.old out.new }
+    ensures put { IsPut (answer_text (Pointer bytes blocks ptr) []) at result out.old out.new }
     ensures within { result ≤ at + TEXT_BYTES }
 {
     let at = put_text(out, at, "ok");
@@ -112,10 +116,22 @@ fn put_pointer(out: &mut [u8], at: usize, bytes: u64, blocks: u64, ptr: u32) -> 
 
 fn put_errors(out: &mut [u8], at: usize, underruns: u32, overruns: u32) -> usize
     requires room { at + TEXT_BYTES ≤ length out.old }
-    ensures put { IsPut (answer_text (Errors underruns overruns)) at result out.old out.new }
+    ensures put { IsPut (answer_text (Errors underruns overruns) []) at result out.old out.new }
     ensures within { result ≤ at + TEXT_BYTES }
 {
     let at = put_text(out, at, "ok");
     let at = put_field(out, at, "underruns", u64::from(underruns));
     put_field(out, at, "overruns", u64::from(overruns))
+}
+
+fn put_got(out: &mut [u8], at: usize, count: u32, read: &[u8]) -> usize
+    requires room { at + TEXT_BYTES ≤ length out.old }
+    requires few { length read.now ≤ REPLY_BYTES }
+    ensures put { IsPut (answer_text (Got count) read.now) at result out.old out.new }
+    ensures within { result ≤ at + TEXT_BYTES }
+{
+    let at = put_text(out, at, "ok ");
+    let at = put_number(out, at, u64::from(count));
+    let at = put_text(out, at, " ");
+    put_bytes(out, at, read)
 }

@@ -1,8 +1,9 @@
 //! Texts that are put into a slice one behind another.
 
-ghost use Rattle.std.specs.Prelude.{◌≡◌, ◌+◌, ◌≤◌, length};
+ghost use Rattle.std.specs.Prelude.{◌≡◌, ◌+◌, ◌*◌, ◌≤◌, length};
 ghost use Rattle.std.specs.Fmt.{decimal};
-ghost use Rattle.pcm_report.specs.Lines.{field};
+ghost use Rattle.hex.specs.Hex.{encode_lower};
+ghost use Rattle.pcm_report.specs.Lines.{bytes_text, field};
 ghost use Rattle.pcm_report.specs.Texts.{IsPut};
 
 // How many digits a number has at most.
@@ -38,4 +39,35 @@ pub(crate) fn put_field(out: &mut [u8], at: usize, name: &str, number: u64) -> u
     let at = put_text(out, at, name);
     let at = put_text(out, at, "=");
     put_number(out, at, number)
+}
+
+// Puts the bytes that a read got, in hexadecimal, or a dash for none.
+pub(crate) fn put_bytes(out: &mut [u8], at: usize, bytes: &[u8]) -> usize
+    requires room { at + 2 * length bytes.now + 1 ≤ length out.old }
+    ensures put { IsPut (bytes_text bytes.now) at result out.old out.new }
+    ensures within { result ≤ at + 2 * length bytes.now + 1 }
+{
+    if bytes.is_empty() {
+        put_text(out, at, "-")
+    } else {
+        put_hex(out, at, bytes)
+    }
+}
+
+fn put_hex(out: &mut [u8], at: usize, bytes: &[u8]) -> usize
+    requires room { at + 2 * length bytes.now ≤ length out.old }
+    ensures put { IsPut (encode_lower bytes.now) at result out.old out.new }
+    ensures end { result ≡ at + 2 * length bytes.now }
+{
+    let end = at + 2 * bytes.len();
+    encode(bytes, &mut out[at..end]);
+    end
+}
+
+fn encode(bytes: &[u8], out: &mut [u8])
+    requires room { length out.old ≡ 2 * length bytes.now }
+    ensures { out.new ≡ encode_lower bytes.now }
+{
+    // With this room it can't be refused.
+    let _ = hex::encode_to_slice(bytes, out);
 }

@@ -24,7 +24,7 @@ use Rattle.pcm_verdict.specs.Transcript.{transcript}
 
 -- a ring of four frames, where a row looks at single frames
 abbrev pub small_device : DeviceSeen
-small_device = record { settings = usual_settings; slots = 4; ring = 4; block = 2; quality = 1; filters = no_filters }
+small_device = record { settings = usual_settings; slots = 4; recorders = 4; ring = 4; block = 2; quality = 1; filters = no_filters }
 
 -- an open with the settings of the device
 abbrev pub opens : ℕ → Event

@@ -45,11 +45,11 @@ whole_config = record {
     block_frames = 128;
     ring_frames = 256;
     play_slots = 16;
+    record_slots = 0;
     quality = 4;
   };
   tables = no_filters;
   container = Wav;
-  record_slots = 0;
   capture = Some (codes "room");
   files = whole_files;
 }

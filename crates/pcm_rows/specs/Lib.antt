@@ -13,6 +13,7 @@ pub mod RequestTable
 pub mod Stages
 pub mod PlanRows
 pub mod FilterRows
+pub mod RecordingRows
 pub mod Waves
 pub mod Configurations
 pub mod ConversionRows

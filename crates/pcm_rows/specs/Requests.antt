@@ -382,7 +382,7 @@ second_run = record {
 -- the runs of a client that writes two frames, and then these events
 abbrev pub runs_of_two_frames : List Event → List Run
 runs_of_two_frames events =
-    (story_of small_device (record { files = []; inline_bytes = two_frame_bytes }) (opens 0 ∷ Write 0 Inline 0 8 ∷ events)).runs 0
+    (story_of small_device (record { files = []; capture = None; inline_bytes = two_frame_bytes }) (opens 0 ∷ Write 0 Inline 0 8 ∷ events)).runs 0
 
 -- a run of these frames: where it started, whether no more came, where it was dropped, and its pieces
 abbrev pub run_of_two_frames : Option ℕ → Bool → Option ℕ → List Piece → Run

@@ -4,7 +4,7 @@
 ghost use Rattle.std.specs.Prelude.{◌≡◌, codes};
 ghost use Rattle.pcm_desk.specs.declared.device.TheConstants.{OPENING};
 ghost use Rattle.pcm_desk.specs.Usual.{usual_device};
-ghost use Rattle.pcm_script.specs.declared.fault.ScriptKind.TheVariants.{Word, Count, Number, Name, Hex, Range, Long, Unbuilt};
+ghost use Rattle.pcm_script.specs.declared.fault.ScriptKind.TheVariants.{Word, Count, Number, Name, Hex, Range, Long};
 ghost use Rattle.pcm_rows.specs.Calls.{accepted, judged, line_for, status_for};
 ghost use Rattle.pcm_rows.specs.Refusals.{refused_at, open_script, eight_at, large_device, largest_script};
 
@@ -14,15 +14,6 @@ pub fn interrupt_above_the_ring()
     ensures printed { line_for (judged usual_device (codes "intr 1025\n"))
         ≡ codes "dsp_replay: bad script: line 1: range\n" }
     ensures status { status_for (judged usual_device (codes "intr 1025\n")) ≡ 5 }
-{}
-
-/// A recording isn't built, whatever it records.
-pub fn recordings_unbuilt()
-    ensures verdict { judged usual_device (codes "open 0 rec s16le 2 48000\n")
-        ≡ refused_at 1 Unbuilt }
-    ensures printed { line_for (judged usual_device (codes "open 0 rec s16le 2 48000\n"))
-        ≡ codes "dsp_replay: bad script: line 1: unbuilt\n" }
-    ensures opening { judged usual_device (codes "open 0 rec") ≡ refused_at 1 Unbuilt }
 {}
 
 /// A client plays in any format and layout, at any rate from 4000 to 192000.
@@ -51,7 +42,8 @@ pub fn each_kind_of_fault()
     ensures name { judged usual_device (codes "open 0 both") ≡ refused_at 1 Name }
     ensures hex { judged usual_device (codes "write 0 012") ≡ refused_at 1 Hex }
     ensures range { judged usual_device (codes "close 64") ≡ refused_at 1 Range }
-    ensures unbuilt { judged usual_device (codes "read 0 4") ≡ refused_at 1 Unbuilt }
+    ensures read { judged usual_device (codes "read 0 4097") ≡ refused_at 1 Range }
+    ensures way { judged usual_device (codes "open 0 record") ≡ refused_at 1 Name }
     ensures file { judged usual_device (codes "send 0 song 0 4096") ≡ refused_at 1 Name }
 {}
 

@@ -12,16 +12,16 @@ use Rattle.pcm_format.specs.declared.layout.Layout.TheVariants.{One}
 use Rattle.pcm_format.specs.declared.settings.TheConstants.{RATE_LEAST, RATE_MOST}
 use Rattle.pcm_feeder.specs.Limits.{IsRate}
 use Rattle.pcm_wave.specs.DataFiles.{DataFileSeen}
-use Rattle.pcm_desk.specs.declared.limits.TheConstants.{DESCRIPTORS, WRITE_BYTES}
+use Rattle.pcm_desk.specs.declared.limits.TheConstants.{DESCRIPTORS, READ_BYTES, WRITE_BYTES}
 use Rattle.pcm_desk.specs.Device.{DeviceSeen, block_frames, ring_frames}
 use Rattle.pcm_script.specs.declared.fault.ScriptKind.{ScriptKind}
-use Rattle.pcm_script.specs.declared.fault.ScriptKind.TheVariants.{Word, Name, Unbuilt}
+use Rattle.pcm_script.specs.declared.fault.ScriptKind.TheVariants.{Word, Name}
 use Rattle.pcm_script.specs.declared.fault.LineFault.{LineFault}
 use Rattle.pcm_script.specs.declared.line_event.LineEvent.{LineEvent}
-use Rattle.pcm_script.specs.declared.line_event.LineEvent.TheVariants.{Open, Write, Send, Ioctl, Close, Intr}
+use Rattle.pcm_script.specs.declared.line_event.LineEvent.TheVariants.{Open, Write, Send, Read, Ioctl, Close, Intr}
 use Rattle.pcm_script.specs.Numbers.{number_in, within, number_within}
 use Rattle.pcm_script.specs.Requests.{as_full, as_plain, request_named}
-use Rattle.pcm_script.specs.Commands.{descriptor_in, plays_in, or_fault, format_in, layout_in, rate_in, short_bytes, bytes_in, argument_in, ending_within, file_in, is_file_named, length_in, size_of, open_line, write_line, send_line, ioctl_line, close_line, interrupt_line, command_line, line_event}
+use Rattle.pcm_script.specs.Commands.{descriptor_in, way_in, or_fault, format_in, layout_in, rate_in, short_bytes, bytes_in, argument_in, ending_within, file_in, is_file_named, length_in, size_of, open_line, write_line, send_line, read_line, ioctl_line, close_line, interrupt_line, command_line, line_event}
 use Rattle.pcm_script.specs.Answers.{Asks}
 use Rattle.pcm_script.specs.Collecting.{own_bytes}
 use Rattle.pcm_script.proofs.Judgements.{IfOk-then, IfOk-after, IfOk-either}
@@ -32,9 +32,10 @@ pub record HasBlocks (device : DeviceSeen) : Type 0 where
   pub room : block_frames device ≤ ring_frames device
 
 abbrev pub IsWithin : DeviceSeen → List DataFileSeen → LineEvent → Type 0
-IsWithin device files (Open fd plays settings) = (fd < DESCRIPTORS) × IsRate settings.rate
+IsWithin device files (Open fd way settings) = (fd < DESCRIPTORS) × IsRate settings.rate
 IsWithin device files (Write fd bytes) = (fd < DESCRIPTORS) × (length bytes ≤ WRITE_BYTES)
 IsWithin device files (Send fd file at count) = (fd < DESCRIPTORS) × (file < length files) × (at + count ≤ size_of files file)
+IsWithin device files (Read fd count) = (fd < DESCRIPTORS) × (count ≤ READ_BYTES)
 IsWithin device files (Ioctl fd request) = fd < DESCRIPTORS
 IsWithin device files (Close fd) = fd < DESCRIPTORS
 IsWithin device files (Intr frames) = HasBlocks device → (0 < frames) × (frames ≤ ring_frames device)
@@ -82,19 +83,19 @@ open_line-within : (device : DeviceSeen) (files : List DataFileSeen) (arguments 
 unfolding open_line
 open_line-within device files [] = tt
 open_line-within device files (d ∷ []) = tt
-open_line-within device files (d ∷ way ∷ []) =
+open_line-within device files (d ∷ w ∷ []) =
     IfOk-then (descriptor_in d) _ _ (IsWithin device files) (descriptor-range d)
-    (λ fd low. IfOk-after (plays_in way) _ (IsWithin device files) (λ plays. (low, record { least = omega arith; most = omega arith })))
-open_line-within device files (d ∷ way ∷ f ∷ []) = tt
-open_line-within device files (d ∷ way ∷ f ∷ c ∷ []) = tt
-open_line-within device files (d ∷ way ∷ f ∷ c ∷ r ∷ []) =
+    (λ fd low. IfOk-after (way_in w) _ (IsWithin device files) (λ way. (low, record { least = omega arith; most = omega arith })))
+open_line-within device files (d ∷ w ∷ f ∷ []) = tt
+open_line-within device files (d ∷ w ∷ f ∷ c ∷ []) = tt
+open_line-within device files (d ∷ w ∷ f ∷ c ∷ r ∷ []) =
     IfOk-then (descriptor_in d) _ _ (IsWithin device files) (descriptor-range d)
-    (λ fd low. IfOk-after (plays_in way) _ (IsWithin device files)
-    (λ plays. IfOk-after (format_in f) _ (IsWithin device files)
+    (λ fd low. IfOk-after (way_in w) _ (IsWithin device files)
+    (λ way. IfOk-after (format_in f) _ (IsWithin device files)
     (λ format. IfOk-after (layout_in c) _ (IsWithin device files)
     (λ layout. IfOk-then (rate_in r) _ _ (IsWithin device files) (number_within-range RATE_LEAST RATE_MOST r)
     (λ rate range. (low, record { least = range.0; most = range.1 }))))))
-open_line-within device files (d ∷ way ∷ f ∷ c ∷ r ∷ x ∷ more) = tt
+open_line-within device files (d ∷ w ∷ f ∷ c ∷ r ∷ x ∷ more) = tt
 
 write_line-within : (device : DeviceSeen) (files : List DataFileSeen) (arguments : List (List ℕ)) → IfOk (write_line arguments) (IsWithin device files)
 unfolding write_line
@@ -123,6 +124,15 @@ send_line-within device files (d ∷ f ∷ o ∷ l ∷ []) =
     (λ at. IfOk-then (length_in (size_of files file) at l) _ _ (IsWithin device files) (length_in-room (size_of files file) at l)
     (λ count room. (low, there, room)))))
 send_line-within device files (d ∷ f ∷ o ∷ l ∷ x ∷ more) = tt
+
+read_line-within : (device : DeviceSeen) (files : List DataFileSeen) (arguments : List (List ℕ)) → IfOk (read_line arguments) (IsWithin device files)
+unfolding read_line
+read_line-within device files [] = tt
+read_line-within device files (d ∷ []) = tt
+read_line-within device files (d ∷ l ∷ []) =
+    IfOk-then (descriptor_in d) _ _ (IsWithin device files) (descriptor-range d)
+    (λ fd low. IfOk-then (number_within 0 READ_BYTES l) _ _ (IsWithin device files) (number_within-range 0 READ_BYTES l) (λ count range. (low, range.1)))
+read_line-within device files (d ∷ l ∷ x ∷ more) = tt
 
 ioctl_line-within : (device : DeviceSeen) (files : List DataFileSeen) (arguments : List (List ℕ)) → IfOk (ioctl_line arguments) (IsWithin device files)
 unfolding ioctl_line
@@ -171,10 +181,11 @@ command_line-within device files word arguments =
     (either device files (bytes_eq word (codes "open")) (record { kept = open_line-within device files arguments })
     (either device files (bytes_eq word (codes "write")) (record { kept = write_line-within device files arguments })
     (either device files (bytes_eq word (codes "send")) (record { kept = send_line-within device files arguments })
+    (either device files (bytes_eq word (codes "read")) (record { kept = read_line-within device files arguments })
     (either device files (bytes_eq word (codes "ioctl")) (record { kept = ioctl_line-within device files arguments })
     (either device files (bytes_eq word (codes "close")) (record { kept = close_line-within device files arguments })
     (either device files (bytes_eq word (codes "intr")) (record { kept = interrupt_line-within device files arguments })
-    (either device files (bytes_eq word (codes "read")) (refused device files Unbuilt) (refused device files Word)))))))).kept
+    (refused device files Word)))))))).kept
 
 -- what each line asks for is within
 pub line_event-within : (device : DeviceSeen) (files : List DataFileSeen) (words : List (List ℕ))
@@ -186,9 +197,10 @@ line_event-within device files (word ∷ arguments) =
     (command_line-within device files word arguments) (λ event within. within)
 
 own_bytes-room : (device : DeviceSeen) (files : List DataFileSeen) (line : LineEvent) → IsWithin device files line → length (own_bytes line) ≤ WRITE_BYTES
-own_bytes-room device files (Open fd plays settings) within = omega arith
+own_bytes-room device files (Open fd way settings) within = omega arith
 own_bytes-room device files (Write fd bytes) within = within.1
 own_bytes-room device files (Send fd file at count) within = omega arith
+own_bytes-room device files (Read fd count) within = omega arith
 own_bytes-room device files (Ioctl fd request) within = omega arith
 own_bytes-room device files (Close fd) within = omega arith
 own_bytes-room device files (Intr frames) within = omega arith

@@ -1,17 +1,12 @@
 -- What holds of each script that is read: its events fit the device, and the limits are kept.
-use Rattle.std.proofs.Common.{◌≡◌, ℕ, ◌+◌, ◌*◌, ◌<◌, ◌≤◌, Bool, true, false, not, ◌&&◌, nat_le, nat_lt, cond, List, [], ◌∷◌, length, Option, Some, None, Result, Ok, Err, refl, subst, slice_get, ap, ◌∙◌, arith, IfOk}
+use Rattle.std.proofs.Common.{◌≡◌, ℕ, ◌+◌, ◌*◌, ◌<◌, ◌≤◌, Bool, true, false, ◌&&◌, nat_le, nat_lt, cond, List, [], ◌∷◌, length, Option, Some, None, Result, Ok, Err, refl, ap, ◌∙◌, arith, IfOk}
 use Rattle.std.specs.Option.{IfSome}
 use Rattle.std.proofs.lemmas.Bool.Decides.{nat_tests}
 use Rattle.std.proofs.lemmas.List.{length-append}
 use Rattle.std.proofs.lemmas.List.Elements.{All-nil, All-push, All-weaker}
 use Rattle.std.proofs.lemmas.List.Sums.{sum_by-append}
-use Rattle.pcm_wave.specs.declared.pool.Pool.{Pool}
-use Rattle.pcm_wave.specs.declared.pool.Source.{Source}
-use Rattle.pcm_wave.specs.declared.pool.Source.TheVariants.{Inline, File}
 use Rattle.pcm_wave.specs.DataFiles.{DataFileSeen}
-use Rattle.pcm_wave.specs.Pools.{HasBytes, body_in}
 use Rattle.pcm_oss.specs.declared.event.Event.{Event}
-use Rattle.pcm_oss.specs.declared.event.Event.TheVariants as events
 use Rattle.pcm_desk.specs.declared.limits.TheConstants.{DEVICE_BYTES, EVENTS}
 use Rattle.pcm_desk.specs.Device.{DeviceSeen, device_frame_bytes}
 use Rattle.pcm_desk.specs.Events.{Fits, all_frames_taken, frames_taken}
@@ -19,13 +14,14 @@ use Rattle.pcm_script.specs.declared.fault.ScriptKind.{ScriptKind}
 use Rattle.pcm_script.specs.declared.fault.ScriptKind.TheVariants.{Long}
 use Rattle.pcm_script.specs.declared.limits.TheConstants.{TEXT_BYTES}
 use Rattle.pcm_script.specs.declared.line_event.LineEvent.{LineEvent}
-use Rattle.pcm_script.specs.declared.line_event.LineEvent.TheVariants.{Open, Write, Send, Ioctl, Close, Intr}
+use Rattle.pcm_script.specs.declared.line_event.LineEvent.TheVariants.{Open, Write, Send, Read, Ioctl, Close, Intr}
 use Rattle.pcm_script.specs.declared.script.Script.{Script}
 use Rattle.pcm_script.specs.Words.{lines_of, words_of}
 use Rattle.pcm_script.specs.Commands.{line_event}
-use Rattle.pcm_script.specs.Collecting.{event_at, frames_asked, has_room, is_built, own_bytes, script_with, with_event, with_line}
+use Rattle.pcm_script.specs.Collecting.{event_at, frames_asked, has_room, own_bytes, script_with, with_event, with_line}
 use Rattle.pcm_script.specs.Lines.{AllFit, at_line, collected, bytes_taken, empty_script, lines_read, pool_of, script_read}
 use Rattle.pcm_script.proofs.Asked.{HasBlocks, IsWithin, line_event-within}
+use Rattle.pcm_script.proofs.Fitting.{Fits-more}
 use Rattle.pcm_script.proofs.Judgements.{IfOk-then, IfOk-either}
 
 pub record IsSound (device : DeviceSeen) (files : List DataFileSeen) (script : Script) : Type 0 where
@@ -36,39 +32,24 @@ pub record IsSound (device : DeviceSeen) (files : List DataFileSeen) (script : S
 
 -- ---- one event more
 
--- a pool with more bytes in its lines has what the other has
-HasBytes-more : (few many : Pool) (source : Source) (at count : ℕ) → few.files ≡ many.files → length few.inline_bytes ≤ length many.inline_bytes
-    → HasBytes few source at count → HasBytes many source at count
-HasBytes-more few many Inline at count same more has = record { has = has.has; within = omega (arith, has.within) }
-HasBytes-more few many (File place) at count same more has = record {
-  has = subst (λ (files : List DataFileSeen). place < length files) same has.has;
-  within = subst (λ (files : List DataFileSeen). at + count ≤ length (body_in (slice_get files place))) same has.within;
-}
-
-Fits-more : (device : DeviceSeen) (few many : Pool) (event : Event) → few.files ≡ many.files → length few.inline_bytes ≤ length many.inline_bytes
-    → Fits device few event → Fits device many event
-Fits-more device few many (events.Open fd way settings) same more fits = fits
-Fits-more device few many (events.Write fd source at count) same more fits = (fits.0, fits.1, HasBytes-more few many source at count same more fits.2)
-Fits-more device few many (events.Ioctl fd request) same more fits = fits
-Fits-more device few many (events.Close fd) same more fits = fits
-Fits-more device few many (events.Intr frames) same more fits = fits
-
 -- the event of a line fits
 event_at-fits : (device : DeviceSeen) (files : List DataFileSeen) (script : Script) (line : LineEvent) → HasBlocks device → IsWithin device files line
     → Fits device (pool_of files (script_with script line)) (event_at (length script.inline_bytes) line)
-event_at-fits device files script (Open fd plays settings) blocks within = within
+event_at-fits device files script (Open fd way settings) blocks within = within
 event_at-fits device files script (Write fd bytes) blocks within =
     (within.0, within.1, record { has = tt; within = omega (arith, length-append script.inline_bytes bytes) })
 event_at-fits device files script (Send fd file at count) blocks within = (within.0, tt, record { has = within.1; within = within.2 })
+event_at-fits device files script (Read fd count) blocks within = within
 event_at-fits device files script (Ioctl fd request) blocks within = within
 event_at-fits device files script (Close fd) blocks within = within
 event_at-fits device files script (Intr frames) blocks within = within blocks
 
 -- the place of its bytes changes nothing of the frames that an event takes
 frames_taken-event_at : (place : ℕ) (line : LineEvent) → frames_taken (event_at place line) ≡ frames_asked line
-frames_taken-event_at place (Open fd plays settings) = refl
+frames_taken-event_at place (Open fd way settings) = refl
 frames_taken-event_at place (Write fd bytes) = refl
 frames_taken-event_at place (Send fd file at count) = refl
+frames_taken-event_at place (Read fd count) = refl
 frames_taken-event_at place (Ioctl fd request) = refl
 frames_taken-event_at place (Close fd) = refl
 frames_taken-event_at place (Intr frames) = refl
@@ -96,17 +77,15 @@ script_with-sound device files script line sound fits few small =
 room_parts : (a b c d : ℕ) → (nat_lt a b && nat_le c d) ≡ true → (a < b) × (c ≤ d)
 room_parts a b c d both = grind (arith, nat_tests)
 
--- what passes two judgements, of which the first counts
-two_tests : {A E : Type 0} (room built : Bool) (one other : E) (value : A) (P : A → Type 0) → (room ≡ true → P value)
-    → IfOk (cond (not room) (Err one) (cond (not built) (Err other) (Ok value))) P
-two_tests true true one other value P passed = passed refl
-two_tests true false one other value P passed = tt
-two_tests false built one other value P passed = tt
+-- what a test lets through
+let_through : {A E : Type 0} (test : Bool) (value : A) (other : E) (P : A → Type 0) → (test ≡ true → P value) → IfOk (cond test (Ok value) (Err other)) P
+let_through true value other P passed = passed refl
+let_through false value other P passed = tt
 
 with_event-sound : (device : DeviceSeen) (files : List DataFileSeen) (script : Script) (line : LineEvent) → HasBlocks device → IsSound device files script → IsWithin device files line
     → IfOk (with_event device script line) (IsSound device files)
 with_event-sound device files script line blocks sound within =
-    two_tests (has_room device script (frames_asked line)) (is_built line) _ _ (script_with script line) (IsSound device files)
+    let_through (has_room device script (frames_asked line)) (script_with script line) Long (IsSound device files)
     (λ room.
     let parts = room_parts (length script.events) EVENTS ((script.device_frames + frames_asked line) * device_frame_bytes device) DEVICE_BYTES room in
     script_with-sound device files script line sound (event_at-fits device files script line blocks within) parts.0 parts.1)

@@ -1,32 +1,33 @@
 -- How the events of lines are collected: where their bytes stand, and what limits a script has.
-use Rattle.std.specs.Prelude.{ℕ, ◌+◌, ◌*◌, Bool, true, not, ◌&&◌, nat_le, nat_lt, if◌then◌else◌, List, [], ◌∷◌, ◌++◌, length, Option, Some, None, Result, Ok, Err}
+use Rattle.std.specs.Prelude.{ℕ, ◌+◌, ◌*◌, Bool, ◌&&◌, nat_le, nat_lt, if◌then◌else◌, List, [], ◌∷◌, ◌++◌, length, Option, Some, None, Result, Ok, Err}
 use Rattle.pcm_oss.specs.declared.event.Event.{Event}
 use Rattle.pcm_oss.specs.declared.event.Event.TheVariants as events
-use Rattle.pcm_oss.specs.declared.event.Way.TheVariants.{Play}
 use Rattle.pcm_wave.specs.declared.pool.Source.TheVariants.{Inline, File}
 use Rattle.pcm_desk.specs.declared.limits.TheConstants.{DEVICE_BYTES, EVENTS}
 use Rattle.pcm_desk.specs.Device.{DeviceSeen, device_frame_bytes}
 use Rattle.pcm_desk.specs.Events.{frames_taken}
 use Rattle.pcm_script.specs.declared.fault.ScriptKind.{ScriptKind}
-use Rattle.pcm_script.specs.declared.fault.ScriptKind.TheVariants.{Long, Unbuilt}
+use Rattle.pcm_script.specs.declared.fault.ScriptKind.TheVariants.{Long}
 use Rattle.pcm_script.specs.declared.line_event.LineEvent.{LineEvent}
-use Rattle.pcm_script.specs.declared.line_event.LineEvent.TheVariants.{Open, Write, Send, Ioctl, Close, Intr}
+use Rattle.pcm_script.specs.declared.line_event.LineEvent.TheVariants.{Open, Write, Send, Read, Ioctl, Close, Intr}
 use Rattle.pcm_script.specs.declared.script.Script.{Script}
 
 -- the bytes that a line names
 abbrev pub own_bytes : LineEvent → List ℕ
-own_bytes (Open fd plays settings) = []
+own_bytes (Open fd way settings) = []
 own_bytes (Write fd bytes) = bytes
 own_bytes (Send fd file at count) = []
+own_bytes (Read fd count) = []
 own_bytes (Ioctl fd request) = []
 own_bytes (Close fd) = []
 own_bytes (Intr frames) = []
 
 -- the event of a line whose own bytes stand at a place; to send is to write what stands in a file
 abbrev pub event_at : ℕ → LineEvent → Event
-event_at place (Open fd plays settings) = events.Open fd Play settings
+event_at place (Open fd way settings) = events.Open fd way settings
 event_at place (Write fd bytes) = events.Write fd Inline place (length bytes)
 event_at place (Send fd file at count) = events.Write fd (File file) at count
+event_at place (Read fd count) = events.Read fd count
 event_at place (Ioctl fd request) = events.Ioctl fd request
 event_at place (Close fd) = events.Close fd
 event_at place (Intr frames) = events.Intr frames
@@ -40,15 +41,6 @@ abbrev pub has_room : DeviceSeen → Script → ℕ → Bool
 has_room device script frames =
     nat_lt (length script.events) EVENTS && nat_le ((script.device_frames + frames) * device_frame_bytes device) DEVICE_BYTES
 
--- whether what a line asks for is built: so far no channel records
-abbrev pub is_built : LineEvent → Bool
-is_built (Open fd plays settings) = plays
-is_built (Write fd bytes) = true
-is_built (Send fd file at count) = true
-is_built (Ioctl fd request) = true
-is_built (Close fd) = true
-is_built (Intr frames) = true
-
 -- a script with one event more, whose bytes stand behind those of the events before it
 abbrev pub script_with : Script → LineEvent → Script
 script_with script line = record {
@@ -57,12 +49,9 @@ script_with script line = record {
   device_frames = script.device_frames + frames_asked line;
 }
 
--- The script with the event of a line, if it has room for it. Whether the line is built is judged last.
+-- the script with the event of a line, if it has room for it
 abbrev pub with_event : DeviceSeen → Script → LineEvent → Result Script ScriptKind
-with_event device script line =
-    if not (has_room device script (frames_asked line)) then Err Long
-    else if not (is_built line) then Err Unbuilt
-    else Ok (script_with script line)
+with_event device script line = if has_room device script (frames_asked line) then Ok (script_with script line) else Err Long
 
 -- the script with what a line was judged to ask for
 abbrev pub with_line : DeviceSeen → Script → Result (Option LineEvent) ScriptKind → Result Script ScriptKind

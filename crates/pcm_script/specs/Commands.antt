@@ -1,5 +1,5 @@
 -- What each command asks of its words, one judgement after another from left to right, and the event that it gives.
-use Rattle.std.specs.Prelude.{ℕ, ◌+◌, ◌-◌, Bool, true, false, nat_le, if◌then◌else◌, List, [], ◌∷◌, length, position, slice_get, Option, Some, None, Result, Ok, Err, codes}
+use Rattle.std.specs.Prelude.{ℕ, ◌+◌, ◌-◌, Bool, nat_le, if◌then◌else◌, List, [], ◌∷◌, length, position, slice_get, Option, Some, None, Result, Ok, Err, codes}
 use Rattle.std.specs.Result.{result_ok}
 use Rattle.std.specs.Str.{bytes_eq}
 use Rattle.hex.specs.Hex.{decode_of}
@@ -9,15 +9,17 @@ use Rattle.pcm_format.specs.declared.layout.Layout.{Layout}
 use Rattle.pcm_format.specs.declared.settings.TheConstants.{RATE_LEAST, RATE_MOST}
 use Rattle.pcm_format.specs.Formats.{code_of, format_named}
 use Rattle.pcm_format.specs.Layouts.{layout_of}
+use Rattle.pcm_oss.specs.declared.event.Way.{Way}
+use Rattle.pcm_oss.specs.declared.event.Way.TheVariants.{Play, Rec}
 use Rattle.pcm_wave.specs.DataFiles.{DataFileSeen}
 use Rattle.pcm_wave.specs.Pools.{body_in}
 use Rattle.pcm_desk.specs.declared.device.TheConstants.{OPENING}
-use Rattle.pcm_desk.specs.declared.limits.TheConstants.{DESCRIPTORS, WRITE_BYTES}
+use Rattle.pcm_desk.specs.declared.limits.TheConstants.{DESCRIPTORS, READ_BYTES, WRITE_BYTES}
 use Rattle.pcm_desk.specs.Device.{DeviceSeen, block_frames, ring_frames}
 use Rattle.pcm_script.specs.declared.fault.ScriptKind.{ScriptKind}
-use Rattle.pcm_script.specs.declared.fault.ScriptKind.TheVariants.{Word, Count, Name, Hex, Range, Unbuilt}
+use Rattle.pcm_script.specs.declared.fault.ScriptKind.TheVariants.{Word, Count, Name, Hex, Range}
 use Rattle.pcm_script.specs.declared.line_event.LineEvent.{LineEvent}
-use Rattle.pcm_script.specs.declared.line_event.LineEvent.TheVariants.{Open, Write, Send, Ioctl, Close, Intr}
+use Rattle.pcm_script.specs.declared.line_event.LineEvent.TheVariants.{Open, Write, Send, Read, Ioctl, Close, Intr}
 use Rattle.pcm_script.specs.declared.request.Setter.{Setter}
 use Rattle.pcm_script.specs.declared.request.Setter.TheVariants.{SetFmt, Speed, Channels, SetFragment, SetTrigger, SetPlayVol}
 use Rattle.pcm_script.specs.Steps.{◌>>=◌}
@@ -28,11 +30,11 @@ use Rattle.pcm_script.specs.Requests.{as_full, as_plain, request_named, request_
 abbrev pub descriptor_in : List ℕ → Result ℕ ScriptKind
 descriptor_in word = number_within 0 (DESCRIPTORS - 1) word
 
--- whether sound goes to the device; `rec` asks for the other way
-abbrev pub plays_in : List ℕ → Result Bool ScriptKind
-plays_in word =
-    if bytes_eq word (codes "play") then Ok true
-    else if bytes_eq word (codes "rec") then Ok false
+-- which way sound goes
+abbrev pub way_in : List ℕ → Result Way ScriptKind
+way_in word =
+    if bytes_eq word (codes "play") then Ok Play
+    else if bytes_eq word (codes "rec") then Ok Rec
     else Err Name
 
 abbrev pub or_fault : {A : Type 0} → Option A → ScriptKind → Result A ScriptKind
@@ -88,17 +90,17 @@ argument_in SetPlayVol word = number_within 0 most_argument word
 
 -- `open D WAY` and `open D WAY FORMAT CHANNELS RATE`
 unfoldable pub open_line : List (List ℕ) → Result LineEvent ScriptKind
-open_line (d ∷ way ∷ []) = do
+open_line (d ∷ w ∷ []) = do
   fd ← descriptor_in d
-  plays ← plays_in way
-  Ok (Open fd plays OPENING)
-open_line (d ∷ way ∷ f ∷ c ∷ r ∷ []) = do
+  way ← way_in w
+  Ok (Open fd way OPENING)
+open_line (d ∷ w ∷ f ∷ c ∷ r ∷ []) = do
   fd ← descriptor_in d
-  plays ← plays_in way
+  way ← way_in w
   format ← format_in f
   layout ← layout_in c
   rate ← rate_in r
-  Ok (Open fd plays (record { format = format; layout = layout; rate = rate }))
+  Ok (Open fd way (record { format = format; layout = layout; rate = rate }))
 open_line arguments = Err Count
 
 -- `write D HEX`
@@ -141,6 +143,14 @@ send_line files (d ∷ f ∷ o ∷ l ∷ []) = do
   Ok (Send fd file at count)
 send_line files arguments = Err Count
 
+-- `read D LENGTH`
+unfoldable pub read_line : List (List ℕ) → Result LineEvent ScriptKind
+read_line (d ∷ l ∷ []) = do
+  fd ← descriptor_in d
+  count ← number_within 0 READ_BYTES l
+  Ok (Read fd count)
+read_line arguments = Err Count
+
 -- `ioctl D NAME` and `ioctl D NAME A`. The name says how many words there are. Whether it is one is judged in its turn.
 unfoldable pub ioctl_line : List (List ℕ) → Result LineEvent ScriptKind
 ioctl_line (d ∷ name ∷ []) = do
@@ -171,16 +181,16 @@ interrupt_line device (n ∷ []) = do
   Ok (Intr frames)
 interrupt_line device arguments = Err Count
 
--- A command by its first word. The last command isn't built yet.
+-- a command by its first word
 unfoldable pub command_line : DeviceSeen → List DataFileSeen → List ℕ → List (List ℕ) → Result LineEvent ScriptKind
 command_line device files word arguments =
     if bytes_eq word (codes "open") then open_line arguments
     else if bytes_eq word (codes "write") then write_line arguments
     else if bytes_eq word (codes "send") then send_line files arguments
+    else if bytes_eq word (codes "read") then read_line arguments
     else if bytes_eq word (codes "ioctl") then ioctl_line arguments
     else if bytes_eq word (codes "close") then close_line arguments
     else if bytes_eq word (codes "intr") then interrupt_line device arguments
-    else if bytes_eq word (codes "read") then Err Unbuilt
     else Err Word
 
 -- What a line of these words asks for, judged by itself: nothing if it has none, else the event of its command.

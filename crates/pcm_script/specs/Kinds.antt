@@ -1,7 +1,7 @@
 -- The words that name the kinds of faults.
 use Rattle.std.specs.Prelude.{ℕ, List, codes}
 use Rattle.pcm_script.specs.declared.fault.ScriptKind.{ScriptKind}
-use Rattle.pcm_script.specs.declared.fault.ScriptKind.TheVariants.{Word, Count, Number, Name, Hex, Range, Long, Unbuilt}
+use Rattle.pcm_script.specs.declared.fault.ScriptKind.TheVariants.{Word, Count, Number, Name, Hex, Range, Long}
 
 -- the word that names a kind
 abbrev pub kind_word : ScriptKind → List ℕ
@@ -12,4 +12,3 @@ kind_word Name = codes "name"
 kind_word Hex = codes "hex"
 kind_word Range = codes "range"
 kind_word Long = codes "long"
-kind_word Unbuilt = codes "unbuilt"

@@ -1,5 +1,5 @@
 -- A script's text: each line is judged by itself, and then all are collected, up to the first that is refused.
-use Rattle.std.specs.Prelude.{ℕ, ◌+◌, ◌*◌, nat_lt, if◌then◌else◌, List, [], ◌∷◌, length, map, Option, Result, Ok, Err, All}
+use Rattle.std.specs.Prelude.{ℕ, ◌+◌, ◌*◌, nat_lt, if◌then◌else◌, List, [], ◌∷◌, length, map, Option, None, Result, Ok, Err, All}
 use Rattle.pcm_wave.specs.declared.pool.Pool.{Pool}
 use Rattle.pcm_wave.specs.DataFiles.{DataFileSeen}
 use Rattle.pcm_desk.specs.Device.{DeviceSeen, device_frame_bytes}
@@ -19,9 +19,9 @@ use Rattle.pcm_script.specs.Collecting.{with_line}
 abbrev pub empty_script : Script
 empty_script = record { events = []; inline_bytes = []; device_frames = 0 }
 
--- where the bytes of a script's events are found: in its own lines, and in data files
+-- where the bytes of a script's events are found: in its own lines, and in data files, of which it records none
 abbrev pub pool_of : List DataFileSeen → Script → Pool
-pool_of files script = record { files = files; inline_bytes = script.inline_bytes }
+pool_of files script = record { files = files; capture = None; inline_bytes = script.inline_bytes }
 
 -- each event fits the device, and names bytes that are there
 abbrev pub AllFit : DeviceSeen → List DataFileSeen → Script → Type 0

@@ -2,7 +2,7 @@
 
 ghost use Rattle.std.specs.Prelude.{◌≡◌, ◌+◌, ◌^◌, ◌<◌, ◌≤◌, IfOk, IfSome, length, position};
 ghost use Rattle.pcm_script.specs.Answers.{Gives};
-ghost use Rattle.pcm_script.specs.Commands.{argument_in, bytes_in, code_in, descriptor_in, file_in, format_in, is_file_named, layout_in, length_in, plays_in, rate_in, size_of};
+ghost use Rattle.pcm_script.specs.Commands.{argument_in, bytes_in, code_in, descriptor_in, file_in, format_in, is_file_named, layout_in, length_in, rate_in, size_of, way_in};
 
 use crate::ScriptKind;
 use crate::fault::LineFault;
@@ -11,6 +11,7 @@ use crate::request::Setter;
 use hex::FromHexError;
 use pcm_desk::{DESCRIPTORS, WRITE_BYTES};
 use pcm_format::{Format, Layout, RATE_LEAST, RATE_MOST};
+use pcm_oss::Way;
 use pcm_wave::DataFile;
 use std::alloc::Global;
 
@@ -21,14 +22,14 @@ pub(crate) fn descriptor_in(word: &[u8]) -> Result<u8, ScriptKind>
     Ok(number_within(0, DESCRIPTORS as u32 - 1, word)? as u8)
 }
 
-// Whether sound goes to the device.
-pub(crate) fn plays_in(word: &[u8]) -> Result<bool, ScriptKind>
-    ensures { result ≡ plays_in word.now }
+// Which way sound goes.
+pub(crate) fn way_in(word: &[u8]) -> Result<Way, ScriptKind>
+    ensures { result ≡ way_in word.now }
 {
     if word == b"play".as_slice() {
-        Ok(true)
+        Ok(Way::Play)
     } else if word == b"rec".as_slice() {
-        Ok(false)
+        Ok(Way::Rec)
     } else {
         Err(ScriptKind::Name)
     }

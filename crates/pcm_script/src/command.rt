@@ -3,19 +3,19 @@
 ghost use Rattle.std.specs.Prelude.{◌≡◌, ◌∷◌, []};
 ghost use Rattle.pcm_desk.specs.Device.{unfiltered};
 ghost use Rattle.pcm_script.specs.Answers.{Asks};
-ghost use Rattle.pcm_script.specs.Commands.{close_line, command_line, interrupt_line, ioctl_line, line_event, open_line, send_line, write_line};
+ghost use Rattle.pcm_script.specs.Commands.{close_line, command_line, interrupt_line, ioctl_line, line_event, open_line, read_line, send_line, write_line};
 ghost use Rattle.pcm_script.specs.Words.{lent};
 
 use crate::ScriptKind;
 use crate::argument::{
-    argument_in, bytes_in, descriptor_in, file_in, format_in, layout_in, length_in, plays_in,
-    rate_in, size_of,
+    argument_in, bytes_in, descriptor_in, file_in, format_in, layout_in, length_in, rate_in,
+    size_of, way_in,
 };
 use crate::fault::LineFault;
 use crate::line_event::LineEvent;
 use crate::number::{number_in, number_within};
 use crate::request::{full_request, plain_request};
-use pcm_desk::{Device, OPENING};
+use pcm_desk::{Device, OPENING, READ_BYTES};
 use pcm_format::{Bytes, Settings};
 use pcm_wave::DataFile;
 use std::alloc::Global;
@@ -53,14 +53,14 @@ fn command_line(
         write_line(alloc, arguments)
     } else if word == b"send".as_slice() {
         Ok(send_line(files, arguments)?)
+    } else if word == b"read".as_slice() {
+        Ok(read_line(arguments)?)
     } else if word == b"ioctl".as_slice() {
         Ok(ioctl_line(arguments)?)
     } else if word == b"close".as_slice() {
         Ok(close_line(arguments)?)
     } else if word == b"intr".as_slice() {
         Ok(interrupt_line(device, arguments)?)
-    } else if word == b"read".as_slice() {
-        Err(LineFault::Refused(ScriptKind::Unbuilt))
     } else {
         Err(LineFault::Refused(ScriptKind::Word))
     }
@@ -71,44 +71,36 @@ fn open_line(arguments: &[&[u8]]) -> Result<LineEvent, ScriptKind>
     ensures { result ≡ open_line (lent arguments.now) }
 {
     match arguments {
-        [d, way] => plain_open(d, way),
-        [d, way, f, c, r] => full_open(d, way, f, c, r),
+        [d, w] => plain_open(d, w),
+        [d, w, f, c, r] => full_open(d, w, f, c, r),
         _ => Err(ScriptKind::Count),
     }
 }
 
 // An open that names no settings.
 #[tactic(auto, unfolding(crate::specs::Commands::open_line))]
-fn plain_open(d: &[u8], way: &[u8]) -> Result<LineEvent, ScriptKind>
-    ensures { result ≡ open_line (d.now ∷ way.now ∷ []) }
+fn plain_open(d: &[u8], w: &[u8]) -> Result<LineEvent, ScriptKind>
+    ensures { result ≡ open_line (d.now ∷ w.now ∷ []) }
 {
     let fd = descriptor_in(d)?;
-    let plays = plays_in(way)?;
+    let way = way_in(w)?;
     let settings = OPENING;
-    Ok(LineEvent::Open {
-        fd,
-        plays,
-        settings,
-    })
+    Ok(LineEvent::Open { fd, way, settings })
 }
 
 // An open that names a format, a number of channels and a rate.
 #[tactic(auto, unfolding(crate::specs::Commands::open_line))]
-fn full_open(d: &[u8], way: &[u8], f: &[u8], c: &[u8], r: &[u8]) -> Result<LineEvent, ScriptKind>
-    ensures { result ≡ open_line (d.now ∷ way.now ∷ f.now ∷ c.now ∷ r.now ∷ []) }
+fn full_open(d: &[u8], w: &[u8], f: &[u8], c: &[u8], r: &[u8]) -> Result<LineEvent, ScriptKind>
+    ensures { result ≡ open_line (d.now ∷ w.now ∷ f.now ∷ c.now ∷ r.now ∷ []) }
 {
     let fd = descriptor_in(d)?;
-    let plays = plays_in(way)?;
+    let way = way_in(w)?;
     let settings = Settings {
         format: format_in(f)?,
         layout: layout_in(c)?,
         rate: rate_in(r)?,
     };
-    Ok(LineEvent::Open {
-        fd,
-        plays,
-        settings,
-    })
+    Ok(LineEvent::Open { fd, way, settings })
 }
 
 #[tactic(auto, unfolding(crate::specs::Commands::write_line))]
@@ -162,6 +154,26 @@ fn full_send(
         at: at as u32,
         count: count as u32,
     })
+}
+
+#[tactic(auto, unfolding(crate::specs::Commands::read_line))]
+fn read_line(arguments: &[&[u8]]) -> Result<LineEvent, ScriptKind>
+    ensures { result ≡ read_line (lent arguments.now) }
+{
+    match arguments {
+        [d, l] => full_read(d, l),
+        _ => Err(ScriptKind::Count),
+    }
+}
+
+// A read that names a descriptor and a number of bytes.
+#[tactic(auto, unfolding(crate::specs::Commands::read_line))]
+fn full_read(d: &[u8], l: &[u8]) -> Result<LineEvent, ScriptKind>
+    ensures { result ≡ read_line (d.now ∷ l.now ∷ []) }
+{
+    let fd = descriptor_in(d)?;
+    let count = number_within(0, READ_BYTES, l)?;
+    Ok(LineEvent::Read { fd, count })
 }
 
 #[tactic(auto, unfolding(crate::specs::Commands::ioctl_line))]

@@ -61,17 +61,13 @@ impl Draft {
         }
     }
 
-    // Adds the event of a line, where the limits allow it and it is built.
+    // Adds the event of a line, where the limits allow it.
     pub(crate) fn add(&mut self, device: &Device, line: &LineEvent) -> Result<(), LineFault>
         requires { length (own_bytes line.now) ≤ WRITE_BYTES }
         ensures { Gives (λ _. self.new) result (with_event (unfiltered device.now) self.old line.now) }
     {
         if !self.has_room(device, line.frames()) {
             return Err(LineFault::Refused(ScriptKind::Long));
-        }
-        // Judged after all else.
-        if !line.is_built() {
-            return Err(LineFault::Refused(ScriptKind::Unbuilt));
         }
         let place = self.inline_bytes.len() as u32;
         self.events.push(line.event_at(place))?;

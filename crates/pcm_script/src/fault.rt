@@ -22,8 +22,6 @@ pub enum ScriptKind {
     Range,
     /// The text, the events or the device's bytes pass their limit.
     Long,
-    /// The line asks for what this program doesn't do yet.
-    Unbuilt,
 }
 
 impl ScriptKind {
@@ -41,7 +39,6 @@ impl ScriptKind {
             ScriptKind::Hex => "hex",
             ScriptKind::Range => "range",
             ScriptKind::Long => "long",
-            ScriptKind::Unbuilt => "unbuilt",
         }
     }
 }

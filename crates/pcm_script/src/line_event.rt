@@ -12,7 +12,7 @@ use pcm_wave::Source;
 pub(crate) enum LineEvent {
     Open {
         fd: u8,
-        plays: bool,
+        way: Way,
         settings: Settings,
     },
     Write {
@@ -23,6 +23,10 @@ pub(crate) enum LineEvent {
         fd: u8,
         file: usize,
         at: u32,
+        count: u32,
+    },
+    Read {
+        fd: u8,
         count: u32,
     },
     Ioctl {
@@ -38,7 +42,7 @@ pub(crate) enum LineEvent {
 }
 
 impl LineEvent {
-    ghost use Rattle.pcm_script.specs.Collecting.{event_at, frames_asked, is_built, own_bytes};
+    ghost use Rattle.pcm_script.specs.Collecting.{event_at, frames_asked, own_bytes};
 
     // The bytes that the line spells.
     pub(crate) fn bytes(&self) -> &[u8]
@@ -60,25 +64,15 @@ impl LineEvent {
         }
     }
 
-    // Whether this program does what the line asks for.
-    pub(crate) fn is_built(&self) -> bool
-        ensures { result ≡ is_built self.now }
-    {
-        match self {
-            LineEvent::Open { plays, .. } => *plays,
-            _ => true,
-        }
-    }
-
     // The event, with a place for its bytes.
     pub(crate) fn event_at(&self, place: u32) -> Event
         requires { length (own_bytes self.now) ≤ WRITE_BYTES }
         ensures { result ≡ event_at place self.now }
     {
         match self {
-            LineEvent::Open { fd, settings, .. } => Event::Open {
+            LineEvent::Open { fd, way, settings } => Event::Open {
                 fd: *fd,
-                way: Way::Play,
+                way: *way,
                 settings: *settings,
             },
             LineEvent::Write { fd, bytes } => Event::Write {
@@ -96,6 +90,10 @@ impl LineEvent {
                 fd: *fd,
                 source: Source::File(*file),
                 at: *at,
+                len: *count,
+            },
+            LineEvent::Read { fd, count } => Event::Read {
+                fd: *fd,
                 len: *count,
             },
             LineEvent::Ioctl { fd, request } => Event::Ioctl {

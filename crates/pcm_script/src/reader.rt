@@ -47,7 +47,7 @@ pub fn script_of(
     let mut draft = Draft::new(alloc);
     let mut line = 1;
     for text in bytes.split(|byte| *byte == b'\n') {
-        match read_line(alloc, &mut draft, device, files, text) {
+        match add_line(alloc, &mut draft, device, files, text) {
             Ok(()) => line += 1,
             Err(LineFault::Refused(kind)) => {
                 return Err(ScriptFault::Refused(Refusal { line, kind }));
@@ -59,7 +59,7 @@ pub fn script_of(
 }
 
 // Adds what a line asks for.
-fn read_line(
+fn add_line(
     alloc: Global,
     draft: &mut Draft,
     device: &Device,

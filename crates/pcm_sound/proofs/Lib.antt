@@ -5,3 +5,7 @@ pub mod Stories
 pub mod Blocks
 pub mod DeviceLists
 pub mod Turns
+pub mod Recordings
+pub mod Recorded
+pub mod Following
+pub mod Isolation

@@ -7,11 +7,12 @@ use Rattle.std.proofs.lemmas.Bool.Decides.{nat_tests}
 use Rattle.std.proofs.lemmas.List.Elements.{All-nil}
 use Rattle.pcm_format.specs.declared.settings.Settings.{Settings}
 use Rattle.pcm_oss.specs.declared.event.Event.{Event}
-use Rattle.pcm_oss.specs.declared.event.Event.TheVariants.{Open, Write, Ioctl, Close, Intr}
+use Rattle.pcm_oss.specs.declared.event.Event.TheVariants.{Open, Write, Read, Ioctl, Close, Intr}
 use Rattle.pcm_oss.specs.declared.event.Way.{Way}
+use Rattle.pcm_oss.specs.declared.event.Way.TheVariants.{Play, Rec}
 use Rattle.pcm_oss.specs.declared.request.Request.{Request}
 use Rattle.pcm_wave.specs.declared.pool.Pool.{Pool}
-use Rattle.pcm_oss.specs.declared.reply.Errno.TheVariants.{Exist}
+use Rattle.pcm_oss.specs.declared.reply.Errno.TheVariants.{Exist, Inval}
 use Rattle.pcm_oss.specs.Volumes.{gain_of}
 use Rattle.pcm_oss.proofs.Limits.{usual-fragments}
 use Rattle.pcm_wave.specs.declared.pool.Source.{Source}
@@ -20,10 +21,13 @@ use Rattle.pcm_feeder.specs.declared.stage.Gain.{Gain}
 use Rattle.pcm_feeder.specs.Limits.{IsRate}
 use Rattle.pcm_desk.specs.declared.book.Book.{Book}
 use Rattle.pcm_desk.specs.declared.device.Held.{Held}
+use Rattle.pcm_desk.specs.declared.record_book.RecordBook.{RecordBook}
+use Rattle.pcm_desk.specs.RecordBooks as records
+use Rattle.pcm_desk.specs.RecordRequests as record_requests
 use Rattle.pcm_desk.specs.Device.{DeviceSeen, IsDevice, play_slots, rate_between}
 use Rattle.pcm_desk.specs.Books.{begun, is_draining, write_turn}
 use Rattle.pcm_desk.specs.Safe.{BookIsSafe}
-use Rattle.pcm_desk.specs.Desk.{Desk, DeskTurn, unopened, held_by, least_free, book_at, with_book, with_descriptor, refusing, open_in, open_turn, write_on, asking, ioctl_on, close_on, closing, mixing, interrupt_turn, after, rate_at}
+use Rattle.pcm_desk.specs.Desk.{Desk, DeskTurn, unopened, held_by, least_free, least_free_record, book_at, record_at, by_way, with_book, with_record, with_descriptor, refusing, open_play, open_record, open_turn, play_turn, record_turn, turning, write_on, read_on, asking, ioctl_on, close_on, close_play, close_record, closing, mixing, interrupt_turn, after, rate_at}
 use Rattle.pcm_desk.specs.Events.{Fits, frames_taken}
 use Rattle.pcm_desk.proofs.Safe.{unstarted, safe-begun, safe-write, safe-close, safe-refilled, settings-refilled}
 use Rattle.pcm_desk.proofs.Asking.{safe-ask}
@@ -153,41 +157,79 @@ leaves-with device mixed desk at book safe valid = record {
 leaves-descriptor : (device : DeviceSeen) (mixed : ℕ) (old new : Desk) (fd : ℕ) (held : Option Held) → LeavesSlots device mixed old new → LeavesSlots device mixed old (with_descriptor new fd held)
 leaves-descriptor device mixed old new fd held l = record { safe = l.safe; slots = l.slots; handed_same = l.handed_same; mixed_same = l.mixed_same }
 
--- an open sets the book of the least free slot
-pub leaves-open_in : (device : DeviceSeen) (mixed : ℕ) (found : Option ℕ) (desk : Desk) (fd : ℕ) (way : Way) (settings : Settings) → IsRate settings.rate → LeavesSlots device mixed desk (open_in found desk fd way settings).desk
-leaves-open_in device mixed None desk fd way settings rate = stays device mixed desk
-leaves-open_in device mixed (Some at) desk fd way settings rate =
-    leaves-descriptor device mixed desk (with_book desk at (begun settings)) fd (Some (record { way = way; slot = at }))
+-- a record book is set
+leaves-record : (device : DeviceSeen) (mixed : ℕ) (desk : Desk) (at : ℕ) (book : RecordBook) → LeavesSlots device mixed desk (with_record desk at book)
+leaves-record device mixed desk at book =
+    record { safe = λ slot s. s; slots = λ slot runs s v. untold-same device mixed (book_at device desk slot) runs v; handed_same = refl; mixed_same = refl }
+
+-- an open sets the book of the least free slot of its way
+leaves-open_play : (device : DeviceSeen) (mixed : ℕ) (found : Option ℕ) (desk : Desk) (fd : ℕ) (settings : Settings) → IsRate settings.rate → LeavesSlots device mixed desk (open_play found desk fd settings).desk
+leaves-open_play device mixed None desk fd settings rate = stays device mixed desk
+leaves-open_play device mixed (Some at) desk fd settings rate =
+    leaves-descriptor device mixed desk (with_book desk at (begun settings)) fd (Some (record { way = Play; slot = at }))
     (leaves-with device mixed desk at (begun settings) (λ s. safe-begun (rate_between device settings) settings)
     (λ runs s v. untold-empty device mixed (book_at device desk at) (begun settings) runs refl refl rate v.pieces v.own))
+
+leaves-open_record : (device : DeviceSeen) (mixed : ℕ) (found : Option ℕ) (desk : Desk) (fd : ℕ) (settings : Settings) → LeavesSlots device mixed desk (open_record found desk fd settings).desk
+leaves-open_record device mixed None desk fd settings = stays device mixed desk
+leaves-open_record device mixed (Some at) desk fd settings =
+    leaves-descriptor device mixed desk (with_record desk at (records.begun settings)) fd (Some (record { way = Rec; slot = at }))
+    (leaves-record device mixed desk at (records.begun settings))
+
+leaves-open_way : (device : DeviceSeen) (mixed : ℕ) (desk : Desk) (fd : ℕ) (way : Way) (settings : Settings) → IsRate settings.rate
+    → LeavesSlots device mixed desk (by_way way (open_play (least_free desk.play) desk fd settings) (open_record (least_free_record desk.recording) desk fd settings)).desk
+leaves-open_way device mixed desk fd Play settings rate = leaves-open_play device mixed (least_free desk.play) desk fd settings rate
+leaves-open_way device mixed desk fd Rec settings rate = leaves-open_record device mixed (least_free_record desk.recording) desk fd settings
 
 -- or is refused
 pub leaves-open_turn : (device : DeviceSeen) (mixed : ℕ) (desk : Desk) (fd : ℕ) (way : Way) (settings : Settings) → IsRate settings.rate → LeavesSlots device mixed desk (open_turn desk fd way settings).desk
 leaves-open_turn device mixed desk fd way settings rate =
-    elim (is_some (held_by desk fd)) as (λ (b : Bool). LeavesSlots device mixed desk (cond {A = DeskTurn} b (refusing desk Exist) (open_in (least_free desk.play) desk fd way settings)).desk) [
+    elim (is_some (held_by desk fd)) as (λ (b : Bool). LeavesSlots device mixed desk (cond {A = DeskTurn} b (refusing desk Exist) (by_way way (open_play (least_free desk.play) desk fd settings) (open_record (least_free_record desk.recording) desk fd settings))).desk) [
       | true ↦ stays device mixed desk
-      | false ↦ leaves-open_in device mixed (least_free desk.play) desk fd way settings rate
+      | false ↦ leaves-open_way device mixed desk fd way settings rate
     ]
+
+-- an event of a descriptor, whatever it does to a channel of each way
+leaves-turning : (device : DeviceSeen) (mixed : ℕ) (desk : Desk) (play recording : ℕ → DeskTurn) (held : Option Held) → ((slot : ℕ) → LeavesSlots device mixed desk (play slot).desk) → ((slot : ℕ) → LeavesSlots device mixed desk (recording slot).desk)
+    → LeavesSlots device mixed desk (turning play recording held desk).desk
+leaves-turning device mixed desk play recording None p r = stays device mixed desk
+leaves-turning device mixed desk play recording (Some held) p r =
+    elim held.way as (λ (way : Way). LeavesSlots device mixed desk (by_way way (play held.slot) (recording held.slot)).desk) [
+      | Play ↦ p held.slot
+      | Rec ↦ r held.slot
+    ]
+
+-- a read leaves all slots that play
+pub leaves-read_on : (device : DeviceSeen) (mixed : ℕ) (held : Option Held) (desk : Desk) (count : ℕ) → LeavesSlots device mixed desk (read_on device held desk count).desk
+leaves-read_on device mixed held desk count =
+    leaves-turning device mixed desk (λ slot. refusing desk Inval) (record_turn device (records.read_turn count) desk) held (λ slot. stays device mixed desk)
+    (λ slot. leaves-record device mixed desk slot (records.read_turn count (record_at device desk slot)).book)
 
 -- a request leaves the counts of its book, or nothing of its run
 pub leaves-ioctl_on : (device : DeviceSeen) (mixed : ℕ) (held : Option Held) (desk : Desk) (request : Request) → IsDevice device → HaveRates device desk → LeavesSlots device mixed desk (ioctl_on device held desk request).desk
-leaves-ioctl_on device mixed None desk request d rates = stays device mixed desk
-leaves-ioctl_on device mixed (Some held) desk request d rates =
-    let book : Book = book_at device desk held.slot in
+leaves-ioctl_on device mixed held desk request d rates =
+    leaves-turning device mixed desk (play_turn device (asking device request) desk) (record_turn device (record_requests.ask_turn request) desk) held
+    (λ slot.
+    let book : Book = book_at device desk slot in
     let asked : Book = (asking device request book).book in
-    leaves-with device mixed desk held.slot asked (safe-asking device request book d (rates held.slot))
-    (λ runs s v. untold-leaves device mixed book asked runs (ask-leaves (rate_at device book) request book s) (ask-rate (rate_at device book) request book v.settings) v)
+    leaves-with device mixed desk slot asked (safe-asking device request book d (rates slot))
+    (λ runs s v. untold-leaves device mixed book asked runs (ask-leaves (rate_at device book) request book s) (ask-rate (rate_at device book) request book v.settings) v))
+    (λ slot. leaves-record device mixed desk slot (record_requests.ask_turn request (record_at device desk slot)).book)
 
 -- and so does a close
 pub leaves-close_on : (device : DeviceSeen) (mixed : ℕ) (held : Option Held) (desk : Desk) (fd : ℕ) → IsDevice device → HaveRates device desk → LeavesSlots device mixed desk (close_on device held desk fd).desk
-leaves-close_on device mixed None desk fd d rates = stays device mixed desk
-leaves-close_on device mixed (Some held) desk fd d rates =
-    let book : Book = book_at device desk held.slot in
+leaves-close_on device mixed held desk fd d rates =
+    leaves-turning device mixed desk (close_play device desk fd) (close_record device desk fd) held
+    (λ slot.
+    let book : Book = book_at device desk slot in
     let closed : Book = closing device book in
-    leaves-descriptor device mixed desk (with_book desk held.slot closed) fd None
-    (leaves-with device mixed desk held.slot closed (safe-closing device book d (rates held.slot))
+    leaves-descriptor device mixed desk (with_book desk slot closed) fd None
+    (leaves-with device mixed desk slot closed (safe-closing device book d (rates slot))
     (λ runs s v. untold-leaves device mixed book closed runs (close-leaves (rate_at device book) book)
-    (subst (λ (settings : Settings). IsRate settings.rate) (sym (close-keeps (rate_at device book) book).settings) v.settings) v))
+    (subst (λ (settings : Settings). IsRate settings.rate) (sym (close-keeps (rate_at device book) book).settings) v.settings) v)))
+    (λ slot.
+    let closed : RecordBook = records.closed (record_at device desk slot) in
+    leaves-descriptor device mixed desk (with_record desk slot closed) fd None (leaves-record device mixed desk slot closed))
 
 -- a write leaves each slot's book with some of its bytes, or as it was
 pub record Writes (device : DeviceSeen) (length : ℕ) (old new : Desk) : Type 0 where
@@ -195,13 +237,15 @@ pub record Writes (device : DeviceSeen) (length : ℕ) (old new : Desk) : Type 0
   pub handed_same : new.handed ≡ old.handed
   pub mixed_same : new.mixed ≡ old.mixed
 
-pub writes-write_on : (device : DeviceSeen) (held : Option Held) (desk : Desk) (length : ℕ) → Writes device length desk (write_on device held desk length).desk
-writes-write_on device None desk length = record { slots = λ slot. writes-nothing length (book_at device desk slot); handed_same = refl; mixed_same = refl }
-writes-write_on device (Some held) desk length =
-    let before : Book = book_at device desk held.slot in
+writes_none : (device : DeviceSeen) (desk : Desk) (length : ℕ) → Writes device length desk desk
+writes_none device desk length = record { slots = λ slot. writes-nothing length (book_at device desk slot); handed_same = refl; mixed_same = refl }
+
+writes_at : (device : DeviceSeen) (desk : Desk) (length at : ℕ) → Writes device length desk (play_turn device (write_turn length) desk at).desk
+writes_at device desk length at =
+    let before : Book = book_at device desk at in
     let book : Book = (write_turn length before).book in
     record {
-      slots = λ slot. elim (book_at-with device desk held.slot slot book) [
+      slots = λ slot. elim (book_at-with device desk at slot book) [
         | inl here ↦ subst (λ (b : Book). WritesSome length (book_at device desk slot) b) (sym here.1)
             (subst (λ (s : ℕ). WritesSome length (book_at device desk s) book) (sym here.0) (write_turn-writes length before))
         | inr same ↦ subst (λ (b : Book). WritesSome length (book_at device desk slot) b) (sym same) (writes-nothing length (book_at device desk slot))
@@ -210,14 +254,30 @@ writes-write_on device (Some held) desk length =
       mixed_same = refl;
     }
 
+pub writes-write_on : (device : DeviceSeen) (held : Option Held) (desk : Desk) (length : ℕ) → Writes device length desk (write_on device held desk length).desk
+writes-write_on device None desk length = writes_none device desk length
+writes-write_on device (Some held) desk length =
+    elim held.way as (λ (way : Way). Writes device length desk (by_way way (play_turn device (write_turn length) desk held.slot) (refusing desk Inval)).desk) [
+      | Play ↦ writes_at device desk length held.slot
+      | Rec ↦ writes_none device desk length
+    ]
+
 -- and safe books
+safe_written_at : (device : DeviceSeen) (desk : Desk) (count at slot : ℕ) → IsDevice device → HaveRates device desk → IsSafeAt device (book_at device desk slot)
+    → IsSafeAt device (book_at device (play_turn device (write_turn count) desk at).desk slot)
+safe_written_at device desk count at slot d rates s =
+    let book : Book = book_at device desk at in
+    safe-with device desk at slot (write_turn count book).book s
+    (λ e. safe-written device count book d (rates at) (subst (λ (k : ℕ). IsSafeAt device (book_at device desk k)) e s))
+
 pub safe-write_on : (device : DeviceSeen) (held : Option Held) (desk : Desk) (count slot : ℕ) → IsDevice device → HaveRates device desk → IsSafeAt device (book_at device desk slot)
     → IsSafeAt device (book_at device (write_on device held desk count).desk slot)
 safe-write_on device None desk count slot d rates s = s
 safe-write_on device (Some held) desk count slot d rates s =
-    let book : Book = book_at device desk held.slot in
-    safe-with device desk held.slot slot (write_turn count book).book s
-    (λ e. safe-written device count book d (rates held.slot) (subst (λ (k : ℕ). IsSafeAt device (book_at device desk k)) e s))
+    elim held.way as (λ (way : Way). IsSafeAt device (book_at device (by_way way (play_turn device (write_turn count) desk held.slot) (refusing desk Inval)).desk slot)) [
+      | Play ↦ safe_written_at device desk count held.slot slot d rates s
+      | Rec ↦ s
+    ]
 
 -- as many bytes as are asked for are there
 pub length-bytes_at : (pool : Pool) (source : Source) (at count : ℕ) → at + count ≤ length (source_bytes pool source) → length (bytes_at pool source at count) ≡ count
@@ -280,6 +340,10 @@ keeps-write device pool story fd source at count h v =
       mixed_same = w.mixed_same;
     }
 
+keeps-read : (device : DeviceSeen) (pool : Pool) (story : Story) (fd count : ℕ) → StoryIsValid device story → Keeps device pool story (Read fd count)
+keeps-read device pool story fd count v =
+    keeps-left device pool story (Read fd count) (leaves-read_on device story.desk.mixed (held_by story.desk fd) story.desk count) (λ slot. refl) v
+
 keeps-ioctl : (device : DeviceSeen) (pool : Pool) (story : Story) (fd : ℕ) (request : Request) → StoryIsValid device story → Keeps device pool story (Ioctl fd request)
 keeps-ioctl device pool story fd request v =
     keeps-left device pool story (Ioctl fd request) (leaves-ioctl_on device story.desk.mixed (held_by story.desk fd) story.desk request v.limits (rates_of device story v)) (λ slot. refl) v
@@ -292,6 +356,7 @@ keeps-close device pool story fd v =
 pub keeps : (device : DeviceSeen) (pool : Pool) (story : Story) (event : Event) → Fits device pool event → frames_taken event ≡ 0 → StoryIsValid device story → Keeps device pool story event
 keeps device pool story (Open fd way settings) fits none v = keeps-open device pool story fd way settings fits.1 v
 keeps device pool story (Write fd source at count) fits none v = keeps-write device pool story fd source at count fits.2.within v
+keeps device pool story (Read fd count) fits none v = keeps-read device pool story fd count v
 keeps device pool story (Ioctl fd request) fits none v = keeps-ioctl device pool story fd request v
 keeps device pool story (Close fd) fits none v = keeps-close device pool story fd v
 keeps device pool story (Intr n) fits none v = absurd (let some = fits.0 in omega arith)
@@ -352,6 +417,7 @@ valid-interrupted device pool story n v = record {
 pub valid-told : (device : DeviceSeen) (pool : Pool) (story : Story) (event : Event) → Fits device pool event → StoryIsValid device story → StoryIsValid device (told device pool story event)
 valid-told device pool story (Open fd way settings) fits v = valid-kept device pool story (Open fd way settings) (keeps-open device pool story fd way settings fits.1 v) v
 valid-told device pool story (Write fd source at count) fits v = valid-kept device pool story (Write fd source at count) (keeps-write device pool story fd source at count fits.2.within v) v
+valid-told device pool story (Read fd count) fits v = valid-kept device pool story (Read fd count) (keeps-read device pool story fd count v) v
 valid-told device pool story (Ioctl fd request) fits v = valid-kept device pool story (Ioctl fd request) (keeps-ioctl device pool story fd request v) v
 valid-told device pool story (Close fd) fits v = valid-kept device pool story (Close fd) (keeps-close device pool story fd v) v
 valid-told device pool story (Intr n) fits v = valid-interrupted device pool story n v
@@ -389,6 +455,7 @@ sounding-carrying device pool story (Write fd source at count) gain slot positio
     let new : Book = book_at device (after device story.desk (Write fd source at count)).desk slot in
     sounding-taking device gain story.desk.mixed position (bytes_at pool source at (new.written - old.written)) old (story.runs slot) v.limits (v.slots slot)
     (written_undrained pool source at count old new ((writes-write_on device (held_by story.desk fd) story.desk count).slots slot))
+sounding-carrying device pool story (Read fd count) gain slot position v h = refl
 sounding-carrying device pool story (Ioctl fd request) gain slot position v h = refl
 sounding-carrying device pool story (Close fd) gain slot position v h = refl
 sounding-carrying device pool story (Intr n) gain slot position v h = sounding-playing device gain story.desk.mixed n position (book_at device story.desk slot) (story.runs slot) h

@@ -1,6 +1,7 @@
 pub mod Plans
 pub mod Gains
 pub mod Runs
+pub mod Recordings
 pub mod Story
 pub mod Replies
 pub mod Mix

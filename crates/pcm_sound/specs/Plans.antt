@@ -1,11 +1,11 @@
--- What a client's frames become on their way into the mix.
+-- What a client's frames become on their way into the mix, and the device's on their way to a client.
 use Rattle.std.specs.Prelude.{ℕ, ℤ, List}
 use Rattle.pcm_format.specs.declared.settings.Settings.{Settings}
-use Rattle.pcm_format.specs.Frames.{Frame, frames}
+use Rattle.pcm_format.specs.Frames.{Frame, frames, spelled_frames}
 use Rattle.pcm_feeder.specs.declared.stage.Gain.{Gain}
 use Rattle.pcm_feeder.specs.Streams.{interleaved}
-use Rattle.pcm_plan.specs.Through.{out, outs}
-use Rattle.pcm_desk.specs.Device.{DeviceSeen, filters_of, plan_between}
+use Rattle.pcm_plan.specs.Through.{out, outs, recs}
+use Rattle.pcm_desk.specs.Device.{DeviceSeen, filters_of, plan_between, record_plan_between}
 
 -- frame k that a client's frames give to the mix, at a gain: what its plan makes of them
 abbrev pub given_frame : DeviceSeen → Settings → List Frame → ℕ → Gain → Frame
@@ -15,3 +15,8 @@ given_frame device settings frames k gain = out (plan_between device settings) (
 abbrev pub given_samples : DeviceSeen → Gain → Settings → List ℕ → ℕ → ℕ → List ℤ
 given_samples device gain settings bytes from count =
     interleaved (outs (plan_between device settings) (filters_of device) gain (frames settings bytes) from count)
+
+-- the bytes of so many frames that the device's frames give to a client that records, from frame `from` on
+abbrev pub recorded_bytes : DeviceSeen → Settings → List Frame → ℕ → ℕ → List ℕ
+recorded_bytes device settings frames from count =
+    spelled_frames settings.format (recs (record_plan_between device settings) (filters_of device) frames from count)

@@ -2,7 +2,7 @@
 use Rattle.std.specs.Prelude.{ℕ, ◌+◌, ◌-◌, Bool, true, false, not, ◌&&◌, ◌||◌, nat_lt, nat_le, ◌==◌, if◌then◌else◌, List, [], ◌∷◌, ◌++◌, Option, Some, None, find}
 use Rattle.pcm_format.specs.declared.settings.Settings.{Settings}
 use Rattle.pcm_oss.specs.declared.event.Event.{Event}
-use Rattle.pcm_oss.specs.declared.event.Event.TheVariants.{Open, Write, Ioctl, Close, Intr}
+use Rattle.pcm_oss.specs.declared.event.Event.TheVariants.{Open, Write, Read, Ioctl, Close, Intr}
 use Rattle.pcm_oss.specs.declared.request.Request.{Request}
 use Rattle.pcm_oss.specs.declared.request.Request.TheVariants.{SetFmt, Speed, Channels, GetFmts, GetCaps, GetBlkSize, SetFragment, GetOSpace, GetISpace, GetOPtr, GetIPtr, GetODelay, GetError, SetTrigger, GetTrigger, SetPlayVol, GetPlayVol, Post, Sync, Halt}
 use Rattle.pcm_wave.specs.declared.pool.Pool.{Pool}
@@ -109,6 +109,7 @@ asks_drop Halt = true
 abbrev pub drops : Event → Bool
 drops (Open fd way settings) = false
 drops (Write fd source at count) = false
+drops (Read fd count) = false
 drops (Ioctl fd request) = asks_drop request
 drops (Close fd) = false
 drops (Intr n) = false
@@ -130,6 +131,7 @@ marking position event old new (run ∷ runs) = marked position event old new ru
 abbrev pub carrying : DeviceSeen → Pool → Desk → Event → Book → Book → List Run → List Run
 carrying device pool desk (Open fd way settings) old new runs = runs
 carrying device pool desk (Write fd source at count) old new runs = taking (bytes_at pool source at (new.written - old.written)) old runs
+carrying device pool desk (Read fd count) old new runs = runs
 carrying device pool desk (Ioctl fd request) old new runs = runs
 carrying device pool desk (Close fd) old new runs = runs
 carrying device pool desk (Intr n) old new runs = playing device desk.mixed (mixed_by device desk n) old runs

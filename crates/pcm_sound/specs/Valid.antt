@@ -1,6 +1,6 @@
--- What holds of every story of events that fit: the newest run is what its book counts, and the pieces of a run lie
--- within its stream and in the past.
-use Rattle.std.specs.Prelude.{◌≡◌, ℕ, ◌+◌, ◌<◌, ◌≤◌, Bool, true, if◌then◌else◌, List, [], ◌∷◌, length, All}
+-- What holds of every story of events that fit: the newest run is what its book counts, the pieces of a run lie
+-- within its stream and in the past, and a recording is what its book counts.
+use Rattle.std.specs.Prelude.{◌≡◌, ℕ, ◌+◌, ◌<◌, ◌≤◌, Bool, true, if◌then◌else◌, List, [], ◌∷◌, length, take, All}
 use Rattle.pcm_format.specs.Frames.{whole_frames}
 use Rattle.pcm_rate.specs.declared.rate.Rate.{Rate}
 use Rattle.pcm_rate.specs.Rates.{can, len}
@@ -9,9 +9,15 @@ use Rattle.pcm_desk.specs.declared.book.Book.{Book}
 use Rattle.pcm_desk.specs.Device.{DeviceSeen, IsDevice, rate_between}
 use Rattle.pcm_desk.specs.Books.{is_draining, is_started}
 use Rattle.pcm_desk.specs.Safe.{BookIsSafe}
-use Rattle.pcm_desk.specs.Desk.{book_at, rate_at}
+use Rattle.pcm_desk.specs.declared.record_book.RecordBook.{RecordBook}
+use Rattle.pcm_desk.specs.RecordBooks.{is_running}
+use Rattle.pcm_desk.specs.RecordSafe.{RecordIsSafe}
+use Rattle.pcm_desk.specs.Desk.{book_at, rate_at, record_at, record_rate_at}
+use Rattle.pcm_wave.specs.declared.pool.Pool.{Pool}
 use Rattle.pcm_sound.specs.Gains.{book_gain, last_gain}
 use Rattle.pcm_sound.specs.Runs.{Piece, Run}
+use Rattle.pcm_sound.specs.Plans.{recorded_bytes}
+use Rattle.pcm_sound.specs.Recordings.{Recording, recorded_frames}
 use Rattle.pcm_sound.specs.Story.{Story}
 
 -- how many frames of the mix so many frames of a run give: those that they allow, or all that they last for once no more comes
@@ -57,3 +63,23 @@ pub record StoryIsValid (device : DeviceSeen) (story : Story) : Type 0 where
   pub gains : (slot position : ℕ) → story.desk.mixed ≤ position → last_gain (story.gains slot) position ≡ book_gain (book_at device story.desk slot)
   -- what stands for all frames that were handed over is mixed
   pub mixed : story.desk.mixed ≡ story.desk.handed
+
+-- a recording that has started is what its book counts: the bytes kept, those that were read, and the frames handed over
+-- since; where no interrupt lost a frame, it is all that came of what is recorded
+pub record IsRecorded (device : DeviceSeen) (pool : Pool) (handed : ℕ) (book : RecordBook) (recording : Recording) : Type 0 where
+  pub kept : length recording.kept ≡ book.kept
+  pub got : recording.got ≡ take book.read recording.kept
+  pub place : recording.start + book.captured ≡ handed
+  pub whole : recording.whole ≡ true
+      → recording.kept ≡ recorded_bytes device book.settings (recorded_frames pool recording.start) 0 book.given
+
+-- a slot's record book and its recording, once so many frames were handed over
+pub record RecordingIsValid (device : DeviceSeen) (pool : Pool) (handed : ℕ) (book : RecordBook) (recording : Recording) : Type 0 where
+  pub settings : IsRate book.settings.rate
+  pub safe : RecordIsSafe (record_rate_at device book) book
+  pub running : is_running book.state ≡ true → IsRecorded device pool handed book recording
+
+-- each slot's recording is valid
+abbrev pub RecordingsAreValid : DeviceSeen → Pool → Story → Type 0
+RecordingsAreValid device pool story =
+    (slot : ℕ) → RecordingIsValid device pool story.desk.handed (record_at device story.desk slot) (story.recordings slot)

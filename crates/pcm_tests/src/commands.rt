@@ -79,8 +79,8 @@ fn numbers_of_either_base(rt: HostRuntime) {
     assert_eq!(rt; first_wrong(rt.alloc(), &NUMBERS), None);
 }
 
-// A wrong count of words comes before any other fault. What isn't built is refused whatever follows.
-const COUNTS: [Row; 10] = [
+// A wrong count of words comes before any other fault.
+const COUNTS: [Row; 11] = [
     (b"close", Err((1, "count"))),
     (b"close x y", Err((1, "count"))),
     (b"open 0", Err((1, "count"))),
@@ -90,7 +90,8 @@ const COUNTS: [Row; 10] = [
     (b"write 0", Err((1, "count"))),
     (b"intr 1 1", Err((1, "count"))),
     (b"send", Err((1, "count"))),
-    (b"read 64 x y z", Err((1, "unbuilt"))),
+    (b"read 0", Err((1, "count"))),
+    (b"read 64 x y z", Err((1, "count"))),
 ];
 
 #[test]
@@ -98,7 +99,7 @@ fn counts_come_first(rt: HostRuntime) {
     assert_eq!(rt; first_wrong(rt.alloc(), &COUNTS), None);
 }
 
-// Words of an open are judged from left to right, and only then whether it is built.
+// Words of an open are judged from left to right.
 const OPENS: [Row; 17] = [
     (b"open 0 play s16le 2 48000", Ok(1)),
     (b"open 64 no", Err((1, "range"))),
@@ -109,9 +110,9 @@ const OPENS: [Row; 17] = [
     (b"open 0 rec u8 4294967297 x", Err((1, "range"))),
     (b"open 0 rec u8 8 3999", Err((1, "range"))),
     (b"open 0 rec u8 8 192001", Err((1, "range"))),
-    (b"open 0 rec u8 8 192000", Err((1, "unbuilt"))),
-    (b"open 0 rec s16le 2 48000", Err((1, "unbuilt"))),
-    (b"open 0 rec", Err((1, "unbuilt"))),
+    (b"open 0 rec u8 8 192000", Ok(1)),
+    (b"open 0 rec s16le 2 48000", Ok(1)),
+    (b"open 0 rec", Ok(1)),
     (b"open 0 play u8 8 3999", Err((1, "range"))),
     (b"open 0 play u8 8 192001", Err((1, "range"))),
     (b"open 0 play s16le 2 4000", Ok(1)),
@@ -139,7 +140,22 @@ fn the_bytes_of_a_write_are_pairs_of_digits(rt: HostRuntime) {
     assert_eq!(rt; first_wrong(rt.alloc(), &WRITES), None);
 }
 
-const EVENTS: [Event; 6] = [
+const READS: [Row; 7] = [
+    (b"read 0 0", Ok(1)),
+    (b"read 63 4096", Ok(1)),
+    (b"read 63 0x1000", Ok(1)),
+    (b"read 0 4097", Err((1, "range"))),
+    (b"read 64 x", Err((1, "range"))),
+    (b"read 0 x", Err((1, "number"))),
+    (b"read 0 -", Err((1, "number"))),
+];
+
+#[test]
+fn a_read_has_a_length(rt: HostRuntime) {
+    assert_eq!(rt; first_wrong(rt.alloc(), &READS), None);
+}
+
+const EVENTS: [Event; 7] = [
     Event::Write {
         fd: 3,
         source: Source::Inline,
@@ -160,12 +176,13 @@ const EVENTS: [Event; 6] = [
     },
     Event::Intr { frames: 256 },
     Event::Intr { frames: 16 },
+    Event::Read { fd: 5, len: 4096 },
     Event::Close { fd: 3 },
 ];
 
 #[test]
 fn a_script_has_its_events_in_order(rt: HostRuntime) -> Result<(), Fail> {
-    let text = b"write 3 0102\nwrite 3 -\nwrite 4 03\nintr\nintr 0x10\nclose 3";
+    let text = b"write 3 0102\nwrite 3 -\nwrite 4 03\nintr\nintr 0x10\nread 5 4096\nclose 3";
     let script = script_of(rt.alloc(), text, &Device::usual(), &[])?;
     assert_eq!(rt; script.events.as_slice(), EVENTS.as_slice());
     assert_eq!(rt; script.inline_bytes.as_slice(), &b"\x01\x02\x03"[..]);
@@ -177,22 +194,25 @@ fn a_script_has_its_events_in_order(rt: HostRuntime) -> Result<(), Fail> {
 
 #[test]
 fn an_open_has_its_settings(rt: HostRuntime) -> Result<(), Fail> {
-    let text = b"open 3 play s16le 2 48000\nopen 4 play s32be 6 44100\nopen 5 play";
+    let text =
+        b"open 3 play s16le 2 48000\nopen 4 play s32be 6 44100\nopen 5 play\nopen 6 rec u24be 4 96000\nopen 7 rec";
     let script = script_of(rt.alloc(), text, &Device::usual(), &[])?;
     let opens = [
-        open(3, Format::S16Le, Layout::Two, 48000),
-        open(4, Format::S32Be, Layout::Six, 44100),
-        open(5, Format::U8, Layout::One, 8000),
+        open(3, Way::Play, Format::S16Le, Layout::Two, 48000),
+        open(4, Way::Play, Format::S32Be, Layout::Six, 44100),
+        open(5, Way::Play, Format::U8, Layout::One, 8000),
+        open(6, Way::Rec, Format::U24Be, Layout::Four, 96000),
+        open(7, Way::Rec, Format::U8, Layout::One, 8000),
     ];
     assert_eq!(rt; script.events.as_slice(), opens.as_slice());
     Ok(())
 }
 
-// An open to play.
-fn open(fd: u8, format: Format, layout: Layout, rate: u32) -> Event {
+// An open with settings.
+fn open(fd: u8, way: Way, format: Format, layout: Layout, rate: u32) -> Event {
     Event::Open {
         fd,
-        way: Way::Play,
+        way,
         settings: Settings {
             format,
             layout,

@@ -25,6 +25,8 @@ mod requests;
 #[cfg(test)]
 mod rings;
 #[cfg(test)]
+mod soaks;
+#[cfg(test)]
 mod transfers;
 #[cfg(test)]
 mod waves;

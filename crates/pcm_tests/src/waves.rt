@@ -96,6 +96,7 @@ fn a_pool_lends_bytes(rt: HostRuntime) -> Result<(), Fail> {
     let alloc = rt.alloc();
     let pool = Pool {
         files: DataFiles::new(Vec::new(alloc)),
+        capture: None,
         inline_bytes: Bytes::new(Vec::from_slice(alloc, b"abcd")?),
     };
     assert_eq!(rt; pool.bytes_at(Source::Inline, 1, 2), b"bc".as_slice());

@@ -4,7 +4,7 @@ use Rattle.std.specs.Prelude.{Vec, not, nat_lt, position}
 use Rattle.std.specs.Vec.{with_item}
 use Rattle.std.proofs.Props.{props}
 use mathlib.Core.HLevel.{is_prop→PathP}
-use Rattle.pcm_format.specs.Frames.{frame_bytes}
+use Rattle.pcm_format.specs.Frames.{Frame, frame_bytes}
 use Rattle.pcm_format.specs.Layouts.{channels_of}
 use Rattle.pcm_desk.specs.declared.limits.TheConstants.{RING_FRAMES, SLOTS}
 use Rattle.std.specs.List.{position_or_len, prefix_len}
@@ -17,10 +17,14 @@ use Rattle.pcm_desk.specs.declared.book.Book.{Book}
 use Rattle.pcm_desk.specs.declared.device.Device.{Device}
 use Rattle.pcm_desk.specs.Device.{DeviceSeen}
 use Rattle.pcm_desk.specs.Books.{is_free}
-use Rattle.pcm_desk.specs.Desk.{least_free, mixing}
+use Rattle.pcm_desk.specs.declared.record_book.RecordBook.{RecordBook}
+use Rattle.pcm_desk.specs.RecordBooks as records
+use Rattle.pcm_desk.specs.Desk.{capturing, least_free, least_free_record, mixing}
 use Rattle.pcm_play.specs.declared.channel.PlayChannelOf.{PlayChannelOf}
 use Rattle.pcm_vchan.specs.declared.parent.ParentOf.{ParentOf}
-use Rattle.pcm_vchan.specs.Slots.{books_of, Each}
+use Rattle.pcm_record.specs.declared.channel.RecChannelOf.{RecChannelOf}
+use Rattle.pcm_record.specs.Channels.{IsRecordReady, RecordMoves}
+use Rattle.pcm_vchan.specs.Slots.{books_of, Each, record_books_of}
 use Rattle.pcm_play.specs.Channels.{IsReady, Moves}
 
 prefix_len-map : {X Y : Type 0} (p : Y → Bool) (f : X → Y) (xs : List X) → prefix_len p (map f xs) ≡ prefix_len (λ x. p (f x)) xs
@@ -48,23 +52,23 @@ books_of-set {B = B} how channels slot old new other there is changed =
     ∙ ap (set (books_of channels) slot) (changed ∙ ap how (book_at-channel channels slot old other there is))
 
 -- what holds of each channel once one of them changed
-pub each_set : {B : Type 0} (how : PlayChannelOf B → PlayChannelOf B → Type 0) (channels : List (PlayChannelOf B)) (at : ℕ) (old new : PlayChannelOf B) → at < length channels → old ≡ get_or channels at old → how old new
-    → ((channel : PlayChannelOf B) → how channel channel) → Each how channels (set channels at new)
-each_set {B = B} how channels at old new there is changed stays = λ slot other within.
+pub each_set : {X : Type 0} (how : X → X → Type 0) (channels : List X) (at : ℕ) (old new : X) → at < length channels → old ≡ get_or channels at old → how old new
+    → ((channel : X) → how channel channel) → Each how channels (set channels at new)
+each_set {X = X} how channels at old new there is changed stays = λ slot other within.
     elim (cases_eq slot at) [
       | inl same ↦ subst (λ (k : ℕ). how (get_or channels k other) (get_or (set channels at new) k other)) (sym same)
           (subst (how (get_or channels at other)) (sym (get_or-set_same channels at new other there))
-          (subst (λ (c : PlayChannelOf B). how c new) (is ∙ get_or_default channels at old other there) changed))
+          (subst (λ (c : X). how c new) (is ∙ get_or_default channels at old other there) changed))
       | inr differ ↦ subst (how (get_or channels slot other)) (sym (get_or-set_other channels at slot new other differ)) (stays (get_or channels slot other))
     ]
 
 -- each channel is of one device still, once one of them changed
-pub own_set : {B : Type 0} (device : Device) (channels : List (PlayChannelOf B)) (at : ℕ) (old new : PlayChannelOf B) → at < length channels → old ≡ get_or channels at old → new.device ≡ old.device
-    → All (λ (channel : PlayChannelOf B). channel.device ≡ device) channels → All (λ (channel : PlayChannelOf B). channel.device ≡ device) (set channels at new)
-own_set {B = B} device channels at old new there is same own = λ slot other within.
+pub own_set : {X : Type 0} (own : X → Device) (device : Device) (channels : List X) (at : ℕ) (old new : X) → at < length channels → old ≡ get_or channels at old → own new ≡ own old
+    → All (λ (channel : X). own channel ≡ device) channels → All (λ (channel : X). own channel ≡ device) (set channels at new)
+own_set {X = X} own device channels at old new there is same all = λ slot other within.
     let before : slot < length channels = omega (arith, length-set channels at new) in
-    let How : PlayChannelOf B → PlayChannelOf B → Type 0 = λ a b. a.device ≡ device → b.device ≡ device in
-    each_set How channels at old new there is (λ e. same ∙ e) (λ channel e. e) slot other before (own slot other before)
+    let How : X → X → Type 0 = λ a b. own a ≡ device → own b ≡ device in
+    each_set How channels at old new there is (λ e. same ∙ e) (λ channel e. e) slot other before (all slot other before)
 
 -- so channels that were ready are ready after an event
 ready-moved : {B : Type 0} (kind : B → Kind) (kept : B → Kept) (filters : Filters) (more : List ℕ) (frames : ℕ) (old new : PlayChannelOf B) → Moves kind kept filters more frames old new → IsReady kind kept filters old → IsReady kind kept filters new
@@ -81,7 +85,7 @@ ready-after kind kept filters more frames old new same each ready = λ slot othe
     ready-moved kind kept filters more frames (get_or old slot other) (get_or new slot other) (each slot other there) (ready slot other there)
 
 -- some element of a list that has one
-pub some_channel : {B : Type 0} (channels : List (PlayChannelOf B)) (k : ℕ) → k < length channels → PlayChannelOf B
+pub some_channel : {X : Type 0} (channels : List X) (k : ℕ) → k < length channels → X
 some_channel [] k h = absurd (omega arith)
 some_channel (channel ∷ channels) k h = channel
 
@@ -99,6 +103,47 @@ books_of-mixed {B = B} device n old new same each =
     get_or-map (λ (c : PlayChannelOf B). c.book) new k other d there ∙ each k other before
     ∙ ap (mixing device n) (sym (get_or-map (λ (c : PlayChannelOf B). c.book) old k other d before)) ∙ sym (get_or-map (mixing device n) (books_of old) k d d listed))
 
+-- ---- channels that record
+
+-- the least free slot of record books is that of their channels
+pub least_free-records : {B : Type 0} (channels : List (RecChannelOf B)) → least_free_record (record_books_of channels) ≡ position (λ (channel : RecChannelOf B). records.is_free channel.book.state) channels
+least_free-records {B = B} channels = position-map (λ (book : RecordBook). records.is_free book.state) (λ (channel : RecChannelOf B). channel.book) channels
+
+-- the book of a channel that records
+pub record_at-channel : {B : Type 0} (channels : List (RecChannelOf B)) (slot : ℕ) (old : RecChannelOf B) (other : RecordBook) → slot < length channels → old ≡ get_or channels slot old → old.book ≡ get_or (record_books_of channels) slot other
+record_at-channel {B = B} channels slot old other there is = ap (λ (channel : RecChannelOf B). channel.book) is ∙ sym (get_or-map (λ (channel : RecChannelOf B). channel.book) channels slot old other there)
+
+-- their books once one channel changed, whose book changed by `how`
+pub record_books_of-set : {B : Type 0} (how : RecordBook → RecordBook) (channels : List (RecChannelOf B)) (slot : ℕ) (old new : RecChannelOf B) (other : RecordBook) → slot < length channels → old ≡ get_or channels slot old → new.book ≡ how old.book
+    → record_books_of (set channels slot new) ≡ set (record_books_of channels) slot (how (get_or (record_books_of channels) slot other))
+record_books_of-set {B = B} how channels slot old new other there is changed =
+    map-set (λ (channel : RecChannelOf B). channel.book) channels slot new
+    ∙ ap (set (record_books_of channels) slot) (changed ∙ ap how (record_at-channel channels slot old other there is))
+
+-- a channel that moved is ready still
+pub record-ready-moved : {B : Type 0} (kind : B → Kind) (kept : B → Kept) (filters : Filters) (input : List Frame) (keeps : ℕ) (old new : RecChannelOf B) → RecordMoves kind kept filters input keeps old new → IsRecordReady kind kept filters old → IsRecordReady kind kept filters new
+record-ready-moved kind kept filters input keeps old new m r = record {
+  kinds = m.kinds r.kinds;
+  planned = m.planned r.planned;
+  stands = record { bytes = _; frames = _; stands = m.stands r.stands.bytes r.stands.frames r.stands.stands };
+}
+
+-- their books after an interrupt
+pub record_books_of-captured : {B : Type 0} (device : DeviceSeen) (n : ℕ) (old new : List (RecChannelOf B)) → length new ≡ length old → Each (λ (o : RecChannelOf B) (c : RecChannelOf B). c.book ≡ capturing device n o.book) old new
+    → record_books_of new ≡ map (capturing device n) (record_books_of old)
+record_books_of-captured {B = B} device n old new same each =
+    same_lists (record_books_of new) (map (capturing device n) (record_books_of old))
+    (length-map new (λ (c : RecChannelOf B). c.book) ∙ same ∙ sym (length-map (record_books_of old) (capturing device n) ∙ length-map old (λ (c : RecChannelOf B). c.book)))
+    (λ k d within.
+    let there : k < length new = omega (arith, length-map new (λ (c : RecChannelOf B). c.book)) in
+    let before : k < length old = omega arith in
+    let listed : k < length (record_books_of old) = omega (arith, length-map old (λ (c : RecChannelOf B). c.book)) in
+    let other : RecChannelOf B = some_channel old k before in
+    get_or-map (λ (c : RecChannelOf B). c.book) new k other d there ∙ each k other before
+    ∙ ap (capturing device n) (sym (get_or-map (λ (c : RecChannelOf B). c.book) old k other d before)) ∙ sym (get_or-map (capturing device n) (record_books_of old) k d d listed))
+
+-- ---- a parent
+
 -- an element that is written back changes nothing of a vector
 pub vec_same : {X Z : Type 0} (v : Vec X Z) (at : ℕ) (x d : X) → x ≡ get_or v.items at d → with_item v at x ≡ v
 vec_same v at x d is =
@@ -114,11 +159,12 @@ vec_same v at x d is =
     }
 
 -- a parent with other channels that are the old ones is the old one
-pub parent_same : {B : Type 0} (new old : ParentOf B) (device : new.device ≡ old.device) (channels : new.channels ≡ old.channels) (ring : new.ring ≡ old.ring) → new.handed ≡ old.handed → new.mixed ≡ old.mixed
+pub parent_same : {B : Type 0} (new old : ParentOf B) (device : new.device ≡ old.device) (channels : new.channels ≡ old.channels) (recorders : new.recorders ≡ old.recorders) (ring : new.ring ≡ old.ring) → new.handed ≡ old.handed → new.mixed ≡ old.mixed
     → new.bytes ≡ old.bytes → new.frames ≡ old.frames → new.sum ≡ old.sum → new ≡ old
-parent_same {B = B} new old device channels ring handed mixed bytes frames sum = λ i. record {
+parent_same {B = B} new old device channels recorders ring handed mixed bytes frames sum = λ i. record {
   device = device i;
   channels = channels i;
+  recorders = recorders i;
   ring = ring i;
   handed = handed i;
   mixed = mixed i;
@@ -128,6 +174,8 @@ parent_same {B = B} new old device channels ring handed mixed bytes frames sum =
   within = is_prop→PathP (λ j. (device j).ring_frames ≤ RING_FRAMES) (λ j. hlevel props) new.within old.within i;
   slots = is_prop→PathP (λ j. (channels j).len ≡ (device j).play_slots) (λ j. hlevel props) new.slots old.slots i;
   slots_within = is_prop→PathP (λ j. (device j).play_slots ≤ SLOTS) (λ j. hlevel props) new.slots_within old.slots_within i;
+  recorders_count = is_prop→PathP (λ j. (recorders j).len ≡ (device j).record_slots) (λ j. hlevel props) new.recorders_count old.recorders_count i;
+  recorders_within = is_prop→PathP (λ j. (device j).record_slots ≤ SLOTS) (λ j. hlevel props) new.recorders_within old.recorders_within i;
   size = is_prop→PathP (λ j. (ring j).size ≡ (device j).ring_frames * frame_bytes (device j).settings) (λ j. hlevel props) new.size old.size i;
   full = is_prop→PathP (λ j. length (ring j).bytes ≡ (device j).ring_frames * frame_bytes (device j).settings) (λ j. hlevel props) new.full old.full i;
   bytes_size = is_prop→PathP (λ j. (bytes j).len ≡ (device j).ring_frames * frame_bytes (device j).settings) (λ j. hlevel props) new.bytes_size old.bytes_size i;

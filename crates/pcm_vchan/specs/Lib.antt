@@ -1,4 +1,5 @@
 pub mod Slots
 pub mod Blocks
+pub mod Captures
 pub mod Parents
 pub mod Lending

@@ -1,16 +1,27 @@
 -- What a parent is to the rules.
-use Rattle.std.specs.Prelude.{◌≡◌, ℕ, List, Option, Some, None, Result, Ok, Err, slice_set}
+use Rattle.std.specs.Prelude.{◌≡◌, ℕ, ◌<◌, List, [], length, IfOk, Option, Some, None, Result, Ok, Err, slice_set}
 use Rattle.pcm_format.specs.declared.settings.Settings.{Settings}
 use Rattle.pcm_oss.specs.declared.reply.Errno.{Errno}
 use Rattle.pcm_oss.specs.declared.reply.Errno.TheVariants.{Busy}
 use Rattle.pcm_desk.specs.declared.book.Book.{Book}
+use Rattle.pcm_desk.specs.declared.record_book.RecordBook.{RecordBook}
+use Rattle.pcm_feeder.specs.declared.kind.Kind.{Kind}
+use Rattle.pcm_feeder.specs.Filters.{Filters}
+use Rattle.pcm_feeder.specs.Kept.{Kept}
 use Rattle.pcm_desk.specs.Books.{begun}
+use Rattle.pcm_desk.specs.RecordBooks as records
+use Rattle.pcm_desk.specs.Desk.{least_free, least_free_record}
+use Rattle.pcm_play.specs.Channels.{Moves}
+use Rattle.pcm_record.specs.Channels.{RecordMoves}
 use Rattle.pcm_vchan.specs.declared.parent.ParentOf.{ParentOf}
-use Rattle.pcm_vchan.specs.Slots.{books_of}
+use Rattle.pcm_vchan.specs.Slots.{AreOf, Each, RecordersAreOf, books_of, record_books_of}
 
 -- the books of a parent, by slot
 abbrev pub parent_books : {B : Type 0} → ParentOf B → List Book
 parent_books parent = books_of parent.channels.items
+
+abbrev pub record_books : {B : Type 0} → ParentOf B → List RecordBook
+record_books parent = record_books_of parent.recorders.items
 
 -- the slot that an open takes, where one is free
 abbrev pub slot_or_busy : Option ℕ → Result ℕ Errno
@@ -22,9 +33,33 @@ abbrev pub books_begun : Option ℕ → Settings → List Book → List Book
 books_begun None settings books = books
 books_begun (Some slot) settings books = slice_set books slot (begun settings)
 
--- all but the channels is as before: the device, its ring and its counts
+abbrev pub record_books_begun : Option ℕ → Settings → List RecordBook → List RecordBook
+record_books_begun None settings books = books
+record_books_begun (Some slot) settings books = slice_set books slot (records.begun settings)
+
+-- all but the channels is as before: the device, its ring and its counts, and how many channels there are of each way
 pub record KeepsOutput {B : Type 0} (old new : ParentOf B) : Type 0 where
   pub device_same : new.device ≡ old.device
   pub ring_same : new.ring.bytes ≡ old.ring.bytes
   pub handed_same : new.handed ≡ old.handed
   pub mixed_same : new.mixed ≡ old.mixed
+  pub slots_same : length new.channels.items ≡ length old.channels.items
+  pub recorders_same : length new.recorders.items ≡ length old.recorders.items
+
+-- an open of a channel that plays: the least free slot begins, if there is one
+pub record OpensPlay {B : Type 0} (kind : B → Kind) (kept : B → Kept) (filters : Filters) (settings : Settings) (old new : ParentOf B) (result : Result ℕ Errno) : Type 0 where
+  pub found : result ≡ slot_or_busy (least_free (parent_books old))
+  pub books : parent_books new ≡ books_begun (least_free (parent_books old)) settings (parent_books old)
+  pub there : IfOk result (λ slot. slot < length old.channels.items)
+  pub own : AreOf new.device new.channels.items
+  pub moves : Each (Moves kind kept filters [] 0) old.channels.items new.channels.items
+  pub others : new.recorders ≡ old.recorders
+
+-- an open of a channel that records
+pub record OpensRecord {B : Type 0} (kind : B → Kind) (kept : B → Kept) (filters : Filters) (settings : Settings) (old new : ParentOf B) (result : Result ℕ Errno) : Type 0 where
+  pub found : result ≡ slot_or_busy (least_free_record (record_books old))
+  pub books : record_books new ≡ record_books_begun (least_free_record (record_books old)) settings (record_books old)
+  pub there : IfOk result (λ slot. slot < length old.recorders.items)
+  pub own : RecordersAreOf new.device new.recorders.items
+  pub moves : Each (RecordMoves kind kept filters [] 0) old.recorders.items new.recorders.items
+  pub others : new.channels ≡ old.channels

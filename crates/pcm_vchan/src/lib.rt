@@ -4,5 +4,6 @@
 
 mod mixer;
 mod parent;
+mod recorder;
 
 pub use parent::{Parent, ParentOf};

@@ -9,25 +9,31 @@ ghost use Rattle.pcm_feeder.specs.Racks.{AreRacks, list_of};
 ghost use Rattle.pcm_desk.specs.declared.limits.TheConstants.{RING_FRAMES, SLOTS};
 ghost use Rattle.pcm_desk.specs.Device.{seen};
 ghost use Rattle.pcm_desk.specs.Books.{is_free};
-ghost use Rattle.pcm_desk.specs.Desk.{least_free, mixing};
-ghost use Rattle.pcm_vchan.specs.Slots.{AllStand, AreOf, Each};
+ghost use Rattle.pcm_desk.specs.Desk.{mixing};
+ghost use Rattle.pcm_desk.specs.RecordBooks as records;
+ghost use Rattle.pcm_oss.specs.declared.fragments.TheConstants.{RING_BYTES};
+ghost use Rattle.pcm_vchan.specs.Slots.{AllStand, AreOf, Each, RecordersAreOf};
 ghost use Rattle.pcm_play.specs.Channels.{IsReady, IsUnopened, Moves};
+ghost use Rattle.pcm_record.specs.Channels.{IsRecordReady, IsRecordUnopened};
 ghost use Rattle.pcm_vchan.specs.Blocks.{block_bytes, block_of, silent_block};
 
 use crate::mixer::mix_block;
-use pcm_desk::Device;
+use crate::recorder::capture_all;
+use pcm_desk::{Device, SLOTS};
 use pcm_feeder::{Feeder, RackOf, RacksOf, Tables};
 use pcm_format::{Settings, spell_frames};
-use pcm_oss::Errno;
+use pcm_oss::{Errno, Way};
 use pcm_play::PlayChannelOf;
+use pcm_record::RecChannelOf;
 use pcm_ring::ByteRing;
 use std::alloc::{AllocError, Global};
 
-/// The channels of a device by slot, its ring, which is always full, and how many frames were handed over and mixed.
+/// The channels of a device by slot, those that play and those that record, its ring, which is always full, and how many frames were handed over and mixed.
 #[derive(Drop)]
 pub struct ParentOf<B> {
     pub device: Device,
     pub channels: Vec<PlayChannelOf<B>>,
+    pub recorders: Vec<RecChannelOf<B>>,
     pub ring: ByteRing,
     pub handed: u64,
     pub mixed: u64,
@@ -37,6 +43,8 @@ pub struct ParentOf<B> {
     ghost within: { device.ring_frames ≤ RING_FRAMES },
     ghost slots: { vec_len channels ≡ device.play_slots },
     ghost slots_within: { device.play_slots ≤ SLOTS },
+    ghost recorders_count: { vec_len recorders ≡ device.record_slots },
+    ghost recorders_within: { device.record_slots ≤ SLOTS },
     ghost size: { ring.size ≡ device.ring_frames * frame_bytes device.settings },
     ghost full: { length ring.bytes ≡ device.ring_frames * frame_bytes device.settings },
     ghost bytes_size: { vec_len bytes ≡ device.ring_frames * frame_bytes device.settings },
@@ -45,10 +53,13 @@ pub struct ParentOf<B> {
 }
 
 impl<B: Feeder> ParentOf<B> {
-    ghost use Rattle.pcm_vchan.specs.Parents.{parent_books, slot_or_busy, books_begun, KeepsOutput};
-    ghost use Rattle.pcm_vchan.specs.Lending.{LendsChannel};
+    ghost use Rattle.pcm_oss.specs.declared.event.Way.TheVariants.{Play, Rec};
+    ghost use Rattle.pcm_vchan.specs.Captures.{Captures};
+    ghost use Rattle.pcm_vchan.specs.Parents.{parent_books, KeepsOutput, OpensPlay, OpensRecord};
+    ghost use Rattle.pcm_vchan.specs.Lending.{LendsChannel, LendsRecorder};
 
-    /// A device that nobody has opened, whose ring is full of silence. Each slot gets a rack.
+    /// A device that nobody has opened, whose ring is full of silence. Each slot gets a rack: those that play the first
+    /// sixteen, and those that record the others.
     pub fn new(
         alloc: Global,
         device: Device,
@@ -58,17 +69,24 @@ impl<B: Feeder> ParentOf<B> {
         requires device { IsRate device.settings.rate }
         requires ring { device.ring_frames ≤ RING_FRAMES }
         requires slots { device.play_slots ≤ SLOTS }
+        requires recorders { device.record_slots ≤ SLOTS }
         requires kinds { AreRacks B.kind (list_of racks) }
         ensures device { IfOk result (λ made. made.device ≡ device) }
         ensures slots { IfOk result (λ made. length made.channels.items ≡ device.play_slots) }
         ensures channels { IfOk result
             (λ made. All (IsUnopened B.kind B.kept tables.now device) made.channels.items) }
+        ensures recorders { IfOk result (λ made. length made.recorders.items ≡ device.record_slots) }
+        ensures recording { IfOk result
+            (λ made. All (IsRecordUnopened B.kind B.kept tables.now device) made.recorders.items) }
         ensures ring { IfOk result (λ made. made.ring.bytes
             ≡ block_bytes (seen tables.now device) (silent_block (seen tables.now device) device.ring_frames)) }
         ensures handed { IfOk result (λ made. made.handed ≡ 0) }
         ensures mixed { IfOk result (λ made. made.mixed ≡ 0) }
     {
-        let channels = free_channels(alloc, device, tables, racks.into_list())?;
+        let mut playing = racks.into_list();
+        let recording = playing.split_off(SLOTS as usize)?;
+        let channels = free_channels(alloc, device, tables, playing)?;
+        let recorders = free_recorders(alloc, device, tables, recording)?;
         let size = device.ring_frames as usize * device.settings.frame_bytes();
         let samples = device.ring_frames as usize * device.settings.layout.channels();
         let mut bytes = vec![in alloc; 0u8; size]?;
@@ -80,6 +98,7 @@ impl<B: Feeder> ParentOf<B> {
         Ok(ParentOf {
             device,
             channels,
+            recorders,
             ring,
             handed: 0,
             mixed: 0,
@@ -89,26 +108,58 @@ impl<B: Feeder> ParentOf<B> {
         })
     }
 
-    /// An opening begins in the least free slot.
-    pub fn open_slot(&mut self, tables: &Tables, settings: Settings) -> Result<usize, Errno>
+    /// An opening begins in the least free slot of its way.
+    pub fn open_slot(
+        &mut self,
+        tables: &Tables,
+        way: Way,
+        settings: Settings,
+    ) -> Result<usize, Errno>
+        requires rate { IsRate settings.rate }
+        requires own { AreOf self.old.device self.old.channels.items }
+        requires recorders_own { RecordersAreOf self.old.device self.old.recorders.items }
+        requires ready { All (IsReady B.kind B.kept tables.now) self.old.channels.items }
+        requires recorders_ready { All (IsRecordReady B.kind B.kept tables.now) self.old.recorders.items }
+        ensures play { way ≡ Play → OpensPlay B.kind B.kept tables.now settings self.old self.new result }
+        ensures recording { way ≡ Rec → OpensRecord B.kind B.kept tables.now settings self.old self.new result }
+        ensures output { KeepsOutput self.old self.new }
+        ensures refused { OnErr result (self.new ≡ self.old) }
+    {
+        match way {
+            Way::Play => self.open_play(tables, settings),
+            Way::Rec => self.open_record(tables, settings),
+        }
+    }
+
+    // An opening that plays begins in the least free slot.
+    fn open_play(&mut self, tables: &Tables, settings: Settings) -> Result<usize, Errno>
         requires rate { IsRate settings.rate }
         requires own { AreOf self.old.device self.old.channels.items }
         requires ready { All (IsReady B.kind B.kept tables.now) self.old.channels.items }
-        ensures found { result ≡ slot_or_busy (least_free (parent_books self.old)) }
-        ensures books { parent_books self.new
-            ≡ books_begun (least_free (parent_books self.old)) settings (parent_books self.old) }
-        ensures there { IfOk result (λ slot. slot < length self.old.channels.items) }
-        ensures own { AreOf self.new.device self.new.channels.items }
-        ensures slots { length self.new.channels.items ≡ length self.old.channels.items }
+        ensures opens { OpensPlay B.kind B.kept tables.now settings self.old self.new result }
         ensures output { KeepsOutput self.old self.new }
         ensures refused { OnErr result (self.new ≡ self.old) }
-        ensures channels { Each (Moves B.kind B.kept tables.now [] 0)
-            self.old.channels.items self.new.channels.items }
     {
         let Some(slot) = self.least_free() else {
             return Err(Errno::Busy);
         };
         self.channels[slot].begin(tables, settings);
+        Ok(slot)
+    }
+
+    // An opening that records begins in the least free slot.
+    fn open_record(&mut self, tables: &Tables, settings: Settings) -> Result<usize, Errno>
+        requires rate { IsRate settings.rate }
+        requires own { RecordersAreOf self.old.device self.old.recorders.items }
+        requires ready { All (IsRecordReady B.kind B.kept tables.now) self.old.recorders.items }
+        ensures opens { OpensRecord B.kind B.kept tables.now settings self.old self.new result }
+        ensures output { KeepsOutput self.old self.new }
+        ensures refused { OnErr result (self.new ≡ self.old) }
+    {
+        let Some(slot) = self.least_free_record() else {
+            return Err(Errno::Busy);
+        };
+        self.recorders[slot].begin(tables, settings);
         Ok(slot)
     }
 
@@ -121,12 +172,27 @@ impl<B: Feeder> ParentOf<B> {
         &mut self.channels[slot]
     }
 
-    /// The device's interrupt: hands the oldest `n` frames over, and mixes as many from all channels.
-    pub fn interrupt(&mut self, tables: &Tables, n: usize, out: &mut [u8])
+    /// Lends the channel of a slot for recording.
+    pub fn recorder(&mut self, slot: usize) -> &mut RecChannelOf<B>
+        requires { slot < vec_len self.old.recorders }
+        ensures* writes_back { sem 𝓛 (LendsRecorder B.row self.entry slot result) }
+        ensures value { result.now ≡ slice_index_or self.old.recorders.items slot result.now }
+    {
+        &mut self.recorders[slot]
+    }
+
+    /// The device's interrupt: hands the oldest `n` frames over, mixes as many from all channels that play, and gives as
+    /// many captured ones to all that record.
+    pub fn interrupt(&mut self, tables: &Tables, n: usize, captured: &[i32], out: &mut [u8])
         requires own { AreOf self.old.device self.old.channels.items }
         requires some { 0 < n }
         requires within { n ≤ self.old.device.ring_frames }
+        requires captured { length captured.now ≡ n * channels_of self.old.device.settings.layout }
         requires out { length out.old ≡ n * frame_bytes self.old.device.settings }
+        requires recorders_own { RecordersAreOf self.old.device self.old.recorders.items }
+        requires recorders_ready { All (IsRecordReady B.kind B.kept tables.now) self.old.recorders.items }
+        requires recorders_count { All (λ channel. channel.book.captured + n < 2 ^ 56) self.old.recorders.items }
+        requires recorders_kept { All (λ channel. channel.book.kept + RING_BYTES < 2 ^ 64) self.old.recorders.items }
         requires ready { All (IsReady B.kind B.kept tables.now) self.old.channels.items }
         requires count { All (λ channel. channel.book.given + n < 2 ^ 64) self.old.channels.items }
         requires counted { All (λ channel. channel.book.done + channel.book.written
@@ -140,6 +206,10 @@ impl<B: Feeder> ParentOf<B> {
             self.old.channels.items self.new.channels.items }
         ensures books { Each (λ old new. new.book ≡ mixing (seen tables.now self.old.device) n old.book)
             self.old.channels.items self.new.channels.items }
+        ensures recorders_own { RecordersAreOf self.new.device self.new.recorders.items }
+        ensures recorders_slots { length self.new.recorders.items ≡ length self.old.recorders.items }
+        ensures recorders { Each (Captures B.kind B.kept (seen tables.now self.old.device) n captured.now)
+            self.old.recorders.items self.new.recorders.items }
         ensures handed { self.new.handed ≡ self.old.handed + n }
         ensures mixed { self.new.mixed ≡ self.old.mixed + n }
         ensures out { out.new
@@ -162,6 +232,7 @@ impl<B: Feeder> ParentOf<B> {
             &mut self.sum,
         );
         self.ring.put(&self.bytes[..size]);
+        capture_all(self.device, tables, &mut self.recorders, n, captured);
         self.handed += n as u64;
         self.mixed += n as u64;
     }
@@ -180,6 +251,15 @@ impl<B: Feeder> ParentOf<B> {
         ensures within { IfSome result (λ slot. slot < vec_len self.now.channels) }
     {
         self.channels.iter().position(|channel| channel.is_free())
+    }
+
+    // The least slot for recording whose channel is free, if there is one.
+    fn least_free_record(&self) -> Option<usize>
+        ensures slot { result
+            ≡ position (λ channel. records.is_free channel.book.state) self.now.recorders.items }
+        ensures within { IfSome result (λ slot. slot < vec_len self.now.recorders) }
+    {
+        self.recorders.iter().position(|channel| channel.is_free())
     }
 }
 
@@ -201,6 +281,28 @@ fn free_channels<B: Feeder>(
     let mut channels = Vec::new(alloc);
     for rack in racks {
         channels.push(PlayChannelOf::new(alloc, device, tables, rack)?)?;
+    }
+    Ok(channels)
+}
+
+// The channels of a device that record, which nobody has opened, with the first racks.
+fn free_recorders<B: Feeder>(
+    alloc: Global,
+    device: Device,
+    tables: &Tables,
+    racks: Vec<RackOf<B>>,
+) -> Result<Vec<RecChannelOf<B>>, AllocError>
+    requires device { IsRate device.settings.rate }
+    requires enough { device.record_slots ≤ vec_len racks }
+    requires kinds { AreRacks B.kind racks.items }
+    ensures slots { IfOk result (λ made. length made.items ≡ device.record_slots) }
+    ensures channels { IfOk result (λ made. All (IsRecordUnopened B.kind B.kept tables.now device) made.items) }
+{
+    let mut racks = racks;
+    racks.truncate(device.record_slots as usize);
+    let mut channels = Vec::new(alloc);
+    for rack in racks {
+        channels.push(RecChannelOf::new(alloc, device, tables, rack)?)?;
     }
     Ok(channels)
 }

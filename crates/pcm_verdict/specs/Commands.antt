@@ -16,6 +16,8 @@ pub data Command : Type 0 where
   CheckScript : List ℕ → Option (List ℕ) → Command
   -- convert a wave into another, with these settings
   ConvertWave : List ℕ → List ℕ → Settings → Command
+  -- run the script that a number makes
+  SoakRun : ℕ → Command
 
 -- the next word, if this one is of its form
 infixl 10 ◌>>=◌
@@ -28,9 +30,17 @@ abbrev pub name_in : List ℕ → Option (List ℕ)
 name_in [] = None
 name_in (byte ∷ bytes) = Some (byte ∷ bytes)
 
+-- the greatest number that makes a script
+abbrev pub SEED_MOST : ℕ
+SEED_MOST = 4294967295
+
 -- frames per second, within the limits
 abbrev pub rate_within : ℕ → Option ℕ
 rate_within rate = if nat_le RATE_LEAST rate && nat_le rate RATE_MOST then Some rate else None
+
+-- a number that makes a script: one of 32 bits
+abbrev pub seed_within : ℕ → Option ℕ
+seed_within number = if nat_le number SEED_MOST then Some number else None
 
 -- the settings that three words ask for: a rate, a format that waves have, and a number of channels
 unfoldable pub target_asked : List ℕ → List ℕ → List ℕ → Option Settings
@@ -76,6 +86,14 @@ convert_words (i ∷ o ∷ r ∷ f ∷ c ∷ []) = do
   Some (ConvertWave input out target)
 convert_words words = None
 
+-- `soak N`
+unfoldable pub soak_words : List (List ℕ) → Option Command
+soak_words (n ∷ []) = do
+  number ← decimal_in n
+  seed ← seed_within number
+  Some (SoakRun seed)
+soak_words words = None
+
 -- the command that words spell, if they match a form
 unfoldable pub command_of : List (List ℕ) → Option Command
 command_of [] = None
@@ -83,4 +101,5 @@ command_of (word ∷ words) =
     if bytes_eq word (codes "run") then run_words words
     else if bytes_eq word (codes "check") then check_words words
     else if bytes_eq word (codes "convert") then convert_words words
+    else if bytes_eq word (codes "soak") then soak_words words
     else None

@@ -44,7 +44,7 @@ file_word (NoWave fault) = wave_word fault
 file_word Long = codes "long"
 file_word Shape = codes "shape"
 
--- the words match no form: all forms, also the one that isn't built yet
+-- the words match no form: all forms
 abbrev pub usage_line : List ℕ
 usage_line = codes "dsp_replay: usage: run SCRIPT OUT [CONFIG] | check SCRIPT [CONFIG] | convert IN OUT RATE FORMAT CHANNELS | soak N\n"
 

@@ -12,9 +12,10 @@ use Rattle.pcm_config.specs.declared.config.Container.TheVariants.{Raw, Wav}
 use Rattle.pcm_config.specs.Configs.{device_seen}
 use Rattle.pcm_desk.specs.Device.{DeviceSeen, device_settings}
 use Rattle.pcm_sound.specs.DeviceList.{device_text}
-use Rattle.pcm_script.specs.Lines.{pool_of}
+use Rattle.pcm_verdict.specs.Captures.{capture_place, pool_with}
+use Rattle.pcm_verdict.specs.Soaks.{soak_line}
 use Rattle.pcm_verdict.specs.Transcript.{transcript}
-use Rattle.pcm_verdict.specs.Verdict.{Accepted, Runs, Checks, Converts, Conversion, Inputs, frames_converted}
+use Rattle.pcm_verdict.specs.Verdict.{Accepted, Runs, Checks, Converts, Soaks, Conversion, Inputs, frames_converted}
 
 -- a file's name and its bytes
 pub record Written : Type 0 where
@@ -25,9 +26,9 @@ pub record Output : Type 0 where
   pub file : Option Written
   pub lines : List ℕ
 
--- where the bytes of a script's events are found
+-- where the bytes of a script's events are found, and the frames that are recorded
 abbrev pub inputs_pool : Inputs → Pool
-inputs_pool inputs = pool_of inputs.files inputs.script
+inputs_pool inputs = pool_with (capture_place inputs.config.capture inputs.files) inputs.files inputs.script
 
 -- what stands before the frames of a device file
 abbrev pub file_header : Container → DeviceSeen → ℕ → List ℕ
@@ -66,3 +67,4 @@ output_of (Runs out inputs) = record { file = Some (record { name = out; bytes =
 output_of (Checks inputs) = record { file = None; lines = check_line inputs }
 output_of (Converts out conversion) =
     record { file = Some (record { name = out; bytes = converted_file conversion }); lines = convert_line conversion }
+output_of (Soaks n) = record { file = None; lines = soak_line n }

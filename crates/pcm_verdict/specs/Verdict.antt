@@ -20,7 +20,7 @@ use Rattle.pcm_desk.specs.Device.{unfiltered}
 use Rattle.pcm_script.specs.declared.fault.Refusal.{Refusal}
 use Rattle.pcm_script.specs.declared.script.Script.{Script}
 use Rattle.pcm_script.specs.Lines.{script_read}
-use Rattle.pcm_verdict.specs.Commands.{Command, RunScript, CheckScript, ConvertWave, command_of}
+use Rattle.pcm_verdict.specs.Commands.{Command, RunScript, CheckScript, ConvertWave, SoakRun, command_of}
 use Rattle.pcm_verdict.specs.Faults.{Fault, Usage, BadConfig, BadScript, BadWave, NoWave, Long, Shape}
 use Rattle.pcm_verdict.specs.Judging.{◌>>=◌, Contents, Judged, judge, given, read_file}
 
@@ -148,6 +148,8 @@ pub data Accepted : Type 0 where
   Runs : List ℕ → Inputs → Accepted
   Checks : Inputs → Accepted
   Converts : List ℕ → Conversion → Accepted
+  -- no file is read: the number says all
+  Soaks : ℕ → Accepted
 
 -- a command's files are read and judged
 abbrev pub command_judged : Contents → Command → Judged Accepted
@@ -160,6 +162,7 @@ command_judged content (CheckScript script config) = do
 command_judged content (ConvertWave input out target) = do
   conversion ← conversion_judged content input target
   given (Converts out conversion)
+command_judged content (SoakRun n) = given (Soaks n)
 
 abbrev pub if_command : Contents → Option Command → Judged Accepted
 if_command content None = judge (Err Usage)

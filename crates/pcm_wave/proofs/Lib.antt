@@ -4,3 +4,4 @@ pub mod Walks
 pub mod ReadBack
 pub mod Limits
 pub mod Formats
+pub mod Captures

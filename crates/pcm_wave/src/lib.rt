@@ -2,6 +2,7 @@
 //! What is written as a wave is read back as the same settings and the same body.
 #![tactic(auto)]
 
+mod capture;
 mod chunk;
 mod data_file;
 mod format;

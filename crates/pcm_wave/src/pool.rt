@@ -18,10 +18,13 @@ pub enum Source {
     File(usize),
 }
 
-/// What a run reads from: its data files in the order of their names, and the bytes of its script's lines.
+/// What a run reads from: its data files in the order of their names, one of which may be recorded from, and the bytes of its
+/// script's lines.
 #[derive(Debug, Drop)]
 pub struct Pool {
     pub files: DataFiles,
+    /// The place of the file that is recorded from, if there is one.
+    pub capture: Option<usize>,
     pub inline_bytes: Bytes,
 }
 

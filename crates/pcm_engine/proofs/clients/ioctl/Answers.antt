@@ -1,74 +1,191 @@
-use Rattle.std.proofs.Common.{◌<◌, [], length, get_or, sym, ap, ◌∙◌, subst, refl, arith}
+use Rattle.std.proofs.Common.{◌+◌, ◌<◌, [], get_or, refl, sym, ap, ◌∙◌, subst, arith}
 use Rattle.std.proofs.lemmas.Result.{on_err_weaker}
 use Rattle.pcm_feeder.specs.Racks.{HaveKinds}
 use Rattle.pcm_chain.specs.Chains.{boxes_in}
+use Rattle.pcm_oss.specs.declared.event.Way.TheVariants.{Play, Rec}
 use Rattle.pcm_desk.specs.declared.device.Device.{Device}
 use Rattle.pcm_desk.specs.Device.{seen}
-use Rattle.pcm_desk.specs.Desk.{asking}
+use Rattle.pcm_desk.specs.RecordRequests as record_requests
+use Rattle.pcm_desk.specs.Desk.{DeskTurn, asking, held_by, play_turn, rate_at, record_turn}
+use Rattle.pcm_desk.proofs.Silent.{ask-silent, record-ask-silent}
 use Rattle.pcm_play.specs.declared.channel.PlayChannelOf.{PlayChannelOf}
 use Rattle.pcm_play.specs.Channels.{IsPlanned, Moves}
 use Rattle.pcm_play.proofs.Moving.{moves-nothing}
+use Rattle.pcm_record.specs.declared.channel.RecChannelOf.{RecChannelOf}
+use Rattle.pcm_record.specs.Channels.{IsRecordPlanned, RecordMoves}
+use Rattle.pcm_record.proofs.Moving as recorders
 use Rattle.pcm_vchan.proofs.Channels.{each_set, own_set, parent_same, vec_same}
-use Rattle.pcm_engine.proofs.Turning.{desk-turned, own-lent, reply-turned}
+use Rattle.pcm_oss.specs.Replies.{bytes_due}
+use Rattle.pcm_engine.specs.Desks.{desk_with}
+use Rattle.pcm_engine.proofs.Turning.{desk-played, desk-recorded, own-lent, play-there, record-there, reply-played, reply-recorded, turning-held}
 use Rattle.pcm_engine.proofs.clients.ioctl.Goals as goal
 
 pub returns-in_default-clause-channels : goal.returns-in_default-clause-channels
 returns-in_default-clause-channels g c = λ slot other there. moves-nothing g.B.Feeder.kind g.B.Feeder.kept c.args.tables.now [] 0 (get_or c.args.parent.now.channels.items slot other)
 
+pub returns-in_default-clause-recorders : goal.returns-in_default-clause-recorders
+returns-in_default-clause-recorders g c = λ slot other there. recorders.moves-nothing g.B.Feeder.kind g.B.Feeder.kept c.args.tables.now [] 0 (get_or c.args.parent.now.recorders.items slot other)
+
+pub play-requires : goal.play-requires
+play-requires g c =
+    let parent = c.args.parent.now in
+    let held = c.in-Some.held in
+    let e = sym c.held.ensures ∙ c.in-Some.is in
+    let there = play-there parent c.args.descriptors.now c.args.fd held c.requires.apart e c.in-Play.is in
+    omega (arith, there, parent.channels.ok.0)
+
 pub ioctl-requires-clause-kinds : goal.ioctl-requires-clause-kinds
 ioctl-requires-clause-kinds g c =
     let parent = c.args.parent.now in
     let held = c.in-Some.held in
-    let there : held.slot < length parent.channels.items = omega (arith, c.requires.held c.args.fd held (sym c.held.ensures ∙ c.in-Some.is), parent.channels.ok.0) in
+    let e = sym c.held.ensures ∙ c.in-Some.is in
+    let there = play-there parent c.args.descriptors.now c.args.fd held c.requires.apart e c.in-Play.is in
     subst (λ (channel : PlayChannelOf _). HaveKinds g.B.Feeder.kind (boxes_in channel.chain)) (sym c.play.ensures.value) (c.requires.ready held.slot c.play.result.now there).kinds
 
 pub ioctl-requires-clause-planned : goal.ioctl-requires-clause-planned
 ioctl-requires-clause-planned g c =
     let parent = c.args.parent.now in
     let held = c.in-Some.held in
-    let there : held.slot < length parent.channels.items = omega (arith, c.requires.held c.args.fd held (sym c.held.ensures ∙ c.in-Some.is), parent.channels.ok.0) in
+    let e = sym c.held.ensures ∙ c.in-Some.is in
+    let there = play-there parent c.args.descriptors.now c.args.fd held c.requires.apart e c.in-Play.is in
     subst (IsPlanned c.args.tables.now) (sym c.play.ensures.value) (c.requires.ready held.slot c.play.result.now there).planned
 
-pub returns-clause-own : goal.returns-clause-own
-returns-clause-own g c =
+pub ioctl-requires-clause-count : goal.ioctl-requires-clause-count
+ioctl-requires-clause-count g c =
     let parent = c.args.parent.now in
     let held = c.in-Some.held in
-    let there : held.slot < length parent.channels.items = omega (arith, c.requires.held c.args.fd held (sym c.held.ensures ∙ c.in-Some.is), parent.channels.ok.0) in
-    own_set parent.device parent.channels.items held.slot c.play.result.now c.ioctl.new.self there c.play.ensures.value c.ioctl.ensures.device c.requires.own
-
-pub returns-clause-desk : goal.returns-clause-desk
-returns-clause-desk g c =
-    let parent = c.args.parent.now in
-    let held = c.in-Some.held in
-    let lent = c.play.result.now in
     let e = sym c.held.ensures ∙ c.in-Some.is in
-    let there : held.slot < length parent.channels.items = omega (arith, c.requires.held c.args.fd held e, parent.channels.ok.0) in
+    let there = play-there parent c.args.descriptors.now c.args.fd held c.requires.apart e c.in-Play.is in
+    subst (λ (channel : PlayChannelOf _). channel.book.done + channel.book.written < 18446744073709551616) (sym c.play.ensures.value) (c.requires.count held.slot c.play.result.now there)
+
+pub recorder-requires : goal.recorder-requires
+recorder-requires g c =
+    let parent = c.args.parent.now in
+    let held = c.in-Some.held in
+    let e = sym c.held.ensures ∙ c.in-Some.is in
+    let there = record-there parent c.args.descriptors.now c.args.fd held c.requires.apart e c.in-Rec.is in
+    omega (arith, there, parent.recorders.ok.0)
+
+pub ioctl-requires-in-Rec-clause-kinds : goal.ioctl-requires-in-Rec-clause-kinds
+ioctl-requires-in-Rec-clause-kinds g c =
+    let parent = c.args.parent.now in
+    let held = c.in-Some.held in
+    let e = sym c.held.ensures ∙ c.in-Some.is in
+    let there = record-there parent c.args.descriptors.now c.args.fd held c.requires.apart e c.in-Rec.is in
+    subst (λ (channel : RecChannelOf _). HaveKinds g.B.Feeder.kind (boxes_in channel.chain)) (sym c.recorder.ensures.value) (c.requires.recorders_ready held.slot c.recorder.result.now there).kinds
+
+pub ioctl-requires-in-Rec-clause-planned : goal.ioctl-requires-in-Rec-clause-planned
+ioctl-requires-in-Rec-clause-planned g c =
+    let parent = c.args.parent.now in
+    let held = c.in-Some.held in
+    let e = sym c.held.ensures ∙ c.in-Some.is in
+    let there = record-there parent c.args.descriptors.now c.args.fd held c.requires.apart e c.in-Rec.is in
+    subst (IsRecordPlanned c.args.tables.now) (sym c.recorder.ensures.value) (c.requires.recorders_ready held.slot c.recorder.result.now there).planned
+
+pub returns-in-Play-clause-silent : goal.returns-in-Play-clause-silent
+returns-in-Play-clause-silent g c =
+    ap bytes_due c.ioctl.ensures.reply ∙ ask-silent (rate_at (seen c.args.tables.now c.play.result.now.device) c.play.result.now.book) c.args.request c.play.result.now.book
+
+pub returns-in-Play-clause-own : goal.returns-in-Play-clause-own
+returns-in-Play-clause-own g c =
+    let parent = c.args.parent.now in
+    let held = c.in-Some.held in
+    let e = sym c.held.ensures ∙ c.in-Some.is in
+    let there = play-there parent c.args.descriptors.now c.args.fd held c.requires.apart e c.in-Play.is in
+    own_set (λ (channel : PlayChannelOf _). channel.device) parent.device parent.channels.items held.slot c.play.result.now c.ioctl.new.self there c.play.ensures.value c.ioctl.ensures.device c.requires.own
+
+pub returns-in-Play-clause-refused : goal.returns-in-Play-clause-refused
+returns-in-Play-clause-refused g c =
+    let parent = c.args.parent.now in
+    let held = c.in-Some.held in
+    let e = sym c.held.ensures ∙ c.in-Some.is in
+    on_err_weaker c.ioctl.result
+    (λ same. parent_same _ parent refl (vec_same parent.channels held.slot c.ioctl.new.self c.play.result.now (same ∙ c.play.ensures.value)) refl refl refl refl refl refl refl)
+    c.ioctl.ensures.refused
+
+pub returns-in-Play-clause-desk : goal.returns-in-Play-clause-desk
+returns-in-Play-clause-desk g c =
+    let parent = c.args.parent.now in
+    let held = c.in-Some.held in
+    let e = sym c.held.ensures ∙ c.in-Some.is in
+    let there = play-there parent c.args.descriptors.now c.args.fd held c.requires.apart e c.in-Play.is in
+    let lent = c.play.result.now in
     let own = own-lent parent.device parent.channels.items held.slot lent there c.play.ensures.value c.requires.own in
-    desk-turned (seen c.args.tables.now parent.device) (asking (seen c.args.tables.now parent.device) c.args.request) parent c.args.descriptors.now c.args.fd held lent c.ioctl.new.self e there c.play.ensures.value
+    desk-played (seen c.args.tables.now parent.device) (asking (seen c.args.tables.now parent.device) c.args.request) parent c.args.descriptors.now held.slot lent c.ioctl.new.self there c.play.ensures.value
     (c.ioctl.ensures.book ∙ ap (λ (d : Device). (asking (seen c.args.tables.now d) c.args.request lent.book).book) own)
+    ∙ sym (ap (λ (t : DeskTurn). t.desk) (turning-held Play (play_turn (seen c.args.tables.now parent.device) (asking (seen c.args.tables.now parent.device) c.args.request) (desk_with parent c.args.descriptors.now)) (record_turn (seen c.args.tables.now parent.device) (record_requests.ask_turn c.args.request) (desk_with parent c.args.descriptors.now)) (held_by (desk_with parent c.args.descriptors.now) c.args.fd) held (desk_with parent c.args.descriptors.now) e c.in-Play.is))
 
-pub returns-clause-reply : goal.returns-clause-reply
-returns-clause-reply g c =
+pub returns-in-Play-clause-reply : goal.returns-in-Play-clause-reply
+returns-in-Play-clause-reply g c =
     let parent = c.args.parent.now in
     let held = c.in-Some.held in
-    let lent = c.play.result.now in
     let e = sym c.held.ensures ∙ c.in-Some.is in
-    let there : held.slot < length parent.channels.items = omega (arith, c.requires.held c.args.fd held e, parent.channels.ok.0) in
+    let there = play-there parent c.args.descriptors.now c.args.fd held c.requires.apart e c.in-Play.is in
+    let lent = c.play.result.now in
     let own = own-lent parent.device parent.channels.items held.slot lent there c.play.ensures.value c.requires.own in
-    reply-turned (seen c.args.tables.now parent.device) (asking (seen c.args.tables.now parent.device) c.args.request) parent c.args.descriptors.now c.args.fd held lent c.ioctl.result e there c.play.ensures.value
+    reply-played (seen c.args.tables.now parent.device) (asking (seen c.args.tables.now parent.device) c.args.request) parent c.args.descriptors.now held.slot lent c.ioctl.result there c.play.ensures.value
     (c.ioctl.ensures.reply ∙ ap (λ (d : Device). (asking (seen c.args.tables.now d) c.args.request lent.book).reply) own)
+    ∙ sym (ap (λ (t : DeskTurn). t.reply) (turning-held Play (play_turn (seen c.args.tables.now parent.device) (asking (seen c.args.tables.now parent.device) c.args.request) (desk_with parent c.args.descriptors.now)) (record_turn (seen c.args.tables.now parent.device) (record_requests.ask_turn c.args.request) (desk_with parent c.args.descriptors.now)) (held_by (desk_with parent c.args.descriptors.now) c.args.fd) held (desk_with parent c.args.descriptors.now) e c.in-Play.is))
 
-pub returns-clause-channels : goal.returns-clause-channels
-returns-clause-channels g c =
+pub returns-in-Play-clause-channels : goal.returns-in-Play-clause-channels
+returns-in-Play-clause-channels g c =
     let parent = c.args.parent.now in
     let held = c.in-Some.held in
-    let there : held.slot < length parent.channels.items = omega (arith, c.requires.held c.args.fd held (sym c.held.ensures ∙ c.in-Some.is), parent.channels.ok.0) in
+    let e = sym c.held.ensures ∙ c.in-Some.is in
+    let there = play-there parent c.args.descriptors.now c.args.fd held c.requires.apart e c.in-Play.is in
     each_set (Moves g.B.Feeder.kind g.B.Feeder.kept c.args.tables.now [] 0) parent.channels.items held.slot c.play.result.now c.ioctl.new.self there c.play.ensures.value c.ioctl.ensures.moves
     (moves-nothing g.B.Feeder.kind g.B.Feeder.kept c.args.tables.now [] 0)
 
-pub returns-clause-refused : goal.returns-clause-refused
-returns-clause-refused g c =
+pub returns-in-Play-clause-recorders : goal.returns-in-Play-clause-recorders
+returns-in-Play-clause-recorders g c = λ slot other there. recorders.moves-nothing g.B.Feeder.kind g.B.Feeder.kept c.args.tables.now [] 0 (get_or c.args.parent.now.recorders.items slot other)
+
+pub returns-in-Rec-clause-silent : goal.returns-in-Rec-clause-silent
+returns-in-Rec-clause-silent g c =
+    ap bytes_due c.ioctl-in-Rec.ensures.reply ∙ record-ask-silent c.args.request c.recorder.result.now.book
+
+pub returns-in-Rec-clause-recorders_own : goal.returns-in-Rec-clause-recorders_own
+returns-in-Rec-clause-recorders_own g c =
     let parent = c.args.parent.now in
-    on_err_weaker c.ioctl.result
-    (λ same. parent_same _ parent refl (vec_same parent.channels c.in-Some.held.slot c.ioctl.new.self c.play.result.now (same ∙ c.play.ensures.value)) refl refl refl refl refl refl)
-    c.ioctl.ensures.refused
+    let held = c.in-Some.held in
+    let e = sym c.held.ensures ∙ c.in-Some.is in
+    let there = record-there parent c.args.descriptors.now c.args.fd held c.requires.apart e c.in-Rec.is in
+    own_set (λ (channel : RecChannelOf _). channel.device) parent.device parent.recorders.items held.slot c.recorder.result.now c.ioctl-in-Rec.new.self there c.recorder.ensures.value c.ioctl-in-Rec.ensures.device c.requires.recorders_own
+
+pub returns-in-Rec-clause-refused : goal.returns-in-Rec-clause-refused
+returns-in-Rec-clause-refused g c =
+    let parent = c.args.parent.now in
+    let held = c.in-Some.held in
+    let e = sym c.held.ensures ∙ c.in-Some.is in
+    on_err_weaker c.ioctl-in-Rec.result
+    (λ same. parent_same _ parent refl refl (vec_same parent.recorders held.slot c.ioctl-in-Rec.new.self c.recorder.result.now (same ∙ c.recorder.ensures.value)) refl refl refl refl refl refl)
+    c.ioctl-in-Rec.ensures.refused
+
+pub returns-in-Rec-clause-desk : goal.returns-in-Rec-clause-desk
+returns-in-Rec-clause-desk g c =
+    let parent = c.args.parent.now in
+    let held = c.in-Some.held in
+    let e = sym c.held.ensures ∙ c.in-Some.is in
+    let there = record-there parent c.args.descriptors.now c.args.fd held c.requires.apart e c.in-Rec.is in
+    desk-recorded (seen c.args.tables.now parent.device) (record_requests.ask_turn c.args.request) parent c.args.descriptors.now held.slot c.recorder.result.now c.ioctl-in-Rec.new.self there c.recorder.ensures.value c.ioctl-in-Rec.ensures.book
+    ∙ sym (ap (λ (t : DeskTurn). t.desk) (turning-held Rec (play_turn (seen c.args.tables.now parent.device) (asking (seen c.args.tables.now parent.device) c.args.request) (desk_with parent c.args.descriptors.now)) (record_turn (seen c.args.tables.now parent.device) (record_requests.ask_turn c.args.request) (desk_with parent c.args.descriptors.now)) (held_by (desk_with parent c.args.descriptors.now) c.args.fd) held (desk_with parent c.args.descriptors.now) e c.in-Rec.is))
+
+pub returns-in-Rec-clause-reply : goal.returns-in-Rec-clause-reply
+returns-in-Rec-clause-reply g c =
+    let parent = c.args.parent.now in
+    let held = c.in-Some.held in
+    let e = sym c.held.ensures ∙ c.in-Some.is in
+    let there = record-there parent c.args.descriptors.now c.args.fd held c.requires.apart e c.in-Rec.is in
+    reply-recorded (seen c.args.tables.now parent.device) (record_requests.ask_turn c.args.request) parent c.args.descriptors.now held.slot c.recorder.result.now c.ioctl-in-Rec.result there c.recorder.ensures.value c.ioctl-in-Rec.ensures.reply
+    ∙ sym (ap (λ (t : DeskTurn). t.reply) (turning-held Rec (play_turn (seen c.args.tables.now parent.device) (asking (seen c.args.tables.now parent.device) c.args.request) (desk_with parent c.args.descriptors.now)) (record_turn (seen c.args.tables.now parent.device) (record_requests.ask_turn c.args.request) (desk_with parent c.args.descriptors.now)) (held_by (desk_with parent c.args.descriptors.now) c.args.fd) held (desk_with parent c.args.descriptors.now) e c.in-Rec.is))
+
+pub returns-in-Rec-clause-channels : goal.returns-in-Rec-clause-channels
+returns-in-Rec-clause-channels g c = λ slot other there. moves-nothing g.B.Feeder.kind g.B.Feeder.kept c.args.tables.now [] 0 (get_or c.args.parent.now.channels.items slot other)
+
+pub returns-in-Rec-clause-recorders : goal.returns-in-Rec-clause-recorders
+returns-in-Rec-clause-recorders g c =
+    let parent = c.args.parent.now in
+    let held = c.in-Some.held in
+    let e = sym c.held.ensures ∙ c.in-Some.is in
+    let there = record-there parent c.args.descriptors.now c.args.fd held c.requires.apart e c.in-Rec.is in
+    each_set (RecordMoves g.B.Feeder.kind g.B.Feeder.kept c.args.tables.now [] 0) parent.recorders.items held.slot c.recorder.result.now c.ioctl-in-Rec.new.self there c.recorder.ensures.value c.ioctl-in-Rec.ensures.moves
+    (recorders.moves-nothing g.B.Feeder.kind g.B.Feeder.kept c.args.tables.now [] 0)

@@ -1,5 +1,6 @@
-use Rattle.std.proofs.Common.{List, ℕ, Bor, None, option_map}
+use Rattle.std.proofs.Common.{List, ℕ, Bor, None, option_map, refl}
 use Rattle.pcm_verdict.specs.Commands.{CheckScript}
+use Rattle.pcm_verdict.specs.Outputs.{check_line}
 use Rattle.pcm_verdict.specs.Verdict.{Checks}
 use Rattle.pcm_replay.specs.Parts.{inputs_part, inputs_seen}
 use Rattle.pcm_replay.proofs.Doing.{comes-check, cuts-command, cuts-lines, does-command, ends-command, leads-check, writes-lines}
@@ -23,7 +24,7 @@ returns-in_err-tell_script-clause-err g c =
     err-as _ c.in_err-tell_script.field-0.0 c.from_residual-in_err-tell_script.result c.from_residual-in_err-tell_script.ensures.1
     (cuts-command (CheckScript c.args.script.now config) (Checks inputs) _ _ _ _
     (comes-check c.args.script.now config inputs (g.F.Files.seen c.args.files.now) read.came) read.only
-    (cuts-lines c.in_err-tell_script.field-0.0 inputs files _ _ c.in_err-tell_script.ensures.err))
+    (cuts-lines c.in_err-tell_script.field-0.0 (Checks inputs) (check_line inputs) files _ _ refl c.in_err-tell_script.ensures.err))
 
 -- its line was put
 pub returns-clause-ok : goal.returns-clause-ok
@@ -32,6 +33,6 @@ returns-clause-ok g c =
     let inputs = inputs_seen c.in_ok-inputs.inputs in
     let read = c.in_ok-inputs.ensures.ok in
     let files = g.F.Files.seen c.read_inputs.new.files in
-    does-command g.B.Feeder.kept (CheckScript c.args.script.now config) (Checks inputs) None _ _ _
+    does-command g.B.Feeder.kept (CheckScript c.args.script.now config) (Checks inputs) None _ _ _ tt
     (comes-check c.args.script.now config inputs (g.F.Files.seen c.args.files.now) read.came) read.only tt
-    (writes-lines inputs files _ _ c.in_ok-tell_script.ensures.ok)
+    (writes-lines (Checks inputs) (check_line inputs) files _ _ refl c.in_ok-tell_script.ensures.ok)

@@ -1,4 +1,4 @@
-use Rattle.std.proofs.Common.{None}
+use Rattle.std.proofs.Common.{None, refl}
 use Rattle.pcm_verdict.specs.Commands.{ConvertWave}
 use Rattle.pcm_verdict.specs.Verdict.{Conversion, Converts}
 use Rattle.pcm_replay.specs.Parts.{conversion_part}
@@ -27,5 +27,5 @@ pub returns-clause-ok : goal.returns-clause-ok
 returns-clause-ok g c =
     let conversion : Conversion = record { source = c.in_ok-source.source; target = c.args.target } in
     let read = c.in_ok-source.ensures.ok in
-    does-command g.B.Feeder.kept (ConvertWave c.args.input.now c.args.name.now c.args.target) (Converts c.args.name.now conversion) None _ _ _
+    does-command g.B.Feeder.kept (ConvertWave c.args.input.now c.args.name.now c.args.target) (Converts c.args.name.now conversion) None _ _ _ (refl, refl)
     (comes-convert c.args.input.now c.args.name.now c.args.target conversion (g.F.Files.seen c.args.files.now) read.came) read.only tt c.in_ok-convert_wave.ensures.ok

@@ -1,4 +1,4 @@
-use Rattle.std.proofs.Common.{List, ℕ, Bor, Some, option_map}
+use Rattle.std.proofs.Common.{List, ℕ, Bor, Some, option_map, refl}
 use Rattle.pcm_verdict.specs.Commands.{RunScript}
 use Rattle.pcm_verdict.specs.Verdict.{Runs}
 use Rattle.pcm_replay.specs.Parts.{inputs_part, inputs_seen}
@@ -29,5 +29,5 @@ returns-clause-ok g c =
     let config = option_map (λ (n : Bor (List ℕ)). n.now) c.args.config in
     let inputs = inputs_seen c.in_ok-inputs.inputs in
     let read = c.in_ok-inputs.ensures.ok in
-    does-command g.B.Feeder.kept (RunScript c.args.script.now c.args.name.now config) (Runs c.args.name.now inputs) (Some c.in_ok-engine.engine) _ _ _
+    does-command g.B.Feeder.kept (RunScript c.args.script.now c.args.name.now config) (Runs c.args.name.now inputs) (Some c.in_ok-engine.engine) _ _ _ refl
     (comes-run c.args.script.now c.args.name.now config inputs (g.F.Files.seen c.args.files.now) read.came) read.only c.in_ok-engine.ensures.ran c.in_ok-engine.ensures.ok

@@ -48,6 +48,7 @@ returns-in-Ok-file_of-clause-ok g c =
         only = c.in_ok-bytes.ensures.only;
       };
       files = kept;
+      shaped = c.in-Ok-file_of.ensures.shaped;
     })
 
 -- it is refused

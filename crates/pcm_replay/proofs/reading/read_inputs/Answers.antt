@@ -1,5 +1,6 @@
 use Rattle.std.proofs.Common.{List, ℕ, [], Bor, option_map}
 use Rattle.pcm_replay.specs.Parts.{config_part, data_behind, inputs_part, script_part}
+use Rattle.pcm_verdict.proofs.Captures.{captures-in}
 use Rattle.pcm_replay.proofs.Ordering.{inputs-come, leads-config, leads-files, leads-script}
 use Rattle.pcm_replay.proofs.Parts.{comes-before, ends-as, ends-later, has_read-later}
 use Rattle.pcm_replay.proofs.Refusing.{err-as}
@@ -51,3 +52,8 @@ returns-clause-ok g c =
       came = inputs-come c.args.script.now config settled waves c.as_slice.result.now c.in_ok-script.script (g.F.Files.seen c.args.files.now) first.came came c.as_slice.ensures came_script;
       only = has_read-later _ _ _ only third.only;
     }
+
+-- what is recorded is in the layout of the device
+pub returns-clause-captures : goal.returns-clause-captures
+returns-clause-captures g c =
+    captures-in (record { config = c.in_ok-config.config; files = c.in_ok-waves.waves; script = c.in_ok-script.script }) c.in_ok-waves.ensures.shaped

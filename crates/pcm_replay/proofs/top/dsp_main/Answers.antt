@@ -1,7 +1,10 @@
 use Rattle.std.proofs.Common.{ℕ, List, map, string_bytes, subst, sym}
 use Rattle.pcm_verdict.specs.Outputs.{output_of}
 use Rattle.pcm_replay.specs.declared.ending.Ending.TheVariants.{CannotRead, BadConfig, BadScript, BadWave, CannotWrite, NoMemory}
+use Rattle.pcm_verdict.specs.Verdict.{Soaks}
+use Rattle.pcm_replay.specs.Endings.{HasRun}
 use Rattle.pcm_replay.specs.Outcomes.{MayEnd, verdict_on}
+use Rattle.pcm_replay.proofs.Doing.{does-soak}
 use Rattle.pcm_replay.proofs.Statuses.{ended-as, may-end, none-rose}
 use Rattle.pcm_replay.proofs.top.dsp_main.Goals as goal
 
@@ -36,3 +39,20 @@ returns-in-Err-clause-cut g c = λ named. ended-as (map string_bytes c.args.word
 
 pub returns-in-Err-clause-memory : goal.returns-in-Err-clause-memory
 returns-in-Err-clause-memory g c = λ named. ended-as (map string_bytes c.args.words.now) _ _ c.in-Err.ending NoMemory c.status.result c.status.ensures named c.in-Err.ensures.err
+
+-- words that ask for a number's script leave its engine, and its line
+pub returns-in-Ok-None-clause-soaked : goal.returns-in-Ok-None-clause-soaked
+returns-in-Ok-None-clause-soaked g c = λ n is asked. (does-soak g.B.Feeder.kept (map string_bytes c.args.words.now) n c.in-Ok-None.field-0 _ _ asked c.in-Ok-None.ensures.ok).writes
+
+pub returns-in-Ok-None-clause-soak_engine : goal.returns-in-Ok-None-clause-soak_engine
+returns-in-Ok-None-clause-soak_engine g c = λ n is asked. absurd
+    (subst (λ engine. HasRun g.B.Feeder.kept engine (Soaks n)) c.in-Ok-None.field-0-is
+    (does-soak g.B.Feeder.kept (map string_bytes c.args.words.now) n c.in-Ok-None.field-0 _ _ asked c.in-Ok-None.ensures.ok).ran)
+
+pub returns-in-Ok-Some-clause-soaked : goal.returns-in-Ok-Some-clause-soaked
+returns-in-Ok-Some-clause-soaked g c = λ n is asked. (does-soak g.B.Feeder.kept (map string_bytes c.args.words.now) n c.in-Ok-Some.field-0 _ _ asked c.in-Ok-Some.ensures.ok).writes
+
+pub returns-in-Ok-Some-clause-soak_engine : goal.returns-in-Ok-Some-clause-soak_engine
+returns-in-Ok-Some-clause-soak_engine g c = λ n is asked.
+    subst (λ engine. HasRun g.B.Feeder.kept engine (Soaks n)) c.in-Ok-Some.field-0-is
+    (does-soak g.B.Feeder.kept (map string_bytes c.args.words.now) n c.in-Ok-Some.field-0 _ _ asked c.in-Ok-Some.ensures.ok).ran

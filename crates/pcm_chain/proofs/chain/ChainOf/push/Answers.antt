@@ -1,6 +1,9 @@
-use Rattle.std.proofs.Common.{◌≡◌, ◌≤◌, ◌+◌, ◌-◌, ◌*◌, ◌/◌, min, length, take, drop, refl, ap, ◌∙◌, sym, subst, arith}
+use Rattle.std.proofs.Common.{◌≡◌, ◌≤◌, ◌+◌, ◌-◌, ◌*◌, ◌/◌, min, All, length, take, drop, refl, ap, ◌∙◌, sym, subst, arith}
 use Rattle.std.proofs.Math.Nat.{mul-le-mul_right}
+use Rattle.std.proofs.Math.Seq.{take-add}
 use Rattle.std.proofs.lemmas.List.{take_all}
+use Rattle.std.proofs.lemmas.List.Elements.{All-append, All-nil}
+use Rattle.pcm_num.specs.Limit.{FitsBits}
 use Rattle.pcm_format.specs.Formats.{bytes_of}
 use Rattle.pcm_format.specs.Layouts.{channels_of}
 use Rattle.pcm_format.proofs.Streams.{channels_of-above, frame_bytes-above}
@@ -10,7 +13,7 @@ use Rattle.pcm_feeder.proofs.Frames.{length-frames_of}
 use Rattle.pcm_plan.specs.Plans.{PlanSeen}
 use Rattle.pcm_chain.specs.Pushes.{pushed_frames, room_for, Pushes}
 use Rattle.pcm_chain.proofs.Counting.{rate-near}
-use Rattle.pcm_chain.proofs.Pushing.{nothing-pushed, piece-frames, pushes-on, room-left, whole-samples}
+use Rattle.pcm_chain.proofs.Pushing.{frames_of-bits, nothing-pushed, piece-frames, pushes-on, room-left, whole-samples}
 use Rattle.pcm_chain.proofs.chain.ChainOf.push.Goals as goal
 
 pub piece-block-requires-clause-near : goal.piece-block-requires-clause-near
@@ -22,6 +25,18 @@ returns-clause-pushes g c x stands =
     let input = pushed_frames c.args.self.now.plan c.args.input.now in
     let all : take c.loop-eaten.eaten input ≡ input = take_all c.loop-eaten.eaten input (omega (arith, h.within, h.count, c.loop-eaten-test.false)) in
     subst (λ list. Pushes g.B.Feeder.kept c.args.tables.now c.args.format list c.args.self.now c.loop-eaten.self x c.loop-eaten.pushed c.args.ring.now.bytes c.loop-eaten.ring.bytes) all (h.pushes x stands)
+
+pub returns-clause-fits : goal.returns-clause-fits
+returns-clause-fits g c =
+    let h = c.loop-eaten.invariant in
+    let n = c.channels-channels.result in
+    let samples = c.args.input.now in
+    let plan = c.args.self.now.plan in
+    let layout : n ≡ channels_of plan.source = c.channels-channels.ensures ∙ ap channels_of c.source.ensures in
+    let frames : c.loop-eaten.eaten ≡ length samples / n = omega (arith, h.within, c.loop-eaten-test.false) in
+    let whole = ap (λ k. c.loop-eaten.eaten * k) layout in
+    let all : take (c.loop-eaten.eaten * n) samples ≡ samples = take_all (c.loop-eaten.eaten * n) samples (omega (arith, h.samples, whole, ap (λ k. k * channels_of plan.source) frames)) in
+    frames_of-bits 32 (channels_of plan.source) samples (subst (All (FitsBits 32)) all h.fits)
 
 pub loop-eaten-init : goal.loop-eaten-init
 loop-eaten-init g c =
@@ -36,6 +51,7 @@ loop-eaten-init g c =
       plan = refl;
       kinds = λ have. have;
       records = c.requires.records;
+      fits = (let none : 0 * c.channels-channels.result ≡ 0 = omega arith in subst (λ n. All (FitsBits 32) (take n c.args.input.now)) (sym none) (All-nil (FitsBits 32)));
       kept = omega arith;
       bytes = omega arith;
       size = refl;
@@ -83,6 +99,10 @@ loop-eaten-preserved g c =
       plan = c.push_block-more.ensures.plan ∙ h.plan;
       kinds = λ have. c.push_block-more.ensures.kinds (h.kinds have);
       records = c.push_block-more.ensures.records;
+      fits = (let n = c.channels-channels.result in
+          let more : (e + b) * n ≡ e * n + ((e + b) * n - e * n) = omega arith in
+          subst (All (FitsBits 32)) (sym (ap (λ k. take k samples) more ∙ take-add (e * n) ((e + b) * n - e * n) samples))
+          (All-append (FitsBits 32) (take (e * n) samples) part h.fits c.push_block-more.ensures.fits));
       kept = omega (arith, h.kept, second);
       bytes = omega (arith, h.bytes, put);
       size = ap (λ (ring : Ring). ring.size) c.push_block-more.ensures.ring ∙ h.size;

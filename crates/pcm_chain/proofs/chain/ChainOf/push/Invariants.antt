@@ -1,4 +1,5 @@
-use Rattle.std.proofs.Common.{◌≡◌, ◌≤◌, ◌+◌, ◌-◌, ◌*◌, min, List, length, take}
+use Rattle.std.proofs.Common.{◌≡◌, ◌≤◌, ◌+◌, ◌-◌, ◌*◌, min, List, length, take, All}
+use Rattle.pcm_num.specs.Limit.{FitsBits}
 use Rattle.pcm_format.specs.Formats.{bytes_of}
 use Rattle.pcm_format.specs.Frames.{Frame}
 use Rattle.pcm_format.specs.Layouts.{channels_of}
@@ -17,6 +18,7 @@ invariant-loop-eaten g l = record {
   plan : plan_in l.self ≡ plan_in l.fn.self;
   kinds : HaveKinds g.B.Feeder.kind (boxes_in l.fn.self) → HaveKinds g.B.Feeder.kind (boxes_in l.self);
   records : HasRecordedSome g.B.Feeder.kept l.tables l.self;
+  fits : All (FitsBits 32) (take (l.eaten * l.channels) l.input);
   kept : l.pushed.kept ≡ min l.pushed.came (room_for (plan_in l.fn.self) l.format l.fn.ring);
   bytes : length l.ring.bytes ≡ length l.fn.ring.bytes + l.pushed.kept * (channels_of (plan_in l.fn.self).target * bytes_of l.format);
   size : l.ring.size ≡ l.fn.ring.size;

@@ -1,17 +1,27 @@
-use Rattle.std.proofs.Common.{ℕ, ◌+◌, ◌^◌, List, length, sym, ap, ◌∙◌, subst, arith}
+use Rattle.std.proofs.Common.{ℕ, ◌+◌, ◌*◌, ◌^◌, List, [], get_or, length, sym, ap, ◌∙◌, subst, arith}
 use Rattle.pcm_oss.specs.declared.event.Event.{Event}
-use Rattle.pcm_oss.specs.declared.event.Event.TheVariants.{Open, Write, Ioctl, Close, Intr}
-use Rattle.pcm_desk.specs.declared.book.Book.{Book}
+use Rattle.pcm_oss.specs.declared.event.Event.TheVariants.{Open, Write, Read, Ioctl, Close, Intr}
+use Rattle.std.specs.Prelude.{Vec}
+use Rattle.pcm_format.specs.Layouts.{channels_of}
+use Rattle.pcm_oss.specs.declared.fragments.TheConstants.{RING_BYTES}
+use Rattle.pcm_desk.specs.declared.device.Device.{Device}
+use Rattle.pcm_play.specs.declared.channel.PlayChannelOf.{PlayChannelOf}
+use Rattle.pcm_record.specs.declared.channel.RecChannelOf.{RecChannelOf}
 use Rattle.pcm_desk.specs.declared.limits.TheConstants.{RING_FRAMES}
-use Rattle.pcm_desk.specs.Desk.{after}
+use Rattle.pcm_oss.specs.Replies.{Reply}
+use Rattle.pcm_desk.specs.Desk.{after, held_by, write_on}
 use Rattle.pcm_desk.specs.Own.{HoldApart}
 use Rattle.pcm_desk.proofs.Apart.{apart-after}
 use Rattle.pcm_play.specs.Channels.{Moves}
-use Rattle.pcm_vchan.specs.Slots.{Each}
+use Rattle.pcm_play.proofs.Moving.{moves-nothing}
+use Rattle.pcm_record.specs.Channels.{RecordMoves}
+use Rattle.pcm_record.proofs.Moving as recorders
+use Rattle.pcm_vchan.specs.Slots.{AreOf, Each, RecordersAreOf}
 use Rattle.pcm_engine.specs.Engines.{device_of, desk_of}
-use Rattle.pcm_engine.specs.Steps.{ChannelsMove}
-use Rattle.pcm_vchan.proofs.Channels.{books_of-mixed}
-use Rattle.pcm_engine.proofs.Desks.{desk_with-mixed, count-within}
+use Rattle.pcm_engine.specs.Steps.{ChannelsMove, RecordersMove, bytes_answered}
+use Rattle.pcm_vchan.proofs.Channels.{books_of-mixed, record_books_of-captured}
+use Rattle.pcm_engine.proofs.Desks.{count-stays, count-within, desk_with-mixed}
+use Rattle.pcm_engine.proofs.Recording.{length-captured}
 use Rattle.pcm_engine.proofs.engine.EngineOf.apply.Goals as goal
 
 pub invariant_of-self-in-Write : goal.invariant_of-self-in-Write
@@ -19,16 +29,19 @@ invariant_of-self-in-Write g c =
     let old = c.args.self.now in
     let new = c.write.new.parent in
     let fits = rw c.in-Write.is at c.requires.fits in
-    let same = c.write.ensures.slots in
+    let same = c.write.ensures.output.slots_same in
     let output = c.write.ensures.output in
     record {
       apart = subst HoldApart (sym (c.write.ensures.desk old.tables)) (apart-after (device_of old) (desk_of old) (Write c.in-Write.fd c.in-Write.source c.in-Write.at (length c.bytes_at-bytes.result.now)) old.apart);
       own = c.write.ensures.own;
-      held = λ fd held e. omega (arith, old.held fd held e, old.parent.channels.ok.0, new.channels.ok.0);
-      counted = count-within (λ (b : Book). b.done + b.written) (2 ^ 32) old.steps old.parent.channels.items new.channels.items same
+      counted = count-within (λ (c : PlayChannelOf _). c.book.done + c.book.written) (2 ^ 32) old.steps old.parent.channels.items new.channels.items same
           (λ slot other there. let more = (c.write.ensures.channels old.tables slot other there).counted in omega (arith, more, c.bytes_at-bytes.ensures.length, fits.1)) old.counted;
-      given = count-within (λ (b : Book). b.given) RING_FRAMES old.steps old.parent.channels.items new.channels.items same
+      given = count-within (λ (c : PlayChannelOf _). c.book.given) RING_FRAMES old.steps old.parent.channels.items new.channels.items same
           (λ slot other there. let more = (c.write.ensures.channels old.tables slot other there).given in omega (arith, more)) old.given;
+      recorders_own = subst (λ (v : Vec (RecChannelOf _) _). RecordersAreOf new.device v.items) (sym c.write.ensures.recorders) (subst (λ (d : Device). RecordersAreOf d old.parent.recorders.items) (sym output.device_same) old.recorders_own);
+      kept = count-stays (λ (c : RecChannelOf _). c.book.kept) RING_BYTES old.steps old.parent.recorders.items new.recorders.items (ap (λ (v : Vec (RecChannelOf _) _). v.items) c.write.ensures.recorders) old.kept;
+      captured_within = count-stays (λ (c : RecChannelOf _). c.book.captured) RING_FRAMES old.steps old.parent.recorders.items new.recorders.items (ap (λ (v : Vec (RecChannelOf _) _). v.items) c.write.ensures.recorders) old.captured_within;
+      captured_size = old.captured_size ∙ ap (λ (d : Device). d.ring_frames * channels_of d.settings.layout) (sym output.device_same);
       mixed_within = omega (arith, output.mixed_same, old.mixed_within);
       handed_within = omega (arith, output.handed_same, old.handed_within);
     }
@@ -37,16 +50,21 @@ pub invariant_of-self-in-Ioctl : goal.invariant_of-self-in-Ioctl
 invariant_of-self-in-Ioctl g c =
     let old = c.args.self.now in
     let new = c.ioctl.new.parent in
-    let same = c.ioctl.ensures.slots in
+    let same = c.ioctl.ensures.output.slots_same in
     let output = c.ioctl.ensures.output in
     record {
       apart = subst HoldApart (sym c.ioctl.ensures.desk) (apart-after (device_of old) (desk_of old) (Ioctl c.in-Ioctl.fd c.in-Ioctl.request) old.apart);
       own = c.ioctl.ensures.own;
-      held = λ fd held e. omega (arith, old.held fd held e, old.parent.channels.ok.0, new.channels.ok.0);
-      counted = count-within (λ (b : Book). b.done + b.written) (2 ^ 32) old.steps old.parent.channels.items new.channels.items same
+      counted = count-within (λ (c : PlayChannelOf _). c.book.done + c.book.written) (2 ^ 32) old.steps old.parent.channels.items new.channels.items same
           (λ slot other there. let more = (c.ioctl.ensures.channels slot other there).counted in omega (arith, more)) old.counted;
-      given = count-within (λ (b : Book). b.given) RING_FRAMES old.steps old.parent.channels.items new.channels.items same
+      given = count-within (λ (c : PlayChannelOf _). c.book.given) RING_FRAMES old.steps old.parent.channels.items new.channels.items same
           (λ slot other there. let more = (c.ioctl.ensures.channels slot other there).given in omega (arith, more)) old.given;
+      recorders_own = c.ioctl.ensures.recorders_own;
+      kept = count-within (λ (c : RecChannelOf _). c.book.kept) RING_BYTES old.steps old.parent.recorders.items new.recorders.items output.recorders_same
+          (λ slot other there. (c.ioctl.ensures.recorders slot other there).kept) old.kept;
+      captured_within = count-within (λ (c : RecChannelOf _). c.book.captured) RING_FRAMES old.steps old.parent.recorders.items new.recorders.items output.recorders_same
+          (λ slot other there. let more = (c.ioctl.ensures.recorders slot other there).captured in omega (arith, more)) old.captured_within;
+      captured_size = old.captured_size ∙ ap (λ (d : Device). d.ring_frames * channels_of d.settings.layout) (sym output.device_same);
       mixed_within = omega (arith, output.mixed_same, old.mixed_within);
       handed_within = omega (arith, output.handed_same, old.handed_within);
     }
@@ -54,20 +72,27 @@ invariant_of-self-in-Ioctl g c =
 pub invariant_of-self-in-Intr : goal.invariant_of-self-in-Intr
 invariant_of-self-in-Intr g c =
     let old = c.args.self.now in
-    let new = c.interrupt.new.self in
+    let new = c.interrupt.new.parent in
     let fits = rw c.in-Intr.is at c.requires.fits in
     let same = c.interrupt.ensures.slots in
     let within = old.parent.within in
     let books = books_of-mixed (device_of old) c.in-Intr.frames old.parent.channels.items new.channels.items same c.interrupt.ensures.books in
-    let desk = desk_with-mixed (device_of old) old.parent new old.descriptors c.in-Intr.frames books c.interrupt.ensures.handed c.interrupt.ensures.mixed in
+    let recorded = record_books_of-captured (device_of old) c.in-Intr.frames old.parent.recorders.items new.recorders.items c.interrupt.ensures.recorders_slots (λ slot other there. (c.interrupt.ensures.recorders slot other there).book) in
+    let desk = desk_with-mixed (device_of old) old.parent new old.descriptors c.in-Intr.frames books recorded c.interrupt.ensures.handed c.interrupt.ensures.mixed in
+    let brought = length-captured old.parent.device.settings.layout c.args.pool.now old.parent.handed c.in-Intr.frames c.requires.captures in
     record {
       apart = subst HoldApart (sym desk) (apart-after (device_of old) (desk_of old) (Intr c.in-Intr.frames) old.apart);
       own = c.interrupt.ensures.own;
-      held = λ fd held e. omega (arith, old.held fd held e, old.parent.channels.ok.0, new.channels.ok.0);
-      counted = count-within (λ (b : Book). b.done + b.written) (2 ^ 32) old.steps old.parent.channels.items new.channels.items same
+      counted = count-within (λ (c : PlayChannelOf _). c.book.done + c.book.written) (2 ^ 32) old.steps old.parent.channels.items new.channels.items same
           (λ slot other there. let more = (c.interrupt.ensures.channels slot other there).counted in omega (arith, more)) old.counted;
-      given = count-within (λ (b : Book). b.given) RING_FRAMES old.steps old.parent.channels.items new.channels.items same
+      given = count-within (λ (c : PlayChannelOf _). c.book.given) RING_FRAMES old.steps old.parent.channels.items new.channels.items same
           (λ slot other there. let more = (c.interrupt.ensures.channels slot other there).given in omega (arith, more, fits.1)) old.given;
+      recorders_own = c.interrupt.ensures.recorders_own;
+      kept = count-within (λ (c : RecChannelOf _). c.book.kept) RING_BYTES old.steps old.parent.recorders.items new.recorders.items c.interrupt.ensures.recorders_slots
+          (λ slot other there. (c.interrupt.ensures.recorders slot other there).moves.kept) old.kept;
+      captured_within = count-within (λ (c : RecChannelOf _). c.book.captured) RING_FRAMES old.steps old.parent.recorders.items new.recorders.items c.interrupt.ensures.recorders_slots
+          (λ slot other there. let more = (c.interrupt.ensures.recorders slot other there).moves.captured in omega (arith, more, brought, fits.1)) old.captured_within;
+      captured_size = old.captured_size ∙ ap (λ (d : Device). d.ring_frames * channels_of d.settings.layout) (sym c.interrupt.ensures.device);
       mixed_within = omega (arith, c.interrupt.ensures.mixed, old.mixed_within, fits.1);
       handed_within = omega (arith, c.interrupt.ensures.handed, old.handed_within, fits.1);
     }
@@ -75,11 +100,75 @@ invariant_of-self-in-Intr g c =
 pub returns-in-Intr-clause-desk : goal.returns-in-Intr-clause-desk
 returns-in-Intr-clause-desk g c =
     let old = c.args.self.now in
-    let new = c.interrupt.new.self in
+    let new = c.interrupt.new.parent in
     let n : ℕ = c.in-Intr.frames in
     let books = books_of-mixed (device_of old) n old.parent.channels.items new.channels.items c.interrupt.ensures.slots c.interrupt.ensures.books in
-    desk_with-mixed (device_of old) old.parent new old.descriptors n books c.interrupt.ensures.handed c.interrupt.ensures.mixed
+    let recorded = record_books_of-captured (device_of old) n old.parent.recorders.items new.recorders.items c.interrupt.ensures.recorders_slots (λ slot other there. (c.interrupt.ensures.recorders slot other there).book) in
+    desk_with-mixed (device_of old) old.parent new old.descriptors n books recorded c.interrupt.ensures.handed c.interrupt.ensures.mixed
     ∙ sym (ap (λ (event : Event). (after (device_of old) (desk_of old) event).desk) c.in-Intr.is)
+
+pub returns-in-Write-clause-desk : goal.returns-in-Write-clause-desk
+returns-in-Write-clause-desk g c =
+    let old = c.args.self.now in
+    c.write.ensures.desk old.tables ∙ ap (λ (n : ℕ). (write_on (device_of old) (held_by (desk_of old) c.in-Write.fd) (desk_of old) n).desk) c.bytes_at-bytes.ensures.length ∙ sym (ap (λ (event : Event). (after (device_of old) (desk_of old) event).desk) c.in-Write.is)
+
+pub returns-in-Write-clause-reply : goal.returns-in-Write-clause-reply
+returns-in-Write-clause-reply g c =
+    let old = c.args.self.now in
+    ap (λ (r : Reply). r.result) c.keep-in-Write.ensures ∙ c.write.ensures.reply old.tables ∙ ap (λ (n : ℕ). (write_on (device_of old) (held_by (desk_of old) c.in-Write.fd) (desk_of old) n).reply) c.bytes_at-bytes.ensures.length ∙ sym (ap (λ (event : Event). (after (device_of old) (desk_of old) event).reply) c.in-Write.is)
+
+pub returns-in-Write-clause-recorders : goal.returns-in-Write-clause-recorders
+returns-in-Write-clause-recorders g c =
+    let old = c.args.self.now in
+    subst (λ (event : Event). RecordersMove g.B.Feeder.kind g.B.Feeder.kept (device_of old) c.args.pool.now old.parent.handed event old.parent.recorders.items c.write.new.parent.recorders.items) (sym c.in-Write.is)
+    (subst (λ (v : Vec (RecChannelOf _) _). Each (RecordMoves g.B.Feeder.kind g.B.Feeder.kept old.tables [] 0) old.parent.recorders.items v.items) (sym c.write.ensures.recorders)
+    (λ slot other there. recorders.moves-nothing g.B.Feeder.kind g.B.Feeder.kept old.tables [] 0 (get_or old.parent.recorders.items slot other)))
+
+pub returns-in-Read-clause-bytes : goal.returns-in-Read-clause-bytes
+returns-in-Read-clause-bytes g c = λ bytes frames stand.
+    let old = c.args.self.now in
+    c.answer_read.ensures.bytes old.tables bytes frames stand ∙ sym (ap (λ (event : Event). bytes_answered (device_of old) (desk_of old) bytes event) c.in-Read.is)
+
+pub returns-in-Read-clause-channels : goal.returns-in-Read-clause-channels
+returns-in-Read-clause-channels g c =
+    let old = c.args.self.now in
+    subst (λ (event : Event). ChannelsMove g.B.Feeder.kind g.B.Feeder.kept old.tables c.args.pool.now event old.parent.channels.items c.answer_read.new.parent.channels.items) (sym c.in-Read.is)
+    (subst (λ (v : Vec (PlayChannelOf _) _). Each (Moves g.B.Feeder.kind g.B.Feeder.kept old.tables [] 0) old.parent.channels.items v.items) (sym c.answer_read.ensures.channels)
+    (λ slot other there. moves-nothing g.B.Feeder.kind g.B.Feeder.kept old.tables [] 0 (get_or old.parent.channels.items slot other)))
+
+pub returns-in-Read-clause-recorders : goal.returns-in-Read-clause-recorders
+returns-in-Read-clause-recorders g c =
+    let old = c.args.self.now in
+    subst (λ (event : Event). RecordersMove g.B.Feeder.kind g.B.Feeder.kept (device_of old) c.args.pool.now old.parent.handed event old.parent.recorders.items c.answer_read.new.parent.recorders.items) (sym c.in-Read.is)
+    (c.answer_read.ensures.recorders old.tables)
+
+pub returns-in-Ioctl-clause-channels : goal.returns-in-Ioctl-clause-channels
+returns-in-Ioctl-clause-channels g c =
+    let old = c.args.self.now in
+    subst (λ (event : Event). ChannelsMove g.B.Feeder.kind g.B.Feeder.kept old.tables c.args.pool.now event old.parent.channels.items c.ioctl.new.parent.channels.items) (sym c.in-Ioctl.is)
+    (c.ioctl.ensures.channels)
+
+pub returns-in-Close-clause-desk : goal.returns-in-Close-clause-desk
+returns-in-Close-clause-desk g c =
+    let old = c.args.self.now in
+    c.close.ensures.desk old.tables c.requires.ready.playing ∙ sym (ap (λ (event : Event). (after (device_of old) (desk_of old) event).desk) c.in-Close.is)
+
+pub returns-in-Close-clause-reply : goal.returns-in-Close-clause-reply
+returns-in-Close-clause-reply g c =
+    let old = c.args.self.now in
+    ap (λ (r : Reply). r.result) c.keep-in-Close.ensures ∙ c.close.ensures.reply old.tables ∙ sym (ap (λ (event : Event). (after (device_of old) (desk_of old) event).reply) c.in-Close.is)
+
+pub returns-in-Close-clause-channels : goal.returns-in-Close-clause-channels
+returns-in-Close-clause-channels g c =
+    let old = c.args.self.now in
+    subst (λ (event : Event). ChannelsMove g.B.Feeder.kind g.B.Feeder.kept old.tables c.args.pool.now event old.parent.channels.items c.close.new.parent.channels.items) (sym c.in-Close.is)
+    (c.close.ensures.channels old.tables)
+
+pub returns-in-Close-clause-recorders : goal.returns-in-Close-clause-recorders
+returns-in-Close-clause-recorders g c =
+    let old = c.args.self.now in
+    subst (λ (event : Event). RecordersMove g.B.Feeder.kind g.B.Feeder.kept (device_of old) c.args.pool.now old.parent.handed event old.parent.recorders.items c.close.new.parent.recorders.items) (sym c.in-Close.is)
+    (c.close.ensures.recorders old.tables)
 
 pub returns-in-Write-clause-channels : goal.returns-in-Write-clause-channels
 returns-in-Write-clause-channels g c =
@@ -90,23 +179,28 @@ returns-in-Write-clause-channels g c =
 
 pub returns-in-Intr-clause-channels : goal.returns-in-Intr-clause-channels
 returns-in-Intr-clause-channels g c =
-    subst (λ (event : Event). ChannelsMove g.B.Feeder.kind g.B.Feeder.kept c.args.self.now.tables c.args.pool.now event c.args.self.now.parent.channels.items c.interrupt.new.self.channels.items) (sym c.in-Intr.is)
+    subst (λ (event : Event). ChannelsMove g.B.Feeder.kind g.B.Feeder.kept c.args.self.now.tables c.args.pool.now event c.args.self.now.parent.channels.items c.interrupt.new.parent.channels.items) (sym c.in-Intr.is)
     c.interrupt.ensures.channels
 
 pub invariant_of-self : goal.invariant_of-self
 invariant_of-self g c =
     let old = c.args.self.now in
     let new = c.open-answer.new.parent in
-    let same = c.open-answer.ensures.slots in
+    let same = c.open-answer.ensures.output.slots_same in
     let output = c.open-answer.ensures.output in
     record {
       own = c.open-answer.ensures.own;
-      held = c.open-answer.ensures.held;
       apart = subst HoldApart (sym c.open-answer.ensures.desk) (apart-after (device_of old) (desk_of old) (Open c.in-Open.fd c.in-Open.way c.in-Open.settings) old.apart);
-      counted = count-within (λ (b : Book). b.done + b.written) (2 ^ 32) old.steps old.parent.channels.items new.channels.items same
+      counted = count-within (λ (c : PlayChannelOf _). c.book.done + c.book.written) (2 ^ 32) old.steps old.parent.channels.items new.channels.items same
           (λ slot other there. let more = (c.open-answer.ensures.channels slot other there).counted in omega (arith, more)) old.counted;
-      given = count-within (λ (b : Book). b.given) RING_FRAMES old.steps old.parent.channels.items new.channels.items same
+      given = count-within (λ (c : PlayChannelOf _). c.book.given) RING_FRAMES old.steps old.parent.channels.items new.channels.items same
           (λ slot other there. let more = (c.open-answer.ensures.channels slot other there).given in omega (arith, more)) old.given;
+      recorders_own = c.open-answer.ensures.recorders_own;
+      kept = count-within (λ (c : RecChannelOf _). c.book.kept) RING_BYTES old.steps old.parent.recorders.items new.recorders.items output.recorders_same
+          (λ slot other there. (c.open-answer.ensures.recorders slot other there).kept) old.kept;
+      captured_within = count-within (λ (c : RecChannelOf _). c.book.captured) RING_FRAMES old.steps old.parent.recorders.items new.recorders.items output.recorders_same
+          (λ slot other there. let more = (c.open-answer.ensures.recorders slot other there).captured in omega (arith, more)) old.captured_within;
+      captured_size = old.captured_size ∙ ap (λ (d : Device). d.ring_frames * channels_of d.settings.layout) (sym output.device_same);
       mixed_within = omega (arith, output.mixed_same, old.mixed_within);
       handed_within = omega (arith, output.handed_same, old.handed_within);
     }
@@ -115,16 +209,42 @@ pub invariant_of-self-in-Close : goal.invariant_of-self-in-Close
 invariant_of-self-in-Close g c =
     let old = c.args.self.now in
     let new = c.close.new.parent in
-    let same = c.close.ensures.slots in
+    let same = c.close.ensures.output.slots_same in
     let output = c.close.ensures.output in
     record {
       own = c.close.ensures.own;
-      held = c.close.ensures.held;
-      apart = subst HoldApart (sym (c.close.ensures.desk old.tables c.requires.ready)) (apart-after (device_of old) (desk_of old) (Close c.in-Close.fd) old.apart);
-      counted = count-within (λ (b : Book). b.done + b.written) (2 ^ 32) old.steps old.parent.channels.items new.channels.items same
+      apart = subst HoldApart (sym (c.close.ensures.desk old.tables c.requires.ready.playing)) (apart-after (device_of old) (desk_of old) (Close c.in-Close.fd) old.apart);
+      counted = count-within (λ (c : PlayChannelOf _). c.book.done + c.book.written) (2 ^ 32) old.steps old.parent.channels.items new.channels.items same
           (λ slot other there. let more = (c.close.ensures.channels old.tables slot other there).counted in omega (arith, more)) old.counted;
-      given = count-within (λ (b : Book). b.given) RING_FRAMES old.steps old.parent.channels.items new.channels.items same
+      given = count-within (λ (c : PlayChannelOf _). c.book.given) RING_FRAMES old.steps old.parent.channels.items new.channels.items same
           (λ slot other there. let more = (c.close.ensures.channels old.tables slot other there).given in omega (arith, more)) old.given;
+      recorders_own = c.close.ensures.recorders_own;
+      kept = count-within (λ (c : RecChannelOf _). c.book.kept) RING_BYTES old.steps old.parent.recorders.items new.recorders.items output.recorders_same
+          (λ slot other there. (c.close.ensures.recorders old.tables slot other there).kept) old.kept;
+      captured_within = count-within (λ (c : RecChannelOf _). c.book.captured) RING_FRAMES old.steps old.parent.recorders.items new.recorders.items output.recorders_same
+          (λ slot other there. let more = (c.close.ensures.recorders old.tables slot other there).captured in omega (arith, more)) old.captured_within;
+      captured_size = old.captured_size ∙ ap (λ (d : Device). d.ring_frames * channels_of d.settings.layout) (sym output.device_same);
+      mixed_within = omega (arith, output.mixed_same, old.mixed_within);
+      handed_within = omega (arith, output.handed_same, old.handed_within);
+    }
+
+pub invariant_of-self-in-Read : goal.invariant_of-self-in-Read
+invariant_of-self-in-Read g c =
+    let old = c.args.self.now in
+    let new = c.answer_read.new.parent in
+    let output = c.answer_read.ensures.output in
+    let stays = ap (λ (v : Vec (PlayChannelOf _) _). v.items) c.answer_read.ensures.channels in
+    record {
+      apart = subst HoldApart (sym (c.answer_read.ensures.desk old.tables)) (apart-after (device_of old) (desk_of old) (Read c.in-Read.fd c.in-Read.len) old.apart);
+      own = subst (λ (v : Vec (PlayChannelOf _) _). AreOf new.device v.items) (sym c.answer_read.ensures.channels) (subst (λ (d : Device). AreOf d old.parent.channels.items) (sym output.device_same) old.own);
+      counted = count-stays (λ (c : PlayChannelOf _). c.book.done + c.book.written) (2 ^ 32) old.steps old.parent.channels.items new.channels.items stays old.counted;
+      given = count-stays (λ (c : PlayChannelOf _). c.book.given) RING_FRAMES old.steps old.parent.channels.items new.channels.items stays old.given;
+      recorders_own = c.answer_read.ensures.recorders_own;
+      kept = count-within (λ (c : RecChannelOf _). c.book.kept) RING_BYTES old.steps old.parent.recorders.items new.recorders.items output.recorders_same
+          (λ slot other there. (c.answer_read.ensures.recorders old.tables slot other there).kept) old.kept;
+      captured_within = count-within (λ (c : RecChannelOf _). c.book.captured) RING_FRAMES old.steps old.parent.recorders.items new.recorders.items output.recorders_same
+          (λ slot other there. let more = (c.answer_read.ensures.recorders old.tables slot other there).captured in omega (arith, more)) old.captured_within;
+      captured_size = old.captured_size ∙ ap (λ (d : Device). d.ring_frames * channels_of d.settings.layout) (sym output.device_same);
       mixed_within = omega (arith, output.mixed_same, old.mixed_within);
       handed_within = omega (arith, output.handed_same, old.handed_within);
     }

@@ -1,8 +1,14 @@
-use Rattle.std.proofs.Common.{◌≡◌, None, Some, refl, sym, ap, ◌∙◌, arith}
+use Rattle.std.proofs.Common.{◌≡◌, ◌*◌, None, Some, refl, sym, ap, ◌∙◌, subst, arith}
 use Rattle.pcm_desk.specs.declared.book.Book.{Book}
 use Rattle.pcm_desk.proofs.Apart.{apart-shut}
 use Rattle.pcm_sound.proofs.Stories.{get_or-same}
-use Rattle.pcm_engine.proofs.Starting.{hold_within-none, parent-starts, ready-unopened}
+use Rattle.pcm_desk.specs.declared.device.Device.{Device}
+use Rattle.pcm_desk.specs.declared.record_book.RecordBook.{RecordBook}
+use Rattle.pcm_desk.specs.Device.{seen}
+use Rattle.pcm_format.specs.Layouts.{channels_of}
+use Rattle.pcm_sound.specs.Story.{story_at_start}
+use Rattle.pcm_engine.specs.Stands.{RecordersStand}
+use Rattle.pcm_engine.proofs.Starting.{parent-starts, ready-unopened, record-ready-unopened, record_books_of-unopened, recorders-start}
 use Rattle.pcm_engine.proofs.engine.EngineOf.new.Goals as goal
 
 pub invariant_of-result : goal.invariant_of-result
@@ -11,22 +17,33 @@ invariant_of-result g c =
     record {
       own = λ slot other there. (c.in_ok-parent.ensures.channels slot other there).device_is ∙ sym c.in_ok-parent.ensures.device;
       apart = apart-shut _ (λ fd held e. let none : None ≡ Some held = sym (get_or-same 64 fd None) ∙ e in cc);
-      held = hold_within-none parent.channels.len _ 64 refl;
+      recorders_own = λ slot other there. (c.in_ok-parent.ensures.recording slot other there).device_is ∙ sym c.in_ok-parent.ensures.device;
       counted = λ slot other there.
           let book = (c.in_ok-parent.ensures.channels slot other there).book in
           let none = ap (λ (b : Book). b.written) book in
           let before = ap (λ (b : Book). b.done) book in
           omega arith;
       given = λ slot other there. let none = ap (λ (b : Book). b.given) (c.in_ok-parent.ensures.channels slot other there).book in omega arith;
+      kept = λ slot other there. let none = ap (λ (b : RecordBook). b.kept) (c.in_ok-parent.ensures.recording slot other there).book in omega arith;
+      captured_within = λ slot other there. let none = ap (λ (b : RecordBook). b.captured) (c.in_ok-parent.ensures.recording slot other there).book in omega arith;
+      captured_size = c.in_ok-captured.ensures.len ∙ ap (λ n. c.args.device.ring_frames * n) c.channels.ensures ∙ ap (λ (d : Device). d.ring_frames * channels_of d.settings.layout) (sym c.in_ok-parent.ensures.device);
       mixed_within = omega (arith, c.in_ok-parent.ensures.mixed);
       handed_within = omega (arith, c.in_ok-parent.ensures.handed);
     }
 
 pub returns-clause-ready : goal.returns-clause-ready
-returns-clause-ready g c =
-    ready-unopened g.B.Feeder.kind g.B.Feeder.kept c.args.tables c.args.device c.in_ok-parent.parent.channels.items c.in_ok-parent.ensures.channels
+returns-clause-ready g c = record {
+  playing = ready-unopened g.B.Feeder.kind g.B.Feeder.kept c.args.tables c.args.device c.in_ok-parent.parent.channels.items c.in_ok-parent.ensures.channels;
+  recording = record-ready-unopened g.B.Feeder.kind g.B.Feeder.kept c.args.tables c.args.device c.in_ok-parent.parent.recorders.items c.in_ok-parent.ensures.recording;
+}
 
 pub returns-clause-stands : goal.returns-clause-stands
 returns-clause-stands g c = λ pool.
     let e = c.in_ok-parent.ensures in
-    parent-starts g.B.Feeder.kind g.B.Feeder.kept c.args.tables c.args.device c.in_ok-parent.parent _ c.requires.limits.device_is refl e.device e.slots e.channels e.ring e.handed e.mixed
+    let parent = c.in_ok-parent.parent in
+    let books = record_books_of-unopened g.B.Feeder.kind g.B.Feeder.kept c.args.tables c.args.device parent.recorders.items e.recorders e.recording in
+    let started = recorders-start g.B.Feeder.kind g.B.Feeder.kept c.args.tables c.args.device pool parent.recorders.items c.requires.limits.device_is e.recording in
+    record {
+      playing = parent-starts g.B.Feeder.kind g.B.Feeder.kept c.args.tables c.args.device parent _ c.requires.limits.device_is refl e.device e.slots books e.channels e.ring e.handed e.mixed;
+      recording = subst (λ (d : Device). RecordersStand g.B.Feeder.kept (seen c.args.tables d) pool parent.recorders.items (story_at_start (seen c.args.tables d))) (sym e.device) started;
+    }

@@ -3,18 +3,22 @@ use Rattle.pcm_desk.specs.declared.device.Device.{Device}
 use Rattle.pcm_desk.specs.Device.{DeviceSeen, seen}
 use Rattle.pcm_feeder.specs.Filters.{Filters}
 use Rattle.pcm_play.specs.Channels.{IsReady}
-use Rattle.pcm_desk.specs.Desk.{Desk, after, book_at, rate_at}
+use Rattle.pcm_record.specs.Channels.{IsRecordReady}
+use Rattle.pcm_sound.specs.Replies.{bytes_to}
+use Rattle.pcm_desk.specs.Desk.{Desk, after, book_at, rate_at, record_at, record_rate_at}
 use Rattle.pcm_desk.specs.Events.{frames_taken}
 use Rattle.pcm_desk.specs.Own.{IsIsolated}
 use Rattle.pcm_desk.specs.Safe.{BookIsSafe}
+use Rattle.pcm_desk.specs.RecordSafe.{RecordIsSafe}
 use Rattle.pcm_sound.specs.Story.{story_of, story_at_start}
 use Rattle.pcm_sound.specs.DeviceList.{device_body}
 use Rattle.pcm_sound.proofs.Stories.{told_all-push}
-use Rattle.pcm_engine.specs.Stands.{PartsStand}
-use Rattle.pcm_engine.specs.Steps.{bytes_brought}
+use Rattle.pcm_engine.specs.Stands.{PartsStand, RecordersStand, bytes_kept, frames_captured}
+use Rattle.pcm_engine.specs.Steps.{bytes_answered, bytes_brought}
 use Rattle.pcm_engine.specs.Engines.{device_of, desk_of}
 use Rattle.pcm_vchan.proofs.Channels.{ready-after}
-use Rattle.pcm_engine.proofs.Own.{isolated}
+use Rattle.pcm_sound.proofs.Isolation.{isolated}
+use Rattle.pcm_engine.proofs.Recording.{all-record, answered-told, recorders-ready, recorders-told, reply-made}
 use Rattle.pcm_engine.proofs.Standing.{Stepped, stands-told, body-told}
 use Rattle.pcm_engine.proofs.engine.EngineOf.step.Goals as goal
 
@@ -22,8 +26,12 @@ pub returns-clause-ready : goal.returns-clause-ready
 returns-clause-ready g c =
     let old = c.args.self.now in
     let new = c.apply.new.self in
-    subst (λ (t : Filters). All (IsReady g.B.Feeder.kind g.B.Feeder.kept t) new.parent.channels.items) (sym c.apply.ensures.tables)
-    (ready-after g.B.Feeder.kind g.B.Feeder.kept old.tables (bytes_brought c.args.pool.now c.args.event.now) (frames_taken c.args.event.now) old.parent.channels.items new.parent.channels.items c.apply.ensures.slots c.apply.ensures.channels c.requires.ready)
+    record {
+      playing = subst (λ (t : Filters). All (IsReady g.B.Feeder.kind g.B.Feeder.kept t) new.parent.channels.items) (sym c.apply.ensures.tables)
+          (ready-after g.B.Feeder.kind g.B.Feeder.kept old.tables (bytes_brought c.args.pool.now c.args.event.now) (frames_taken c.args.event.now) old.parent.channels.items new.parent.channels.items c.apply.ensures.slots c.apply.ensures.channels c.requires.ready.playing);
+      recording = subst (λ (t : Filters). All (IsRecordReady g.B.Feeder.kind g.B.Feeder.kept t) new.parent.recorders.items) (sym c.apply.ensures.tables)
+          (recorders-ready g.B.Feeder.kind g.B.Feeder.kept (device_of old) c.args.pool.now old.parent.handed c.args.event.now old.parent.recorders.items new.parent.recorders.items c.apply.ensures.recorders_slots c.apply.ensures.recorders c.requires.ready.recording);
+    }
 
 pub returns-clause-stands : goal.returns-clause-stands
 returns-clause-stands g c = λ events s.
@@ -43,11 +51,33 @@ returns-clause-stands g c = λ events s.
       channels = c.apply.ensures.channels;
       ring = c.apply.ensures.ring;
     } in
-    let stood = stands-told g.B.Feeder.kind kept device pool story event (desk_of old) (desk_of new) old.parent.channels.items new.parent.channels.items old.parent.ring.bytes new.parent.ring.bytes c.requires.fits step s in
+    let stood = stands-told g.B.Feeder.kind kept device pool story event (desk_of old) (desk_of new) old.parent.channels.items new.parent.channels.items old.parent.ring.bytes new.parent.ring.bytes c.requires.fits step s.playing in
     let pushed : PartsStand kept device (desk_of new) new.parent.channels.items new.parent.ring.bytes (story_of device pool (events ++ event ∷ [])) =
     subst (PartsStand kept device (desk_of new) new.parent.channels.items new.parent.ring.bytes) (sym (told_all-push device pool (story_at_start device) events event)) stood in
+    let recorded = recorders-told g.B.Feeder.kind kept device old.parent.device pool story event (desk_of old) (desk_of new) old.parent.recorders.items new.parent.recorders.items c.requires.captures c.requires.fits refl old.recorders_own
+    s.playing.desk_is c.apply.ensures.desk refl refl c.apply.ensures.recorders_slots c.apply.ensures.recorders s.playing.valid s.recording in
+    let recording : RecordersStand kept device pool new.parent.recorders.items (story_of device pool (events ++ event ∷ [])) =
+    subst (RecordersStand kept device pool new.parent.recorders.items) (sym (told_all-push device pool (story_at_start device) events event)) recorded in
     let same : device_of new ≡ device = ap (λ (d : Device). seen new.tables d) c.apply.ensures.device ∙ ap (λ (t : Filters). seen t old.parent.device) c.apply.ensures.tables in
-    subst (λ (d : DeviceSeen). PartsStand kept d (desk_of new) new.parent.channels.items new.parent.ring.bytes (story_of d pool (events ++ event ∷ []))) (sym same) pushed
+    record {
+      playing = subst (λ (d : DeviceSeen). PartsStand kept d (desk_of new) new.parent.channels.items new.parent.ring.bytes (story_of d pool (events ++ event ∷ []))) (sym same) pushed;
+      recording = subst (λ (d : DeviceSeen). RecordersStand kept d pool new.parent.recorders.items (story_of d pool (events ++ event ∷ []))) (sym same) recording;
+    }
+
+pub returns-clause-reply : goal.returns-clause-reply
+returns-clause-reply g c = λ events s.
+    let old = c.args.self.now in
+    let device = device_of old in
+    let pool = c.args.pool.now in
+    let event = c.args.event.now in
+    let story = story_of device pool events in
+    let is = s.playing.desk_is in
+    let all = all-record g.B.Feeder.kept device pool story old.parent.recorders.items (ap (λ (d : Desk). d.recording) (sym is)) s.recording in
+    reply-made c.apply.new.reply (after device story.desk event).reply (bytes_to device story event)
+    (c.apply.ensures.reply ∙ ap (λ (d : Desk). (after device d event).reply) is)
+    (c.apply.ensures.bytes (bytes_kept device story) (frames_captured device pool story) all
+    ∙ ap (λ (d : Desk). bytes_answered device d (bytes_kept device story) event) is
+    ∙ answered-told device pool story event s.recording.valid)
 
 pub returns-clause-bytes : goal.returns-clause-bytes
 returns-clause-bytes g c = λ events s.
@@ -57,7 +87,7 @@ returns-clause-bytes g c = λ events s.
     let event = c.args.event.now in
     let story = story_of device pool events in
     ap (device_body device) (told_all-push device pool (story_at_start device) events event)
-    ∙ body-told g.B.Feeder.kept device pool story event (desk_of old) old.parent.channels.items old.parent.ring.bytes c.requires.fits s
+    ∙ body-told g.B.Feeder.kept device pool story event (desk_of old) old.parent.channels.items old.parent.ring.bytes c.requires.fits s.playing
     ∙ ap (λ (n : ℕ). device_body device story ++ take n old.parent.ring.bytes) (sym c.apply.ensures.count)
     ∙ ap (λ (bytes : List ℕ). device_body device story ++ bytes) (sym c.apply.ensures.out)
 
@@ -65,7 +95,13 @@ pub returns-clause-safe : goal.returns-clause-safe
 returns-clause-safe g c = λ events s slot.
     let stood = returns-clause-stands g c events s in
     let device = device_of c.apply.new.self in
-    subst (λ (desk : Desk). BookIsSafe (rate_at device (book_at device desk slot)) (book_at device desk slot)) (sym stood.desk_is) (stood.valid.safe slot)
+    subst (λ (desk : Desk). BookIsSafe (rate_at device (book_at device desk slot)) (book_at device desk slot)) (sym stood.playing.desk_is) (stood.playing.valid.safe slot)
+
+pub returns-clause-records_safe : goal.returns-clause-records_safe
+returns-clause-records_safe g c = λ events s slot.
+    let stood = returns-clause-stands g c events s in
+    let device = device_of c.apply.new.self in
+    subst (λ (desk : Desk). RecordIsSafe (record_rate_at device (record_at device desk slot)) (record_at device desk slot)) (sym stood.playing.desk_is) (stood.recording.valid slot).safe
 
 pub returns-clause-isolated : goal.returns-clause-isolated
 returns-clause-isolated g c =

@@ -7,6 +7,8 @@ use Rattle.pcm_format.specs.Layouts.{channels_of}
 use Rattle.pcm_desk.specs.Device.{seen}
 use Rattle.pcm_desk.specs.Desk.{mixing}
 use Rattle.pcm_play.specs.declared.channel.PlayChannelOf.{PlayChannelOf}
+use Rattle.pcm_record.specs.declared.channel.RecChannelOf.{RecChannelOf}
+use Rattle.pcm_vchan.specs.Captures.{Captures}
 use Rattle.pcm_vchan.specs.Slots.{AllStand, Each, books_of}
 use Rattle.pcm_play.specs.Channels.{Moves}
 use Rattle.pcm_vchan.specs.Blocks.{block_bytes, block_of}
@@ -124,6 +126,8 @@ invariant_of-self g c =
       within = old.within;
       slots = old.slots;
       slots_within = old.slots_within;
+      recorders_count = old.recorders_count;
+      recorders_within = old.recorders_within;
       size = ap (λ (ring : Ring). ring.size) c.put.ensures.kept ∙ wide;
       full = ap (λ (ring : Ring). length ring.bytes) c.put.ensures.kept
           ∙ omega (arith, length-append c.take.new.self.bytes (take c.put.result (take (n * c.frame_bytes.result) c.deref.result.now)), length-take c.put.result (take (n * c.frame_bytes.result) c.deref.result.now), old.full);
@@ -137,3 +141,9 @@ returns-clause-own g c =
     let old = c.args.self.now in
     let same = rewritten c.mix_block.new.channels old.channels.items old.channels.len (c.mix_block.auto.channels ∙ c.deref_mut.ensures.len) in
     rw same c.mix_block.ensures.own
+
+pub returns-clause-recorders : goal.returns-clause-recorders
+returns-clause-recorders g c =
+    let old = c.args.self.now in
+    let same = rewritten c.capture_all.new.channels old.recorders.items old.recorders.len (c.capture_all.auto.channels ∙ c.deref_mut-5.ensures.len) in
+    rw same (subst (λ (before : List (RecChannelOf _)). Each (Captures g.B.Feeder.kind g.B.Feeder.kept (seen c.args.tables.now old.device) c.args.n c.args.captured.now) before c.capture_all.new.channels) c.deref_mut-5.ensures.value c.capture_all.ensures.moves)

@@ -1,0 +1,209 @@
+-- Channels that record and stand for a story stand for it with one event more.
+use Rattle.std.proofs.Common.{◌≡◌, ℕ, ◌<◌, Bool, true, false, List, [], ◌++◌, length, get_or, min, take, drop, Option, Some, None, Result, refl, sym, ap, ◌∙◌, subst, arith}
+use Rattle.std.specs.Prelude.{All}
+use Rattle.std.proofs.lemmas.List.{append-nil, get_or-map, take_all}
+use Rattle.pcm_oss.specs.declared.event.Event.{Event}
+use Rattle.pcm_oss.specs.declared.event.Event.TheVariants.{Open, Write, Read, Ioctl, Close, Intr}
+use Rattle.pcm_oss.specs.declared.event.Way.{Way}
+use Rattle.pcm_oss.specs.declared.event.Way.TheVariants.{Play, Rec}
+use Rattle.pcm_oss.specs.declared.reply.Answer.{Answer}
+use Rattle.pcm_oss.specs.declared.reply.Errno.{Errno}
+use Rattle.pcm_oss.specs.Replies.{Reply}
+use Rattle.pcm_wave.specs.declared.pool.Pool.{Pool}
+use Rattle.std.proofs.lemmas.List.FromFn.{length-map-range_with_len}
+use Rattle.pcm_wave.specs.Pools.{IsCaptureIn, captured_frame, captured_frames}
+use Rattle.pcm_wave.proofs.Captures.{captured_frames-channels}
+use Rattle.pcm_format.specs.declared.layout.Layout.{Layout}
+use Rattle.pcm_format.specs.Frames.{Frame}
+use Rattle.pcm_format.specs.Layouts.{channels_of}
+use Rattle.pcm_format.proofs.Streams.{channels_of-above}
+use Rattle.pcm_feeder.specs.declared.kind.Kind.{Kind}
+use Rattle.pcm_feeder.specs.Kept.{Kept}
+use Rattle.pcm_feeder.specs.Streams.{frames_of, interleaved}
+use Rattle.pcm_feeder.proofs.Frames.{frames_of-interleaved}
+use Rattle.pcm_desk.specs.declared.device.Device.{Device}
+use Rattle.pcm_desk.specs.declared.device.Held.{Held}
+use Rattle.pcm_desk.specs.declared.record_book.RecordBook.{RecordBook}
+use Rattle.pcm_desk.specs.Device.{DeviceSeen, IsDevice, device_settings, filters_of, seen}
+use Rattle.pcm_desk.specs.RecordBooks.{fill_of, is_running, keeping}
+use Rattle.pcm_desk.specs.Desk.{Desk, after, by_way, capturing, held_by, record_at, record_rate_at, record_unopened}
+use Rattle.pcm_desk.specs.Events.{Fits, frames_taken}
+use Rattle.pcm_sound.specs.Plans.{recorded_bytes}
+use Rattle.pcm_sound.specs.Recordings.{Recording, read_bytes, recording_after}
+use Rattle.pcm_sound.specs.Replies.{bytes_got, bytes_to}
+use Rattle.pcm_sound.specs.Story.{Story, told}
+use Rattle.pcm_sound.specs.Valid.{RecordingIsValid, RecordingsAreValid, StoryIsValid}
+use Rattle.pcm_sound.proofs.Following.{bytes_in, frames_of_book, recording-follows, recording-hears}
+use Rattle.pcm_sound.proofs.Recorded.{idle-unstarted, handed-after, record_at-capturing, recordings-told}
+use Rattle.pcm_record.specs.declared.channel.RecChannelOf.{RecChannelOf}
+use Rattle.pcm_record.specs.Channels.{IsRecordReady, RecordMoves, RecordStands}
+use Rattle.pcm_vchan.specs.Captures.{Captures}
+use Rattle.pcm_vchan.specs.Slots.{AllRecord, Each, RecordersAreOf, record_books_of}
+use Rattle.pcm_vchan.proofs.Channels.{record-ready-moved}
+use Rattle.pcm_engine.specs.Stands.{RecordersStand, bytes_kept, frames_captured}
+use Rattle.pcm_engine.specs.Steps.{RecordersMove, bytes_answered, bytes_read}
+
+-- the record book of a slot is that of its channel
+pub record_at-books : {B : Type 0} (device : DeviceSeen) (desk : Desk) (recorders : List (RecChannelOf B)) (slot : ℕ) (other : RecChannelOf B) → desk.recording ≡ record_books_of recorders → slot < length recorders → record_at device desk slot ≡ (get_or recorders slot other).book
+record_at-books {B = B} device desk recorders slot other recording there =
+    ap (λ (books : List RecordBook). get_or books slot (record_unopened device)) recording ∙ get_or-map (λ (c : RecChannelOf B). c.book) recorders slot other (record_unopened device) there
+
+-- a channel of the device stands, once it moved and captured nothing, for the first of what it stood for
+stands-less : {B : Type 0} (kind : B → Kind) (kept : B → Kept) (device : DeviceSeen) (old new : RecChannelOf B) (bytes : List ℕ) (frames : List Frame) → RecordMoves kind kept (filters_of device) [] 0 old new
+    → RecordStands kept (filters_of device) old old.book bytes frames → RecordStands kept (filters_of device) new new.book (take new.book.kept bytes) (take new.book.captured frames)
+stands-less kind kept device old new bytes frames m s =
+    let stood = m.stands bytes frames s in
+    subst (λ (b : List ℕ). RecordStands kept (filters_of device) new new.book (take new.book.kept b) (take new.book.captured frames)) (append-nil bytes)
+    (subst (λ (f : List Frame). RecordStands kept (filters_of device) new new.book (take new.book.kept (bytes ++ [])) (take new.book.captured f)) (append-nil frames) stood)
+
+-- an event that takes no frames
+still : {B : Type 0} (kind : B → Kind) (kept : B → Kept) (device : DeviceSeen) (pool : Pool) (story : Story) (event : Event) (before now : List (RecChannelOf B)) → Fits device pool event → frames_taken event ≡ 0
+    → story.desk.recording ≡ record_books_of before → (told device pool story event).desk.recording ≡ record_books_of now → length now ≡ length before
+    → Each (RecordMoves kind kept (filters_of device) [] 0) before now → RecordersStand kept device pool before story
+    → (slot : ℕ) (other : RecChannelOf B) → slot < length now
+    → RecordStands kept (filters_of device) (get_or now slot other) (record_at device (told device pool story event).desk slot) (bytes_kept device (told device pool story event) slot) (frames_captured device pool (told device pool story event) slot)
+still kind kept device pool story event before now fits none before_are now_are same moves s slot other within =
+    let there : slot < length before = omega arith in
+    let was = record_at-books device story.desk before slot other before_are there in
+    let is = record_at-books device (told device pool story event).desk now slot other now_are within in
+    let stood = subst (λ (b : RecordBook). RecordStands kept (filters_of device) (get_or before slot other) b (bytes_kept device story slot) (frames_captured device pool story slot)) was (s.slots slot other there) in
+    let stands = stands-less kind kept device (get_or before slot other) (get_or now slot other) (bytes_kept device story slot) (frames_captured device pool story slot) (moves slot other there) stood in
+    let new : RecordBook = record_at device (told device pool story event).desk slot in
+    let stands_new : RecordStands kept (filters_of device) (get_or now slot other) new (take new.kept (bytes_kept device story slot)) (take new.captured (frames_captured device pool story slot)) =
+    subst (λ (b : RecordBook). RecordStands kept (filters_of device) (get_or now slot other) b (take b.kept (bytes_kept device story slot)) (take b.captured (frames_captured device pool story slot))) (sym is) stands in
+    let f = recording-follows device pool story event slot fits none s.valid in
+    subst (λ (b : List ℕ). RecordStands kept (filters_of device) (get_or now slot other) new b (frames_captured device pool (told device pool story event) slot)) (sym f.bytes)
+    (subst (λ (x : List Frame). RecordStands kept (filters_of device) (get_or now slot other) new (take new.kept (bytes_kept device story slot)) x) (sym f.frames) stands_new)
+
+-- a channel that captured frames of its device stands for these too, and for what it kept of them
+stands-captured : {B : Type 0} (kind : B → Kind) (kept : B → Kept) (device : DeviceSeen) (n : ℕ) (more : List Frame) (before now : RecChannelOf B) (old new : RecordBook) (bytes : List ℕ) (frames : List Frame)
+    → seen (filters_of device) before.device ≡ device → frames_of (channels_of (device_settings device).layout) (interleaved more) ≡ more → old ≡ before.book → now.book ≡ new
+    → RecordMoves kind kept (filters_of device) (frames_of (channels_of (device_settings device).layout) (interleaved more)) (keeping (record_rate_at device before.book) n before.book) before now
+    → RecordStands kept (filters_of device) before old bytes frames
+    → RecordStands kept (filters_of device) now new (take new.kept (bytes ++ recorded_bytes device old.settings (frames ++ more) old.given (keeping (record_rate_at device old) n old))) (take new.captured (frames ++ more))
+stands-captured kind kept device n more before now old new bytes frames device_is input old_is new_is m s =
+    let k : ℕ = keeping (record_rate_at device before.book) n before.book in
+    let stood = subst (λ (b : RecordBook). RecordStands kept (filters_of device) before b bytes frames) old_is s in
+    let stands = m.stands bytes frames stood in
+    let with_input = subst (λ (x : List Frame). RecordStands kept (filters_of device) now now.book (take now.book.kept (bytes ++ recorded_bytes (seen (filters_of device) before.device) before.book.settings (frames ++ x) before.book.given k)) (take now.book.captured (frames ++ x))) input stands in
+    let on_device = subst (λ (v : DeviceSeen). RecordStands kept (filters_of device) now now.book (take now.book.kept (bytes ++ recorded_bytes v before.book.settings (frames ++ more) before.book.given k)) (take now.book.captured (frames ++ more))) device_is with_input in
+    let of_book = subst (λ (b : RecordBook). RecordStands kept (filters_of device) now now.book (take now.book.kept (bytes ++ recorded_bytes device b.settings (frames ++ more) b.given (keeping (record_rate_at device b) n b))) (take now.book.captured (frames ++ more))) (sym old_is) on_device in
+    subst (λ (b : RecordBook). RecordStands kept (filters_of device) now b (take b.kept (bytes ++ recorded_bytes device old.settings (frames ++ more) old.given (keeping (record_rate_at device old) n old))) (take b.captured (frames ++ more))) new_is of_book
+
+-- an interrupt
+heard : {B : Type 0} (kind : B → Kind) (kept : B → Kept) (device : DeviceSeen) (own : Device) (pool : Pool) (story : Story) (n : ℕ) (before now : List (RecChannelOf B)) → IsDevice device → IsCaptureIn (device_settings device).layout pool
+    → seen (filters_of device) own ≡ device → RecordersAreOf own before
+    → story.desk.recording ≡ record_books_of before → (told device pool story (Intr n)).desk.recording ≡ record_books_of now → length now ≡ length before
+    → Each (Captures kind kept device n (interleaved (captured_frames (device_settings device).layout pool story.desk.handed n))) before now → RecordersStand kept device pool before story
+    → (slot : ℕ) (other : RecChannelOf B) → slot < length now
+    → RecordStands kept (filters_of device) (get_or now slot other) (record_at device (told device pool story (Intr n)).desk slot) (bytes_kept device (told device pool story (Intr n)) slot) (frames_captured device pool (told device pool story (Intr n)) slot)
+heard {B = B} kind kept device own pool story n before now d captures seen_is are before_are now_are same moves s slot other within =
+    let there : slot < length before = omega arith in
+    let layout : Layout = (device_settings device).layout in
+    let more : List Frame = captured_frames layout pool story.desk.handed n in
+    let old : RecordBook = record_at device story.desk slot in
+    let was = record_at-books device story.desk before slot other before_are there in
+    let is = record_at-books device (told device pool story (Intr n)).desk now slot other now_are within in
+    let went : record_at device (told device pool story (Intr n)).desk slot ≡ capturing device n old = record_at-capturing device story.desk n slot in
+    let input = frames_of-interleaved (channels_of layout) more (channels_of-above layout) (captured_frames-channels layout pool story.desk.handed n captures) in
+    let device_is : seen (filters_of device) (get_or before slot other).device ≡ device = ap (λ (o : Device). seen (filters_of device) o) (are slot other there) ∙ seen_is in
+    let stands = stands-captured kind kept device n more (get_or before slot other) (get_or now slot other) old (capturing device n old) (bytes_kept device story slot) (frames_captured device pool story slot)
+    device_is input was (sym is ∙ went) (moves slot other there).moves (s.slots slot other there) in
+    let h = recording-hears device pool story n slot d s.valid in
+    let new : RecordBook = capturing device n old in
+    let after_is : RecordBook → Recording = λ b. recording_after device pool story.desk (Intr n) old b (story.recordings slot) in
+    subst (λ (b : RecordBook). RecordStands kept (filters_of device) (get_or now slot other) b (bytes_in b (after_is b)) (frames_of_book device pool b (after_is b))) (sym went)
+    (subst (λ (bytes : List ℕ). RecordStands kept (filters_of device) (get_or now slot other) new bytes (frames_of_book device pool new (after_is new))) (sym h.bytes)
+    (subst (λ (frames : List Frame). RecordStands kept (filters_of device) (get_or now slot other) new
+    (take new.kept (bytes_kept device story slot ++ recorded_bytes device old.settings (frames_captured device pool story slot ++ more) old.given (keeping (record_rate_at device old) n old))) frames) (sym h.frames) stands))
+
+-- each stands for its slot after an event
+slots_stand : {B : Type 0} (kind : B → Kind) (kept : B → Kept) (device : DeviceSeen) (own : Device) (pool : Pool) (story : Story) (event : Event) (before now : List (RecChannelOf B)) → IsDevice device → IsCaptureIn (device_settings device).layout pool → Fits device pool event
+    → seen (filters_of device) own ≡ device → RecordersAreOf own before
+    → story.desk.recording ≡ record_books_of before → (told device pool story event).desk.recording ≡ record_books_of now → length now ≡ length before
+    → RecordersMove kind kept device pool story.desk.handed event before now → RecordersStand kept device pool before story
+    → (slot : ℕ) (other : RecChannelOf B) → slot < length now
+    → RecordStands kept (filters_of device) (get_or now slot other) (record_at device (told device pool story event).desk slot) (bytes_kept device (told device pool story event) slot) (frames_captured device pool (told device pool story event) slot)
+slots_stand kind kept device own pool story (Open fd way settings) before now d c fits seen_is are b n same moves s = still kind kept device pool story (Open fd way settings) before now fits refl b n same moves s
+slots_stand kind kept device own pool story (Write fd source at count) before now d c fits seen_is are b n same moves s = still kind kept device pool story (Write fd source at count) before now fits refl b n same moves s
+slots_stand kind kept device own pool story (Read fd count) before now d c fits seen_is are b n same moves s = still kind kept device pool story (Read fd count) before now fits refl b n same moves s
+slots_stand kind kept device own pool story (Ioctl fd request) before now d c fits seen_is are b n same moves s = still kind kept device pool story (Ioctl fd request) before now fits refl b n same moves s
+slots_stand kind kept device own pool story (Close fd) before now d c fits seen_is are b n same moves s = still kind kept device pool story (Close fd) before now fits refl b n same moves s
+slots_stand kind kept device own pool story (Intr frames) before now d c fits seen_is are b n same moves s = heard kind kept device own pool story frames before now d c seen_is are b n same moves s
+
+-- What stood for a story stands, one step on, for the story with one event more.
+pub recorders-told : {B : Type 0} (kind : B → Kind) (kept : B → Kept) (device : DeviceSeen) (own : Device) (pool : Pool) (story : Story) (event : Event) (old new : Desk) (before now : List (RecChannelOf B)) → IsCaptureIn (device_settings device).layout pool → Fits device pool event
+    → seen (filters_of device) own ≡ device → RecordersAreOf own before → old ≡ story.desk → new ≡ (after device old event).desk → old.recording ≡ record_books_of before → new.recording ≡ record_books_of now → length now ≡ length before
+    → RecordersMove kind kept device pool old.handed event before now → StoryIsValid device story → RecordersStand kept device pool before story → RecordersStand kept device pool now (told device pool story event)
+recorders-told kind kept device own pool story event old new before now c fits seen_is are old_is new_is b n same moves v s =
+    let desk_is : new ≡ (told device pool story event).desk = new_is ∙ ap (λ (d : Desk). (after device d event).desk) old_is in
+    record {
+      slots = slots_stand kind kept device own pool story event before now v.limits c fits seen_is are (ap (λ (d : Desk). d.recording) (sym old_is) ∙ b) (ap (λ (d : Desk). d.recording) (sym desk_is) ∙ n) same
+          (subst (λ (d : Desk). RecordersMove kind kept device pool d.handed event before now) old_is moves) s;
+      valid = recordings-told device pool story event v.limits c fits (handed-after device pool story event fits v) s.valid;
+    }
+
+-- as many frames are captured as are asked for
+pub length-captured : (layout : Layout) (pool : Pool) (handed n : ℕ) → IsCaptureIn layout pool → length (frames_of (channels_of layout) (interleaved (captured_frames layout pool handed n))) ≡ n
+length-captured layout pool handed n captures =
+    ap (λ (list : List Frame). length list) (frames_of-interleaved (channels_of layout) (captured_frames layout pool handed n) (channels_of-above layout) (captured_frames-channels layout pool handed n captures))
+    ∙ length-map-range_with_len (captured_frame layout pool) handed n
+
+-- ---- what is ready, and what reads get
+
+-- channels that were ready are ready after an event
+pub recorders-ready : {B : Type 0} (kind : B → Kind) (kept : B → Kept) (device : DeviceSeen) (pool : Pool) (handed : ℕ) (event : Event) (before now : List (RecChannelOf B)) → length now ≡ length before
+    → RecordersMove kind kept device pool handed event before now → All (IsRecordReady kind kept (filters_of device)) before → All (IsRecordReady kind kept (filters_of device)) now
+recorders-ready {B = B} kind kept device pool handed event before now same moves ready = at event moves
+  where
+    plain : Each (RecordMoves kind kept (filters_of device) [] 0) before now → All (IsRecordReady kind kept (filters_of device)) now
+    plain each = λ slot other within. record-ready-moved kind kept (filters_of device) [] 0 (get_or before slot other) (get_or now slot other) (each slot other (omega arith)) (ready slot other (omega arith))
+
+    at : (e : Event) → RecordersMove kind kept device pool handed e before now → All (IsRecordReady kind kept (filters_of device)) now
+    at (Open fd way settings) each = plain each
+    at (Write fd source place count) each = plain each
+    at (Read fd count) each = plain each
+    at (Ioctl fd request) each = plain each
+    at (Close fd) each = plain each
+    at (Intr n) each = λ slot other within.
+        record-ready-moved kind kept (filters_of device) _ _ (get_or before slot other) (get_or now slot other) (each slot other (omega arith)).moves (ready slot other (omega arith))
+
+-- each channel stands for its book, its bytes and its frames
+pub all-record : {B : Type 0} (kept : B → Kept) (device : DeviceSeen) (pool : Pool) (story : Story) (recorders : List (RecChannelOf B)) → story.desk.recording ≡ record_books_of recorders → RecordersStand kept device pool recorders story
+    → AllRecord kept (filters_of device) recorders (bytes_kept device story) (frames_captured device pool story)
+all-record kept device pool story recorders are s = λ slot other there.
+    subst (λ (b : RecordBook). RecordStands kept (filters_of device) (get_or recorders slot other) b (bytes_kept device story slot) (frames_captured device pool story slot)) (record_at-books device story.desk recorders slot other are there) (s.slots slot other there)
+
+-- the bytes that a book counts are all that a read may get
+read_counted : (device : DeviceSeen) (pool : Pool) (handed count : ℕ) (running : Bool) (book : RecordBook) (recording : Recording) → is_running book.state ≡ running → RecordingIsValid device pool handed book recording
+    → take (min count (fill_of book)) (drop book.read (take book.kept recording.kept)) ≡ read_bytes count book recording
+read_counted device pool handed count true book recording e v =
+    let r = v.running e in
+    ap (λ (bytes : List ℕ). take (min count (fill_of book)) (drop book.read bytes)) (take_all book.kept recording.kept (omega (arith, r.kept)))
+read_counted device pool handed count false book recording e v =
+    let none = idle-unstarted book.state book e v.safe.order in
+    let empty : min count (fill_of book) ≡ 0 = omega (arith, none.kept_none) in
+    rw empty refl
+
+-- the bytes that come with the reply to an event are those that the story tells
+pub answered-told : (device : DeviceSeen) (pool : Pool) (story : Story) (event : Event) → RecordingsAreValid device pool story → bytes_answered device story.desk (bytes_kept device story) event ≡ bytes_to device story event
+answered-told device pool story (Open fd way settings) v = refl
+answered-told device pool story (Write fd source at count) v = refl
+answered-told device pool story (Read fd count) v = held_at (held_by story.desk fd)
+  where
+    way_at : (way : Way) (slot : ℕ)
+        → by_way way [] (take (min count (fill_of (record_at device story.desk slot))) (drop (record_at device story.desk slot).read (bytes_kept device story slot)))
+        ≡ by_way way [] (read_bytes count (record_at device story.desk slot) (story.recordings slot))
+    way_at Play slot = refl
+    way_at Rec slot = read_counted device pool story.desk.handed count (is_running (record_at device story.desk slot).state) (record_at device story.desk slot) (story.recordings slot) refl (v slot)
+
+    held_at : (held : Option Held) → bytes_read device story.desk (bytes_kept device story) count held ≡ bytes_got device story count held
+    held_at None = refl
+    held_at (Some held) = way_at held.way held.slot
+answered-told device pool story (Ioctl fd request) v = refl
+answered-told device pool story (Close fd) v = refl
+answered-told device pool story (Intr n) v = refl
+
+-- a reply that has this result and these bytes
+pub reply-made : (reply : Reply) (result : Result Answer Errno) (bytes : List ℕ) → reply.result ≡ result → reply.bytes ≡ bytes → reply ≡ record { result = result; bytes = bytes }
+reply-made reply result bytes p q = λ i. record { result = p i; bytes = q i }

@@ -1,0 +1,192 @@
+-- What a capture leaves of a channel, from what a push of its chain means.
+use Rattle.std.proofs.Common.{◌≡◌, ℕ, ◌+◌, ◌-◌, ◌*◌, ◌/◌, ◌^◌, ◌<◌, ◌≤◌, ℤ, true, min, List, ◌++◌, length, take, refl, sym, ap, ◌∙◌, subst, arith, length-append}
+use Rattle.std.proofs.lemmas.List.{take_all}
+use Rattle.pcm_format.specs.declared.settings.Settings.{Settings}
+use Rattle.pcm_format.specs.Frames.{Frame, frame_bytes, spelled_frames}
+use Rattle.pcm_format.specs.Layouts.{channels_of}
+use Rattle.pcm_format.proofs.Streams.{channels_of-above}
+use Rattle.pcm_ring.specs.Ring.{free_bytes}
+use Rattle.pcm_rate.specs.declared.rate.Rate.{Rate}
+use Rattle.pcm_rate.specs.Rates.{can}
+use Rattle.pcm_feeder.specs.declared.kind.Kind.{Kind}
+use Rattle.pcm_feeder.specs.Filters.{Filters}
+use Rattle.pcm_feeder.specs.Kept.{Kept}
+use Rattle.pcm_feeder.specs.Limits.{IsRate}
+use Rattle.pcm_feeder.specs.Racks.{HaveKinds}
+use Rattle.pcm_feeder.specs.Streams.{frames_of, HaveChannels}
+use Rattle.pcm_oss.specs.declared.fragments.TheConstants.{RING_BYTES}
+use Rattle.pcm_plan.specs.Fits.{HaveBits}
+use Rattle.pcm_plan.specs.Plans.{PlanSeen, rate_in_plan}
+use Rattle.pcm_plan.specs.Through.{recs}
+use Rattle.pcm_chain.specs.declared.chain.ChainOf.{ChainOf}
+use Rattle.pcm_chain.specs.declared.chain.Pushed.{Pushed}
+use Rattle.pcm_chain.specs.Chains.{boxes_in, plan_in}
+use Rattle.pcm_chain.specs.Pushes.{pushed_frames, room_for, HasRecorded, Pushes}
+use Rattle.pcm_chain.proofs.Pushing.{count-frames}
+use Rattle.pcm_desk.specs.declared.record_book.RecordBook.{RecordBook}
+use Rattle.pcm_desk.specs.declared.record_book.RecordState.{RecordState}
+use Rattle.pcm_desk.specs.declared.record_book.RecordState.TheVariants.{Free, Setup, Running}
+use Rattle.pcm_desk.specs.Device.{DeviceSeen, IsDevice, seen}
+use Rattle.pcm_desk.specs.Desk.{capturing, record_rate_at}
+use Rattle.pcm_desk.specs.RecordBooks.{captured, captured_in, captures, coming, fill_of, free_of, is_running, keeping, ring_bytes}
+use Rattle.pcm_desk.specs.RecordSafe.{RecordIsSafe}
+use Rattle.pcm_desk.proofs.Ratios.{record-few}
+use Rattle.pcm_desk.proofs.RecordSafe.{record-safe-captured}
+use Rattle.pcm_sound.specs.Plans.{recorded_bytes}
+use Rattle.pcm_sound.proofs.Recordings.{length-recorded}
+use Rattle.pcm_record.specs.declared.channel.RecChannelOf.{RecChannelOf}
+use Rattle.pcm_record.specs.Channels.{IsRecordPlanned, RecordMoves, RecordStands}
+use Rattle.pcm_record.proofs.Moving.{device-is, planned-as}
+use Rattle.pcm_record.proofs.Stands.{stands-as, stands-captured}
+
+-- ---- books
+
+-- an interrupt captures in a running book
+captures-running : (rate : Rate) (n : ℕ) (book : RecordBook) → is_running book.state ≡ true → captures rate n book ≡ captured rate n book
+captures-running rate n book runs = at book.state runs
+  where
+    at : (state : RecordState) → is_running state ≡ true → captures rate n book ≡ captured_in rate state n book
+    at Free e = cc
+    at Setup e = cc
+    at Running e = refl
+
+-- what an interrupt leaves of a running book
+pub record BookCaptured (device : DeviceSeen) (n : ℕ) (old new : RecordBook) : Type 0 where
+  pub settings : new.settings ≡ old.settings
+  pub fragments : new.fragments ≡ old.fragments
+  pub captured : new.captured ≡ old.captured + n
+  pub kept : new.kept ≡ old.kept + keeping (record_rate_at device old) n old * frame_bytes old.settings
+  pub read : new.read ≡ old.read
+  pub most : new.kept ≤ old.kept + RING_BYTES
+  pub safe : RecordIsSafe (record_rate_at device old) new
+  pub is : new ≡ capturing device n old
+
+pub book-captured : (device : DeviceSeen) (n : ℕ) (old new : RecordBook) → is_running old.state ≡ true → RecordIsSafe (record_rate_at device old) old → new ≡ captures (record_rate_at device old) n old → BookCaptured device n old new
+book-captured device n old new runs safe made =
+    let rate : Rate = record_rate_at device old in
+    let is : new ≡ captured rate n old = made ∙ captures-running rate n old runs in
+    let kept : new.kept ≡ old.kept + keeping rate n old * frame_bytes old.settings = ap (λ (b : RecordBook). b.kept) made in
+    let read : new.read ≡ old.read = ap (λ (b : RecordBook). b.read) made in
+    let after : RecordIsSafe rate new = subst (RecordIsSafe rate) (sym is) (record-safe-captured rate n old safe) in
+    let before = safe.read in
+    let fill = after.fill in
+    let fits = after.fragments.fits in
+    record {
+      settings = ap (λ (b : RecordBook). b.settings) made;
+      fragments = ap (λ (b : RecordBook). b.fragments) made;
+      captured = ap (λ (b : RecordBook). b.captured) made;
+      kept = kept;
+      read = read;
+      most = omega (arith, read);
+      safe = after;
+      is = is;
+    }
+
+-- the bytes kept have room in a count
+pub kept-most : (device : DeviceSeen) (n : ℕ) (book : RecordBook) → is_running book.state ≡ true → RecordIsSafe (record_rate_at device book) book → book.kept + keeping (record_rate_at device book) n book * frame_bytes book.settings ≤ book.kept + RING_BYTES
+kept-most device n book runs safe = (book-captured device n book (captures (record_rate_at device book) n book) runs safe refl).most
+
+-- and so have the frames that come
+pub given-most : (device : DeviceSeen) (n : ℕ) (book : RecordBook) → IsDevice device → IsRate book.settings.rate → RecordIsSafe (record_rate_at device book) book → book.captured + n < 2 ^ 56 → book.given + coming (record_rate_at device book) n book < 2 ^ 64
+given-most device n book d rate safe few =
+    let given = safe.given in
+    let before = record-few device book.settings book.captured d rate in
+    let after = record-few device book.settings (book.captured + n) d rate in
+    omega arith
+
+-- ---- pushes
+
+-- the frames pushed are those of the samples
+pub pushed-is : {B : Type 0} (filters : Filters) (old : RecChannelOf B) (samples : List ℤ) → IsRecordPlanned filters old → pushed_frames (plan_in old.chain) samples ≡ frames_of (channels_of old.device.settings.layout) samples
+pushed-is filters old samples planned = ap (λ (p : PlanSeen). pushed_frames p samples) planned.plan_is
+
+-- so many they are
+pub pushed-count : {B : Type 0} (filters : Filters) (old : RecChannelOf B) (n : ℕ) (samples : List ℤ) → IsRecordPlanned filters old → length samples ≡ n * channels_of old.device.settings.layout → length (pushed_frames (plan_in old.chain) samples) ≡ n
+pushed-count filters old n samples planned whole =
+    let layout = old.device.settings.layout in
+    ap length (pushed-is filters old samples planned) ∙ count-frames (channels_of layout) n samples (channels_of-above layout) whole
+
+-- what a push of a channel's chain says, once it is known what the channel stands for
+pub record PushCaptured {B : Type 0} (kept : B → Kept) (filters : Filters) (device : DeviceSeen) (n : ℕ) (book : RecordBook) (frames input : List Frame) (new : ChainOf B) (pushed : Pushed) (bytes_old bytes_new : List ℕ) : Type 0 where
+  pub came : pushed.came ≡ coming (record_rate_at device book) n book
+  pub keeps : pushed.kept ≡ keeping (record_rate_at device book) n book
+  pub records : HasRecorded kept filters new (frames ++ input)
+  pub bytes : bytes_new ≡ bytes_old ++ recorded_bytes device book.settings (frames ++ input) book.given (keeping (record_rate_at device book) n book)
+
+pub push-captured : {B : Type 0} (kept : B → Kept) (filters : Filters) (old : RecChannelOf B) (n : ℕ) (samples : List ℤ) (new : ChainOf B) (pushed : Pushed) (ring bytes : List ℕ) (frames : List Frame)
+    → IsRecordPlanned filters old → length samples ≡ n * channels_of old.device.settings.layout → pushed.kept ≡ min pushed.came (room_for (plan_in old.chain) old.book.settings.format old.ring)
+    → Pushes kept filters old.book.settings.format (pushed_frames (plan_in old.chain) samples) old.chain new frames pushed old.ring.bytes ring → RecordStands kept filters old old.book bytes frames
+    → PushCaptured kept filters (seen filters old.device) n old.book frames (frames_of (channels_of old.device.settings.layout) samples) new pushed old.ring.bytes ring
+push-captured {B = B} kept filters old n samples new pushed ring bytes frames planned whole kept_is p s =
+    let device : DeviceSeen = seen filters old.device in
+    let book : RecordBook = old.book in
+    let settings : Settings = book.settings in
+    let rate : Rate = record_rate_at device book in
+    let plan : PlanSeen = plan_in old.chain in
+    let input : List Frame = frames_of (channels_of old.device.settings.layout) samples in
+    let is = planned.plan_is in
+    let same : rate_in_plan plan ≡ rate = ap (λ (q : PlanSeen). rate_in_plan q) is in
+    let all : pushed_frames plan samples ≡ input = pushed-is filters old samples planned in
+    let given : can (rate_in_plan plan) (length frames) ≡ book.given = ap (λ k. can (rate_in_plan plan) k) s.captured ∙ sym old.safe.given in
+    let reach : can (rate_in_plan plan) (length frames + length (pushed_frames plan samples)) ≡ can rate (book.captured + n) =
+    ap (λ (r : Rate). can r (length frames + length (pushed_frames plan samples))) same
+    ∙ ap (λ k. can rate (length frames + k)) (pushed-count filters old n samples planned whole) ∙ ap (λ k. can rate (k + n)) s.captured in
+    let came : pushed.came ≡ coming rate n book =
+    p.came ∙ ap (λ k. k - can (rate_in_plan plan) (length frames)) reach ∙ ap (λ k. can rate (book.captured + n) - k) given in
+    let free : free_bytes old.ring ≡ free_of book = ap (λ k. k - length old.ring.bytes) old.size ∙ ap (λ k. ring_bytes book - k) old.fill in
+    let room : room_for plan settings.format old.ring ≡ free_of book / frame_bytes settings =
+    ap (λ (q : PlanSeen). room_for q settings.format old.ring) is ∙ ap (λ k. k / frame_bytes settings) free in
+    let keeps : pushed.kept ≡ keeping rate n book = kept_is ∙ ap (λ k. min k (room_for plan settings.format old.ring)) came ∙ ap (λ k. min (coming rate n book) k) room in
+    record {
+      came = came;
+      keeps = keeps;
+      records = subst (λ list. HasRecorded kept filters new (frames ++ list)) all p.records;
+      bytes = p.bytes
+          ∙ ap (λ list. old.ring.bytes ++ spelled_frames settings.format (recs plan filters (frames ++ list) (can (rate_in_plan plan) (length frames)) pushed.kept)) all
+          ∙ ap (λ (q : PlanSeen). old.ring.bytes ++ spelled_frames settings.format (recs q filters (frames ++ input) (can (rate_in_plan plan) (length frames)) pushed.kept)) is
+          ∙ ap (λ from. old.ring.bytes ++ recorded_bytes device settings (frames ++ input) from pushed.kept) given
+          ∙ ap (λ count. old.ring.bytes ++ recorded_bytes device settings (frames ++ input) book.given count) keeps;
+    }
+
+-- ---- channels
+
+-- the bytes that were kept
+kept-length : {B : Type 0} (kept : B → Kept) (filters : Filters) (old : RecChannelOf B) (n : ℕ) (frames input : List Frame) (new : ChainOf B) → IsRecordPlanned filters old → plan_in new ≡ plan_in old.chain → HasRecorded kept filters new (frames ++ input)
+    → let device : DeviceSeen = seen filters old.device in
+    length (recorded_bytes device old.book.settings (frames ++ input) old.book.given (keeping (record_rate_at device old.book) n old.book)) ≡ keeping (record_rate_at device old.book) n old.book * frame_bytes old.book.settings
+kept-length kept filters old n frames input new planned plan records =
+    let device : DeviceSeen = seen filters old.device in
+    length-recorded device old.book.settings (frames ++ input) old.book.given (keeping (record_rate_at device old.book) n old.book) (device-is filters old planned) old.rate
+    (subst (λ (p : PlanSeen). HaveChannels (channels_of p.source) (frames ++ input)) (plan ∙ planned.plan_is) records.frames)
+
+-- the ring holds as many bytes as the book says
+pub fill-captured : {B : Type 0} (kept : B → Kept) (filters : Filters) (old : RecChannelOf B) (book : RecordBook) (n : ℕ) (frames input : List Frame) (new : ChainOf B) (pushed : Pushed) (ring : List ℕ) → IsRecordPlanned filters old → plan_in new ≡ plan_in old.chain
+    → BookCaptured (seen filters old.device) n old.book book → PushCaptured kept filters (seen filters old.device) n old.book frames input new pushed old.ring.bytes ring → length ring ≡ fill_of book
+fill-captured kept filters old book n frames input new pushed ring planned plan b p =
+    let device : DeviceSeen = seen filters old.device in
+    let more : List ℕ = recorded_bytes device old.book.settings (frames ++ input) old.book.given (keeping (record_rate_at device old.book) n old.book) in
+    let long = kept-length kept filters old n frames input new planned plan p.records in
+    let fill = old.fill in
+    let within = old.within in
+    omega (arith, ap length p.bytes, length-append old.ring.bytes more, long, b.kept, b.read)
+
+-- a channel that is running, once its chain was pushed
+pub moves-captured : {B : Type 0} (kind : B → Kind) (kept : B → Kept) (filters : Filters) (old new : RecChannelOf B) (n : ℕ) (input : List Frame) (pushed : Pushed) → IsRecordPlanned filters old → new.device ≡ old.device → plan_in new.chain ≡ plan_in old.chain
+    → (HaveKinds kind (boxes_in old.chain) → HaveKinds kind (boxes_in new.chain)) → length input ≡ n → HaveBits 32 input → BookCaptured (seen filters old.device) n old.book new.book
+    → ((bytes : List ℕ) (frames : List Frame) → RecordStands kept filters old old.book bytes frames → PushCaptured kept filters (seen filters old.device) n old.book frames input new.chain pushed old.ring.bytes new.ring.bytes)
+    → RecordMoves kind kept filters input (keeping (record_rate_at (seen filters old.device) old.book) n old.book) old new
+moves-captured {B = B} kind kept filters old new n input pushed planned device plan kinds count bits b pushes = record {
+  kinds = kinds;
+  planned = planned-as filters old new device plan b.settings;
+  stands = λ bytes frames s.
+      let p = pushes bytes frames s in
+      let more : List ℕ = recorded_bytes (seen filters old.device) old.book.settings (frames ++ input) old.book.given (keeping (record_rate_at (seen filters old.device) old.book) n old.book) in
+      let long : length more ≡ keeping (record_rate_at (seen filters old.device) old.book) n old.book * frame_bytes old.book.settings = kept-length kept filters old n frames input new.chain planned plan p.records in
+      let grows : new.book.kept ≡ old.book.kept + length more = omega (arith, b.kept, long) in
+      let brings : new.book.captured ≡ old.book.captured + length input = omega (arith, b.captured, count) in
+      stands-as kept filters new (bytes ++ more) (take new.book.kept (bytes ++ more)) (frames ++ input) (take new.book.captured (frames ++ input))
+      (take_all new.book.kept (bytes ++ more) (omega (arith, length-append bytes more, s.count, grows))) (take_all new.book.captured (frames ++ input) (omega (arith, length-append frames input, s.captured, brings)))
+      (stands-captured kept filters old new bytes more frames input p.bytes b.read old.within grows brings bits p.records s);
+  captured = omega (arith, b.captured, count);
+  kept = b.most;
+}

@@ -1,0 +1,89 @@
+-- What a channel stands for after each call.
+use Rattle.std.proofs.Common.{◌≡◌, ℕ, ◌+◌, ◌≤◌, List, [], ◌++◌, length, drop, All, refl, sym, ap, ◌∙◌, subst, arith, length-append}
+use Rattle.std.proofs.lemmas.List.{drop-append-le, drop-drop, take_at}
+use Rattle.std.proofs.lemmas.List.Elements.{All-append, All-nil}
+use Rattle.std.specs.Prelude.{take}
+use Rattle.pcm_num.specs.Limit.{FitsBits}
+use Rattle.pcm_format.specs.declared.settings.Settings.{Settings}
+use Rattle.pcm_format.specs.Frames.{Frame}
+use Rattle.pcm_feeder.specs.Filters.{Filters}
+use Rattle.pcm_feeder.specs.Kept.{Kept}
+use Rattle.pcm_plan.specs.Fits.{HaveBits}
+use Rattle.pcm_chain.specs.declared.chain.ChainOf.{ChainOf}
+use Rattle.pcm_chain.specs.Pushes.{HasRecorded}
+use Rattle.pcm_desk.specs.declared.record_book.RecordBook.{RecordBook}
+use Rattle.pcm_desk.specs.Device.{DeviceSeen}
+use Rattle.pcm_desk.specs.RecordSafe.{IsUnstarted}
+use Rattle.pcm_sound.specs.Plans.{recorded_bytes}
+use Rattle.pcm_record.specs.declared.channel.RecChannelOf.{RecChannelOf}
+use Rattle.pcm_record.specs.Channels.{RecordStands}
+
+-- a channel that begins, or whose recording is over, stands for no bytes and no frames
+pub stands-empty : {B : Type 0} (kept : B → Kept) (filters : Filters) (channel : RecChannelOf B) → IsUnstarted channel.book → channel.ring.bytes ≡ []
+    → ((tables : Filters) → HasRecorded kept tables channel.chain []) → RecordStands kept filters channel channel.book [] []
+stands-empty kept filters channel none ring records = record {
+  book_is = refl;
+  count = sym none.kept_none;
+  ring_is = ring ∙ ap (λ n. drop n []) (sym none.read_none);
+  captured = sym none.captured_none;
+  bits = All-nil (λ (frame : Frame). All (FitsBits 32) frame);
+  records = records filters;
+}
+
+-- what a channel stands for, told by equal lists
+pub stands-as : {B : Type 0} (kept : B → Kept) (filters : Filters) (channel : RecChannelOf B) (bytes same_bytes : List ℕ) (frames same_frames : List Frame) → same_bytes ≡ bytes → same_frames ≡ frames
+    → RecordStands kept filters channel channel.book bytes frames → RecordStands kept filters channel channel.book same_bytes same_frames
+stands-as kept filters channel bytes same_bytes frames same_frames b f s =
+    subst (λ list. RecordStands kept filters channel channel.book list same_frames) (sym b)
+    (subst (λ list. RecordStands kept filters channel channel.book bytes list) (sym f) s)
+
+-- the counts of a book stay, but for so many bytes more that were read
+pub record Reads (count : ℕ) (old new : RecordBook) : Type 0 where
+  pub settings : new.settings ≡ old.settings
+  pub captured : new.captured ≡ old.captured
+  pub kept : new.kept ≡ old.kept
+  pub read : new.read ≡ old.read + count
+
+-- so it is after a read
+pub reads-count : (count : ℕ) (old new : RecordBook) → new ≡ record old { read = old.read + count } → Reads count old new
+reads-count count old new is = record {
+  settings = ap (λ (b : RecordBook). b.settings) is;
+  captured = ap (λ (b : RecordBook). b.captured) is;
+  kept = ap (λ (b : RecordBook). b.kept) is;
+  read = ap (λ (b : RecordBook). b.read) is;
+}
+
+-- a channel of whose bytes so many were read stands for the same bytes
+pub stands-read : {B : Type 0} (kept : B → Kept) (filters : Filters) (old new : RecChannelOf B) (count : ℕ) (bytes : List ℕ) (frames : List Frame) → new.chain ≡ old.chain → new.ring.bytes ≡ drop count old.ring.bytes → Reads count old.book new.book
+    → RecordStands kept filters old old.book bytes frames → RecordStands kept filters new new.book bytes frames
+stands-read {B = B} kept filters old new count bytes frames chain ring r s = record {
+  book_is = refl;
+  count = s.count ∙ sym r.kept;
+  ring_is = ring ∙ ap (drop count) s.ring_is ∙ drop-drop count old.book.read bytes ∙ ap (λ n. drop n bytes) (sym r.read);
+  captured = s.captured ∙ sym r.captured;
+  bits = s.bits;
+  records = subst (λ (c : ChainOf B). HasRecorded kept filters c frames) (sym chain) s.records;
+}
+
+-- a channel that captured more frames, of which more bytes were kept, stands for these too
+pub stands-captured : {B : Type 0} (kept : B → Kept) (filters : Filters) (old new : RecChannelOf B) (bytes more : List ℕ) (frames input : List Frame) → new.ring.bytes ≡ old.ring.bytes ++ more → new.book.read ≡ old.book.read
+    → old.book.read ≤ old.book.kept → new.book.kept ≡ old.book.kept + length more → new.book.captured ≡ old.book.captured + length input → HaveBits 32 input → HasRecorded kept filters new.chain (frames ++ input)
+    → RecordStands kept filters old old.book bytes frames → RecordStands kept filters new new.book (bytes ++ more) (frames ++ input)
+stands-captured kept filters old new bytes more frames input ring read within grows captures bits records s = record {
+  book_is = refl;
+  count = omega (arith, length-append bytes more, s.count, grows);
+  ring_is = ring ∙ ap (λ waiting. waiting ++ more) s.ring_is ∙ sym (drop-append-le old.book.read bytes more (omega (arith, s.count))) ∙ ap (λ n. drop n (bytes ++ more)) (sym read);
+  captured = omega (arith, length-append frames input, s.captured, captures);
+  bits = All-append (λ (frame : Frame). All (FitsBits 32) frame) frames input s.bits bits;
+  records = records;
+}
+
+-- ---- lists that are cut where they end
+
+-- bytes with no more of them kept
+pub none-kept : (n : ℕ) (device : DeviceSeen) (settings : Settings) (bytes : List ℕ) (frames : List Frame) (from : ℕ) → length bytes ≡ n → take n (bytes ++ recorded_bytes device settings frames from 0) ≡ bytes
+none-kept n device settings bytes frames from count = take_at bytes (recorded_bytes device settings frames from 0) n count
+
+-- frames with no more of them captured
+pub none-captured : (n : ℕ) (frames : List Frame) → length frames ≡ n → take n (frames ++ []) ≡ frames
+none-captured n frames count = take_at frames [] n count

@@ -1,0 +1,11 @@
+use Rattle.std.proofs.Common.{sym, ◌∙◌, subst}
+use Rattle.pcm_rate.specs.Rates.{IsRatio}
+use Rattle.pcm_plan.specs.Plans.{PlanSeen, rate_in_plan}
+use Rattle.pcm_desk.specs.Device.{seen}
+use Rattle.pcm_desk.proofs.Ratios.{record-ratio-between}
+use Rattle.pcm_record.proofs.anew.begin_anew.Goals as goal
+
+pub returns-clause-ratio : goal.returns-clause-ratio
+returns-clause-ratio g c =
+    subst (λ (p : PlanSeen). IsRatio (rate_in_plan p)) (sym (c.reset.ensures.plan ∙ c.plan_record-plan.ensures.value))
+    (record-ratio-between (seen c.args.tables.now c.args.device.now) c.args.book.now.settings (record { rate = c.requires.device; filters = c.plan_record-plan.ensures.limits }) c.requires.rate)

@@ -1,0 +1,143 @@
+//! The run of a script that a number makes: what it comes to is added up, and told in one line.
+
+ghost use Rattle.std.specs.Prelude.{◌≡◌, ◌+◌, ◌<◌, ◌≤◌, [], All, IfErr, IfOk, OnOk, length, string_bytes, take};
+ghost use Rattle.pcm_outside.specs.Sink.{Puts};
+ghost use Rattle.pcm_wave.specs.declared.pool.Pool.{Pool};
+ghost use Rattle.pcm_wave.specs.Pools.{IsCaptureIn};
+ghost use Rattle.pcm_desk.specs.Device.{device_settings};
+ghost use Rattle.pcm_desk.specs.Events.{Fits};
+ghost use Rattle.pcm_desk.specs.Usual.{usual_device};
+ghost use Rattle.pcm_feeder.specs.Racks.{AreRacks, list_of};
+ghost use Rattle.pcm_soak.specs.declared.limits.TheConstants.{SOAK_EVENTS};
+ghost use Rattle.pcm_verdict.specs.Soaks.{soak_line, tally_line};
+ghost use Rattle.pcm_replay.specs.Endings.{CutsLines, RanSoak};
+ghost use Rattle.pcm_replay.specs.Playing.{HasSoaked};
+
+use crate::ending::Ending;
+use pcm_config::default_config;
+use pcm_engine::EngineOf;
+use pcm_feeder::{Feeder, RacksOf};
+use pcm_oss::{Event, ReplyBuf};
+use pcm_outside::{Sink, WriteFault};
+use pcm_script::Script;
+use pcm_soak::{Tally, soak_script};
+use pcm_wave::{DataFiles, Pool};
+use std::alloc::{AllocError, Global};
+
+/// The engine of such a run, with what its events came to so far.
+#[derive(Drop)]
+pub struct SoakOf<B> {
+    engine: EngineOf<B>,
+    reply: ReplyBuf,
+    block: Vec<u8>,
+    tally: Tally,
+}
+
+impl<B: Feeder> SoakOf<B> {
+    // Takes the memory of a run without a configuration, before the first event.
+    fn new(alloc: Global, racks: RacksOf<B>) -> Result<SoakOf<B>, AllocError>
+        requires kinds { AreRacks B.kind (list_of racks) }
+        ensures soaked { IfOk result (λ soak. (pool : Pool) → HasSoaked B.kind B.kept soak pool []) }
+    {
+        let config = default_config(alloc);
+        let device = config.device;
+        // The greatest interrupt takes the device's whole ring.
+        let room = device.ring_frames as usize * device.settings.frame_bytes();
+        Ok(SoakOf {
+            engine: EngineOf::new(alloc, device, config.tables, racks)?,
+            reply: ReplyBuf::new(alloc)?,
+            block: vec![in alloc; 0; room]?,
+            tally: Tally::none(),
+        })
+    }
+
+    // Steps the engine through one event, and counts what it came to.
+    fn step_at(&mut self, events: &[Event], pool: &Pool, at: usize)
+        requires there { at < length events.now }
+        requires fits { All (Fits usual_device pool.now) events.now }
+        requires captures { IsCaptureIn (device_settings usual_device).layout pool.now }
+        requires count { length events.now ≤ SOAK_EVENTS }
+        requires soaked { HasSoaked B.kind B.kept self.old pool.now (take at events.now) }
+        ensures soaked { HasSoaked B.kind B.kept self.new pool.now (take (at + 1) events.now) }
+    {
+        let event = &events[at];
+        let count = self
+            .engine
+            .step(event, pool, &mut self.block, &mut self.reply);
+        self.tally.count(event, &self.reply);
+        self.tally.hear(&self.block[..count]);
+    }
+}
+
+/// Runs the script that a number makes, and then tells what it came to.
+pub fn soak<B: Feeder, K: Sink>(
+    alloc: Global,
+    racks: RacksOf<B>,
+    seed: u32,
+    out: &mut K,
+) -> Result<EngineOf<B>, Ending>
+    requires kinds { AreRacks B.kind (list_of racks) }
+    ensures ran { IfOk result (λ engine. RanSoak B.kept engine seed) }
+    ensures ok { OnOk result (Puts (K.seen out.old) (K.seen out.new) (soak_line seed)) }
+    ensures err { IfErr result (λ ending. CutsLines ending (soak_line seed) (K.seen out.old) (K.seen out.new)) }
+{
+    let Ok(script) = soak_script(alloc, seed) else {
+        return Err(Ending::NoMemory);
+    };
+    let Script {
+        events,
+        inline_bytes,
+        device_frames,
+    } = script;
+    let pool = Pool {
+        files: DataFiles::new(Vec::new(alloc)),
+        capture: None,
+        inline_bytes,
+    };
+    let Ok(soaked) = soak_through(alloc, racks, events.as_slice(), &pool) else {
+        return Err(Ending::NoMemory);
+    };
+    let Ok(line) = line_of(alloc, events.as_slice().len(), device_frames, &soaked.tally) else {
+        return Err(Ending::NoMemory);
+    };
+    match out.put(line.as_bytes()) {
+        Ok(()) => Ok(soaked.engine),
+        Err(WriteFault) => Err(Ending::CannotWrite),
+    }
+}
+
+// Runs all events on the device of a run without a configuration.
+fn soak_through<B: Feeder>(
+    alloc: Global,
+    racks: RacksOf<B>,
+    events: &[Event],
+    pool: &Pool,
+) -> Result<SoakOf<B>, AllocError>
+    requires kinds { AreRacks B.kind (list_of racks) }
+    requires fits { All (Fits usual_device pool.now) events.now }
+    requires captures { IsCaptureIn (device_settings usual_device).layout pool.now }
+    requires count { length events.now ≤ SOAK_EVENTS }
+    ensures { IfOk result (λ soak. HasSoaked B.kind B.kept soak pool.now events.now) }
+{
+    let mut soak = SoakOf::new(alloc, racks)?;
+    for at in 0..events.len() {
+        soak.step_at(events, pool, at);
+    }
+    Ok(soak)
+}
+
+// The line that tells what a run came to.
+fn line_of(alloc: Global, events: usize, frames: u32, tally: &Tally) -> Result<String, AllocError>
+    ensures { IfOk result (λ line. string_bytes line ≡ tally_line events frames tally.now) }
+{
+    let Tally {
+        accepted,
+        read,
+        refused,
+        errors,
+        sum,
+    } = *tally;
+    format!(in alloc;
+        "events {events} frames {frames} accepted {accepted} read {read} refused {refused} errors {errors} sum {sum}\n"
+    )
+}

@@ -1,0 +1,7 @@
+use Rattle.pcm_report.proofs.Puts.{put-next}
+use Rattle.pcm_report.proofs.line.put_got.Goals as goal
+
+pub returns-clause-put : goal.returns-clause-put
+returns-clause-put c =
+    rw (← c.from.ensures)
+    (put-next (put-next (put-next c.put_text-at.ensures.put c.put_number-at.ensures.put) c.put_text-at-2.ensures.put) c.put_bytes.ensures.put)

@@ -1,0 +1,6 @@
+use Rattle.std.proofs.Common.{rules}
+use Rattle.pcm_script.proofs.Asked.{asked-room}
+use Rattle.pcm_script.proofs.reader.add_line.Goals as goal
+
+pub add-requires : goal.add-requires
+add-requires c = asked-room _ _ _ c.line_event.result c.in-Some.line c.line_event.ensures (search rules)

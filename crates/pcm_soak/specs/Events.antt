@@ -1,0 +1,87 @@
+-- The event that is drawn: of which kind, and with which numbers, in the order of the draws.
+use Rattle.std.specs.Prelude.{ℕ, ◌+◌, ◌*◌, ◌==◌, nat_lt, if◌then◌else◌}
+use Rattle.pcm_oss.specs.declared.event.Event.{Event}
+use Rattle.pcm_oss.specs.declared.event.Event.TheVariants.{Write, Read, Ioctl, Intr}
+use Rattle.pcm_oss.specs.declared.request.Request.{Request}
+use Rattle.pcm_oss.specs.declared.request.Request.TheVariants.{Speed, GetCaps, GetOSpace, GetOPtr, GetODelay, GetError, SetTrigger, SetPlayVol, Post, Sync, Halt}
+use Rattle.pcm_wave.specs.declared.pool.Source.TheVariants.{Inline}
+use Rattle.pcm_soak.specs.Draws.{Draw, ◌>>=◌, drawn_below, given}
+
+-- a write of one of the four that play, of up to 4096 bytes from one of the first 4096 places on
+abbrev pub write_event : Draw Event
+write_event = do
+  fd ← drawn_below 4
+  at ← drawn_below 4096
+  len ← drawn_below 4097
+  given (Write fd Inline at len)
+
+-- an interrupt of 1 to 256 frames
+abbrev pub interrupt_event : Draw Event
+interrupt_event = do
+  more ← drawn_below 256
+  given (Intr (1 + more))
+
+-- a read of one of the two that record, of up to 4096 bytes
+abbrev pub read_event : Draw Event
+read_event = do
+  place ← drawn_below 2
+  len ← drawn_below 4097
+  given (Read (4 + place) len)
+
+-- what is asked for a number below 4
+abbrev pub question_for : ℕ → Request
+question_for choice =
+    if choice == 0 then GetError
+    else if choice == 1 then GetOSpace
+    else if choice == 2 then GetOPtr
+    else GetODelay
+
+-- one of all six is asked something
+abbrev pub question_event : Draw Event
+question_event = do
+  fd ← drawn_below 6
+  choice ← drawn_below 4
+  given (Ioctl fd (question_for choice))
+
+-- one that plays gets a volume, the left side before the right
+abbrev pub volume_event : Draw Event
+volume_event = do
+  fd ← drawn_below 4
+  left ← drawn_below 101
+  right ← drawn_below 101
+  given (Ioctl fd (SetPlayVol (left + 256 * right)))
+
+-- what is ordered for a number below 8; the last one is refused
+abbrev pub order_for : ℕ → Request
+order_for choice =
+    if choice == 0 then Halt
+    else if choice == 1 then Sync
+    else if choice == 2 then Post
+    else if choice == 3 then SetTrigger 2
+    else if choice == 4 then SetTrigger 0
+    else if choice == 5 then SetTrigger 2
+    else if choice == 6 then GetCaps
+    else Speed 3999
+
+-- one that plays is ordered something
+abbrev pub order_event : Draw Event
+order_event = do
+  fd ← drawn_below 4
+  choice ← drawn_below 8
+  given (Ioctl fd (order_for choice))
+
+-- the kind of event for a number below 16
+abbrev pub event_for : ℕ → Draw Event
+event_for choice =
+    if nat_lt choice 8 then write_event
+    else if nat_lt choice 12 then interrupt_event
+    else if choice == 12 then read_event
+    else if choice == 13 then question_event
+    else if choice == 14 then volume_event
+    else order_event
+
+-- one more event
+unfoldable pub drawn_event : Draw Event
+drawn_event = do
+  choice ← drawn_below 16
+  event_for choice

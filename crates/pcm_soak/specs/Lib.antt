@@ -1,0 +1,4 @@
+pub mod Draws
+pub mod Events
+pub mod Soak
+pub mod Tallies

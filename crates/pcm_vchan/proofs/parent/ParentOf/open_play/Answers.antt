@@ -1,0 +1,58 @@
+use Rattle.std.proofs.Common.{ℕ, ◌<◌, [], length, Option, set, get_or, refl, sym, ap, ◌∙◌, arith}
+use Rattle.std.proofs.lemmas.List.{map-set}
+use Rattle.pcm_play.specs.declared.channel.PlayChannelOf.{PlayChannelOf}
+use Rattle.pcm_play.specs.Channels.{Moves}
+use Rattle.pcm_vchan.specs.Slots.{books_of}
+use Rattle.pcm_vchan.specs.Parents.{slot_or_busy, books_begun}
+use Rattle.pcm_vchan.proofs.Channels.{least_free-books, each_set, own_set}
+use Rattle.pcm_play.proofs.Moving.{moves-nothing}
+use Rattle.pcm_vchan.proofs.parent.ParentOf.open_play.Goals as goal
+
+pub invariant_of-self : goal.invariant_of-self
+invariant_of-self g c =
+    let old = c.args.self.now in
+    let within = c.in-Some.ensures.within in
+    let there : c.in-Some.slot < length old.channels.items = omega (arith, old.channels.ok.0) in
+    record {
+      within = old.within;
+      slots = old.slots;
+      slots_within = old.slots_within;
+      recorders_count = old.recorders_count;
+      recorders_within = old.recorders_within;
+      size = old.size;
+      full = old.full;
+      bytes_size = old.bytes_size;
+      frames_size = old.frames_size;
+      sum_size = old.sum_size;
+    }
+
+pub returns-in_default-clause-opens : goal.returns-in_default-clause-opens
+returns-in_default-clause-opens g c =
+    let old = c.args.self.now in
+    let none = least_free-books old.channels.items ∙ sym c.least_free.ensures.slot ∙ c.in_default.is in
+    record {
+      found = sym (ap slot_or_busy none);
+      books = sym (ap (λ (found : Option ℕ). books_begun found c.args.settings (books_of old.channels.items)) none);
+      there = tt;
+      own = c.requires.own;
+      moves = λ slot other there. moves-nothing g.B.Feeder.kind g.B.Feeder.kept c.args.tables.now [] 0 (get_or old.channels.items slot other);
+      others = refl;
+    }
+
+pub returns-clause-opens : goal.returns-clause-opens
+returns-clause-opens g c =
+    let old = c.args.self.now in
+    let found = least_free-books old.channels.items ∙ sym c.least_free.ensures.slot ∙ c.in-Some.is in
+    let within = c.in-Some.ensures.within in
+    let there : c.in-Some.slot < length old.channels.items = omega (arith, old.channels.ok.0) in
+    record {
+      found = sym (ap slot_or_busy found);
+      books = map-set (λ (channel : PlayChannelOf _). channel.book) old.channels.items c.in-Some.slot c.begin.new.self
+          ∙ ap (set (books_of old.channels.items) c.in-Some.slot) c.begin.ensures.book
+          ∙ sym (ap (λ (found : Option ℕ). books_begun found c.args.settings (books_of old.channels.items)) found);
+      there = there;
+      own = own_set (λ (channel : PlayChannelOf _). channel.device) old.device old.channels.items c.in-Some.slot c.index_mut.result.now c.begin.new.self there c.index_mut.ensures.value c.begin.ensures.device c.requires.own;
+      moves = each_set (Moves g.B.Feeder.kind g.B.Feeder.kept c.args.tables.now [] 0) old.channels.items c.in-Some.slot c.index_mut.result.now c.begin.new.self there c.index_mut.ensures.value c.begin.ensures.moves
+          (moves-nothing g.B.Feeder.kind g.B.Feeder.kept c.args.tables.now [] 0);
+      others = refl;
+    }

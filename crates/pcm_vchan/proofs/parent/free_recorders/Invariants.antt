@@ -1,0 +1,12 @@
+use Rattle.std.proofs.Common.{◌≡◌, ◌+◌, length, All}
+use Rattle.pcm_feeder.specs.Racks.{AreRacks}
+use Rattle.pcm_record.specs.Channels.{IsRecordUnopened}
+use Rattle.pcm_vchan.proofs.parent.free_recorders.Given as goal
+
+-- A channel was made with each rack so far.
+abbrev pub invariant-loop-rack : goal.invariant-loop-rack
+invariant-loop-rack g l = record {
+  count : length l.channels.items + length l.rack-iterator.rest.items ≡ l.device.record_slots;
+  unopened : All (IsRecordUnopened g.B.Feeder.kind g.B.Feeder.kept l.tables l.device) l.channels.items;
+  kinds : AreRacks g.B.Feeder.kind l.rack-iterator.rest.items;
+}
