@@ -151,7 +151,7 @@ spelled_frames-map format f (position ∷ positions) =
     ap (λ bytes. flat_map (spelled format) (f position) ++ bytes) (spelled_frames-map format f positions)
     ∙ sym (flat_map-append (spelled format) (f position) (flat_map f positions))
 
-table-frames : (device : DeviceSeen) (story : Story) → StoryIsValid device story → (slot position : ℕ) → IfSome (table_of device story slot position) (IsDeviceFrame device)
+pub table-frames : (device : DeviceSeen) (story : Story) → StoryIsValid device story → (slot position : ℕ) → IfSome (table_of device story slot position) (IsDeviceFrame device)
 table-frames device story v slot position = sounding-frame device (last_gain (story.gains slot) position) (story.runs slot) position v.limits (v.slots slot).own
 
 -- how long they are

@@ -1,9 +1,14 @@
 pub mod Sounding
 pub mod Rates
+pub mod Endings
 pub mod Slots
+pub mod Places
+pub mod Interrupts
 pub mod Stories
 pub mod Blocks
 pub mod DeviceLists
+pub mod Heard
+pub mod Plain
 pub mod Turns
 pub mod Recordings
 pub mod Recorded

@@ -1,10 +1,11 @@
 -- A story stays valid through every event that fits, and what was mixed stays as it was.
-use Rattle.std.proofs.Common.{◌≡◌, ℕ, suc, zero, ◌+◌, ◌-◌, ◌<◌, ◌≤◌, Bool, true, false, cond, List, [], ◌∷◌, ◌++◌, length, get_or, map, drop, replicate, Option, Some, None, ◌⊎◌, inl, inr, refl, sym, ap, ◌∙◌, subst, arith, length-take, length-drop, get_or-set_same, get_or-set_other}
+use Rattle.std.proofs.Common.{◌≡◌, ℕ, suc, zero, ◌+◌, ◌-◌, ◌<◌, ◌≤◌, Bool, true, false, cond, List, [], ◌∷◌, ◌++◌, length, get_or, map, drop, replicate, Option, Some, None, ◌⊎◌, inl, inr, refl, sym, ap, ◌∙◌, subst, arith, All, length-take, length-drop, get_or-set_same, get_or-set_other}
 use Rattle.std.specs.Prelude.{is_some, nat_le, not, eqb}
 use Rattle.std.proofs.lemmas.List.{get_or-map, get_or_past, get_or-replicate, length-replicate, set_past, length-map}
 use Rattle.std.proofs.lemmas.Bool.{cases_lt, cases_eq, eqb-true, not-false, or_parts}
 use Rattle.std.proofs.lemmas.Bool.Decides.{nat_tests}
-use Rattle.std.proofs.lemmas.List.Elements.{All-nil}
+use Rattle.std.proofs.lemmas.List.Elements.{All-head, All-nil, All-tail}
+use Rattle.std.proofs.lemmas.List.Quantifiers.{position-Some}
 use Rattle.pcm_format.specs.declared.settings.Settings.{Settings}
 use Rattle.pcm_oss.specs.declared.event.Event.{Event}
 use Rattle.pcm_oss.specs.declared.event.Event.TheVariants.{Open, Write, Read, Ioctl, Close, Intr}
@@ -25,7 +26,7 @@ use Rattle.pcm_desk.specs.declared.record_book.RecordBook.{RecordBook}
 use Rattle.pcm_desk.specs.RecordBooks as records
 use Rattle.pcm_desk.specs.RecordRequests as record_requests
 use Rattle.pcm_desk.specs.Device.{DeviceSeen, IsDevice, play_slots, rate_between}
-use Rattle.pcm_desk.specs.Books.{begun, is_draining, write_turn}
+use Rattle.pcm_desk.specs.Books.{begun, is_draining, is_free, write_turn}
 use Rattle.pcm_desk.specs.Safe.{BookIsSafe}
 use Rattle.pcm_desk.specs.Desk.{Desk, DeskTurn, unopened, held_by, least_free, least_free_record, book_at, record_at, by_way, with_book, with_record, with_descriptor, refusing, open_play, open_record, open_turn, play_turn, record_turn, turning, write_on, read_on, asking, ioctl_on, close_on, close_play, close_record, closing, mixing, interrupt_turn, after, rate_at}
 use Rattle.pcm_desk.specs.Events.{Fits, frames_taken}
@@ -34,13 +35,17 @@ use Rattle.pcm_desk.proofs.Asking.{safe-ask}
 use Rattle.pcm_desk.proofs.Leaves.{ask-leaves, close-leaves, close-keeps}
 use Rattle.pcm_desk.proofs.Ratios.{ratio-between}
 use Rattle.pcm_sound.specs.Gains.{GainSet, begins, book_gain, last_gain, sets_volume}
-use Rattle.pcm_sound.specs.Runs.{Run, taking, playing, carrying, marking, sounding}
-use Rattle.pcm_sound.specs.Story.{Story, story_at_start, told, told_all}
+use Rattle.pcm_sound.specs.Runs.{Run, asks_drop, drops, taking, playing, carrying, marking, sounding}
+use Rattle.pcm_sound.specs.Story.{Story, story_at_start, story_of, told, told_all}
 use Rattle.pcm_sound.specs.DeviceList.{table_of}
+use Rattle.pcm_sound.specs.Places.{SlotIsPlaced}
 use Rattle.pcm_sound.specs.Valid.{RunIsValid, HasRate, SlotIsValid, StoryIsValid}
 use Rattle.pcm_sound.proofs.Rates.{ask-rate, ask-settings}
+use Rattle.pcm_sound.proofs.Endings.{KeepsGiven, given-ask, given-begun, given-close, given-same}
 use Rattle.pcm_sound.proofs.Sounding.{sounding-taking, sounding-playing, sounding-marking, last_gain-later}
 use Rattle.pcm_sound.proofs.Slots.{Accepts, WritesSome, IsUntold, writes-nothing, write_turn-writes, untold-same, untold-empty, untold-taking, untold-leaves, untold-mixing, valid-marking}
+use Rattle.pcm_sound.proofs.Places.{placed-left, placed-taken}
+use Rattle.pcm_sound.proofs.Interrupts.{placed-mixing}
 
 -- ---- the counts of a book
 
@@ -130,106 +135,133 @@ untold_with device mixed desk at slot book runs old new =
       | inr same ↦ subst (λ (b : Book). IsUntold device mixed (book_at device desk slot) b runs) (sym same) (untold-same device mixed (book_at device desk slot) runs old)
     ]
 
+-- a book after an event that brings no bytes and takes no frames
+abbrev KeepsGivenAt : DeviceSeen → Bool → Book → Book → Type 0
+KeepsGivenAt device dropping old new = KeepsGiven (rate_at device old) dropping old new
+
+-- each slot's book after one book was set
+given_with : (device : DeviceSeen) (dropping : Bool) (desk : Desk) (at slot : ℕ) (book : Book) → (slot ≡ at → KeepsGivenAt device dropping (book_at device desk slot) book)
+    → KeepsGivenAt device dropping (book_at device desk slot) (book_at device (with_book desk at book) slot)
+given_with device dropping desk at slot book new =
+    let old : Book = book_at device desk slot in
+    elim (book_at-with device desk at slot book) [
+      | inl here ↦ subst (KeepsGivenAt device dropping old) (sym here.1) (new here.0)
+      | inr same ↦ subst (KeepsGivenAt device dropping old) (sym same) (given-same (rate_at device old) dropping old)
+    ]
+
 -- an event that brings no bytes and takes no frames leaves the slots valid, and the counts of the device
-pub record LeavesSlots (device : DeviceSeen) (mixed : ℕ) (old new : Desk) : Type 0 where
+pub record LeavesSlots (device : DeviceSeen) (mixed : ℕ) (dropping : Bool) (old new : Desk) : Type 0 where
   pub safe : (slot : ℕ) → IsSafeAt device (book_at device old slot) → IsSafeAt device (book_at device new slot)
   pub slots : (slot : ℕ) (runs : List Run) → IsSafeAt device (book_at device old slot) → SlotIsValid device mixed (book_at device old slot) runs → SlotIsUntold device mixed old new slot runs
+  pub given : (slot : ℕ) → IsSafeAt device (book_at device old slot) → KeepsGivenAt device dropping (book_at device old slot) (book_at device new slot)
   pub handed_same : new.handed ≡ old.handed
   pub mixed_same : new.mixed ≡ old.mixed
 
-stays : (device : DeviceSeen) (mixed : ℕ) (desk : Desk) → LeavesSlots device mixed desk desk
-stays device mixed desk = record { safe = λ slot s. s; slots = λ slot runs s v. untold-same device mixed (book_at device desk slot) runs v; handed_same = refl; mixed_same = refl }
+stays : (device : DeviceSeen) (mixed : ℕ) (dropping : Bool) (desk : Desk) → LeavesSlots device mixed dropping desk desk
+stays device mixed dropping desk = record {
+  safe = λ slot s. s;
+  slots = λ slot runs s v. untold-same device mixed (book_at device desk slot) runs v;
+  given = λ slot s. given-same (rate_at device (book_at device desk slot)) dropping (book_at device desk slot);
+  handed_same = refl;
+  mixed_same = refl;
+}
 
 -- one book is set
-leaves-with : (device : DeviceSeen) (mixed : ℕ) (desk : Desk) (at : ℕ) (book : Book) → (IsSafeAt device (book_at device desk at) → IsSafeAt device book)
+leaves-with : (device : DeviceSeen) (mixed : ℕ) (dropping : Bool) (desk : Desk) (at : ℕ) (book : Book) → (IsSafeAt device (book_at device desk at) → IsSafeAt device book)
     → ((runs : List Run) → IsSafeAt device (book_at device desk at) → SlotIsValid device mixed (book_at device desk at) runs → IsUntold device mixed (book_at device desk at) book runs)
-    → LeavesSlots device mixed desk (with_book desk at book)
-leaves-with device mixed desk at book safe valid = record {
+    → (IsSafeAt device (book_at device desk at) → KeepsGivenAt device dropping (book_at device desk at) book)
+    → LeavesSlots device mixed dropping desk (with_book desk at book)
+leaves-with device mixed dropping desk at book safe valid given = record {
   safe = λ slot s. safe-with device desk at slot book s (λ e. safe (subst (λ (k : ℕ). IsSafeAt device (book_at device desk k)) e s));
   slots = λ slot runs s v. untold_with device mixed desk at slot book runs v
       (λ e. subst (λ (k : ℕ). IsUntold device mixed (book_at device desk k) book runs) (sym e)
       (valid runs (subst (λ (k : ℕ). IsSafeAt device (book_at device desk k)) e s) (subst (λ (k : ℕ). SlotIsValid device mixed (book_at device desk k) runs) e v)));
+  given = λ slot s. given_with device dropping desk at slot book
+      (λ e. subst (λ (k : ℕ). KeepsGivenAt device dropping (book_at device desk k) book) (sym e) (given (subst (λ (k : ℕ). IsSafeAt device (book_at device desk k)) e s)));
   handed_same = refl;
   mixed_same = refl;
 }
 
 -- a descriptor is set besides
-leaves-descriptor : (device : DeviceSeen) (mixed : ℕ) (old new : Desk) (fd : ℕ) (held : Option Held) → LeavesSlots device mixed old new → LeavesSlots device mixed old (with_descriptor new fd held)
-leaves-descriptor device mixed old new fd held l = record { safe = l.safe; slots = l.slots; handed_same = l.handed_same; mixed_same = l.mixed_same }
+leaves-descriptor : (device : DeviceSeen) (mixed : ℕ) (dropping : Bool) (old new : Desk) (fd : ℕ) (held : Option Held) → LeavesSlots device mixed dropping old new → LeavesSlots device mixed dropping old (with_descriptor new fd held)
+leaves-descriptor device mixed dropping old new fd held l = record { safe = l.safe; slots = l.slots; given = l.given; handed_same = l.handed_same; mixed_same = l.mixed_same }
 
 -- a record book is set
-leaves-record : (device : DeviceSeen) (mixed : ℕ) (desk : Desk) (at : ℕ) (book : RecordBook) → LeavesSlots device mixed desk (with_record desk at book)
-leaves-record device mixed desk at book =
-    record { safe = λ slot s. s; slots = λ slot runs s v. untold-same device mixed (book_at device desk slot) runs v; handed_same = refl; mixed_same = refl }
+leaves-record : (device : DeviceSeen) (mixed : ℕ) (dropping : Bool) (desk : Desk) (at : ℕ) (book : RecordBook) → LeavesSlots device mixed dropping desk (with_record desk at book)
+leaves-record device mixed dropping desk at book = let l = stays device mixed dropping desk in record { safe = l.safe; slots = l.slots; given = l.given; handed_same = refl; mixed_same = refl }
 
 -- an open sets the book of the least free slot of its way
-leaves-open_play : (device : DeviceSeen) (mixed : ℕ) (found : Option ℕ) (desk : Desk) (fd : ℕ) (settings : Settings) → IsRate settings.rate → LeavesSlots device mixed desk (open_play found desk fd settings).desk
-leaves-open_play device mixed None desk fd settings rate = stays device mixed desk
-leaves-open_play device mixed (Some at) desk fd settings rate =
-    leaves-descriptor device mixed desk (with_book desk at (begun settings)) fd (Some (record { way = Play; slot = at }))
-    (leaves-with device mixed desk at (begun settings) (λ s. safe-begun (rate_between device settings) settings)
-    (λ runs s v. untold-empty device mixed (book_at device desk at) (begun settings) runs refl refl rate v.pieces v.own))
+leaves-open_play : (device : DeviceSeen) (mixed : ℕ) (found : Option ℕ) (desk : Desk) (fd : ℕ) (settings : Settings) → IsRate settings.rate → least_free desk.play ≡ found → LeavesSlots device mixed false desk (open_play found desk fd settings).desk
+leaves-open_play device mixed None desk fd settings rate e = stays device mixed false desk
+leaves-open_play device mixed (Some at) desk fd settings rate e =
+    let old : Book = book_at device desk at in
+    leaves-descriptor device mixed false desk (with_book desk at (begun settings)) fd (Some (record { way = Play; slot = at }))
+    (leaves-with device mixed false desk at (begun settings) (λ s. safe-begun (rate_between device settings) settings)
+    (λ runs s v. untold-empty device mixed old (begun settings) runs refl refl rate v.pieces v.own)
+    (λ s. given-begun (rate_at device old) old settings (position-Some (λ (book : Book). is_free book.state) desk.play at (unopened device) e).1))
 
-leaves-open_record : (device : DeviceSeen) (mixed : ℕ) (found : Option ℕ) (desk : Desk) (fd : ℕ) (settings : Settings) → LeavesSlots device mixed desk (open_record found desk fd settings).desk
-leaves-open_record device mixed None desk fd settings = stays device mixed desk
+leaves-open_record : (device : DeviceSeen) (mixed : ℕ) (found : Option ℕ) (desk : Desk) (fd : ℕ) (settings : Settings) → LeavesSlots device mixed false desk (open_record found desk fd settings).desk
+leaves-open_record device mixed None desk fd settings = stays device mixed false desk
 leaves-open_record device mixed (Some at) desk fd settings =
-    leaves-descriptor device mixed desk (with_record desk at (records.begun settings)) fd (Some (record { way = Rec; slot = at }))
-    (leaves-record device mixed desk at (records.begun settings))
+    leaves-descriptor device mixed false desk (with_record desk at (records.begun settings)) fd (Some (record { way = Rec; slot = at }))
+    (leaves-record device mixed false desk at (records.begun settings))
 
 leaves-open_way : (device : DeviceSeen) (mixed : ℕ) (desk : Desk) (fd : ℕ) (way : Way) (settings : Settings) → IsRate settings.rate
-    → LeavesSlots device mixed desk (by_way way (open_play (least_free desk.play) desk fd settings) (open_record (least_free_record desk.recording) desk fd settings)).desk
-leaves-open_way device mixed desk fd Play settings rate = leaves-open_play device mixed (least_free desk.play) desk fd settings rate
+    → LeavesSlots device mixed false desk (by_way way (open_play (least_free desk.play) desk fd settings) (open_record (least_free_record desk.recording) desk fd settings)).desk
+leaves-open_way device mixed desk fd Play settings rate = leaves-open_play device mixed (least_free desk.play) desk fd settings rate refl
 leaves-open_way device mixed desk fd Rec settings rate = leaves-open_record device mixed (least_free_record desk.recording) desk fd settings
 
 -- or is refused
-pub leaves-open_turn : (device : DeviceSeen) (mixed : ℕ) (desk : Desk) (fd : ℕ) (way : Way) (settings : Settings) → IsRate settings.rate → LeavesSlots device mixed desk (open_turn desk fd way settings).desk
+pub leaves-open_turn : (device : DeviceSeen) (mixed : ℕ) (desk : Desk) (fd : ℕ) (way : Way) (settings : Settings) → IsRate settings.rate → LeavesSlots device mixed false desk (open_turn desk fd way settings).desk
 leaves-open_turn device mixed desk fd way settings rate =
-    elim (is_some (held_by desk fd)) as (λ (b : Bool). LeavesSlots device mixed desk (cond {A = DeskTurn} b (refusing desk Exist) (by_way way (open_play (least_free desk.play) desk fd settings) (open_record (least_free_record desk.recording) desk fd settings))).desk) [
-      | true ↦ stays device mixed desk
+    elim (is_some (held_by desk fd)) as (λ (b : Bool). LeavesSlots device mixed false desk (cond {A = DeskTurn} b (refusing desk Exist) (by_way way (open_play (least_free desk.play) desk fd settings) (open_record (least_free_record desk.recording) desk fd settings))).desk) [
+      | true ↦ stays device mixed false desk
       | false ↦ leaves-open_way device mixed desk fd way settings rate
     ]
 
 -- an event of a descriptor, whatever it does to a channel of each way
-leaves-turning : (device : DeviceSeen) (mixed : ℕ) (desk : Desk) (play recording : ℕ → DeskTurn) (held : Option Held) → ((slot : ℕ) → LeavesSlots device mixed desk (play slot).desk) → ((slot : ℕ) → LeavesSlots device mixed desk (recording slot).desk)
-    → LeavesSlots device mixed desk (turning play recording held desk).desk
-leaves-turning device mixed desk play recording None p r = stays device mixed desk
-leaves-turning device mixed desk play recording (Some held) p r =
-    elim held.way as (λ (way : Way). LeavesSlots device mixed desk (by_way way (play held.slot) (recording held.slot)).desk) [
+leaves-turning : (device : DeviceSeen) (mixed : ℕ) (dropping : Bool) (desk : Desk) (play recording : ℕ → DeskTurn) (held : Option Held) → ((slot : ℕ) → LeavesSlots device mixed dropping desk (play slot).desk)
+    → ((slot : ℕ) → LeavesSlots device mixed dropping desk (recording slot).desk) → LeavesSlots device mixed dropping desk (turning play recording held desk).desk
+leaves-turning device mixed dropping desk play recording None p r = stays device mixed dropping desk
+leaves-turning device mixed dropping desk play recording (Some held) p r =
+    elim held.way as (λ (way : Way). LeavesSlots device mixed dropping desk (by_way way (play held.slot) (recording held.slot)).desk) [
       | Play ↦ p held.slot
       | Rec ↦ r held.slot
     ]
 
 -- a read leaves all slots that play
-pub leaves-read_on : (device : DeviceSeen) (mixed : ℕ) (held : Option Held) (desk : Desk) (count : ℕ) → LeavesSlots device mixed desk (read_on device held desk count).desk
+pub leaves-read_on : (device : DeviceSeen) (mixed : ℕ) (held : Option Held) (desk : Desk) (count : ℕ) → LeavesSlots device mixed false desk (read_on device held desk count).desk
 leaves-read_on device mixed held desk count =
-    leaves-turning device mixed desk (λ slot. refusing desk Inval) (record_turn device (records.read_turn count) desk) held (λ slot. stays device mixed desk)
-    (λ slot. leaves-record device mixed desk slot (records.read_turn count (record_at device desk slot)).book)
+    leaves-turning device mixed false desk (λ slot. refusing desk Inval) (record_turn device (records.read_turn count) desk) held (λ slot. stays device mixed false desk)
+    (λ slot. leaves-record device mixed false desk slot (records.read_turn count (record_at device desk slot)).book)
 
 -- a request leaves the counts of its book, or nothing of its run
-pub leaves-ioctl_on : (device : DeviceSeen) (mixed : ℕ) (held : Option Held) (desk : Desk) (request : Request) → IsDevice device → HaveRates device desk → LeavesSlots device mixed desk (ioctl_on device held desk request).desk
+pub leaves-ioctl_on : (device : DeviceSeen) (mixed : ℕ) (held : Option Held) (desk : Desk) (request : Request) → IsDevice device → HaveRates device desk → LeavesSlots device mixed (asks_drop request) desk (ioctl_on device held desk request).desk
 leaves-ioctl_on device mixed held desk request d rates =
-    leaves-turning device mixed desk (play_turn device (asking device request) desk) (record_turn device (record_requests.ask_turn request) desk) held
+    leaves-turning device mixed (asks_drop request) desk (play_turn device (asking device request) desk) (record_turn device (record_requests.ask_turn request) desk) held
     (λ slot.
     let book : Book = book_at device desk slot in
     let asked : Book = (asking device request book).book in
-    leaves-with device mixed desk slot asked (safe-asking device request book d (rates slot))
-    (λ runs s v. untold-leaves device mixed book asked runs (ask-leaves (rate_at device book) request book s) (ask-rate (rate_at device book) request book v.settings) v))
-    (λ slot. leaves-record device mixed desk slot (record_requests.ask_turn request (record_at device desk slot)).book)
+    leaves-with device mixed (asks_drop request) desk slot asked (safe-asking device request book d (rates slot))
+    (λ runs s v. untold-leaves device mixed book asked runs (ask-leaves (rate_at device book) request book s) (ask-rate (rate_at device book) request book v.settings) v)
+    (λ s. given-ask (rate_at device book) request book s))
+    (λ slot. leaves-record device mixed (asks_drop request) desk slot (record_requests.ask_turn request (record_at device desk slot)).book)
 
 -- and so does a close
-pub leaves-close_on : (device : DeviceSeen) (mixed : ℕ) (held : Option Held) (desk : Desk) (fd : ℕ) → IsDevice device → HaveRates device desk → LeavesSlots device mixed desk (close_on device held desk fd).desk
+pub leaves-close_on : (device : DeviceSeen) (mixed : ℕ) (held : Option Held) (desk : Desk) (fd : ℕ) → IsDevice device → HaveRates device desk → LeavesSlots device mixed false desk (close_on device held desk fd).desk
 leaves-close_on device mixed held desk fd d rates =
-    leaves-turning device mixed desk (close_play device desk fd) (close_record device desk fd) held
+    leaves-turning device mixed false desk (close_play device desk fd) (close_record device desk fd) held
     (λ slot.
     let book : Book = book_at device desk slot in
     let closed : Book = closing device book in
-    leaves-descriptor device mixed desk (with_book desk slot closed) fd None
-    (leaves-with device mixed desk slot closed (safe-closing device book d (rates slot))
+    leaves-descriptor device mixed false desk (with_book desk slot closed) fd None
+    (leaves-with device mixed false desk slot closed (safe-closing device book d (rates slot))
     (λ runs s v. untold-leaves device mixed book closed runs (close-leaves (rate_at device book) book)
-    (subst (λ (settings : Settings). IsRate settings.rate) (sym (close-keeps (rate_at device book) book).settings) v.settings) v)))
+    (subst (λ (settings : Settings). IsRate settings.rate) (sym (close-keeps (rate_at device book) book).settings) v.settings) v)
+    (λ s. given-close (rate_at device book) book)))
     (λ slot.
     let closed : RecordBook = records.closed (record_at device desk slot) in
-    leaves-descriptor device mixed desk (with_record desk slot closed) fd None (leaves-record device mixed desk slot closed))
+    leaves-descriptor device mixed false desk (with_record desk slot closed) fd None (leaves-record device mixed false desk slot closed))
 
 -- a write leaves each slot's book with some of its bytes, or as it was
 pub record Writes (device : DeviceSeen) (length : ℕ) (old new : Desk) : Type 0 where
@@ -290,25 +322,36 @@ written_undrained pool source at count old new w h =
     let some = length-take (new.written - old.written) (drop at (source_bytes pool source)) in
     w.undrained (omega arith)
 
--- a slot stays valid through a write of bytes that are there
-untold_written : (device : DeviceSeen) (mixed : ℕ) (pool : Pool) (source : Source) (at count : ℕ) (old new : Book) (runs : List Run) → IsDevice device → at + count ≤ length (source_bytes pool source) → WritesSome count old new → SlotIsValid device mixed old runs
-    → IsUntold device mixed old new (taking (bytes_at pool source at (new.written - old.written)) old runs)
-untold_written device mixed pool source at count old new runs d h w v =
+-- a book accepts the bytes that it grew by
+written_accepts : (pool : Pool) (source : Source) (at count : ℕ) (old new : Book) → at + count ≤ length (source_bytes pool source) → WritesSome count old new
+    → Accepts (length (bytes_at pool source at (new.written - old.written))) old new
+written_accepts pool source at count old new h w =
     let written = w.accepts.written in
     let within = w.within in
     let same : new.written - old.written ≡ w.accepted = omega arith in
     let length_is : length (bytes_at pool source at (new.written - old.written)) ≡ w.accepted = length-bytes_at pool source at (new.written - old.written) (omega arith) ∙ same in
-    untold-taking device mixed (bytes_at pool source at (new.written - old.written)) old new runs d (subst (λ (n : ℕ). Accepts n old new) (sym length_is) w.accepts) (written_undrained pool source at count old new w) v
+    subst (λ (n : ℕ). Accepts n old new) (sym length_is) w.accepts
+
+-- a slot stays valid through a write of bytes that are there
+untold_written : (device : DeviceSeen) (mixed : ℕ) (pool : Pool) (source : Source) (at count : ℕ) (old new : Book) (runs : List Run) → IsDevice device → at + count ≤ length (source_bytes pool source) → WritesSome count old new → SlotIsValid device mixed old runs
+    → IsUntold device mixed old new (taking (bytes_at pool source at (new.written - old.written)) old runs)
+untold_written device mixed pool source at count old new runs d h w v =
+    untold-taking device mixed (bytes_at pool source at (new.written - old.written)) old new runs d (written_accepts pool source at count old new h w) (written_undrained pool source at count old new w) v
 
 -- the runs of a slot after an event, before the newest is told of it
 abbrev pub carried_at : DeviceSeen → Pool → Story → Event → ℕ → List Run
 carried_at device pool story event slot =
     carrying device pool story.desk event (book_at device story.desk slot) (book_at device (after device story.desk event).desk slot) (story.runs slot)
 
--- what an event that takes no frames leaves of a story: the device's counts, safe books and valid slots
+-- where the pieces of a slot stand after an event that takes no frames
+abbrev IsPlacedAt : DeviceSeen → Pool → Story → Event → ℕ → Type 0
+IsPlacedAt device pool story event slot = SlotIsPlaced device story.desk.mixed (book_at device (after device story.desk event).desk slot) ((told device pool story event).runs slot)
+
+-- what an event that takes no frames leaves of a story: the device's counts, safe books, and valid slots whose pieces are in their places
 pub record Keeps (device : DeviceSeen) (pool : Pool) (story : Story) (event : Event) : Type 0 where
   pub safe : (slot : ℕ) → IsSafeAt device (book_at device (after device story.desk event).desk slot)
   pub slots : (slot : ℕ) → SlotIsUntold device story.desk.mixed story.desk (after device story.desk event).desk slot (carried_at device pool story event slot)
+  pub placed : (slot : ℕ) → IsPlacedAt device pool story event slot
   pub handed_same : (after device story.desk event).desk.handed ≡ story.desk.handed
   pub mixed_same : (after device story.desk event).desk.mixed ≡ story.desk.mixed
 
@@ -316,11 +359,16 @@ rates_of : (device : DeviceSeen) (story : Story) → StoryIsValid device story �
 rates_of device story v slot = (v.slots slot).settings
 
 -- an event that leaves the slots valid, and their runs as they are
-keeps-left : (device : DeviceSeen) (pool : Pool) (story : Story) (event : Event) → LeavesSlots device story.desk.mixed story.desk (after device story.desk event).desk
+keeps-left : (device : DeviceSeen) (pool : Pool) (story : Story) (event : Event) → LeavesSlots device story.desk.mixed (drops event) story.desk (after device story.desk event).desk
     → ((slot : ℕ) → story.runs slot ≡ carried_at device pool story event slot) → StoryIsValid device story → Keeps device pool story event
 keeps-left device pool story event l same v = record {
   safe = λ slot. l.safe slot (v.safe slot);
   slots = λ slot. subst (SlotIsUntold device story.desk.mixed story.desk (after device story.desk event).desk slot) (same slot) (l.slots slot (story.runs slot) (v.safe slot) (v.slots slot));
+  placed = λ slot.
+      let old : Book = book_at device story.desk slot in
+      let new : Book = book_at device (after device story.desk event).desk slot in
+      subst (λ (runs : List Run). SlotIsPlaced device story.desk.mixed new (marking story.desk.mixed event old new runs)) (same slot)
+      (placed-left device story.desk.mixed event old new (story.runs slot) v.limits (v.safe slot) (v.slots slot) (l.given slot (v.safe slot)) (l.slots slot (story.runs slot) (v.safe slot) (v.slots slot)) (v.placed slot));
   handed_same = l.handed_same;
   mixed_same = l.mixed_same;
 }
@@ -336,6 +384,11 @@ keeps-write device pool story fd source at count h v =
     record {
       safe = λ slot. safe-write_on device (held_by story.desk fd) story.desk count slot v.limits (rates_of device story v) (v.safe slot);
       slots = λ slot. untold_written device story.desk.mixed pool source at count (book_at device story.desk slot) (book_at device new slot) (story.runs slot) v.limits h (w.slots slot) (v.slots slot);
+      placed = λ slot.
+          let old : Book = book_at device story.desk slot in
+          let now : Book = book_at device new slot in
+          placed-taken device story.desk.mixed (Write fd source at count) (bytes_at pool source at (now.written - old.written)) old now (story.runs slot) v.limits (v.safe slot) (v.slots slot)
+          (written_accepts pool source at count old now h (w.slots slot)) (v.placed slot);
       handed_same = w.handed_same;
       mixed_same = w.mixed_same;
     }
@@ -396,6 +449,7 @@ valid-kept device pool story event k v = record {
   limits = v.limits;
   slots = λ slot. valid-at device pool story event story.desk.mixed slot v.limits k.mixed_same (k.slots slot);
   safe = k.safe;
+  placed = λ slot. subst (λ (mixed : ℕ). SlotIsPlaced device mixed (book_at device (after device story.desk event).desk slot) ((told device pool story event).runs slot)) (sym k.mixed_same) (k.placed slot);
   gains = gains-told device pool story event (let same = k.mixed_same in omega arith) v;
   mixed = k.mixed_same ∙ v.mixed ∙ sym k.handed_same;
 }
@@ -409,6 +463,10 @@ valid-interrupted device pool story n v = record {
       (subst (λ (b : Book). IsUntold device (story.desk.mixed + n) old b (playing device story.desk.mixed n old (story.runs slot))) (sym (book_at-mixing device story.desk n slot))
       (untold-mixing device story.desk.mixed n old (story.runs slot) v.limits (v.safe slot) (v.slots slot)));
   safe = λ slot. subst (IsSafeAt device) (sym (book_at-mixing device story.desk n slot)) (safe-mixing device n (book_at device story.desk slot) v.limits (v.slots slot).settings (v.safe slot));
+  placed = λ slot.
+      let old : Book = book_at device story.desk slot in
+      subst (λ (b : Book). SlotIsPlaced device (story.desk.mixed + n) b (marking story.desk.mixed (Intr n) old b (playing device story.desk.mixed n old (story.runs slot)))) (sym (book_at-mixing device story.desk n slot))
+      (placed-mixing device story.desk.mixed n old (story.runs slot) v.limits (v.safe slot) (v.slots slot) (v.placed slot));
   gains = gains-told device pool story (Intr n) (omega arith) v;
   mixed = ap (λ frames. frames + n) v.mixed;
 }
@@ -442,9 +500,20 @@ valid-start device d = record {
     own = All-nil HasRate;
   });
   safe = λ slot. subst (IsSafeAt device) (sym (get_or-same (play_slots device) slot (unopened device))) (record { order = unstarted; fill = omega arith; fragments = usual-fragments; volume = refl; told = omega arith });
+  placed = λ slot. tt;
   gains = λ slot position l. ap book_gain (sym (get_or-same (play_slots device) slot (unopened device)));
   mixed = refl;
 }
+
+-- a story stays valid through events that fit
+pub valid-told_all : (device : DeviceSeen) (pool : Pool) (story : Story) (events : List Event) → All (Fits device pool) events → StoryIsValid device story → StoryIsValid device (told_all device pool story events)
+valid-told_all device pool story [] fit v = v
+valid-told_all device pool story (event ∷ events) fit v =
+    valid-told_all device pool (told device pool story event) events (All-tail (Fits device pool) event events fit) (valid-told device pool story event (All-head (Fits device pool) event events fit) v)
+
+-- the story of a script whose events fit
+pub valid-story : (device : DeviceSeen) (pool : Pool) (events : List Event) → IsDevice device → All (Fits device pool) events → StoryIsValid device (story_of device pool events)
+valid-story device pool events d fit = valid-told_all device pool (story_at_start device) events fit (valid-start device d)
 
 -- what the runs of a slot gave in the past stays
 sounding-carrying : (device : DeviceSeen) (pool : Pool) (story : Story) (event : Event) (gain : Gain) (slot position : ℕ) → StoryIsValid device story → position < story.desk.mixed

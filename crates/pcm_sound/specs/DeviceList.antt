@@ -40,10 +40,13 @@ device_list device table handed =
 abbrev pub device_bytes : DeviceSeen → Story → List ℕ
 device_bytes device story = spelled_frames (device_settings device).format (device_list device (table_of device story) story.desk.handed)
 
+-- the bytes of the frames that a table gives, as many as were handed over
+abbrev pub device_body_of : DeviceSeen → Table → ℕ → List ℕ
+device_body_of device table handed = spelled_frames (device_settings device).format (take handed (device_list device table handed))
+
 -- the bytes of the frames that the interrupts of a story handed over
 abbrev pub device_body : DeviceSeen → Story → List ℕ
-device_body device story =
-    spelled_frames (device_settings device).format (take story.desk.handed (device_list device (table_of device story) story.desk.handed))
+device_body device story = device_body_of device (table_of device story) story.desk.handed
 
 -- the device's whole text
 abbrev pub device_text : DeviceSeen → Pool → List Event → List ℕ

@@ -6,5 +6,7 @@ pub mod Story
 pub mod Replies
 pub mod Mix
 pub mod DeviceList
+pub mod Plain
+pub mod Places
 pub mod Blocks
 pub mod Valid

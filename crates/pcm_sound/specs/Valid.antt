@@ -1,5 +1,5 @@
 -- What holds of every story of events that fit: the newest run is what its book counts, the pieces of a run lie
--- within its stream and in the past, and a recording is what its book counts.
+-- within its stream and in the past and follow each other, and a recording is what its book counts.
 use Rattle.std.specs.Prelude.{◌≡◌, ℕ, ◌+◌, ◌<◌, ◌≤◌, Bool, true, if◌then◌else◌, List, [], ◌∷◌, length, take, All}
 use Rattle.pcm_format.specs.Frames.{whole_frames}
 use Rattle.pcm_rate.specs.declared.rate.Rate.{Rate}
@@ -19,6 +19,7 @@ use Rattle.pcm_sound.specs.Runs.{Piece, Run}
 use Rattle.pcm_sound.specs.Plans.{recorded_bytes}
 use Rattle.pcm_sound.specs.Recordings.{Recording, recorded_frames}
 use Rattle.pcm_sound.specs.Story.{Story}
+use Rattle.pcm_sound.specs.Places.{SlotIsPlaced}
 
 -- how many frames of the mix so many frames of a run give: those that they allow, or all that they last for once no more comes
 abbrev pub frames_given : Rate → Bool → ℕ → ℕ
@@ -59,6 +60,8 @@ pub record StoryIsValid (device : DeviceSeen) (story : Story) : Type 0 where
   pub limits : IsDevice device
   pub slots : (slot : ℕ) → SlotIsValid device story.desk.mixed (book_at device story.desk slot) (story.runs slot)
   pub safe : (slot : ℕ) → BookIsSafe (rate_at device (book_at device story.desk slot)) (book_at device story.desk slot)
+  -- the pieces of each run stand in their place
+  pub placed : (slot : ℕ) → SlotIsPlaced device story.desk.mixed (book_at device story.desk slot) (story.runs slot)
   -- from now on each slot has the gain of its book's volume
   pub gains : (slot position : ℕ) → story.desk.mixed ≤ position → last_gain (story.gains slot) position ≡ book_gain (book_at device story.desk slot)
   -- what stands for all frames that were handed over is mixed

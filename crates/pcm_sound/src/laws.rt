@@ -1,18 +1,22 @@
-//! What holds of all recordings: the function here has no work, and its contract is the law.
+//! What holds of all recordings, and of all runs without a shortage: the functions here have no work, and their contracts are the laws.
 
-ghost use Rattle.std.specs.Prelude.{◌≡◌, ℕ, true, List, take, All};
+ghost use Rattle.std.specs.Prelude.{◌≡◌, ◌<◌, ◌-◌, ◌^◌, ◌↔◌, ℕ, true, min, List, take, All};
 ghost use Rattle.pcm_oss.specs.declared.event.Event.{Event};
 ghost use Rattle.pcm_wave.specs.declared.pool.Pool.{Pool};
 ghost use Rattle.pcm_wave.specs.Pools.{IsCaptureIn};
+ghost use Rattle.pcm_desk.specs.declared.book.Book.{Book};
 ghost use Rattle.pcm_desk.specs.Device.{DeviceSeen, IsDevice, device_settings};
-ghost use Rattle.pcm_desk.specs.Desk.{record_at};
+ghost use Rattle.pcm_desk.specs.Desk.{mixing, record_at};
 ghost use Rattle.pcm_desk.specs.Events.{Fits};
 ghost use Rattle.pcm_desk.specs.RecordBooks.{is_running};
+ghost use Rattle.pcm_sound.specs.DeviceList.{device_text};
+ghost use Rattle.pcm_sound.specs.Plain.{AgreeInCommon, HasNoShortage, IsInPlace, IsUnbroken, SoundAlike, plain_text};
 ghost use Rattle.pcm_sound.specs.Plans.{recorded_bytes};
 ghost use Rattle.pcm_sound.specs.Recordings.{recorded_frames};
+ghost use Rattle.pcm_sound.specs.Runs.{piece_of};
 ghost use Rattle.pcm_sound.specs.Story.{story_of};
 
-/// What all reads of a recording got, joined, is a prefix of all that is recorded from its start on, as long as no interrupt lost
+/// What all reads of a running recording got, joined, is a prefix of all that is recorded from its start on, as long as no interrupt lost
 /// a frame.
 pub fn reads_get_what_is_recorded()
     ensures { (device : DeviceSeen) (pool : Pool) (events : List Event) (slot : ℕ) → IsDevice device
@@ -23,4 +27,38 @@ pub fn reads_get_what_is_recorded()
         is_running book.state ≡ true → recording.whole ≡ true
         → recording.got ≡ take book.read
         (recorded_bytes device book.settings (recorded_frames pool recording.start) 0 book.given) }
+{}
+
+/// The pieces of a run without a shortage cover the positions from its start to its end and no other, and at each they give the frame
+/// that is as far into its stream as the position is past the start.
+pub fn pieces_stand_in_their_place()
+    ensures { (device : DeviceSeen) (pool : Pool) (events : List Event) (slot : ℕ) → IsDevice device
+        → All (Fits device pool) events
+        → let story = story_of device pool events in
+        All (λ run. IsUnbroken run → IsInPlace device story.desk.mixed run) (story.runs slot) }
+{}
+
+/// Without a shortage the device gets what the runs are from their starts to their ends: no count has a part in it.
+pub fn runs_are_heard_from_start_to_end()
+    ensures { (device : DeviceSeen) (pool : Pool) (events : List Event) → IsDevice device
+        → All (Fits device pool) events
+        → HasNoShortage (story_of device pool events)
+        → device_text device pool events ≡ plain_text device pool events }
+{}
+
+/// Two scripts without a shortage whose runs sound alike give the device equal bytes, as far as both go.
+pub fn what_sounds_alike_has_equal_bytes()
+    ensures { (device : DeviceSeen) (pool more : Pool) (events others : List Event) → IsDevice device
+        → All (Fits device pool) events → All (Fits device more) others
+        → let one = story_of device pool events in
+        let other = story_of device more others in
+        HasNoShortage one → HasNoShortage other
+        → SoundAlike device (min one.desk.mixed other.desk.mixed) one other
+        → AgreeInCommon (device_text device pool events) (device_text device more others) }
+{}
+
+/// An interrupt leaves a run short exactly where it counts an underrun, as long as the count can rise: so answers tell of every shortage.
+pub fn shortages_are_counted()
+    ensures { (device : DeviceSeen) (position n : ℕ) (book : Book) → 0 < n → book.underruns < 2 ^ 32 - 1
+        → ((piece_of device position n book).short ≡ 0) ↔ ((mixing device n book).underruns ≡ book.underruns) }
 {}

@@ -4,4 +4,7 @@
 
 mod laws;
 
-pub use laws::reads_get_what_is_recorded;
+pub use laws::{
+    pieces_stand_in_their_place, reads_get_what_is_recorded, runs_are_heard_from_start_to_end,
+    shortages_are_counted, what_sounds_alike_has_equal_bytes,
+};

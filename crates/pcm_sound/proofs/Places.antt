@@ -1,0 +1,302 @@
+-- The pieces of a slot stay in their places through every event that takes no frames.
+use Rattle.std.proofs.Common.{◌≡◌, ℕ, suc, zero, ◌+◌, ◌-◌, ◌<◌, ◌≤◌, Bool, true, false, cond, eqb, List, [], ◌∷◌, ◌++◌, length, min, Option, Some, None, refl, sym, ap, ◌∙◌, subst, arith, All}
+use Rattle.std.specs.Prelude.{nat_lt, ◌&&◌, ◌||◌, not}
+use Rattle.std.proofs.lemmas.List.Elements.{All-head, All-tail, All-cons, All-nil, All-weaker}
+use Rattle.std.proofs.lemmas.Bool.Decides.{nat_tests}
+use Rattle.pcm_oss.specs.declared.event.Event.{Event}
+use Rattle.pcm_format.specs.declared.settings.Settings.{Settings}
+use Rattle.pcm_format.specs.Frames.{whole_frames}
+use Rattle.pcm_format.proofs.Streams.{length-frames}
+use Rattle.pcm_rate.specs.declared.rate.Rate.{Rate}
+use Rattle.pcm_rate.specs.Rates.{IsRatio, len}
+use Rattle.pcm_feeder.specs.Limits.{IsRate}
+use Rattle.pcm_desk.specs.declared.book.Book.{Book}
+use Rattle.pcm_desk.specs.declared.book.State.{State}
+use Rattle.pcm_desk.specs.declared.book.State.TheVariants.{Free, Setup, Primed, Running, Draining}
+use Rattle.pcm_desk.specs.Device.{DeviceSeen, IsDevice, rate_between}
+use Rattle.pcm_desk.specs.Books.{frames_written, is_draining, is_started}
+use Rattle.pcm_desk.specs.Safe.{BookIsSafe, IsInOrder}
+use Rattle.pcm_desk.specs.Desk.{rate_at}
+use Rattle.pcm_desk.proofs.Safe.{allowed-lasts, given-allowed}
+use Rattle.pcm_desk.proofs.Ratios.{ratio-between}
+use Rattle.pcm_sound.specs.Runs.{Piece, Run, begun_run, taking, drops, marked, marking, run_frames}
+use Rattle.pcm_sound.specs.Plain.{drop_end, run_end}
+use Rattle.pcm_sound.specs.Places.{Follow, IsOver, IsOverFrom, IsWaiting, IsGoing, IsCounted, ArePlaced, SlotIsPlaced}
+use Rattle.pcm_sound.specs.Valid.{IsNewest, SlotIsValid}
+use Rattle.pcm_sound.proofs.Endings.{EndsWhole, KeepsGiven}
+use Rattle.pcm_sound.proofs.Slots.{Accepts, IsUntold, none_above}
+
+-- ---- at later positions
+
+-- a run that is over at a position is over at any later one
+over_from_later : (device : DeviceSeen) (mixed later : ℕ) (run : Run) (start : Option ℕ) → mixed ≤ later → IsOverFrom device mixed run start → IsOverFrom device later run start
+over_from_later device mixed later run None h over = over
+over_from_later device mixed later run (Some start) h over = λ unbroken.
+    let o = over unbroken in
+    record { count = o.count; follow = o.follow; past = (let past = o.past in omega arith); end = λ until l. o.end until (omega arith) }
+
+over-later : (device : DeviceSeen) (mixed later : ℕ) (run : Run) → mixed ≤ later → IsOver device mixed run → IsOver device later run
+over-later device mixed later run h over = over_from_later device mixed later run run.start h over
+
+-- so are all runs of a slot
+pub over-all : (device : DeviceSeen) (mixed later : ℕ) (runs : List Run) → mixed ≤ later → All (IsOver device mixed) runs → All (IsOver device later) runs
+over-all device mixed later runs h over = All-weaker (IsOver device mixed) (IsOver device later) (λ run o. over-later device mixed later run h o) runs over
+
+-- and those of a slot that hasn't started stay in their places
+pub idle-later : (device : DeviceSeen) (mixed later : ℕ) (book : Book) (runs : List Run) → mixed ≤ later → is_started book.state ≡ false → SlotIsPlaced device mixed book runs → SlotIsPlaced device later book runs
+idle-later device mixed later book [] h idle p = p
+idle-later device mixed later book (run ∷ runs) h idle p = (
+  over-all device mixed later runs h p.0,
+  λ none. over-later device mixed later run h (p.1 none),
+  λ some. let c = p.2 some in record { dropped = c.dropped; waits = c.waits; goes = λ e. absurd (let not_so : true ≡ false = sym e ∙ idle in cc) },
+)
+
+-- ---- where a run ends
+
+-- a started book has given no more than it lasts for
+pub given-lasts : (rate : Rate) (book : Book) → IsRatio rate → is_started book.state ≡ true → BookIsSafe rate book → book.given ≤ len rate (frames_written book)
+given-lasts rate book r started safe =
+    let allowed = given-allowed book.state rate book r started safe.order in
+    let lasts = allowed-lasts book.state rate book r in
+    omega arith
+
+-- the newest run lasts as long as its book
+pub lasts-newest : (device : DeviceSeen) (book : Book) (run : Run) (runs : List Run) → IsNewest book (run ∷ runs) → len (rate_between device run.settings) (length (run_frames run)) ≡ len (rate_at device book) (frames_written book)
+lasts-newest device book run runs newest =
+    ap (len (rate_between device run.settings)) (length-frames run.settings run.bytes)
+    ∙ ap (λ (settings : Settings). len (rate_between device settings) (whole_frames settings (length run.bytes))) newest.0
+    ∙ ap (λ bytes. len (rate_at device book) (whole_frames book.settings bytes)) newest.1
+
+-- a run that was dropped where its pieces ended, before more than it lasts for
+dropped_end : (drained : Bool) (lasts start mixed until : ℕ) → mixed ≤ start + lasts → mixed ≤ until → min (cond drained (start + lasts) until) (min mixed until) ≡ mixed
+dropped_end true lasts start mixed until l h = omega arith
+dropped_end false lasts start mixed until l h = omega arith
+
+-- a run that was drained, behind all that it lasts for
+pub lasted_end : (drained : Bool) (dropped : Option ℕ) (start lasts until : ℕ) → drained ≡ true → dropped ≡ None → start + lasts ≤ until
+    → min (cond drained (start + lasts) until) (min (drop_end until dropped) until) ≡ start + lasts
+lasted_end true None start lasts until d e l = omega arith
+lasted_end true (Some position) start lasts until d e l = cc
+lasted_end false dropped start lasts until d e l = cc
+
+-- ---- what an event tells of the newest run
+
+-- how many frames of the mix a run lasts for
+abbrev pub lasting : DeviceSeen → Run → ℕ
+lasting device run = len (rate_between device run.settings) (length (run_frames run))
+
+-- a run with the marks of an event, from whether its book was started before and after it, drains, and is dropped
+abbrev pub told_run : Bool → Bool → Bool → Bool → ℕ → Run → Run
+told_run before after draining dropping position run = record run {
+  start = cond (not before && after) (Some position) run.start;
+  drained = run.drained || draining || (before && not after) && not dropping;
+  dropped = cond ((before && not after) && dropping) (Some position) run.dropped;
+}
+
+-- nothing is told of a book that neither was started nor is
+undrained : (drained dropping : Bool) → (drained || false || (false && not false) && not dropping) ≡ drained
+undrained true dropping = refl
+undrained false dropping = refl
+
+-- a book that ends and drops nothing drains its run
+pub drained_now : (drained draining : Bool) → (drained || draining || (true && not false) && not false) ≡ true
+drained_now true draining = refl
+drained_now false true = refl
+drained_now false false = refl
+
+-- a run that is over, of a book with nothing written
+over_idle : (before after draining dropping : Bool) (device : DeviceSeen) (mixed : ℕ) (run : Run) → before ≡ false → after ≡ false → draining ≡ false → IsOver device mixed run
+    → IsOver device mixed (told_run before after draining dropping mixed run)
+over_idle true after draining dropping device mixed run b a d over = cc
+over_idle false true draining dropping device mixed run b a d over = cc
+over_idle false false true dropping device mixed run b a d over = cc
+over_idle false false false dropping device mixed run b a d over = subst (λ (drained : Bool). IsOver device mixed (record run { drained = drained })) (sym (undrained run.drained dropping)) over
+
+-- a run that never started is over
+waiting_over : (device : DeviceSeen) (mixed : ℕ) (run : Run) → IsWaiting run → IsOver device mixed run
+waiting_over device mixed run w = subst (λ (start : Option ℕ). IsOverFrom device mixed run start) (sym w.start) w.pieces
+
+-- a run that was going, once it is over
+going_over : (device : DeviceSeen) (mixed : ℕ) (book : Book) (was run : Run) → run.start ≡ was.start → run.pieces ≡ was.pieces → IsGoing mixed book was
+    → ((start : ℕ) → start + book.given ≡ mixed → (until : ℕ) → mixed ≤ until → run_end device until start run ≡ mixed) → IsOver device mixed run
+going_over device mixed book was run start pieces g end =
+    subst (λ (s : Option ℕ). IsOverFrom device mixed run s) (sym (start ∙ g.started)) (λ unbroken.
+    let follow = g.follow (subst (λ (list : List Piece). All (λ (piece : Piece). piece.short ≡ 0) list) pieces unbroken) in
+    let sum = follow.1 in
+    record {
+      count = book.given;
+      follow = subst (λ (list : List Piece). Follow g.start book.given list) (sym pieces) follow.0;
+      past = omega arith;
+      end = λ until l. end g.start follow.1 until l ∙ sym follow.1;
+    })
+
+-- a run that its book counted, once nothing of it is left
+over_counted : (before after draining dropping : Bool) (device : DeviceSeen) (mixed : ℕ) (old : Book) (run : Run) → is_started old.state ≡ before → after ≡ false
+    → (before ≡ true → old.given ≤ lasting device run) → (before ≡ true → dropping ≡ false → old.given ≡ lasting device run) → IsCounted mixed old run
+    → IsOver device mixed (told_run before after draining dropping mixed run)
+over_counted before true draining dropping device mixed old run b a most whole c = cc
+over_counted false false draining dropping device mixed old run b a most whole c =
+    let w = c.waits b in
+    waiting_over device mixed (told_run false false draining dropping mixed run) (record { start = w.start; pieces = w.pieces })
+over_counted true false draining true device mixed old run b a most whole c =
+    let lasts = most refl in
+    let now : Run = told_run true false draining true mixed run in
+    going_over device mixed old run now refl refl (c.goes b) (λ start sum until l. dropped_end now.drained (lasting device run) start mixed until (omega arith) l)
+over_counted true false draining false device mixed old run b a most whole c =
+    let all = whole refl refl in
+    let now : Run = told_run true false draining false mixed run in
+    going_over device mixed old run now refl refl (c.goes b) (λ start sum until l.
+    lasted_end now.drained run.dropped start (lasting device run) until (drained_now run.drained draining) c.dropped (omega arith) ∙ ap (λ lasted. start + lasted) (sym all) ∙ sum)
+
+-- a run that its book goes on to count
+counted_told : (before after draining dropping : Bool) (mixed : ℕ) (old new : Book) (run : Run) → is_started old.state ≡ before → is_started new.state ≡ after → (before ≡ true → after ≡ true)
+    → (before ≡ false → old.given ≡ 0) → new.given ≡ old.given → IsCounted mixed old run → IsCounted mixed new (told_run before after draining dropping mixed run)
+counted_told false false draining dropping mixed old new run b a plays none given c = record {
+  dropped = c.dropped;
+  waits = λ e. let w = c.waits b in record { start = w.start; pieces = w.pieces };
+  goes = λ e. absurd (let not_so : true ≡ false = sym e ∙ a in cc);
+}
+counted_told false true draining dropping mixed old new run b a plays none given c = record {
+  dropped = c.dropped;
+  waits = λ e. absurd (let not_so : true ≡ false = sym a ∙ e in cc);
+  goes = λ e. record {
+    start = mixed;
+    started = refl;
+    follow = λ unbroken. (subst (λ (list : List Piece). Follow mixed new.given list) (sym (c.waits b).pieces) (given ∙ none refl), omega (arith, given, none refl));
+  };
+}
+counted_told true false draining dropping mixed old new run b a plays none given c = absurd (let not_so : false ≡ true = plays refl in cc)
+counted_told true true draining dropping mixed old new run b a plays none given c = record {
+  dropped = c.dropped;
+  waits = λ e. absurd (let not_so : true ≡ false = sym a ∙ e in cc);
+  goes = λ e.
+      let g = c.goes b in
+      record { start = g.start; started = g.started; follow = λ unbroken. subst (λ (count : ℕ). Follow g.start count run.pieces × (g.start + count ≡ mixed)) (sym given) (g.follow unbroken) };
+}
+
+-- What an event that takes no frames does to a book, which counts so many bytes before its newest run is told of it: the book goes on
+-- with what it gave, or nothing of its run is left.
+pub record Moves (device : DeviceSeen) (event : Event) (old new : Book) (counts : ℕ) (runs : List Run) : Type 0 where
+  pub idle : counts ≡ 0 → is_started old.state ≡ false
+  pub started : is_started new.state ≡ true → 0 < new.written
+  pub plays : 0 < new.written → is_started old.state ≡ true → is_started new.state ≡ true
+  pub written : 0 < new.written → 0 < counts
+  pub given : 0 < new.written → new.given ≡ old.given
+  pub newest : new.written ≡ 0 → 0 < counts → IsNewest old runs
+  pub whole : EndsWhole (rate_at device old) (drops event) old new
+
+-- a book that hasn't started gave nothing
+idle_given : (state : State) (rate : Rate) (book : Book) → is_started state ≡ false → IsInOrder rate state book → book.given ≡ 0
+idle_given Free rate book e o = o.given_none
+idle_given Setup rate book e o = o.1.given_none
+idle_given Primed rate book e o = o.1.given_none
+idle_given Running rate book e o = cc
+idle_given (Draining closed) rate book e o = cc
+
+-- nor does it drain
+pub idle_undrained : (state : State) → is_started state ≡ false → is_draining state ≡ false
+idle_undrained Free e = refl
+idle_undrained Setup e = refl
+idle_undrained Primed e = refl
+idle_undrained Running e = cc
+idle_undrained (Draining closed) e = cc
+
+-- what isn't true is false
+pub not_true : (b : Bool) → (b ≡ true → ⊥) → b ≡ false
+not_true true h = absurd (h refl)
+not_true false h = refl
+
+-- the newest run of a book with nothing written is over once the event was told of it
+over_marked : (device : DeviceSeen) (mixed : ℕ) (event : Event) (old new : Book) (written : ℕ) (run : Run) (runs : List Run) → IsDevice device → IsRate old.settings.rate → BookIsSafe (rate_at device old) old
+    → Moves device event old new written (run ∷ runs) → ArePlaced device mixed old written (run ∷ runs) → new.written ≡ 0 → IsOver device mixed (marked mixed event old new run)
+over_marked device mixed event old new zero run runs d s safe m p none =
+    let stopped : is_started new.state ≡ false = not_true (is_started new.state) (λ e. let some = m.started e in omega arith) in
+    over_idle (is_started old.state) (is_started new.state) (is_draining new.state) (drops event) device mixed run (m.idle refl) stopped (idle_undrained new.state stopped) (p.1 refl)
+over_marked device mixed event old new (suc more) run runs d s safe m p none =
+    let stopped : is_started new.state ≡ false = not_true (is_started new.state) (λ e. let some = m.started e in omega arith) in
+    let lasts = lasts-newest device old run runs (m.newest none (omega arith)) in
+    over_counted (is_started old.state) (is_started new.state) (is_draining new.state) (drops event) device mixed old run refl stopped
+    (λ e. let most = given-lasts (rate_at device old) old (ratio-between device old.settings d s) e safe in omega arith)
+    (λ e keeps. m.whole e stopped keeps ∙ sym lasts)
+    (p.2 (omega arith))
+
+-- the pieces of a slot stay in their places once an event was told of its newest run
+pub placed-marking : (device : DeviceSeen) (mixed : ℕ) (event : Event) (old new : Book) (written : ℕ) (runs : List Run) → IsDevice device → IsRate old.settings.rate → BookIsSafe (rate_at device old) old
+    → Moves device event old new written runs → ArePlaced device mixed old written runs → SlotIsPlaced device mixed new (marking mixed event old new runs)
+placed-marking device mixed event old new written [] d s safe m p = tt
+placed-marking device mixed event old new written (run ∷ runs) d s safe m p = (
+  p.0,
+  λ none. over_marked device mixed event old new written run runs d s safe m p none,
+  λ some. counted_told (is_started old.state) (is_started new.state) (is_draining new.state) (drops event) mixed old new run refl refl (m.plays some)
+      (λ e. idle_given old.state (rate_at device old) old e safe.order) (m.given some) (p.2 (m.written some)),
+)
+
+-- through an event that brings no bytes
+pub placed-left : (device : DeviceSeen) (mixed : ℕ) (event : Event) (old new : Book) (runs : List Run) → IsDevice device → BookIsSafe (rate_at device old) old → SlotIsValid device mixed old runs
+    → KeepsGiven (rate_at device old) (drops event) old new → IsUntold device mixed old new runs → SlotIsPlaced device mixed old runs → SlotIsPlaced device mixed new (marking mixed event old new runs)
+placed-left device mixed event old new runs d safe v k u p =
+    placed-marking device mixed event old new old.written runs d v.settings safe (record {
+      idle = λ none. not_true (is_started old.state) (λ e. let some = v.started e in omega arith);
+      started = u.started;
+      plays = λ some. (u.goes_on some).plays;
+      written = k.written;
+      given = k.given;
+      newest = λ none some. v.newest some;
+      whole = k.whole;
+    }) p
+
+-- ---- a write
+
+-- a run that its book counts with more bytes
+counted_more : (mixed : ℕ) (book : Book) (run : Run) (more : List ℕ) → IsCounted mixed book run → IsCounted mixed book (record run { bytes = run.bytes ++ more })
+counted_more mixed book run more c = record {
+  dropped = c.dropped;
+  waits = λ e. let w = c.waits e in record { start = w.start; pieces = w.pieces };
+  goes = λ e. let g = c.goes e in record { start = g.start; started = g.started; follow = g.follow };
+}
+
+-- a run that begins
+counted_begun : (mixed : ℕ) (book : Book) (bytes : List ℕ) → is_started book.state ≡ false → IsCounted mixed book (begun_run book bytes)
+counted_begun mixed book bytes idle = record {
+  dropped = refl;
+  waits = λ e. record { start = refl; pieces = refl };
+  goes = λ e. absurd (let not_so : true ≡ false = sym e ∙ idle in cc);
+}
+
+placed_taking_at : (b : Bool) (device : DeviceSeen) (mixed byte : ℕ) (bytes : List ℕ) (old : Book) (written : ℕ) (run : Run) (runs : List Run) → eqb old.written 0 ≡ b → 0 < written → (old.written ≡ 0 → is_started old.state ≡ false)
+    → SlotIsPlaced device mixed old (run ∷ runs)
+    → ArePlaced device mixed old written (cond b (begun_run old (byte ∷ bytes) ∷ run ∷ runs) (record run { bytes = run.bytes ++ byte ∷ bytes } ∷ runs))
+placed_taking_at true device mixed byte bytes old written run runs e some idle p =
+    let none : old.written ≡ 0 = grind (arith, nat_tests) in
+    (All-cons (IsOver device mixed) run runs (p.1 none) p.0, λ h. absurd (omega arith), λ h. counted_begun mixed old (byte ∷ bytes) (idle none))
+placed_taking_at false device mixed byte bytes old written run runs e some idle p =
+    let above : 0 < old.written = grind (arith, nat_tests) in
+    (p.0, λ h. absurd (omega arith), λ h. counted_more mixed old run (byte ∷ bytes) (p.2 above))
+
+-- the pieces of a slot stand where they did once more bytes came
+placed_taking : (device : DeviceSeen) (mixed : ℕ) (bytes : List ℕ) (old new : Book) (runs : List Run) → Accepts (length bytes) old new → (old.written ≡ 0 → is_started old.state ≡ false) → (0 < old.written → IsNewest old runs)
+    → SlotIsPlaced device mixed old runs → ArePlaced device mixed old new.written (taking bytes old runs)
+placed_taking device mixed [] old new [] a idle newest p = p
+placed_taking device mixed [] old new (run ∷ runs) a idle newest p = let w = a.written in (p.0, λ h. p.1 (omega arith), λ h. p.2 (omega arith))
+placed_taking device mixed (byte ∷ bytes) old new [] a idle newest p =
+    let w = a.written in
+    (All-nil (IsOver device mixed), λ h. absurd (omega arith), λ h. counted_begun mixed old (byte ∷ bytes) (idle (none_above old.written newest)))
+placed_taking device mixed (byte ∷ bytes) old new (run ∷ runs) a idle newest p =
+    let w = a.written in
+    placed_taking_at (eqb old.written 0) device mixed byte bytes old new.written run runs refl (omega arith) idle p
+
+-- through a write
+pub placed-taken : (device : DeviceSeen) (mixed : ℕ) (event : Event) (bytes : List ℕ) (old new : Book) (runs : List Run) → IsDevice device → BookIsSafe (rate_at device old) old → SlotIsValid device mixed old runs
+    → Accepts (length bytes) old new → SlotIsPlaced device mixed old runs → SlotIsPlaced device mixed new (marking mixed event old new (taking bytes old runs))
+placed-taken device mixed event bytes old new runs d safe v a p =
+    let idle : old.written ≡ 0 → is_started old.state ≡ false = λ none. not_true (is_started old.state) (λ e. let some = v.started e in omega arith) in
+    let w = a.written in
+    placed-marking device mixed event old new new.written (taking bytes old runs) d v.settings safe (record {
+      idle = λ none. idle (omega arith);
+      started = a.started v.started;
+      plays = λ some. a.goes_on.plays;
+      written = λ some. some;
+      given = λ some. (let most = a.given in let least = a.given_same in omega arith);
+      newest = λ none some. absurd (omega arith);
+      whole = λ e stopped keeps. absurd (let not_so : true ≡ false = sym (a.goes_on.plays e) ∙ stopped in cc);
+    }) (placed_taking device mixed bytes old new runs a idle v.newest p)

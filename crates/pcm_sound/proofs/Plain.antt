@@ -1,0 +1,145 @@
+-- The device's bytes without a shortage: what the runs are from their starts to their ends.
+use Rattle.std.proofs.Common.{◌≡◌, ℕ, ◌+◌, ◌-◌, ◌*◌, ◌<◌, ◌≤◌, List, [], ◌∷◌, ◌++◌, length, map, take, replicate, min, Option, Some, None, inl, inr, refl, sym, ap, ◌∙◌, arith, All, length-append, length-take}
+use Rattle.std.specs.Prelude.{◌≢◌, option_map}
+use Rattle.std.specs.List.{range_with_len}
+use Rattle.std.proofs.Math.Nat.{mul-le-mul_right}
+use Rattle.std.proofs.lemmas.Bool.{cases_lt}
+use Rattle.std.proofs.lemmas.List.{length-map, length-replicate, take-append-le, take-take, take_all}
+use Rattle.std.proofs.lemmas.List.Elements.{All-weaker}
+use Rattle.std.proofs.lemmas.List.FromFn.{length-range_with_len}
+use Rattle.pcm_oss.specs.declared.event.Event.{Event}
+use Rattle.pcm_wave.specs.declared.pool.Pool.{Pool}
+use Rattle.pcm_format.specs.Frames.{Frame, spelled_frames}
+use Rattle.pcm_feeder.specs.declared.stage.Gain.{Gain}
+use Rattle.pcm_desk.specs.Device.{DeviceSeen, IsDevice, device_frame_bytes, device_settings, mix_settings, ring_frames}
+use Rattle.pcm_desk.specs.Desk.{book_at}
+use Rattle.pcm_desk.specs.Events.{Fits}
+use Rattle.pcm_sound.specs.Gains.{last_gain}
+use Rattle.pcm_sound.specs.Runs.{Run, sounding}
+use Rattle.pcm_sound.specs.Story.{Story, story_of}
+use Rattle.pcm_sound.specs.Mix.{Table}
+use Rattle.pcm_sound.specs.DeviceList.{device_body, device_body_of, device_bytes, device_frame, device_list, mix_at, silence_in, table_of}
+use Rattle.pcm_sound.specs.Plain.{AgreeInCommon, HasNoShortage, IsInPlace, IsUnbroken, SoundAlike, Span, plain_table, span_at, span_frame, spans_of}
+use Rattle.pcm_sound.specs.Valid.{StoryIsValid}
+use Rattle.pcm_sound.proofs.Stories.{valid-story}
+use Rattle.pcm_sound.proofs.DeviceLists.{IsDeviceFrame, device_body-bytes, device_list-frames, device_list-more, device_list-same, length-device_bytes, spelled_frames-take, table-frames}
+use Rattle.pcm_sound.proofs.Heard.{RunIsHeard, heard-in_place, runs-heard, sounding-spans, spans-earlier}
+
+-- ---- one story
+
+-- each run of a valid story is heard from its start to its end, unless a piece is short
+story_heard : (device : DeviceSeen) (story : Story) (slot : ℕ) → StoryIsValid device story → All (RunIsHeard device story.desk.mixed) (story.runs slot)
+story_heard device story slot v = runs-heard device story.desk.mixed (book_at device story.desk slot) (story.runs slot) v.limits (v.safe slot) (v.slots slot) (v.placed slot)
+
+-- and stands in its place
+pub story-in_place : (device : DeviceSeen) (story : Story) (slot : ℕ) → StoryIsValid device story → All (λ (run : Run). IsUnbroken run → IsInPlace device story.desk.mixed run) (story.runs slot)
+story-in_place device story slot v =
+    All-weaker (RunIsHeard device story.desk.mixed) (λ (run : Run). IsUnbroken run → IsInPlace device story.desk.mixed run) (λ run h. heard-in_place device story.desk.mixed run h) (story.runs slot) (story_heard device story slot v)
+
+-- what the runs of a story without a shortage give is told by their starts and ends
+pub table_of-plain : (device : DeviceSeen) (story : Story) (slot position : ℕ) → StoryIsValid device story → HasNoShortage story → table_of device story slot position ≡ plain_table device story slot position
+table_of-plain device story slot position v unbroken =
+    sounding-spans device (last_gain (story.gains slot) position) story.desk.mixed position (story.runs slot) (story_heard device story slot v) (unbroken slot)
+
+-- and so are the bytes that were handed over
+pub plain-body : (device : DeviceSeen) (story : Story) → StoryIsValid device story → HasNoShortage story → device_body device story ≡ device_body_of device (plain_table device story) story.desk.handed
+plain-body device story v unbroken =
+    ap (λ (list : List Frame). spelled_frames (device_settings device).format (take story.desk.handed list))
+    (device_list-same device (table_of device story) (plain_table device story) story.desk.handed (λ slot position l. table_of-plain device story slot position v unbroken))
+
+-- ---- two stories that sound alike
+
+-- a span is heard alike at equal gains
+same_gain : (device : DeviceSeen) (one other : Gain) (position : ℕ) (found : Option Span) → (found ≢ None → one ≡ other)
+    → option_map (span_frame device one position) found ≡ option_map (span_frame device other position) found
+same_gain device one other position None same = refl
+same_gain device one other position (Some span) same = ap (λ (gain : Gain). Some (span_frame device gain position span)) (same (λ e. cc))
+
+-- they give the same before the position until which they sound alike
+alike_tables : (device : DeviceSeen) (until : ℕ) (one other : Story) → until ≤ one.desk.mixed → until ≤ other.desk.mixed → StoryIsValid device one → StoryIsValid device other → HasNoShortage one → HasNoShortage other
+    → SoundAlike device until one other → (slot position : ℕ) → position < until → table_of device one slot position ≡ table_of device other slot position
+alike_tables device until one other first second v w unbroken whole alike slot position h =
+    let gain : Gain = last_gain (one.gains slot) position in
+    let same : Gain = last_gain (other.gains slot) position in
+    table_of-plain device one slot position v unbroken
+    ∙ spans-earlier device gain until one.desk.mixed position (one.runs slot) h first
+    ∙ same_gain device gain same position (span_at (spans_of device until (one.runs slot)) position) (alike.gains slot position)
+    ∙ ap (λ (spans : List Span). option_map (span_frame device same position) (span_at spans position)) (alike.spans slot)
+    ∙ sym (spans-earlier device same until other.desk.mixed position (other.runs slot) h second)
+    ∙ sym (table_of-plain device other slot position w whole)
+
+length-device_list : (device : DeviceSeen) (table : Table) (count : ℕ) → length (device_list device table count) ≡ ring_frames device + count
+length-device_list device table count =
+    let ring = length-replicate (ring_frames device) (silence_in (mix_settings device)) in
+    let frames : length (map (device_frame device (mix_at device table)) (range_with_len 0 count)) ≡ count = length-map (range_with_len 0 count) (device_frame device (mix_at device table)) ∙ length-range_with_len 0 count in
+    length-append (replicate (ring_frames device) (silence_in (mix_settings device))) (map (device_frame device (mix_at device table)) (range_with_len 0 count)) ∙ omega arith
+
+-- the front of the device's frames is there once as many were handed over
+list_front : (device : DeviceSeen) (table : Table) (until count : ℕ) → until ≤ count → take until (device_list device table count) ≡ take until (device_list device table until)
+list_front device table until count h =
+    let split : count ≡ until + (count - until) = omega arith in
+    ap (λ k. take until (device_list device table k)) split
+    ∙ ap (take until) (device_list-more device table until (count - until))
+    ∙ take-append-le until (device_list device table until) (map (device_frame device (mix_at device table)) (range_with_len until (count - until))) (omega (arith, length-device_list device table until))
+
+take_both : {X : Type 0} (a b : ℕ) (xs : List X) → take b (take a xs) ≡ take (min a b) xs
+take_both a b xs =
+    elim (cases_lt a b) [
+      | inl less ↦ take_all b (take a xs) (omega (arith, length-take a xs)) ∙ ap (λ n. take n xs) (let least : a ≡ min a b = omega arith in least)
+      | inr most ↦ take-take b a xs most ∙ ap (λ n. take n xs) (let least : b ≡ min a b = omega arith in least)
+    ]
+
+min_times : (a b size : ℕ) → min (a * size) (b * size) ≡ min a b * size
+min_times a b size =
+    elim (cases_lt a b) [
+      | inl less ↦ (
+          let least : min a b ≡ a = omega arith in
+          let more = mul-le-mul_right {m = a} {n = b} size (omega arith) in
+          rw least (omega arith))
+      | inr most ↦ (
+          let least : min a b ≡ b = omega arith in
+          let more = mul-le-mul_right {m = b} {n = a} size most in
+          rw least (omega arith))
+    ]
+
+-- the front of what was handed over, of so many frames
+body_front : (device : DeviceSeen) (story : Story) (count : ℕ) → StoryIsValid device story
+    → take (count * device_frame_bytes device) (device_body device story)
+    ≡ spelled_frames (device_settings device).format (take (min story.desk.handed count) (device_list device (table_of device story) story.desk.handed))
+body_front device story count v =
+    let size : ℕ = device_frame_bytes device in
+    let list : List Frame = device_list device (table_of device story) story.desk.handed in
+    ap (take (count * size)) (device_body-bytes device story v)
+    ∙ take_both (story.desk.handed * size) (count * size) (device_bytes device story)
+    ∙ ap (λ bytes. take bytes (device_bytes device story)) (min_times story.desk.handed count size)
+    ∙ sym (spelled_frames-take device (min story.desk.handed count) list (device_list-frames device (table_of device story) story.desk.handed (table-frames device story v)))
+
+-- how long it is
+pub length-device_body : (device : DeviceSeen) (story : Story) → StoryIsValid device story → length (device_body device story) ≡ story.desk.handed * device_frame_bytes device
+length-device_body device story v =
+    let size : ℕ = device_frame_bytes device in
+    let more = mul-le-mul_right {m = story.desk.handed} {n = ring_frames device + story.desk.handed} size (omega arith) in
+    ap length (device_body-bytes device story v) ∙ length-take (story.desk.handed * size) (device_bytes device story) ∙ omega (arith, length-device_bytes device story v)
+
+-- two stories that sound alike hand over equal bytes, as far as both go
+pub alike-bodies : (device : DeviceSeen) (one other : Story) → StoryIsValid device one → StoryIsValid device other → HasNoShortage one → HasNoShortage other
+    → SoundAlike device (min one.desk.mixed other.desk.mixed) one other → AgreeInCommon (device_body device one) (device_body device other)
+alike-bodies device one other v w unbroken whole alike =
+    let until : ℕ = min one.desk.mixed other.desk.mixed in
+    let spell : List Frame → List ℕ = spelled_frames (device_settings device).format in
+    let first : List Frame = device_list device (table_of device one) one.desk.handed in
+    let second : List Frame = device_list device (table_of device other) other.desk.handed in
+    let even = v.mixed in
+    let level = w.mixed in
+    let common : min one.desk.handed other.desk.handed ≡ until = omega arith in
+    let common_too : min other.desk.handed one.desk.handed ≡ until = omega arith in
+    ap (λ bytes. take bytes (device_body device one)) (length-device_body device other w)
+    ∙ body_front device one other.desk.handed v
+    ∙ ap (λ n. spell (take n first)) common
+    ∙ ap spell (list_front device (table_of device one) until one.desk.handed (omega arith))
+    ∙ ap (λ (list : List Frame). spell (take until list))
+    (device_list-same device (table_of device one) (table_of device other) until (alike_tables device until one other (omega arith) (omega arith) v w unbroken whole alike))
+    ∙ ap spell (sym (list_front device (table_of device other) until other.desk.handed (omega arith)))
+    ∙ ap (λ n. spell (take n second)) (sym common_too)
+    ∙ sym (body_front device other one.desk.handed w)
+    ∙ ap (λ bytes. take bytes (device_body device other)) (sym (length-device_body device one v))

@@ -1,0 +1,57 @@
+-- Where the pieces of a run stand: they follow each other from its start on, and a run that is over ends behind the last of them.
+use Rattle.std.specs.Prelude.{◌≡◌, ℕ, ◌+◌, ◌<◌, ◌≤◌, true, false, List, [], ◌∷◌, All, Option, Some, None}
+use Rattle.pcm_desk.specs.declared.book.Book.{Book}
+use Rattle.pcm_desk.specs.Device.{DeviceSeen}
+use Rattle.pcm_desk.specs.Books.{is_started}
+use Rattle.pcm_sound.specs.Runs.{Piece, Run}
+use Rattle.pcm_sound.specs.Plain.{IsUnbroken, run_end}
+
+-- pieces, the newest first, that follow each other from a position on without a gap: `count` frames, each as far into its stream
+-- as its position is past the first
+abbrev pub Follow : ℕ → ℕ → List Piece → Type 0
+Follow start count [] = count ≡ 0
+Follow start count (piece ∷ pieces) =
+    (piece.position ≡ start + piece.index) × (count ≡ piece.index + piece.count) × Follow start piece.index pieces
+
+-- a run that is heard from its start on, as far as its pieces go, and no further at any later position
+pub record IsPlayed (device : DeviceSeen) (mixed start : ℕ) (run : Run) : Type 0 where
+  pub count : ℕ
+  pub follow : Follow start count run.pieces
+  pub past : start + count ≤ mixed
+  pub end : (until : ℕ) → mixed ≤ until → run_end device until start run ≡ start + count
+
+-- a run that is over, by where it started
+abbrev pub IsOverFrom : DeviceSeen → ℕ → Run → Option ℕ → Type 0
+IsOverFrom device mixed run None = run.pieces ≡ []
+IsOverFrom device mixed run (Some start) = IsUnbroken run → IsPlayed device mixed start run
+
+-- a run that is over: nothing is heard of it if it never started, else its pieces as long as none is short
+abbrev pub IsOver : DeviceSeen → ℕ → Run → Type 0
+IsOver device mixed run = IsOverFrom device mixed run run.start
+
+-- a run whose book hasn't started
+pub record IsWaiting (run : Run) : Type 0 where
+  pub start : run.start ≡ None
+  pub pieces : run.pieces ≡ []
+
+-- a run whose book has: its pieces have all that the book gave, and reach to what is mixed next
+pub record IsGoing (mixed : ℕ) (book : Book) (run : Run) : Type 0 where
+  pub start : ℕ
+  pub started : run.start ≡ Some start
+  pub follow : IsUnbroken run → Follow start book.given run.pieces × (start + book.given ≡ mixed)
+
+-- a run that its book counts
+pub record IsCounted (mixed : ℕ) (book : Book) (run : Run) : Type 0 where
+  pub dropped : run.dropped ≡ None
+  pub waits : is_started book.state ≡ false → IsWaiting run
+  pub goes : is_started book.state ≡ true → IsGoing mixed book run
+
+-- the runs of a slot, of which the book counts the newest if so many bytes were written; the others are over
+abbrev pub ArePlaced : DeviceSeen → ℕ → Book → ℕ → List Run → Type 0
+ArePlaced device mixed book written [] = Unit {0}
+ArePlaced device mixed book written (run ∷ runs) =
+    All (IsOver device mixed) runs × (written ≡ 0 → IsOver device mixed run) × (0 < written → IsCounted mixed book run)
+
+-- where the runs of a slot stand, before a position
+abbrev pub SlotIsPlaced : DeviceSeen → ℕ → Book → List Run → Type 0
+SlotIsPlaced device mixed book runs = ArePlaced device mixed book book.written runs
