@@ -54,6 +54,7 @@ impl<B: Feeder> EngineOf<B> {
     ghost use Rattle.pcm_sound.specs.Story.{story_of};
     ghost use Rattle.pcm_sound.specs.Replies.{reply_to};
     ghost use Rattle.pcm_sound.specs.DeviceList.{device_text};
+    ghost use Rattle.pcm_sound.specs.Plain.{HasNoShortage, plain_text};
     ghost use Rattle.pcm_feeder.specs.Racks.{AreRacks, list_of};
     ghost use Rattle.pcm_vchan.specs.Slots.{AllRecord, AllStand};
     ghost use Rattle.pcm_vchan.specs.Parents.{parent_books};
@@ -114,6 +115,11 @@ impl<B: Feeder> EngineOf<B> {
             (story_of (device_of self.old) pool.now events) event.now }
         ensures bytes { (events : List Event) → Stands B.kept self.old pool.now events
             → device_text (device_of self.old) pool.now (events ++ event.now ∷ [])
+            ≡ device_text (device_of self.old) pool.now events ++ take result out.new }
+        // Without a shortage they are those of the runs from their starts to their ends: no count has a part in them.
+        ensures plain { (events : List Event) → Stands B.kept self.old pool.now events
+            → HasNoShortage (story_of (device_of self.old) pool.now (events ++ event.now ∷ []))
+            → plain_text (device_of self.old) pool.now (events ++ event.now ∷ [])
             ≡ device_text (device_of self.old) pool.now events ++ take result out.new }
 
         // The counts of every book are in order, and no ring holds more than its size.

@@ -2,6 +2,7 @@ use Rattle.std.proofs.Common.{◌≡◌, All, ℕ, List, [], ◌∷◌, ◌++◌
 use Rattle.pcm_desk.specs.declared.device.Device.{Device}
 use Rattle.pcm_desk.specs.Device.{DeviceSeen, seen}
 use Rattle.pcm_feeder.specs.Filters.{Filters}
+use Rattle.pcm_oss.specs.declared.event.Event.{Event}
 use Rattle.pcm_play.specs.Channels.{IsReady}
 use Rattle.pcm_record.specs.Channels.{IsRecordReady}
 use Rattle.pcm_sound.specs.Replies.{bytes_to}
@@ -12,6 +13,8 @@ use Rattle.pcm_desk.specs.Safe.{BookIsSafe}
 use Rattle.pcm_desk.specs.RecordSafe.{RecordIsSafe}
 use Rattle.pcm_sound.specs.Story.{story_of, story_at_start}
 use Rattle.pcm_sound.specs.DeviceList.{device_body}
+use Rattle.pcm_sound.specs.Valid.{StoryIsValid}
+use Rattle.pcm_sound.proofs.Plain.{plain-body}
 use Rattle.pcm_sound.proofs.Stories.{told_all-push}
 use Rattle.pcm_engine.specs.Stands.{PartsStand, RecordersStand, bytes_kept, frames_captured}
 use Rattle.pcm_engine.specs.Steps.{bytes_answered, bytes_brought}
@@ -90,6 +93,17 @@ returns-clause-bytes g c = λ events s.
     ∙ body-told g.B.Feeder.kept device pool story event (desk_of old) old.parent.channels.items old.parent.ring.bytes c.requires.fits s.playing
     ∙ ap (λ (n : ℕ). device_body device story ++ take n old.parent.ring.bytes) (sym c.apply.ensures.count)
     ∙ ap (λ (bytes : List ℕ). device_body device story ++ bytes) (sym c.apply.ensures.out)
+
+pub returns-clause-plain : goal.returns-clause-plain
+returns-clause-plain g c = λ events s unbroken.
+    let old = c.args.self.now in
+    let device = device_of old in
+    let pool = c.args.pool.now in
+    let longer : List Event = events ++ c.args.event.now ∷ [] in
+    let stood = returns-clause-stands g c events s in
+    let same : device_of c.apply.new.self ≡ device = ap (λ (d : Device). seen c.apply.new.self.tables d) c.apply.ensures.device ∙ ap (λ (t : Filters). seen t old.parent.device) c.apply.ensures.tables in
+    let valid : StoryIsValid device (story_of device pool longer) = subst (λ (d : DeviceSeen). StoryIsValid d (story_of d pool longer)) same stood.playing.valid in
+    sym (plain-body device (story_of device pool longer) valid unbroken) ∙ returns-clause-bytes g c events s
 
 pub returns-clause-safe : goal.returns-clause-safe
 returns-clause-safe g c = λ events s slot.
