@@ -12,6 +12,7 @@ use Rattle.pcm_desk.specs.Device.{DeviceSeen, no_filters}
 use Rattle.pcm_desk.specs.Events.{after_all}
 use Rattle.pcm_desk.specs.Usual.{usual_settings}
 use Rattle.pcm_sound.specs.DeviceList.{device_text}
+use Rattle.pcm_sound.specs.Plain.{Span, plain_text, spans_of}
 use Rattle.pcm_sound.specs.Runs.{Piece}
 use Rattle.pcm_sound.specs.Story.{Story, story_of}
 use Rattle.pcm_sound.specs.Gains.{GainSet}
@@ -69,6 +70,10 @@ status_for (Err fault) = status_of fault
 abbrev pub played : DeviceSeen → Script → List ℕ
 played device script = device_text device (pool_of [] script) script.events
 
+-- the bytes that a script makes where each of its runs is heard from its start to its end
+abbrev pub plainly_played : DeviceSeen → Script → List ℕ
+plainly_played device script = plain_text device (pool_of [] script) script.events
+
 -- the lines that a script prints
 abbrev pub printed : DeviceSeen → Script → List ℕ
 printed device script = transcript device (pool_of [] script) script.events
@@ -76,6 +81,10 @@ printed device script = transcript device (pool_of [] script) script.events
 -- what a script comes to
 abbrev pub story_after : DeviceSeen → Script → Story
 story_after device script = story_of device (pool_of [] script) script.events
+
+-- the runs of a script's first client, as they are heard until a position
+abbrev pub spans_after : DeviceSeen → Script → ℕ → List Span
+spans_after device script until = spans_of device until ((story_after device script).runs 0)
 
 -- so many frames of a run from an index on, mixed from a position on, with so many missing
 abbrev pub piece : ℕ → ℕ → ℕ → ℕ → Piece

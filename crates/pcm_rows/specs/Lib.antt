@@ -12,6 +12,7 @@ pub mod Requests
 pub mod RequestTable
 pub mod Stages
 pub mod PlanRows
+pub mod PlainRows
 pub mod FilterRows
 pub mod RecordingRows
 pub mod Waves

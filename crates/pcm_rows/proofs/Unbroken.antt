@@ -1,0 +1,73 @@
+-- Runs without a shortage, and scripts that sound alike: slot by slot, since nothing is ever heard of those behind the first.
+use Rattle.std.proofs.Common.{◌≡◌, ℕ, zero, suc, Bool, false, cond, [], ◌∷◌, Some, None, All, refl, ap, arith}
+use Rattle.std.specs.Prelude.{◌≢◌}
+use Rattle.std.proofs.lemmas.Bool.Decides.{nat_tests}
+use Rattle.std.proofs.lemmas.List.Elements.{All-from_recursion, All-nil}
+use Rattle.pcm_sound.specs.Gains.{last_gain}
+use Rattle.pcm_sound.specs.Plain.{HasNoShortage, IsUnbroken, SoundAlike, Span, is_within, span_at, spans_of}
+use Rattle.pcm_sound.specs.Runs.{Piece}
+use Rattle.pcm_sound.specs.Story.{Story}
+use Rattle.pcm_rows.specs.Calls.{piece, small_device, story_after}
+use Rattle.pcm_rows.specs.PlainRows.{behind_script, brief_script, four_frames, span, usual_plan, whole_script}
+
+abbrev whole : Story
+whole = story_after small_device whole_script
+
+abbrev brief : Story
+brief = story_after small_device brief_script
+
+abbrev behind : Story
+behind = story_after small_device behind_script
+
+-- what holds of the first four numbers, and of every number behind them
+by_four : (P : ℕ → Type 0) → P 0 → P 1 → P 2 → P 3 → ((n : ℕ) → P (suc (suc (suc (suc n))))) → (n : ℕ) → P n
+by_four P a b c d more zero = a
+by_four P a b c d more (suc zero) = b
+by_four P a b c d more (suc (suc zero)) = c
+by_four P a b c d more (suc (suc (suc zero))) = d
+by_four P a b c d more (suc (suc (suc (suc n)))) = more n
+
+-- ---- no piece is short
+
+abbrev IsFull : Piece → Type 0
+IsFull piece = piece.short ≡ 0
+
+pub whole-unbroken : HasNoShortage whole
+whole-unbroken = by_four (λ slot. All IsUnbroken (whole.runs slot))
+    (All-from_recursion IsUnbroken (whole.runs 0) (All-from_recursion IsFull (piece 0 0 4 0 ∷ []) (refl, tt), tt))
+    (All-nil IsUnbroken) (All-nil IsUnbroken) (All-nil IsUnbroken) (λ slot. All-nil IsUnbroken)
+
+pub brief-unbroken : HasNoShortage brief
+brief-unbroken = by_four (λ slot. All IsUnbroken (brief.runs slot))
+    (All-from_recursion IsUnbroken (brief.runs 0) (All-from_recursion IsFull (piece 3 3 1 0 ∷ piece 1 1 2 0 ∷ piece 0 0 1 0 ∷ []) (refl, (refl, (refl, tt))), tt))
+    (All-nil IsUnbroken) (All-nil IsUnbroken) (All-nil IsUnbroken) (λ slot. All-nil IsUnbroken)
+
+-- ---- the same is heard
+
+pub brief-alike : SoundAlike small_device 6 whole brief
+brief-alike = record {
+  spans = by_four (λ slot. spans_of small_device 6 (whole.runs slot) ≡ spans_of small_device 6 (brief.runs slot)) refl refl refl refl (λ slot. refl);
+  gains = λ slot position heard. by_four (λ other. last_gain (whole.gains other) position ≡ last_gain (brief.gains other) position) refl refl refl refl (λ other. refl) slot;
+}
+
+-- its only span
+abbrev only_span : Span
+only_span = span usual_plan four_frames 0 4
+
+past_the_end : (n : ℕ) → span_at (only_span ∷ []) (suc (suc (suc (suc n)))) ≡ None
+past_the_end n =
+    let past : is_within (suc (suc (suc (suc n)))) only_span ≡ false = grind (arith, nat_tests) in
+    ap (λ (within : Bool). cond within (Some only_span) None) past
+
+-- where the first slot is heard, the volumes are equal: they differ from position 4 on, and there its run is over
+behind_first : (position : ℕ) → span_at (spans_of small_device 6 (whole.runs 0)) position ≢ None → last_gain (whole.gains 0) position ≡ last_gain (behind.gains 0) position
+behind_first = by_four (λ position. span_at (spans_of small_device 6 (whole.runs 0)) position ≢ None → last_gain (whole.gains 0) position ≡ last_gain (behind.gains 0) position)
+    (λ heard. refl) (λ heard. refl) (λ heard. refl) (λ heard. refl) (λ n heard. absurd (heard (past_the_end n)))
+
+pub behind-alike : SoundAlike small_device 6 whole behind
+behind-alike = record {
+  spans = by_four (λ slot. spans_of small_device 6 (whole.runs slot) ≡ spans_of small_device 6 (behind.runs slot)) refl refl refl refl (λ slot. refl);
+  gains = λ slot position heard.
+      by_four (λ other. span_at (spans_of small_device 6 (whole.runs other)) position ≢ None → last_gain (whole.gains other) position ≡ last_gain (behind.gains other) position)
+      (behind_first position) (λ not. refl) (λ not. refl) (λ not. refl) (λ other not. refl) slot heard;
+}
