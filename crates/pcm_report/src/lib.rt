@@ -1,4 +1,4 @@
-//! The lines that tell what events were answered.
+//! The lines that tell what events were answered, and the texts and numbers that lines are made of.
 //! A line is written into bytes that the caller has, and takes no memory.
 #![tactic(auto)]
 
@@ -6,3 +6,4 @@ mod line;
 mod texts;
 
 pub use line::{LINE_BYTES, write_line};
+pub use texts::{DIGITS, put_number, put_text};

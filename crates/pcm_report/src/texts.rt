@@ -6,11 +6,11 @@ ghost use Rattle.hex.specs.Hex.{encode_lower};
 ghost use Rattle.pcm_report.specs.Lines.{bytes_text, field};
 ghost use Rattle.pcm_report.specs.Texts.{IsPut};
 
-// How many digits a number has at most.
-const DIGITS: usize = 20;
+/// How many digits a number has at most.
+pub const DIGITS: usize = 20;
 
-// Puts a text at a place. Answers the place behind it.
-pub(crate) fn put_text(out: &mut [u8], at: usize, text: &str) -> usize
+/// Puts a text at a place. Answers the place behind it.
+pub fn put_text(out: &mut [u8], at: usize, text: &str) -> usize
     requires room { at + length text.now ≤ length out.old }
     ensures put { IsPut text.now at result out.old out.new }
     ensures end { result ≡ at + length text.now }
@@ -20,8 +20,8 @@ pub(crate) fn put_text(out: &mut [u8], at: usize, text: &str) -> usize
     end
 }
 
-// Puts a number, in decimal.
-pub(crate) fn put_number(out: &mut [u8], at: usize, number: u64) -> usize
+/// Puts a number at a place, in decimal. Answers the place behind it.
+pub fn put_number(out: &mut [u8], at: usize, number: u64) -> usize
     requires room { at + DIGITS ≤ length out.old }
     ensures put { IsPut (decimal number) at result out.old out.new }
     ensures within { result ≤ at + DIGITS }
