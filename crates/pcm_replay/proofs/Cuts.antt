@@ -2,12 +2,15 @@
 use Rattle.std.proofs.Common.{◌≡◌, ℕ, ◌++◌, List, [], Option, Some, None, append_assoc, append-nil, refl, sym, ◌∙◌, ap, subst, arith}
 use Rattle.pcm_outside.specs.Counts.{Rose}
 use Rattle.pcm_outside.specs.Files.{FilesSeen, Appends, Creates, FailsToAppend, FailsToCreate, Grows, IsLeft, OnlyAppends, OnlyReads, OnlyWrites}
-use Rattle.pcm_outside.specs.Sink.{SinkSeen, FailsToPut, Puts}
+use Rattle.pcm_outside.specs.Sink.{SinkSeen, FailsToPut, Puts, PutsMore}
 use Rattle.pcm_replay.specs.Outside.{Outside}
 use Rattle.pcm_replay.proofs.Parts.{reads-later}
-use Rattle.pcm_verdict.specs.Outputs.{Output, Written}
+use Rattle.pcm_verdict.specs.Outputs.{Output, Written, header_in, output_of}
+use Rattle.pcm_verdict.specs.Verdict.{Accepted, Runs, Checks, Converts, Soaks}
+use Rattle.pcm_replay.specs.Cuts.{CutsCall, CutsRun, RunAtCreate, RunInBytes, RunInHeader, RunInLine}
+use Rattle.pcm_replay.specs.Playback.{Playback, bytes_until, lines_until, playback_of}
 use Rattle.pcm_replay.specs.Reads.{OnlyHasRead}
-use Rattle.pcm_replay.specs.Written.{AtAppend, AtCreate, AtPut, CutsOutput, HasWritten, WritesAll, WritesFile}
+use Rattle.pcm_replay.specs.Written.{AtAppend, AtCreate, AtPut, CutAtAppend, CutAtCreate, CutsOutput, HasWritten, WritesAll, WritesFile}
 
 -- a file that was created, and that a piece was appended to
 pub has_written : (name piece : List ℕ) (old made new : FilesSeen) → OnlyWrites old made → Creates old made name → Grows made new piece → HasWritten name piece old new
@@ -105,22 +108,59 @@ written-later output before between after only run = record {
   put = subst (λ (sink : SinkSeen). Puts sink after.sink output.lines) only.sink run.put;
 }
 
-pub cut-later : (output : Output) (before between after : Outside) → OnlyHasRead before between → CutsOutput output between after → CutsOutput output before after
-cut-later output before between after only (AtCreate file is cut) = AtCreate file is (record {
-  file = fails_to_create_later file.name before.files between.files after.files only.files cut.file;
-  sink = cut.sink ∙ only.sink;
-})
-cut-later output before between after only (AtAppend file is cut) = AtAppend file is (record {
+create_later : (file : Written) (before between after : Outside) → OnlyHasRead before between → CutAtCreate file between after → CutAtCreate file before after
+create_later file before between after only cut =
+    record { file = fails_to_create_later file.name before.files between.files after.files only.files cut.file; sink = cut.sink ∙ only.sink }
+
+append_later : (file : Written) (before between after : Outside) → OnlyHasRead before between → CutAtAppend file between after → CutAtAppend file before after
+append_later file before between after only cut = record {
   rose = rose_later _ _ _ only.files.write_faults cut.rose;
   part = cut.part;
   front = cut.front;
   file = has_written_later file.name cut.part before.files between.files after.files only.files cut.file;
   sink = cut.sink ∙ only.sink;
-})
-cut-later output before between after only (AtPut cut) = AtPut (record {
+}
+
+cut_output-later : (output : Output) (before between after : Outside) → OnlyHasRead before between → CutsOutput output between after → CutsOutput output before after
+cut_output-later output before between after only (AtCreate file is cut) = AtCreate file is (create_later file before between after only cut)
+cut_output-later output before between after only (AtAppend file is cut) = AtAppend file is (append_later file before between after only cut)
+cut_output-later output before between after only (AtPut cut) = AtPut (record {
   written = writes_file_later output.file before between after.files only cut.written;
   put = subst (λ (sink : SinkSeen). FailsToPut sink after.sink output.lines) only.sink cut.put;
 })
+
+cut_run-later : (name head : List ℕ) (playback : Playback) (before between after : Outside) → OnlyHasRead before between → CutsRun name head playback between after → CutsRun name head playback before after
+cut_run-later name head playback before between after only (RunAtCreate cut) = RunAtCreate (create_later (record { name = name; bytes = head }) before between after only cut)
+cut_run-later name head playback before between after only (RunInHeader cut) = RunInHeader (append_later (record { name = name; bytes = head }) before between after only cut)
+cut_run-later name head playback before between after only (RunInBytes cut) = RunInBytes (record {
+  rose = rose_later _ _ _ only.files.write_faults cut.rose;
+  done = cut.done;
+  bytes = cut.bytes;
+  line = cut.line;
+  next = cut.next;
+  part = cut.part;
+  front = cut.front;
+  file = has_written_later name (head ++ (bytes_until playback cut.done ++ cut.part)) before.files between.files after.files only.files cut.file;
+  put = subst (λ (sink : SinkSeen). Puts sink after.sink (lines_until playback cut.done)) only.sink cut.put;
+})
+cut_run-later name head playback before between after only (RunInLine cut) = RunInLine (record {
+  rose = subst (λ (sink : SinkSeen). Rose sink.faults after.sink.faults) only.sink cut.rose;
+  done = cut.done;
+  bytes = cut.bytes;
+  line = cut.line;
+  next = cut.next;
+  part = cut.part;
+  front = cut.front;
+  written = writes_file_later (Some (record { name = name; bytes = head ++ (bytes_until playback cut.done ++ cut.bytes) })) before between after.files only cut.written;
+  put = subst (λ (sink : SinkSeen). PutsMore sink after.sink (lines_until playback cut.done ++ cut.part)) only.sink cut.put;
+})
+
+-- where a call was cut short that was accepted
+pub cut-later : (accepted : Accepted) (before between after : Outside) → OnlyHasRead before between → CutsCall accepted between after → CutsCall accepted before after
+cut-later (Runs out inputs) before between after only cut = cut_run-later out (header_in inputs) (playback_of inputs) before between after only cut
+cut-later (Checks inputs) before between after only cut = cut_output-later (output_of (Checks inputs)) before between after only cut
+cut-later (Converts out conversion) before between after only cut = cut_output-later (output_of (Converts out conversion)) before between after only cut
+cut-later (Soaks n) before between after only cut = cut_output-later (output_of (Soaks n)) before between after only cut
 
 -- what holds of a file that is left, by other terms for its bytes and for the lines
 pub output-as : (P : Output → Type 0) (name bytes lines bytes_as lines_as : List ℕ) → bytes ≡ bytes_as → lines ≡ lines_as

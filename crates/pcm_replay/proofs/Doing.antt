@@ -7,13 +7,14 @@ use Rattle.pcm_feeder.specs.Kept.{Kept}
 use Rattle.pcm_engine.specs.declared.engine.EngineOf.{EngineOf}
 use Rattle.pcm_verdict.specs.Commands.{Command, command_of, RunScript, CheckScript, ConvertWave, SoakRun}
 use Rattle.pcm_verdict.specs.Judging.{given}
-use Rattle.pcm_verdict.specs.Outputs.{Output, output_of}
+use Rattle.pcm_verdict.specs.Outputs.{Output, Written, output_of}
 use Rattle.pcm_verdict.specs.Verdict.{Accepted, Runs, Checks, Converts, Soaks, Conversion, Inputs, if_command}
 use Rattle.pcm_replay.specs.declared.ending.Ending.{Ending}
 use Rattle.pcm_replay.specs.declared.ending.Ending.TheVariants.{Usage, CannotRead, BadConfig, BadScript, BadWave, CannotWrite, NoMemory}
 use Rattle.pcm_replay.specs.Commands.{MayRead}
 use Rattle.pcm_replay.specs.Endings.{CutsLines, CutsShort, DoesCommand, DoesWords, EndsCall, EndsCommand, HasRun, InAccepted, InLine, IsCommandCut, IsOf}
 use Rattle.pcm_replay.specs.Outcomes.{InFaultLine, InOutput, IsCut, Spells, command_part, verdict_on}
+use Rattle.pcm_replay.specs.Cuts.{CutsCall}
 use Rattle.pcm_replay.specs.Outside.{Outside, both}
 use Rattle.pcm_replay.specs.Parts.{conversion_part, inputs_part}
 use Rattle.pcm_replay.specs.Reads.{Comes, Ends, OnlyHasRead, Part}
@@ -76,7 +77,7 @@ cuts-command command accepted BadConfig before between after came only cut = abs
 cuts-command command accepted BadScript before between after came only cut = absurd cut
 cuts-command command accepted BadWave before between after came only cut = absurd cut
 cuts-command command accepted CannotWrite before between after came only cut =
-    InAccepted (record { accepted = accepted; came = came; cut = cut-later (output_of accepted) before between after only cut })
+    InAccepted (record { accepted = accepted; came = came; cut = cut-later accepted before between after only cut })
 cuts-command command accepted NoMemory before between after came only same = record {
   files = subst (λ (outside : Outside). OnlyReads before.files outside.files) (sym same) only.files;
   sink = ap (λ (outside : Outside). outside.sink) same ∙ only.sink;
@@ -105,6 +106,18 @@ writes-lines accepted lines files old new is puts = subst (λ (output : Output).
 cuts-put : (lines : List ℕ) (files : FilesSeen) (old new : SinkSeen) → FailsToPut old new lines → CutsOutput (record { file = None; lines = lines }) (both files old) (both files new)
 cuts-put lines files old new cut = AtPut (record { written = record { only = reads-nothing files; kept = record { read_faults = refl; failed = refl } }; put = cut })
 
+-- a file is to be left
+abbrev HasFile : Option Written → Type 0
+HasFile None = ⊥
+HasFile (Some written) = Unit {0}
+
+cuts-call : (accepted : Accepted) (lines : List ℕ) (files : FilesSeen) (old new : SinkSeen) → output_of accepted ≡ record { file = None; lines = lines } → FailsToPut old new lines
+    → CutsCall accepted (both files old) (both files new)
+cuts-call (Runs out inputs) lines files old new is cut = absurd (subst (λ (output : Output). HasFile output.file) is tt)
+cuts-call (Checks inputs) lines files old new is cut = subst (λ (output : Output). CutsOutput output (both files old) (both files new)) (sym is) (cuts-put lines files old new cut)
+cuts-call (Converts out conversion) lines files old new is cut = absurd (subst (λ (output : Output). HasFile output.file) is tt)
+cuts-call (Soaks n) lines files old new is cut = subst (λ (output : Output). CutsOutput output (both files old) (both files new)) (sym is) (cuts-put lines files old new cut)
+
 pub cuts-lines : (ending : Ending) (accepted : Accepted) (lines : List ℕ) (files : FilesSeen) (old new : SinkSeen) → output_of accepted ≡ record { file = None; lines = lines } → CutsLines ending lines old new
     → CutsShort ending accepted (both files old) (both files new)
 cuts-lines Usage accepted lines files old new is cut = cut
@@ -112,8 +125,7 @@ cuts-lines CannotRead accepted lines files old new is cut = cut
 cuts-lines BadConfig accepted lines files old new is cut = cut
 cuts-lines BadScript accepted lines files old new is cut = cut
 cuts-lines BadWave accepted lines files old new is cut = cut
-cuts-lines CannotWrite accepted lines files old new is cut =
-    subst (λ (output : Output). CutsOutput output (both files old) (both files new)) (sym is) (cuts-put lines files old new cut)
+cuts-lines CannotWrite accepted lines files old new is cut = cuts-call accepted lines files old new is cut
 cuts-lines NoMemory accepted lines files old new is same = ap (both files) same
 
 -- ---- the words that spell it

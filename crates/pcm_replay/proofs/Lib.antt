@@ -5,9 +5,11 @@ pub mod Judgements
 pub mod Loading
 pub mod Ordering
 pub mod Doing
+pub mod Plain
 pub mod Statuses
 pub mod Cuts
 pub mod Plays
+pub mod Turns
 pub mod Soaking
 pub mod Texts
 pub mod Blocks

@@ -1,14 +1,13 @@
 -- A run by one event more.
-use Rattle.std.proofs.Common.{◌≡◌, ℕ, Some, suc, ◌+◌, List, [], ◌∷◌, ◌++◌, ◌<◌, ◌≤◌, All, slice_index_or, length, take, refl, sym, ◌∙◌, ap, subst, vec_len, arith, append_assoc, append-nil, length-append}
+use Rattle.std.proofs.Common.{◌≡◌, ℕ, zero, suc, ◌+◌, ◌*◌, max, List, [], ◌∷◌, ◌++◌, ◌<◌, ◌≤◌, All, fold, slice_index_or, length, take, refl, sym, ◌∙◌, ap, subst, vec_len, arith, append_assoc, append-nil, length-append, length-take-le}
 use Rattle.std.proofs.Math.Nat.{mul-le-mul_right}
-use Rattle.std.proofs.lemmas.List.{take-append-le, take_all}
+use Rattle.std.proofs.lemmas.List.{take-append-le, take_all, take_more}
 use Rattle.pcm_oss.specs.declared.event.Event.{Event}
 use Rattle.pcm_oss.specs.declared.event.Event.TheVariants.{Open, Write, Read, Ioctl, Close, Intr}
 use Rattle.pcm_wave.specs.declared.pool.Pool.{Pool}
 use Rattle.pcm_oss.specs.Replies.{Reply}
 use Rattle.pcm_desk.specs.Device.{DeviceSeen, device_frame_bytes}
-use Rattle.pcm_config.specs.Configs.{device_seen}
-use Rattle.pcm_desk.specs.Events.{Fits, bytes_handed}
+use Rattle.pcm_desk.specs.Events.{Fits, bytes_handed, frames_taken}
 use Rattle.pcm_sound.specs.DeviceList.{device_text}
 use Rattle.pcm_sound.specs.Replies.{replies, reply_to}
 use Rattle.pcm_sound.specs.Story.{Story, story_at_start, story_of, told, told_all}
@@ -16,14 +15,11 @@ use Rattle.pcm_feeder.specs.declared.kind.Kind.{Kind}
 use Rattle.pcm_feeder.specs.Kept.{Kept}
 use Rattle.pcm_engine.specs.Engines.{AreReady, Stands, device_of}
 use Rattle.pcm_report.specs.Lines.{reply_line}
-use Rattle.pcm_verdict.specs.Outputs.{Output, device_file, file_header, inputs_pool, output_of, replies_printed}
 use Rattle.pcm_verdict.specs.Transcript.{lines_from, transcript}
-use Rattle.pcm_verdict.specs.Verdict.{Inputs, Runs}
 use Rattle.pcm_replay.specs.declared.replay.ReplayOf.{ReplayOf}
-use Rattle.pcm_replay.specs.Outside.{Outside}
-use Rattle.pcm_replay.specs.Playing.{HasPlayed, ring_room}
-use Rattle.pcm_replay.specs.Written.{CutsOutput, WritesAll}
-use Rattle.pcm_replay.proofs.Cuts.{output-as}
+use Rattle.pcm_replay.specs.Playback.{playback}
+use Rattle.pcm_replay.specs.Playing.{HasPlayed, greatest_taken, ring_room}
+use Rattle.pcm_replay.specs.Turns.{IsNext}
 
 pub length-push : (events : List Event) (event : Event) → length events + 1 ≡ length (events ++ event ∷ [])
 length-push events event = omega (arith, length-append events (event ∷ []))
@@ -62,8 +58,8 @@ transcript-more device pool events event =
     ∙ lines_from-more 1 (replies device pool story events) reply
     ∙ ap (λ n. lines_from 1 (replies device pool story events) ++ reply_line n reply) number
 
--- what an engine's step gave, and what was kept of it
-pub record Steps {B : Type 0} (kind : B → Kind) (kept : B → Kept) (old new : ReplayOf B) (pool : Pool) (events : List Event) (event : Event) (piece : List ℕ) (number : ℕ) (reply : Reply) : Type 0 where
+-- what an engine's step gave
+pub record Steps {B : Type 0} (kind : B → Kind) (kept : B → Kept) (old new : ReplayOf B) (pool : Pool) (events : List Event) (event : Event) (piece : List ℕ) (reply : Reply) : Type 0 where
   pub device : device_of new.engine ≡ device_of old.engine
   pub ready : AreReady kind kept new.engine
   pub stands : Stands kept old.engine pool events → Stands kept new.engine pool (events ++ event ∷ [])
@@ -72,39 +68,46 @@ pub record Steps {B : Type 0} (kind : B → Kind) (kept : B → Kept) (old new :
       → device_text (device_of old.engine) pool (events ++ event ∷ []) ≡ device_text (device_of old.engine) pool events ++ piece
   pub replied : Stands kept old.engine pool events
       → reply ≡ reply_to (device_of old.engine) (story_of (device_of old.engine) pool events) event
-  pub text : new.text.items ≡ old.text.items ++ piece
-  pub counted : number ≡ length events + 1
-  pub lines : new.lines.items ≡ old.lines.items ++ reply_line number reply
   pub room : vec_len new.block ≡ vec_len old.block
   pub line_room : vec_len new.line ≡ vec_len old.line
 
--- events were run on a device
-pub record HasPlayedOn {B : Type 0} (kind : B → Kind) (kept : B → Kept) (replay : ReplayOf B) (device : DeviceSeen) (pool : Pool) (events : List Event) : Type 0 where
-  pub played : HasPlayed kind kept replay pool events
-  pub device_is : device_of replay.engine ≡ device
-
 -- one event more was run
-pub played : {B : Type 0} (kind : B → Kind) (kept : B → Kept) (old new : ReplayOf B) (pool : Pool) (events : List Event) (event : Event) (piece : List ℕ) (number : ℕ) (reply : Reply)
-    → Steps kind kept old new pool events event piece number reply → HasPlayed kind kept old pool events → HasPlayed kind kept new pool (events ++ event ∷ [])
-played kind kept old new pool events event piece number reply s h =
-    let device : DeviceSeen = device_of old.engine in
-    let is : device ≡ device_of new.engine = sym s.device in
+pub played : {B : Type 0} (kind : B → Kind) (kept : B → Kept) (old new : ReplayOf B) (pool : Pool) (events : List Event) (at : ℕ) (other : Event) (piece : List ℕ) (reply : Reply) → at < length events
+    → Steps kind kept old new pool (take at events) (slice_index_or events at other) piece reply → HasPlayed kind kept old pool events at → HasPlayed kind kept new pool events (at + 1)
+played kind kept old new pool events at other piece reply there s h =
+    let event : Event = slice_index_or events at other in
+    let more : take (at + 1) events ≡ take at events ++ event ∷ [] = take_more events at other there in
     record {
       engine = record {
         device_is = refl;
-        stands = s.stands h.engine.stands;
-        steps = s.steps ∙ ap (λ n. n + 1) h.engine.steps ∙ length-push events event;
+        stands = subst (λ (list : List Event). Stands kept new.engine pool list) (sym more) (s.stands h.engine.stands);
+        steps = s.steps ∙ ap (λ n. n + 1) h.engine.steps ∙ length-push (take at events) event ∙ ap (λ (list : List Event). length list) (sym more);
       };
       ready = s.ready;
-      text = s.text ∙ ap (λ (text : List ℕ). text ++ piece) h.text ∙ sym (s.bytes h.engine.stands)
-          ∙ ap (λ (d : DeviceSeen). device_text d pool (events ++ event ∷ [])) is;
-      lines = s.lines ∙ ap (λ (lines : List ℕ). lines ++ reply_line number reply) h.lines
-          ∙ ap (λ n. transcript device pool events ++ reply_line n reply) s.counted
-          ∙ ap (λ (reply : Reply). transcript device pool events ++ reply_line (length events + 1) reply) (s.replied h.engine.stands)
-          ∙ sym (transcript-more device pool events event)
-          ∙ ap (λ (d : DeviceSeen). transcript d pool (events ++ event ∷ [])) is;
-      room = s.room ∙ h.room ∙ ap ring_room is;
+      room = s.room ∙ h.room ∙ ap (λ (d : DeviceSeen). greatest_taken events * device_frame_bytes d) (sym s.device);
       line_room = s.line_room ∙ h.line_room;
+    }
+
+-- what it gave
+pub next-given : {B : Type 0} (kind : B → Kind) (kept : B → Kept) (old new : ReplayOf B) (pool : Pool) (events : List Event) (at : ℕ) (other : Event) (piece bytes line : List ℕ) (reply : Reply) → at < length events
+    → Steps kind kept old new pool (take at events) (slice_index_or events at other) piece reply → bytes ≡ piece → line ≡ reply_line (at + 1) reply → HasPlayed kind kept old pool events at
+    → IsNext (playback (device_of old.engine) pool events) at bytes line
+next-given kind kept old new pool events at other piece bytes line reply there s shown is h =
+    let device : DeviceSeen = device_of old.engine in
+    let event : Event = slice_index_or events at other in
+    let first : List Event = take at events in
+    let more : take (at + 1) events ≡ first ++ event ∷ [] = take_more events at other there in
+    let within : at ≤ length events = omega (arith, there) in
+    let number : length first + 1 ≡ at + 1 = ap (λ n. n + 1) (length-take-le at events within) in
+    let said : Reply = reply_to device (story_of device pool first) event in
+    record {
+      there = there;
+      bytes_are = ap (λ (list : List Event). device_text device pool list) more ∙ s.bytes h.engine.stands
+          ∙ ap (λ (p : List ℕ). device_text device pool first ++ p) (sym shown);
+      line_is = ap (λ (list : List Event). transcript device pool list) more ∙ transcript-more device pool first event
+          ∙ ap (λ (n : ℕ). transcript device pool first ++ reply_line n said) number
+          ∙ ap (λ (r : Reply). transcript device pool first ++ reply_line (at + 1) r) (sym (s.replied h.engine.stands))
+          ∙ ap (λ (l : List ℕ). transcript device pool first ++ l) (sym is);
     }
 
 -- the front of joined lists
@@ -131,39 +134,41 @@ handed-within device pool events at count other fits there is =
     let within = handed-one device pool (slice_index_or events at other) (fits at other there) in
     subst (λ n. n ≤ ring_room device) (sym is) within
 
--- ---- what a run leaves
+-- ---- the greatest interrupt
 
--- what is kept of a run is what it is to leave
-left-played : (P : Output → Type 0) (name head text lines : List ℕ) (inputs : Inputs) (device : DeviceSeen) (events : List Event)
-    → head ≡ file_header inputs.config.container (device_seen inputs.config) inputs.script.device_frames
-    → text ≡ device_text device (inputs_pool inputs) events → lines ≡ transcript device (inputs_pool inputs) events
-    → device ≡ device_seen inputs.config → events ≡ inputs.script.events
-    → P (record { file = Some (record { name = name; bytes = head ++ text }); lines = lines }) → P (output_of (Runs name inputs))
-left-played P name head text lines inputs device events is_head is_text is_lines is_device are holds =
-    let pool : Pool = inputs_pool inputs in
-    let is : DeviceSeen = device_seen inputs.config in
-    let before : List ℕ = file_header inputs.config.container is inputs.script.device_frames in
-    let bytes : text ≡ device_text is pool inputs.script.events =
-    is_text ∙ ap (λ (d : DeviceSeen). device_text d pool events) is_device ∙ ap (λ (e : List Event). device_text is pool e) are in
-    let printed : lines ≡ transcript is pool inputs.script.events =
-    is_lines ∙ ap (λ (d : DeviceSeen). transcript d pool events) is_device ∙ ap (λ (e : List Event). transcript is pool e) are in
-    output-as P name (head ++ text) lines (device_file inputs) (replies_printed inputs)
-    (ap (λ (b : List ℕ). b ++ text) is_head ∙ ap (λ (b : List ℕ). before ++ b) bytes) printed holds
+taken-most : (most : ℕ) (events : List Event) → most ≤ fold (λ m event. max m (frames_taken event)) most events
+taken-most most [] = omega arith
+taken-most most (event ∷ events) = let rest = taken-most (max most (frames_taken event)) events in omega arith
 
-pub cut-played : (before after : Outside) (name head text lines : List ℕ) (inputs : Inputs) (device : DeviceSeen) (events : List Event)
-    → head ≡ file_header inputs.config.container (device_seen inputs.config) inputs.script.device_frames
-    → text ≡ device_text device (inputs_pool inputs) events → lines ≡ transcript device (inputs_pool inputs) events
-    → device ≡ device_seen inputs.config → events ≡ inputs.script.events
-    → CutsOutput (record { file = Some (record { name = name; bytes = head ++ text }); lines = lines }) before after
-    → CutsOutput (output_of (Runs name inputs)) before after
-cut-played before after name head text lines inputs device events is_head is_text is_lines is_device are cut =
-    left-played (λ output. CutsOutput output before after) name head text lines inputs device events is_head is_text is_lines is_device are cut
+taken-each : (most : ℕ) (events : List Event) (at : ℕ) (other : Event) → at < length events → frames_taken (slice_index_or events at other) ≤ fold (λ m event. max m (frames_taken event)) most events
+taken-each most [] at other there = absurd (omega arith)
+taken-each most (event ∷ events) zero other there = let rest = taken-most (max most (frames_taken event)) events in omega arith
+taken-each most (event ∷ events) (suc at) other there = taken-each (max most (frames_taken event)) events at other (omega arith)
 
-pub written-played : (before after : Outside) (name head text lines : List ℕ) (inputs : Inputs) (device : DeviceSeen) (events : List Event)
-    → head ≡ file_header inputs.config.container (device_seen inputs.config) inputs.script.device_frames
-    → text ≡ device_text device (inputs_pool inputs) events → lines ≡ transcript device (inputs_pool inputs) events
-    → device ≡ device_seen inputs.config → events ≡ inputs.script.events
-    → WritesAll (record { file = Some (record { name = name; bytes = head ++ text }); lines = lines }) before after
-    → WritesAll (output_of (Runs name inputs)) before after
-written-played before after name head text lines inputs device events is_head is_text is_lines is_device are written =
-    left-played (λ output. WritesAll output before after) name head text lines inputs device events is_head is_text is_lines is_device are written
+-- one event more
+pub taken-push : (most : ℕ) (events : List Event) (event : Event) → fold (λ m e. max m (frames_taken e)) most (events ++ event ∷ []) ≡ max (fold (λ m e. max m (frames_taken e)) most events) (frames_taken event)
+taken-push most [] event = refl
+taken-push most (first ∷ events) event = taken-push (max most (frames_taken first)) events event
+
+-- no event but an interrupt takes frames
+pub takes-none : (event : Event) → ((frames : ℕ) → event ≡ Intr frames → ⊥) → frames_taken event ≡ 0
+takes-none (Open fd way settings) not = refl
+takes-none (Write fd source at count) not = refl
+takes-none (Read fd count) not = refl
+takes-none (Ioctl fd request) not = refl
+takes-none (Close fd) not = refl
+takes-none (Intr frames) not = absurd (not frames refl)
+
+-- the greatest interrupt once one event more was looked at
+pub greatest-more : (events : List Event) (at most now taken : ℕ) (other : Event) → at < length events → frames_taken (slice_index_or events at other) ≡ taken → most ≡ greatest_taken (take at events)
+    → now ≡ max most taken → now ≡ greatest_taken (take (at + 1) events)
+greatest-more events at most now taken other there is so_far greatest =
+    greatest ∙ ap (λ m. max m taken) so_far ∙ ap (λ n. max (greatest_taken (take at events)) n) (sym is)
+    ∙ sym (ap greatest_taken (take_more events at other there) ∙ taken-push 0 (take at events) (slice_index_or events at other))
+
+-- no event of these hands over more than the greatest interrupt
+pub handed-among : (device : DeviceSeen) (events : List Event) (at count room : ℕ) (other : Event) → at < length events
+    → count ≡ bytes_handed device (slice_index_or events at other) → room ≡ greatest_taken events * device_frame_bytes device → count ≤ room
+handed-among device events at count room other there is all =
+    let most = mul-le-mul_right (device_frame_bytes device) (taken-each 0 events at other there) in
+    omega (arith, most, is, all)

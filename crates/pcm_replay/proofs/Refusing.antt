@@ -1,5 +1,5 @@
 -- How a part ends that is refused for a fault, whose line was to be put.
-use Rattle.std.proofs.Common.{◌≡◌, ℕ, List, Result, Ok, Err, IfErr, IsErrAnd, OnOk, refl, sym, subst}
+use Rattle.std.proofs.Common.{◌≡◌, ℕ, List, Result, Ok, Err, IfErr, IsErrAnd, OnErr, OnOk, refl, sym, subst}
 use Rattle.pcm_outside.specs.Files.{FailsToRead, OnlyReads}
 use Rattle.pcm_outside.specs.Sink.{SinkSeen}
 use Rattle.pcm_config.specs.declared.fault.ConfigRefusal.{ConfigRefusal}
@@ -61,3 +61,7 @@ tells-named name other kind ending old new same tells = subst (λ (n : List ℕ)
 pub on-ok : {T E P Q : Type 0} (r : Result T E) → OnOk r P → (P → Q) → OnOk r Q
 on-ok (Ok made) holds next = next holds
 on-ok (Err found) holds next = tt
+
+pub on-err : {T E P Q : Type 0} (r : Result T E) → OnErr r P → (P → Q) → OnErr r Q
+on-err (Ok made) holds next = tt
+on-err (Err found) holds next = next holds

@@ -90,6 +90,7 @@ pub record CountsStep {B : Type 0} (kind : B → Kind) (kept : B → Kept) (old 
   pub heard : new.tally ≡ record counted { sum = counted.sum + total piece }
   pub few : total piece ≤ 2 ^ 33
   pub room : vec_len new.block ≡ vec_len old.block
+  pub line_room : vec_len new.line ≡ vec_len old.line
 
 -- one event more was run
 pub soaked : {B : Type 0} (kind : B → Kind) (kept : B → Kept) (old new : SoakOf B) (pool : Pool) (events : List Event) (event : Event) (piece : List ℕ) (reply : Reply) (counted : Tally)
@@ -119,6 +120,7 @@ soaked kind kept old new pool events event piece reply counted s h =
       within = subst (λ (n : ℕ). IsWithin n new.tally) (length-push events event) heard;
       sum = omega (arith, ap (λ (tally : Tally). tally.sum) s.heard, ap (λ (tally : Tally). tally.sum) s.counts, h.sum, s.few, length-push events event);
       room = s.room ∙ h.room;
+      line_room = s.line_room ∙ h.line_room;
     }
 
 -- ---- the run of a number

@@ -9,7 +9,3 @@ spelled (Err fault) x y e h = h
 
 pub regrouped : (a b c d : List ℕ) → a ++ (b ++ (c ++ d)) ≡ ((a ++ b) ++ c) ++ d
 regrouped a b c d = simp append_assoc
-
-pub tally-regrouped : (a b c d e f g h i j k l m n o : List ℕ)
-    → (a ++ (b ++ (c ++ (d ++ (e ++ (f ++ (g ++ (h ++ (i ++ (j ++ (k ++ l))))))))))) ++ (m ++ (n ++ o)) ≡ a ++ b ++ c ++ d ++ e ++ f ++ g ++ h ++ i ++ j ++ k ++ l ++ m ++ n ++ o
-tally-regrouped a b c d e f g h i j k l m n o = simp append_assoc

@@ -12,11 +12,12 @@ use Rattle.pcm_verdict.specs.Soaks.{soak_pool}
 use Rattle.pcm_verdict.specs.Verdict.{Accepted, Runs, Checks, Converts, Soaks, Inputs}
 use Rattle.pcm_replay.specs.declared.ending.Ending.{Ending}
 use Rattle.pcm_replay.specs.declared.ending.Ending.TheVariants.{Usage, CannotRead, BadConfig, BadScript, BadWave, CannotWrite, NoMemory}
+use Rattle.pcm_replay.specs.Cuts.{CutsCall}
 use Rattle.pcm_replay.specs.Outside.{Outside}
 use Rattle.pcm_replay.specs.Outcomes.{CannotReadOne, IsCut, LacksMemory, RefusesFile, RefusesWords, Spells, command_part}
 use Rattle.pcm_replay.specs.Playing.{RanThrough}
 use Rattle.pcm_replay.specs.Reads.{Comes, CutsLine, FailsToReadOne, Lacks, RefusesPart}
-use Rattle.pcm_replay.specs.Written.{CutsOutput, WritesAll}
+use Rattle.pcm_replay.specs.Written.{WritesAll}
 
 -- what a call did that ended before its end
 abbrev pub EndsCall : Ending → List (List ℕ) → Outside → Outside → Type 0
@@ -35,7 +36,7 @@ CutsShort CannotRead accepted before after = ⊥
 CutsShort BadConfig accepted before after = ⊥
 CutsShort BadScript accepted before after = ⊥
 CutsShort BadWave accepted before after = ⊥
-CutsShort CannotWrite accepted before after = CutsOutput (output_of accepted) before after
+CutsShort CannotWrite accepted before after = CutsCall accepted before after
 CutsShort NoMemory accepted before after = after ≡ before
 
 -- what became of lines that were to be put, and nothing else was done
@@ -98,7 +99,7 @@ pub record DoesCommand {B : Type 0} (kept : B → Kept) (command : Command) (eng
 pub record CutsCommand (command : Command) (before after : Outside) : Type 0 where
   pub accepted : Accepted
   pub came : Comes (command_part command) (Ok accepted) before.files
-  pub cut : CutsOutput (output_of accepted) before after
+  pub cut : CutsCall accepted before after
 
 -- a write failed, in a fault's line or in what was to be left
 pub data IsCommandCut (command : Command) (before after : Outside) : Type 0 where

@@ -4,6 +4,9 @@ pub mod Outside
 pub mod Reads
 pub mod Parts
 pub mod Written
+pub mod Playback
+pub mod Turns
+pub mod Cuts
 pub mod Outcomes
 pub mod Endings
 pub mod Playing

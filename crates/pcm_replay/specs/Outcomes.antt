@@ -4,12 +4,11 @@ use Rattle.pcm_outside.specs.Files.{FilesSeen}
 use Rattle.pcm_outside.specs.Sink.{FailsToPut, Puts}
 use Rattle.pcm_verdict.specs.Commands.{Command, command_of}
 use Rattle.pcm_verdict.specs.Faults.{Fault, Usage, Missing, BadConfig, BadWave, BadScript, usage_line}
-use Rattle.pcm_verdict.specs.Outputs.{output_of}
 use Rattle.pcm_verdict.specs.Verdict.{Accepted, command_judged, verdict}
 use Rattle.pcm_replay.specs.Commands.{MayRead}
 use Rattle.pcm_replay.specs.Outside.{Outside}
 use Rattle.pcm_replay.specs.Reads.{CutsLine, FailsToReadOne, Lacks, Part, RefusesPart}
-use Rattle.pcm_replay.specs.Written.{CutsOutput}
+use Rattle.pcm_replay.specs.Cuts.{CutsCall}
 use Rattle.pcm_replay.specs.declared.ending.Ending.{Ending}
 
 -- what the words come to, over the contents of the files
@@ -70,7 +69,7 @@ pub record CutsFaultLine (words : List (List ℕ)) (before after : Outside) : Ty
 pub record CutsAccepted (words : List (List ℕ)) (before after : Outside) : Type 0 where
   pub accepted : Accepted
   pub is_named : IsNamed words before.files accepted
-  pub cut : CutsOutput (output_of accepted) before after
+  pub cut : CutsCall accepted before after
 
 -- 7: a write failed, in the forms, in a fault's line, or in what was to be left
 pub data IsCut (words : List (List ℕ)) (before after : Outside) : Type 0 where

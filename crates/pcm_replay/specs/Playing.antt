@@ -1,8 +1,9 @@
 -- How far a run has come: what its engine stands for, and what it is to leave.
-use Rattle.std.specs.Prelude.{◌≡◌, ℕ, ◌*◌, ◌^◌, ◌≤◌, List, length, vec_len}
+use Rattle.std.specs.Prelude.{◌≡◌, ℕ, ◌*◌, ◌^◌, ◌≤◌, max, List, ◌++◌, length, take, fold, vec_len, Some}
 use Rattle.pcm_oss.specs.declared.event.Event.{Event}
 use Rattle.pcm_wave.specs.declared.pool.Pool.{Pool}
 use Rattle.pcm_desk.specs.Device.{DeviceSeen, device_frame_bytes, ring_frames}
+use Rattle.pcm_desk.specs.Events.{frames_taken}
 use Rattle.pcm_desk.specs.Usual.{usual_device}
 use Rattle.pcm_sound.specs.DeviceList.{device_text}
 use Rattle.pcm_feeder.specs.declared.kind.Kind.{Kind}
@@ -11,10 +12,13 @@ use Rattle.pcm_engine.specs.declared.engine.EngineOf.{EngineOf}
 use Rattle.pcm_engine.specs.Engines.{AreReady, Stands, device_of}
 use Rattle.pcm_report.specs.declared.line.TheConstants.{LINE_BYTES}
 use Rattle.pcm_soak.specs.Tallies.{IsWithin}
+use Rattle.pcm_verdict.specs.Outputs.{Output}
 use Rattle.pcm_verdict.specs.Soaks.{tally_of}
 use Rattle.pcm_verdict.specs.Transcript.{transcript}
+use Rattle.pcm_replay.specs.Playback.{Playback}
 use Rattle.pcm_replay.specs.declared.replay.ReplayOf.{ReplayOf}
 use Rattle.pcm_replay.specs.declared.soak.SoakOf.{SoakOf}
+use Rattle.pcm_replay.specs.declared.tally_line.TheConstants.{TALLY_BYTES}
 
 -- the bytes of the greatest interrupt: a device's whole ring
 abbrev pub ring_room : DeviceSeen → ℕ
@@ -34,12 +38,22 @@ pub record HasSoaked {B : Type 0} (kind : B → Kind) (kept : B → Kept) (soak 
   pub within : IsWithin (length events) soak.tally
   pub sum : soak.tally.sum ≤ 2 ^ 33 * length events
   pub room : vec_len soak.block ≡ ring_room usual_device
+  pub line_room : vec_len soak.line ≡ TALLY_BYTES
 
--- these events were run, and what they leave is kept
-pub record HasPlayed {B : Type 0} (kind : B → Kind) (kept : B → Kept) (replay : ReplayOf B) (pool : Pool) (events : List Event) : Type 0 where
-  pub engine : RanThrough kept replay.engine (device_of replay.engine) pool events
+-- the frames of the greatest interrupt among events
+abbrev pub greatest_taken : List Event → ℕ
+greatest_taken events = fold (λ most event. max most (frames_taken event)) 0 events
+
+-- the first events were run, and there is room for what every event gives
+pub record HasPlayed {B : Type 0} (kind : B → Kind) (kept : B → Kept) (replay : ReplayOf B) (pool : Pool) (events : List Event) (done : ℕ) : Type 0 where
+  pub engine : RanThrough kept replay.engine (device_of replay.engine) pool (take done events)
   pub ready : AreReady kind kept replay.engine
-  pub text : replay.text.items ≡ device_text (device_of replay.engine) pool events
-  pub lines : replay.lines.items ≡ transcript (device_of replay.engine) pool events
-  pub room : vec_len replay.block ≡ ring_room (device_of replay.engine)
+  pub room : vec_len replay.block ≡ greatest_taken events * device_frame_bytes (device_of replay.engine)
   pub line_room : vec_len replay.line ≡ LINE_BYTES
+
+-- all that is left of a script that was played into a file
+abbrev pub output_played : List ℕ → List ℕ → Playback → Output
+output_played name head playback = record {
+  file = Some (record { name = name; bytes = head ++ device_text playback.device playback.pool playback.events });
+  lines = transcript playback.device playback.pool playback.events;
+}

@@ -7,7 +7,9 @@ use Rattle.pcm_convert.specs.Conversions.{converted_body, converted_frames}
 use Rattle.pcm_outside.specs.Counts.{Rose}
 use Rattle.pcm_outside.specs.Files.{FilesSeen, FailsToCreate, HasCreated, IsPrefixOf, KeepsOthers, NoReadFails, OnlyReads}
 use Rattle.pcm_outside.specs.Sink.{FailsToPut, Puts}
-use Rattle.pcm_verdict.specs.Outputs.{Output, Written}
+use Rattle.pcm_sound.specs.Plain.{AgreeInCommon}
+use Rattle.pcm_verdict.specs.Outputs.{Output, Written, device_bytes_in, header_in}
+use Rattle.pcm_verdict.specs.Verdict.{Inputs}
 use Rattle.pcm_replay.specs.Outside.{Outside}
 
 -- a file was created and has these bytes, and the other files keep theirs
@@ -64,3 +66,9 @@ pub data CutsOutput (output : Output) (before after : Outside) : Type 0 where
 abbrev pub wave_body : Settings → Settings → List ℕ → List ℕ
 wave_body source target body =
     converted_body source target body ++ replicate (padding (converted_frames source target body * frame_bytes target)) 0
+
+-- the file of a run was written whole: behind its header stand bytes that are those of another run's device, as far as both go
+pub record WritesLike (name : List ℕ) (inputs other : Inputs) (old new : FilesSeen) : Type 0 where
+  pub body : List ℕ
+  pub written : WritesWhole (record { name = name; bytes = header_in inputs ++ body }) old new
+  pub alike : AgreeInCommon body (device_bytes_in other)

@@ -13,7 +13,7 @@ use crate::check::tell_script;
 use crate::convert::convert_wave;
 use crate::ending::Ending;
 use crate::reading::read_inputs;
-use crate::replay::run_script;
+use crate::running::run_script;
 use crate::soak::soak;
 use crate::source::read_source;
 use crate::words::Command;

@@ -1,6 +1,6 @@
 //! The run of a script that a number makes: what it comes to is added up, and told in one line.
 
-ghost use Rattle.std.specs.Prelude.{◌≡◌, ◌+◌, ◌<◌, ◌≤◌, [], All, IfErr, IfOk, OnOk, length, string_bytes, take};
+ghost use Rattle.std.specs.Prelude.{◌+◌, ◌<◌, ◌≤◌, [], All, IfErr, IfOk, OnOk, length, take};
 ghost use Rattle.pcm_outside.specs.Sink.{Puts};
 ghost use Rattle.pcm_wave.specs.declared.pool.Pool.{Pool};
 ghost use Rattle.pcm_wave.specs.Pools.{IsCaptureIn};
@@ -9,11 +9,12 @@ ghost use Rattle.pcm_desk.specs.Events.{Fits};
 ghost use Rattle.pcm_desk.specs.Usual.{usual_device};
 ghost use Rattle.pcm_feeder.specs.Racks.{AreRacks, list_of};
 ghost use Rattle.pcm_soak.specs.declared.limits.TheConstants.{SOAK_EVENTS};
-ghost use Rattle.pcm_verdict.specs.Soaks.{soak_line, tally_line};
+ghost use Rattle.pcm_verdict.specs.Soaks.{soak_line};
 ghost use Rattle.pcm_replay.specs.Endings.{CutsLines, RanSoak};
 ghost use Rattle.pcm_replay.specs.Playing.{HasSoaked};
 
 use crate::ending::Ending;
+use crate::tally_line::{TALLY_BYTES, write_tally};
 use pcm_config::default_config;
 use pcm_engine::EngineOf;
 use pcm_feeder::{Feeder, RacksOf};
@@ -30,11 +31,12 @@ pub struct SoakOf<B> {
     engine: EngineOf<B>,
     reply: ReplyBuf,
     block: Vec<u8>,
+    line: Vec<u8>,
     tally: Tally,
 }
 
 impl<B: Feeder> SoakOf<B> {
-    // Takes the memory of a run without a configuration, before the first event.
+    // Takes all memory of a run without a configuration, before the first event.
     fn new(alloc: Global, racks: RacksOf<B>) -> Result<SoakOf<B>, AllocError>
         requires kinds { AreRacks B.kind (list_of racks) }
         ensures soaked { IfOk result (λ soak. (pool : Pool) → HasSoaked B.kind B.kept soak pool []) }
@@ -47,6 +49,7 @@ impl<B: Feeder> SoakOf<B> {
             engine: EngineOf::new(alloc, device, config.tables, racks)?,
             reply: ReplyBuf::new(alloc)?,
             block: vec![in alloc; 0; room]?,
+            line: vec![in alloc; 0; TALLY_BYTES]?,
             tally: Tally::none(),
         })
     }
@@ -69,7 +72,7 @@ impl<B: Feeder> SoakOf<B> {
     }
 }
 
-/// Runs the script that a number makes, and then tells what it came to.
+/// Runs the script that a number makes, and then tells what it came to. All memory is taken before the first event.
 pub fn soak<B: Feeder, K: Sink>(
     alloc: Global,
     racks: RacksOf<B>,
@@ -94,50 +97,32 @@ pub fn soak<B: Feeder, K: Sink>(
         capture: None,
         inline_bytes,
     };
-    let Ok(soaked) = soak_through(alloc, racks, events.as_slice(), &pool) else {
+    let Ok(mut soak) = SoakOf::new(alloc, racks) else {
         return Err(Ending::NoMemory);
     };
-    let Ok(line) = line_of(alloc, events.as_slice().len(), device_frames, &soaked.tally) else {
-        return Err(Ending::NoMemory);
-    };
-    match out.put(line.as_bytes()) {
-        Ok(()) => Ok(soaked.engine),
+    let events = events.as_slice();
+    soak_through(&mut soak, events, &pool);
+    let size = write_tally(
+        events.len() as u64,
+        u64::from(device_frames),
+        &soak.tally,
+        &mut soak.line,
+    );
+    match out.put(&soak.line[..size]) {
+        Ok(()) => Ok(soak.engine),
         Err(WriteFault) => Err(Ending::CannotWrite),
     }
 }
 
 // Runs all events on the device of a run without a configuration.
-fn soak_through<B: Feeder>(
-    alloc: Global,
-    racks: RacksOf<B>,
-    events: &[Event],
-    pool: &Pool,
-) -> Result<SoakOf<B>, AllocError>
-    requires kinds { AreRacks B.kind (list_of racks) }
+fn soak_through<B: Feeder>(soak: &mut SoakOf<B>, events: &[Event], pool: &Pool)
     requires fits { All (Fits usual_device pool.now) events.now }
     requires captures { IsCaptureIn (device_settings usual_device).layout pool.now }
     requires count { length events.now ≤ SOAK_EVENTS }
-    ensures { IfOk result (λ soak. HasSoaked B.kind B.kept soak pool.now events.now) }
+    requires soaked { HasSoaked B.kind B.kept soak.old pool.now [] }
+    ensures { HasSoaked B.kind B.kept soak.new pool.now events.now }
 {
-    let mut soak = SoakOf::new(alloc, racks)?;
     for at in 0..events.len() {
         soak.step_at(events, pool, at);
     }
-    Ok(soak)
-}
-
-// The line that tells what a run came to.
-fn line_of(alloc: Global, events: usize, frames: u32, tally: &Tally) -> Result<String, AllocError>
-    ensures { IfOk result (λ line. string_bytes line ≡ tally_line events frames tally.now) }
-{
-    let Tally {
-        accepted,
-        read,
-        refused,
-        errors,
-        sum,
-    } = *tally;
-    format!(in alloc;
-        "events {events} frames {frames} accepted {accepted} read {read} refused {refused} errors {errors} sum {sum}\n"
-    )
 }

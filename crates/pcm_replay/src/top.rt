@@ -3,15 +3,17 @@
 ghost use Rattle.std.specs.Prelude.{◌≡◌, ◌≢◌, ◌⊎◌, None, Some, IfErr, IfOk, IsSomeAnd, IsTrue, List, ℕ, map, string_bytes};
 ghost use Rattle.pcm_outside.specs.Counts.{Rose};
 ghost use Rattle.pcm_feeder.specs.Racks.{AreRacks, list_of};
+ghost use Rattle.pcm_sound.specs.Plain.{HasNoShortage};
 ghost use Rattle.pcm_verdict.specs.Commands.{SoakRun, command_of};
 ghost use Rattle.pcm_verdict.specs.Outputs.{output_of};
+ghost use Rattle.pcm_verdict.specs.Plain.{IsAcceptedRun, PlayAlike, plain_output, story_in};
 ghost use Rattle.pcm_verdict.specs.Verdict.{Conversion, Inputs, Checks, Converts, Runs, Soaks};
 ghost use Rattle.pcm_replay.specs.declared.ending.Ending.TheVariants.{BadConfig, BadScript, BadWave};
 ghost use Rattle.pcm_replay.specs.Endings.{DoesWords, EndsCall, Finishes, RanInputs, RanSoak};
 ghost use Rattle.pcm_replay.specs.Outcomes.{CannotReadOne, IsAccepted, IsAcceptedBy, IsCut, IsRefusedBy, IsStatus};
 ghost use Rattle.pcm_replay.specs.Outcomes.{LacksMemory, MayEnd, RefusesFile, RefusesWords, verdict_on};
 ghost use Rattle.pcm_replay.specs.Outside.{NoneRose, OneRose, WriteRose, both};
-ghost use Rattle.pcm_replay.specs.Written.{WritesAll};
+ghost use Rattle.pcm_replay.specs.Written.{WritesAll, WritesLike};
 
 use crate::commands::do_command;
 use crate::ending::Ending;
@@ -54,6 +56,17 @@ pub fn dsp_main<B: Feeder, F: Files, K: Sink>(
     ensures engine { (name : List ℕ) (inputs : Inputs) → result ≡ 0
         → IsAccepted (map string_bytes words.now) (F.seen files.old) (Runs name inputs)
         → IsSomeAnd ran.new (λ engine. RanInputs B.kept engine inputs) }
+    // A run without a shortage: the file has what is heard of its clients from their starts to their ends, whatever was counted.
+    ensures plain { (name : List ℕ) (inputs : Inputs) → result ≡ 0
+        → IsAccepted (map string_bytes words.now) (F.seen files.old) (Runs name inputs)
+        → HasNoShortage (story_in inputs)
+        → WritesAll (plain_output name inputs)
+        (both (F.seen files.old) (K.seen out.old)) (both (F.seen files.new) (K.seen out.new)) }
+    // Its device gets the bytes of any other run whose clients sound alike, as far as both go.
+    ensures alike { (name : List ℕ) (inputs other : Inputs) → result ≡ 0
+        → IsAccepted (map string_bytes words.now) (F.seen files.old) (Runs name inputs)
+        → IsAcceptedRun other → PlayAlike inputs other
+        → WritesLike name inputs other (F.seen files.old) (F.seen files.new) }
     // A check: nothing was written, and exactly its line was put.
     ensures checked { (inputs : Inputs) → result ≡ 0
         → IsAccepted (map string_bytes words.now) (F.seen files.old) (Checks inputs)

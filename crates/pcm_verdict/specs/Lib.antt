@@ -6,3 +6,4 @@ pub mod Captures
 pub mod Transcript
 pub mod Soaks
 pub mod Outputs
+pub mod Plain

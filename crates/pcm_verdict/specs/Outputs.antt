@@ -35,11 +35,17 @@ abbrev pub file_header : Container → DeviceSeen → ℕ → List ℕ
 file_header Raw device frames = []
 file_header Wav device frames = header_of (device_settings device) frames
 
+-- what stands before the frames in the file of a run
+abbrev pub header_in : Inputs → List ℕ
+header_in inputs = file_header inputs.config.container (device_seen inputs.config) inputs.script.device_frames
+
+-- the bytes that the device of a run gets
+abbrev pub device_bytes_in : Inputs → List ℕ
+device_bytes_in inputs = device_text (device_seen inputs.config) (inputs_pool inputs) inputs.script.events
+
 -- the device file: its header, and the device's bytes
 abbrev pub device_file : Inputs → List ℕ
-device_file inputs =
-    file_header inputs.config.container (device_seen inputs.config) inputs.script.device_frames
-    ++ device_text (device_seen inputs.config) (inputs_pool inputs) inputs.script.events
+device_file inputs = header_in inputs ++ device_bytes_in inputs
 
 -- the replies to a script's events
 abbrev pub replies_printed : Inputs → List ℕ

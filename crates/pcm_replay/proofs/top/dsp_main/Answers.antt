@@ -1,10 +1,11 @@
 use Rattle.std.proofs.Common.{ℕ, List, map, string_bytes, subst, sym}
 use Rattle.pcm_verdict.specs.Outputs.{output_of}
 use Rattle.pcm_replay.specs.declared.ending.Ending.TheVariants.{CannotRead, BadConfig, BadScript, BadWave, CannotWrite, NoMemory}
-use Rattle.pcm_verdict.specs.Verdict.{Soaks}
+use Rattle.pcm_verdict.specs.Verdict.{Runs, Soaks}
 use Rattle.pcm_replay.specs.Endings.{HasRun}
 use Rattle.pcm_replay.specs.Outcomes.{MayEnd, verdict_on}
 use Rattle.pcm_replay.proofs.Doing.{does-soak}
+use Rattle.pcm_replay.proofs.Plain.{alike-run, plain-run, writes-accepted}
 use Rattle.pcm_replay.proofs.Statuses.{ended-as, may-end, none-rose}
 use Rattle.pcm_replay.proofs.top.dsp_main.Goals as goal
 
@@ -56,3 +57,25 @@ pub returns-in-Ok-Some-clause-soak_engine : goal.returns-in-Ok-Some-clause-soak_
 returns-in-Ok-Some-clause-soak_engine g c = λ n is asked.
     subst (λ engine. HasRun g.B.Feeder.kept engine (Soaks n)) c.in-Ok-Some.field-0-is
     (does-soak g.B.Feeder.kept (map string_bytes c.args.words.now) n c.in-Ok-Some.field-0 _ _ asked c.in-Ok-Some.ensures.ok).ran
+
+-- a run without a shortage
+pub returns-in-Ok-None-clause-plain : goal.returns-in-Ok-None-clause-plain
+returns-in-Ok-None-clause-plain g c = λ name inputs is accepted whole.
+    let words : List (List ℕ) = map string_bytes c.args.words.now in
+    plain-run words name inputs _ _ accepted whole (writes-accepted g.B.Feeder.kept words c.in-Ok-None.field-0 _ _ (Runs name inputs) c.in-Ok-None.ensures.ok accepted)
+
+pub returns-in-Ok-Some-clause-plain : goal.returns-in-Ok-Some-clause-plain
+returns-in-Ok-Some-clause-plain g c = λ name inputs is accepted whole.
+    let words : List (List ℕ) = map string_bytes c.args.words.now in
+    plain-run words name inputs _ _ accepted whole (writes-accepted g.B.Feeder.kept words c.in-Ok-Some.field-0 _ _ (Runs name inputs) c.in-Ok-Some.ensures.ok accepted)
+
+-- and one that sounds like another
+pub returns-in-Ok-None-clause-alike : goal.returns-in-Ok-None-clause-alike
+returns-in-Ok-None-clause-alike g c = λ name inputs other is accepted other_accepted alike.
+    let words : List (List ℕ) = map string_bytes c.args.words.now in
+    alike-run words name inputs other _ _ accepted other_accepted alike (writes-accepted g.B.Feeder.kept words c.in-Ok-None.field-0 _ _ (Runs name inputs) c.in-Ok-None.ensures.ok accepted)
+
+pub returns-in-Ok-Some-clause-alike : goal.returns-in-Ok-Some-clause-alike
+returns-in-Ok-Some-clause-alike g c = λ name inputs other is accepted other_accepted alike.
+    let words : List (List ℕ) = map string_bytes c.args.words.now in
+    alike-run words name inputs other _ _ accepted other_accepted alike (writes-accepted g.B.Feeder.kept words c.in-Ok-Some.field-0 _ _ (Runs name inputs) c.in-Ok-Some.ensures.ok accepted)

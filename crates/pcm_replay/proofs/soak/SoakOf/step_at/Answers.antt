@@ -40,6 +40,7 @@ returns g c =
             heard = c.hear.ensures.heard ∙ ap (λ (sum : ℕ). record c.count.new.self { sum = c.count.new.self.sum + sum }) heard;
             few = omega (arith, c.hear.ensures.few, heard, sizes, size, count);
             room = refl;
+            line_room = refl;
           })
           c.requires.soaked);
     }

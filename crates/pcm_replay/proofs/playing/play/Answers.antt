@@ -1,0 +1,72 @@
+use Rattle.std.proofs.Common.{◌≡◌, ℕ, All, length, refl, sym, ◌∙◌, subst, arith}
+use Rattle.pcm_wave.specs.Pools.{IsCaptureIn}
+use Rattle.pcm_desk.specs.Device.{DeviceSeen, device_settings}
+use Rattle.pcm_desk.specs.Events.{Fits}
+use Rattle.pcm_engine.specs.Engines.{device_of}
+use Rattle.pcm_replay.specs.Outside.{both}
+use Rattle.pcm_replay.specs.Playback.{playback}
+use Rattle.pcm_replay.specs.Playing.{HasPlayed}
+use Rattle.pcm_replay.specs.Turns.{CutsNext, WritesFirst, WritesNext}
+use Rattle.pcm_replay.proofs.Turns.{first-more, first-none}
+use Rattle.pcm_replay.proofs.playing.play.Goals as goal
+
+pub loop-at-init : goal.loop-at-init
+loop-at-init g c = record {
+  played = c.requires.played;
+  device_is = refl;
+  first = first-none (playback (device_of c.args.replay.now.engine) c.args.pool.now c.args.events.now) _ c.requires.created refl;
+}
+
+pub play_at-requires-clause-created : goal.play_at-requires-clause-created
+play_at-requires-clause-created g c = c.loop-at.invariant.first.only.files.stands
+
+-- the device of the engine is the one that the events fit
+pub play_at-requires-clause-fits : goal.play_at-requires-clause-fits
+play_at-requires-clause-fits g c =
+    subst (λ (device : DeviceSeen). All (Fits device c.args.pool.now) c.args.events.now) (sym c.loop-at.invariant.device_is) c.requires.fits
+
+pub play_at-requires-clause-captures : goal.play_at-requires-clause-captures
+play_at-requires-clause-captures g c =
+    subst (λ (device : DeviceSeen). IsCaptureIn (device_settings device).layout c.args.pool.now) (sym c.loop-at.invariant.device_is) c.requires.captures
+
+pub play_at-requires-clause-played : goal.play_at-requires-clause-played
+play_at-requires-clause-played g c = c.loop-at.invariant.played
+
+-- an event was cut short, behind those so far
+pub returns-in_default-clause-err : goal.returns-in_default-clause-err
+returns-in_default-clause-err g c = record {
+  done = c.loop-at.at;
+  between = both (g.F.Files.seen c.loop-at.files) (g.K.Sink.seen c.loop-at.out);
+  first = c.loop-at.invariant.first;
+  only = c.in_default.ensures.only;
+  next = subst (λ (device : DeviceSeen). CutsNext (playback device c.args.pool.now c.args.events.now) c.loop-at.at
+      (both (g.F.Files.seen c.loop-at.files) (g.K.Sink.seen c.loop-at.out)) (both (g.F.Files.seen c.play_at.new.files) (g.K.Sink.seen c.play_at.new.out)))
+      c.loop-at.invariant.device_is c.in_default.ensures.err;
+}
+
+-- one event more left all that it was to leave
+pub loop-at-preserved : goal.loop-at-preserved
+loop-at-preserved g c = record {
+  played = c.in-Ok.ensures.played;
+  device_is = c.in-Ok.ensures.device ∙ c.loop-at.invariant.device_is;
+  first = first-more (playback (device_of c.args.replay.now.engine) c.args.pool.now c.args.events.now) c.loop-at.at _ _ _ c.loop-at.invariant.first c.in-Ok.ensures.only
+      (subst (λ (device : DeviceSeen). WritesNext (playback device c.args.pool.now c.args.events.now) c.loop-at.at
+      (both (g.F.Files.seen c.loop-at.files) (g.K.Sink.seen c.loop-at.out)) (both (g.F.Files.seen c.play_at.new.files) (g.K.Sink.seen c.play_at.new.out)))
+      c.loop-at.invariant.device_is c.in-Ok.ensures.ok);
+}
+
+-- after the last event all were run
+pub returns-clause-played : goal.returns-clause-played
+returns-clause-played g c =
+    let all : c.loop-at.at ≡ length c.args.events.now = omega arith in
+    subst (λ (done : ℕ). HasPlayed g.B.Feeder.kind g.B.Feeder.kept c.loop-at.replay c.args.pool.now c.args.events.now done) all c.loop-at.invariant.played
+
+pub returns-clause-device : goal.returns-clause-device
+returns-clause-device g c = c.loop-at.invariant.device_is
+
+pub returns-clause-ok : goal.returns-clause-ok
+returns-clause-ok g c =
+    let all : c.loop-at.at ≡ length c.args.events.now = omega arith in
+    subst (λ (done : ℕ). WritesFirst (playback (device_of c.args.replay.now.engine) c.args.pool.now c.args.events.now) done
+    (both (g.F.Files.seen c.args.files.now) (g.K.Sink.seen c.args.out.now)) (both (g.F.Files.seen c.loop-at.files) (g.K.Sink.seen c.loop-at.out)))
+    all c.loop-at.invariant.first

@@ -1,0 +1,83 @@
+//! A script is played into a file and a sink, event by event. No event takes memory.
+
+ghost use Rattle.std.specs.Prelude.{◌≡◌, ◌≤◌, All, IsTrue, OnErr, OnOk, length};
+ghost use Rattle.pcm_wave.specs.Pools.{IsCaptureIn};
+ghost use Rattle.pcm_desk.specs.declared.limits.TheConstants.{EVENTS};
+ghost use Rattle.pcm_desk.specs.Events.{Fits};
+ghost use Rattle.pcm_desk.specs.Device.{device_settings};
+ghost use Rattle.pcm_engine.specs.Engines.{device_of};
+ghost use Rattle.pcm_replay.specs.Cuts.{CutsRun};
+ghost use Rattle.pcm_replay.specs.Outside.{both};
+ghost use Rattle.pcm_replay.specs.Playback.{playback};
+ghost use Rattle.pcm_replay.specs.Playing.{HasPlayed, output_played};
+ghost use Rattle.pcm_replay.specs.Turns.{CutsEvents, WritesFirst};
+ghost use Rattle.pcm_replay.specs.Written.{WritesAll};
+
+use crate::replay::ReplayOf;
+use crate::writing::append_some;
+use pcm_feeder::Feeder;
+use pcm_oss::Event;
+use pcm_outside::{Files, Sink, WriteFault};
+use pcm_wave::Pool;
+
+/// Creates the file of a name with what stands before the frames, and then plays all events into it.
+pub fn play_into<B: Feeder, F: Files, K: Sink>(
+    replay: &mut ReplayOf<B>,
+    events: &[Event],
+    pool: &Pool,
+    files: &mut F,
+    out: &mut K,
+    name: &str,
+    head: &[u8],
+) -> Result<(), WriteFault>
+    requires fits { All (Fits (device_of replay.old.engine) pool.now) events.now }
+    requires captures { IsCaptureIn (device_settings (device_of replay.old.engine)).layout pool.now }
+    requires count { length events.now ≤ EVENTS }
+    requires played { HasPlayed B.kind B.kept replay.old pool.now events.now 0 }
+    ensures played { OnOk result (HasPlayed B.kind B.kept replay.new pool.now events.now (length events.now)) }
+    ensures device { OnOk result (device_of replay.new.engine ≡ device_of replay.old.engine) }
+    ensures ok { OnOk result (WritesAll
+        (output_played name.now head.now (playback (device_of replay.old.engine) pool.now events.now))
+        (both (F.seen files.old) (K.seen out.old)) (both (F.seen files.new) (K.seen out.new))) }
+    ensures err { OnErr result (CutsRun name.now head.now
+        (playback (device_of replay.old.engine) pool.now events.now)
+        (both (F.seen files.old) (K.seen out.old)) (both (F.seen files.new) (K.seen out.new))) }
+{
+    let Ok(()) = files.create(name) else {
+        return Err(WriteFault);
+    };
+    let Ok(()) = append_some(files, head) else {
+        return Err(WriteFault);
+    };
+    play(replay, events, pool, files, out)
+}
+
+// Plays all events.
+fn play<B: Feeder, F: Files, K: Sink>(
+    replay: &mut ReplayOf<B>,
+    events: &[Event],
+    pool: &Pool,
+    files: &mut F,
+    out: &mut K,
+) -> Result<(), WriteFault>
+    requires created { IsTrue (F.seen files.old).stands }
+    requires fits { All (Fits (device_of replay.old.engine) pool.now) events.now }
+    requires captures { IsCaptureIn (device_settings (device_of replay.old.engine)).layout pool.now }
+    requires count { length events.now ≤ EVENTS }
+    requires played { HasPlayed B.kind B.kept replay.old pool.now events.now 0 }
+    ensures played { OnOk result (HasPlayed B.kind B.kept replay.new pool.now events.now (length events.now)) }
+    ensures device { OnOk result (device_of replay.new.engine ≡ device_of replay.old.engine) }
+    ensures ok { OnOk result (WritesFirst
+        (playback (device_of replay.old.engine) pool.now events.now) (length events.now)
+        (both (F.seen files.old) (K.seen out.old)) (both (F.seen files.new) (K.seen out.new))) }
+    ensures err { OnErr result (CutsEvents
+        (playback (device_of replay.old.engine) pool.now events.now)
+        (both (F.seen files.old) (K.seen out.old)) (both (F.seen files.new) (K.seen out.new))) }
+{
+    for at in 0..events.len() {
+        let Ok(()) = replay.play_at(events, pool, at, files, out) else {
+            return Err(WriteFault);
+        };
+    }
+    Ok(())
+}
