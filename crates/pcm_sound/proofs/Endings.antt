@@ -1,5 +1,5 @@
 -- An event that drops nothing ends a started book only once it has given all that it lasts for.
-use Rattle.std.proofs.Common.{◌≡◌, ℕ, ◌<◌, Bool, true, false, cond, eqb, Option, Some, None, inl, inr, Ok, Err, refl, sym, ap, ◌∙◌, arith}
+use Rattle.std.proofs.Common.{◌≡◌, ℕ, ◌<◌, Bool, true, false, cond, eqb, Option, Some, None, inl, inr, Ok, Err, refl, sym, ◌∙◌, arith}
 use Rattle.std.specs.Prelude.{nat_lt, not, option_map}
 use Rattle.std.proofs.lemmas.Bool.{eqb-true}
 use Rattle.pcm_format.specs.declared.settings.Settings.{Settings}
@@ -15,7 +15,7 @@ use Rattle.pcm_rate.specs.Rates.{len}
 use Rattle.pcm_desk.specs.declared.book.Book.{Book}
 use Rattle.pcm_desk.specs.declared.book.State.{State}
 use Rattle.pcm_desk.specs.declared.book.State.TheVariants.{Free, Setup, Primed, Running, Draining}
-use Rattle.pcm_desk.specs.Books.{begun, closed_in, close_turn, drained_in, emptied, finished, frames_written, is_draining, is_free, is_setup, is_started}
+use Rattle.pcm_desk.specs.Books.{begun, closed_in, close_turn, drained_in, finished, frames_written, is_draining, is_free, is_setup, is_started}
 use Rattle.pcm_desk.specs.Requests.{ask_turn, at_format, at_layout, at_rate, doing, has_play_bit, roused_in, set_fragments, set_volume, telling_of, triggered, book_turn, with_settings}
 use Rattle.pcm_desk.specs.Safe.{BookIsSafe}
 use Rattle.pcm_desk.proofs.Leaves.{Leaves, ask-leaves, close-leaves}

@@ -100,12 +100,12 @@ read_at : (device : DeviceSeen) (pool : Pool) (desk : Desk) (fd count at slot : 
 read_at device pool desk fd count at slot recording =
     let old : RecordBook = record_at device desk slot in
     let book : RecordBook = (read_turn count (record_at device desk at)).book in
-    let Follow : RecordBook → Type 0 = λ new. Follows device pool old new recording (recording_after device pool desk (Read fd count) old new recording) in
+    let FollowFrom : RecordBook → Type 0 = λ new. Follows device pool old new recording (recording_after device pool desk (Read fd count) old new recording) in
     elim (record_at-with device desk at slot book) [
-      | inl here ↦ subst Follow (sym here.1)
-          (subst (λ (k : ℕ). Follow (read_turn count (record_at device desk k)).book) here.0
+      | inl here ↦ subst FollowFrom (sym here.1)
+          (subst (λ (k : ℕ). FollowFrom (read_turn count (record_at device desk k)).book) here.0
           (read_turned device pool desk.handed count (nat_lt 0 count && eqb (fill_of old) 0) old recording))
-      | inr same ↦ subst Follow (sym same) (follows-read device pool desk.handed old.read old recording)
+      | inr same ↦ subst FollowFrom (sym same) (follows-read device pool desk.handed old.read old recording)
     ]
 
 read_follows : (device : DeviceSeen) (pool : Pool) (held : Option Held) (desk : Desk) (fd count slot : ℕ) (recording : Recording) → FollowsAt device pool desk (Read fd count) (read_on device held desk count).desk slot recording

@@ -17,14 +17,14 @@ use Rattle.pcm_desk.proofs.Ratios.{ratio-between}
 use Rattle.pcm_sound.specs.Plans.{given_frame}
 use Rattle.pcm_sound.specs.Runs.{Piece, Run, covers, first_of, piece_frame, run_frames, sounding}
 use Rattle.pcm_sound.specs.Plain.{IsInPlace, IsUnbroken, Span, drop_end, is_within, place_of, run_end, span_at, span_frame, span_of, spans_of}
-use Rattle.pcm_sound.specs.Places.{Follow, IsCounted, IsOver, IsOverFrom, SlotIsPlaced}
+use Rattle.pcm_sound.specs.Places.{FollowFrom, IsCounted, IsOver, IsOverFrom, SlotIsPlaced}
 use Rattle.pcm_sound.specs.Valid.{IsNewest, SlotIsValid}
-use Rattle.pcm_sound.proofs.Places.{given-lasts, lasting, lasts-newest, not_true}
+use Rattle.pcm_sound.proofs.Places.{given-lasts, lasting, lasts-newest}
 
 -- ---- pieces that follow each other
 
 -- they cover nothing before their first frame and behind their last
-follow_outside : (start count p : ℕ) (pieces : List Piece) → (p < start) ⊎ (start + count ≤ p) → Follow start count pieces → find (covers p) pieces ≡ None
+follow_outside : (start count p : ℕ) (pieces : List Piece) → (p < start) ⊎ (start + count ≤ p) → FollowFrom start count pieces → find (covers p) pieces ≡ None
 follow_outside start count p [] out f = refl
 follow_outside start count p (piece ∷ pieces) (inl before) f =
     let at = f.0 in
@@ -36,7 +36,7 @@ follow_outside start count p (piece ∷ pieces) (inr behind) f =
     let here : covers p piece ≡ false = grind (arith, nat_tests) in
     rw here (follow_outside start piece.index p pieces (inr (omega arith)) f.2)
 
-follow_within_at : (b : Bool) (start count p : ℕ) (piece : Piece) (pieces : List Piece) → covers p piece ≡ b → start ≤ p → p < start + count → Follow start count (piece ∷ pieces)
+follow_within_at : (b : Bool) (start count p : ℕ) (piece : Piece) (pieces : List Piece) → covers p piece ≡ b → start ≤ p → p < start + count → FollowFrom start count (piece ∷ pieces)
     → (p < start + piece.index → option_map (place_of p) (find (covers p) pieces) ≡ Some (p - start))
     → option_map (place_of p) (cond b (Some piece) (find (covers p) pieces)) ≡ Some (p - start)
 follow_within_at true start count p piece pieces e h g f earlier =
@@ -49,7 +49,7 @@ follow_within_at false start count p piece pieces e h g f earlier =
     earlier (grind (arith, nat_tests))
 
 -- at each place between they give the frame that is as far into the stream
-follow_within : (start count p : ℕ) (pieces : List Piece) → start ≤ p → p < start + count → Follow start count pieces → option_map (place_of p) (find (covers p) pieces) ≡ Some (p - start)
+follow_within : (start count p : ℕ) (pieces : List Piece) → start ≤ p → p < start + count → FollowFrom start count pieces → option_map (place_of p) (find (covers p) pieces) ≡ Some (p - start)
 follow_within start count p [] h g f = absurd (omega (arith, f))
 follow_within start count p (piece ∷ pieces) h g f =
     follow_within_at (covers p piece) start count p piece pieces refl h g f (λ earlier. follow_within start piece.index p pieces h earlier f.2)
@@ -59,7 +59,7 @@ follow_within start count p (piece ∷ pieces) h g f =
 -- a run that is heard from its start to its end
 pub record IsHeard (device : DeviceSeen) (mixed start : ℕ) (run : Run) : Type 0 where
   pub count : ℕ
-  pub follow : Follow start count run.pieces
+  pub follow : FollowFrom start count run.pieces
   pub past : start + count ≤ mixed
   pub end : run_end device mixed start run ≡ start + count
 

@@ -1,6 +1,6 @@
 -- The pieces of a slot stay in their places through an interrupt, which adds one to the newest run that has started.
-use Rattle.std.proofs.Common.{◌≡◌, ℕ, suc, zero, ◌+◌, ◌-◌, ◌<◌, ◌≤◌, Bool, true, false, cond, eqb, List, [], ◌∷◌, length, min, Option, Some, None, refl, sym, ap, ◌∙◌, subst, arith, All, add-zero}
-use Rattle.std.specs.Prelude.{nat_lt, ◌&&◌, ◌||◌, not}
+use Rattle.std.proofs.Common.{◌≡◌, ℕ, suc, zero, ◌+◌, ◌-◌, ◌<◌, Bool, true, false, cond, eqb, List, [], ◌∷◌, Option, None, refl, sym, ap, ◌∙◌, subst, arith, All, add-zero}
+use Rattle.std.specs.Prelude.{nat_lt, ◌&&◌}
 use Rattle.std.proofs.lemmas.List.Elements.{All-head, All-tail}
 use Rattle.std.proofs.lemmas.Bool.{eqb-true}
 use Rattle.std.proofs.lemmas.Bool.Decides.{nat_tests}
@@ -15,7 +15,7 @@ use Rattle.pcm_desk.specs.Safe.{BookIsSafe}
 use Rattle.pcm_desk.specs.Desk.{mixing, rate_at}
 use Rattle.pcm_sound.specs.Runs.{Piece, Run, piece_of, playing, marked, marking}
 use Rattle.pcm_sound.specs.Plain.{IsUnbroken}
-use Rattle.pcm_sound.specs.Places.{Follow, IsOver, IsOverFrom, IsGoing, IsCounted, SlotIsPlaced}
+use Rattle.pcm_sound.specs.Places.{IsOver, IsOverFrom, IsGoing, IsCounted, SlotIsPlaced}
 use Rattle.pcm_sound.specs.Valid.{IsNewest, SlotIsValid}
 use Rattle.pcm_sound.proofs.Endings.{given-same}
 use Rattle.pcm_sound.proofs.Slots.{untold-same}

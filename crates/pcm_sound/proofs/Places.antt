@@ -1,7 +1,7 @@
 -- The pieces of a slot stay in their places through every event that takes no frames.
-use Rattle.std.proofs.Common.{◌≡◌, ℕ, suc, zero, ◌+◌, ◌-◌, ◌<◌, ◌≤◌, Bool, true, false, cond, eqb, List, [], ◌∷◌, ◌++◌, length, min, Option, Some, None, refl, sym, ap, ◌∙◌, subst, arith, All}
-use Rattle.std.specs.Prelude.{nat_lt, ◌&&◌, ◌||◌, not}
-use Rattle.std.proofs.lemmas.List.Elements.{All-head, All-tail, All-cons, All-nil, All-weaker}
+use Rattle.std.proofs.Common.{◌≡◌, ℕ, suc, zero, ◌+◌, ◌<◌, ◌≤◌, Bool, true, false, cond, eqb, List, [], ◌∷◌, ◌++◌, length, min, Option, Some, None, refl, sym, ap, ◌∙◌, subst, arith, All}
+use Rattle.std.specs.Prelude.{◌&&◌, ◌||◌, not}
+use Rattle.std.proofs.lemmas.List.Elements.{All-cons, All-nil, All-weaker}
 use Rattle.std.proofs.lemmas.Bool.Decides.{nat_tests}
 use Rattle.pcm_oss.specs.declared.event.Event.{Event}
 use Rattle.pcm_format.specs.declared.settings.Settings.{Settings}
@@ -21,7 +21,7 @@ use Rattle.pcm_desk.proofs.Safe.{allowed-lasts, given-allowed}
 use Rattle.pcm_desk.proofs.Ratios.{ratio-between}
 use Rattle.pcm_sound.specs.Runs.{Piece, Run, begun_run, taking, drops, marked, marking, run_frames}
 use Rattle.pcm_sound.specs.Plain.{drop_end, run_end}
-use Rattle.pcm_sound.specs.Places.{Follow, IsOver, IsOverFrom, IsWaiting, IsGoing, IsCounted, ArePlaced, SlotIsPlaced}
+use Rattle.pcm_sound.specs.Places.{FollowFrom, IsOver, IsOverFrom, IsWaiting, IsGoing, IsCounted, ArePlaced, SlotIsPlaced}
 use Rattle.pcm_sound.specs.Valid.{IsNewest, SlotIsValid}
 use Rattle.pcm_sound.proofs.Endings.{EndsWhole, KeepsGiven}
 use Rattle.pcm_sound.proofs.Slots.{Accepts, IsUntold, none_above}
@@ -125,7 +125,7 @@ going_over device mixed book was run start pieces g end =
     let sum = follow.1 in
     record {
       count = book.given;
-      follow = subst (λ (list : List Piece). Follow g.start book.given list) (sym pieces) follow.0;
+      follow = subst (λ (list : List Piece). FollowFrom g.start book.given list) (sym pieces) follow.0;
       past = omega arith;
       end = λ until l. end g.start follow.1 until l ∙ sym follow.1;
     })
@@ -162,7 +162,7 @@ counted_told false true draining dropping mixed old new run b a plays none given
   goes = λ e. record {
     start = mixed;
     started = refl;
-    follow = λ unbroken. (subst (λ (list : List Piece). Follow mixed new.given list) (sym (c.waits b).pieces) (given ∙ none refl), omega (arith, given, none refl));
+    follow = λ unbroken. (subst (λ (list : List Piece). FollowFrom mixed new.given list) (sym (c.waits b).pieces) (given ∙ none refl), omega (arith, given, none refl));
   };
 }
 counted_told true false draining dropping mixed old new run b a plays none given c = absurd (let not_so : false ≡ true = plays refl in cc)
@@ -171,7 +171,7 @@ counted_told true true draining dropping mixed old new run b a plays none given 
   waits = λ e. absurd (let not_so : true ≡ false = sym a ∙ e in cc);
   goes = λ e.
       let g = c.goes b in
-      record { start = g.start; started = g.started; follow = λ unbroken. subst (λ (count : ℕ). Follow g.start count run.pieces × (g.start + count ≡ mixed)) (sym given) (g.follow unbroken) };
+      record { start = g.start; started = g.started; follow = λ unbroken. subst (λ (count : ℕ). FollowFrom g.start count run.pieces × (g.start + count ≡ mixed)) (sym given) (g.follow unbroken) };
 }
 
 -- What an event that takes no frames does to a book, which counts so many bytes before its newest run is told of it: the book goes on

@@ -1,5 +1,5 @@
 -- The device's bytes without a shortage: what the runs are from their starts to their ends.
-use Rattle.std.proofs.Common.{◌≡◌, ℕ, ◌+◌, ◌-◌, ◌*◌, ◌<◌, ◌≤◌, List, [], ◌∷◌, ◌++◌, length, map, take, replicate, min, Option, Some, None, inl, inr, refl, sym, ap, ◌∙◌, arith, All, length-append, length-take}
+use Rattle.std.proofs.Common.{◌≡◌, ℕ, ◌+◌, ◌-◌, ◌*◌, ◌<◌, ◌≤◌, List, length, map, take, replicate, min, Option, Some, None, inl, inr, refl, sym, ap, ◌∙◌, arith, All, length-append, length-take}
 use Rattle.std.specs.Prelude.{◌≢◌, option_map}
 use Rattle.std.specs.List.{range_with_len}
 use Rattle.std.proofs.Math.Nat.{mul-le-mul_right}
@@ -7,22 +7,18 @@ use Rattle.std.proofs.lemmas.Bool.{cases_lt}
 use Rattle.std.proofs.lemmas.List.{length-map, length-replicate, take-append-le, take-take, take_all}
 use Rattle.std.proofs.lemmas.List.Elements.{All-weaker}
 use Rattle.std.proofs.lemmas.List.FromFn.{length-range_with_len}
-use Rattle.pcm_oss.specs.declared.event.Event.{Event}
-use Rattle.pcm_wave.specs.declared.pool.Pool.{Pool}
 use Rattle.pcm_format.specs.Frames.{Frame, spelled_frames}
 use Rattle.pcm_feeder.specs.declared.stage.Gain.{Gain}
-use Rattle.pcm_desk.specs.Device.{DeviceSeen, IsDevice, device_frame_bytes, device_settings, mix_settings, ring_frames}
+use Rattle.pcm_desk.specs.Device.{DeviceSeen, device_frame_bytes, device_settings, mix_settings, ring_frames}
 use Rattle.pcm_desk.specs.Desk.{book_at}
-use Rattle.pcm_desk.specs.Events.{Fits}
 use Rattle.pcm_sound.specs.Gains.{last_gain}
 use Rattle.pcm_sound.specs.Runs.{Run, sounding}
-use Rattle.pcm_sound.specs.Story.{Story, story_of}
+use Rattle.pcm_sound.specs.Story.{Story}
 use Rattle.pcm_sound.specs.Mix.{Table}
 use Rattle.pcm_sound.specs.DeviceList.{device_body, device_body_of, device_bytes, device_frame, device_list, mix_at, silence_in, table_of}
 use Rattle.pcm_sound.specs.Plain.{AgreeInCommon, HasNoShortage, IsInPlace, IsUnbroken, SoundAlike, Span, plain_table, span_at, span_frame, spans_of}
 use Rattle.pcm_sound.specs.Valid.{StoryIsValid}
-use Rattle.pcm_sound.proofs.Stories.{valid-story}
-use Rattle.pcm_sound.proofs.DeviceLists.{IsDeviceFrame, device_body-bytes, device_list-frames, device_list-more, device_list-same, length-device_bytes, spelled_frames-take, table-frames}
+use Rattle.pcm_sound.proofs.DeviceLists.{device_body-bytes, device_list-frames, device_list-more, device_list-same, length-device_bytes, spelled_frames-take, table-frames}
 use Rattle.pcm_sound.proofs.Heard.{RunIsHeard, heard-in_place, runs-heard, sounding-spans, spans-earlier}
 
 -- ---- one story

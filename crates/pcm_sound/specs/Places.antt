@@ -8,15 +8,15 @@ use Rattle.pcm_sound.specs.Plain.{IsUnbroken, run_end}
 
 -- pieces, the newest first, that follow each other from a position on without a gap: `count` frames, each as far into its stream
 -- as its position is past the first
-abbrev pub Follow : ℕ → ℕ → List Piece → Type 0
-Follow start count [] = count ≡ 0
-Follow start count (piece ∷ pieces) =
-    (piece.position ≡ start + piece.index) × (count ≡ piece.index + piece.count) × Follow start piece.index pieces
+abbrev pub FollowFrom : ℕ → ℕ → List Piece → Type 0
+FollowFrom start count [] = count ≡ 0
+FollowFrom start count (piece ∷ pieces) =
+    (piece.position ≡ start + piece.index) × (count ≡ piece.index + piece.count) × FollowFrom start piece.index pieces
 
 -- a run that is heard from its start on, as far as its pieces go, and no further at any later position
 pub record IsPlayed (device : DeviceSeen) (mixed start : ℕ) (run : Run) : Type 0 where
   pub count : ℕ
-  pub follow : Follow start count run.pieces
+  pub follow : FollowFrom start count run.pieces
   pub past : start + count ≤ mixed
   pub end : (until : ℕ) → mixed ≤ until → run_end device until start run ≡ start + count
 
@@ -38,7 +38,7 @@ pub record IsWaiting (run : Run) : Type 0 where
 pub record IsGoing (mixed : ℕ) (book : Book) (run : Run) : Type 0 where
   pub start : ℕ
   pub started : run.start ≡ Some start
-  pub follow : IsUnbroken run → Follow start book.given run.pieces × (start + book.given ≡ mixed)
+  pub follow : IsUnbroken run → FollowFrom start book.given run.pieces × (start + book.given ≡ mixed)
 
 -- a run that its book counts
 pub record IsCounted (mixed : ℕ) (book : Book) (run : Run) : Type 0 where
