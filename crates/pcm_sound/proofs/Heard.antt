@@ -1,6 +1,7 @@
 -- A run without a shortage is heard from its start to its end: what its pieces give is what its plan makes of it there.
 use Rattle.std.proofs.Common.{◌≡◌, ℕ, ◌+◌, ◌-◌, ◌<◌, ◌≤◌, Bool, true, false, cond, List, [], ◌∷◌, length, min, Option, Some, None, ◌⊎◌, inl, inr, refl, sym, ap, ◌∙◌, subst, arith, All}
 use Rattle.std.specs.Prelude.{find, nat_le, nat_lt, ◌&&◌, option_map}
+use Rattle.std.specs.List.{filter}
 use Rattle.std.proofs.lemmas.Bool.{cases_lt}
 use Rattle.std.proofs.lemmas.Bool.Decides.{nat_tests}
 use Rattle.std.proofs.lemmas.List.Elements.{All-head, All-tail, All-cons, All-nil, All-weaker}
@@ -53,6 +54,29 @@ follow_within : (start count p : ℕ) (pieces : List Piece) → start ≤ p → 
 follow_within start count p [] h g f = absurd (omega (arith, f))
 follow_within start count p (piece ∷ pieces) h g f =
     follow_within_at (covers p piece) start count p piece pieces refl h g f (λ earlier. follow_within start piece.index p pieces h earlier f.2)
+
+-- what stands before a place doesn't cover it
+follow_none : (start count p : ℕ) (pieces : List Piece) → start + count ≤ p → FollowFrom start count pieces → length (filter (covers p) pieces) ≡ 0
+follow_none start count p [] h f = refl
+follow_none start count p (piece ∷ pieces) h f =
+    let at = f.0 in
+    let sum = f.1 in
+    let here : covers p piece ≡ false = grind (arith, nat_tests) in
+    rw here (follow_none start piece.index p pieces (omega arith) f.2)
+
+follow_once_at : (b : Bool) (start count p : ℕ) (piece : Piece) (pieces : List Piece) → covers p piece ≡ b → FollowFrom start count (piece ∷ pieces)
+    → length (filter (covers p) pieces) ≤ 1 → length (cond b (piece ∷ filter (covers p) pieces) (filter (covers p) pieces)) ≤ 1
+follow_once_at true start count p piece pieces e f earlier =
+    let at = f.0 in
+    let here : piece.position ≤ p = grind (arith, nat_tests) in
+    let none = follow_none start piece.index p pieces (omega arith) f.2 in
+    omega arith
+follow_once_at false start count p piece pieces e f earlier = earlier
+
+-- and no place is covered twice
+follow_once : (start count p : ℕ) (pieces : List Piece) → FollowFrom start count pieces → length (filter (covers p) pieces) ≤ 1
+follow_once start count p [] f = omega arith
+follow_once start count p (piece ∷ pieces) f = follow_once_at (covers p piece) start count p piece pieces refl f (follow_once start piece.index p pieces f.2)
 
 -- ---- runs without a shortage
 
@@ -176,9 +200,16 @@ in_place_from : (device : DeviceSeen) (mixed p : ℕ) (run : Run) (start : Optio
 in_place_from device mixed p run None h = ap (λ (pieces : List Piece). option_map (place_of p) (find (covers p) pieces)) h
 in_place_from device mixed p run (Some start) h = found device mixed p start run h ∙ sym (first-span (λ (span : Span). p - span.start) device mixed p start run [])
 
+once_from : (device : DeviceSeen) (mixed p : ℕ) (run : Run) (start : Option ℕ) → HeardFrom device mixed run start → length (filter (covers p) run.pieces) ≤ 1
+once_from device mixed p run None h = omega (arith, ap (λ (pieces : List Piece). length (filter (covers p) pieces)) h)
+once_from device mixed p run (Some start) h = follow_once start h.count p run.pieces h.follow
+
 -- a run without a shortage stands in its place
 pub heard-in_place : (device : DeviceSeen) (mixed : ℕ) (run : Run) → RunIsHeard device mixed run → IsUnbroken run → IsInPlace device mixed run
-heard-in_place device mixed run h unbroken = λ position. in_place_from device mixed position run run.start (h unbroken)
+heard-in_place device mixed run h unbroken = record {
+  place = λ position. in_place_from device mixed position run run.start (h unbroken);
+  once = λ position. once_from device mixed position run run.start (h unbroken);
+}
 
 -- ---- the frames of a slot
 

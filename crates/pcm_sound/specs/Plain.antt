@@ -1,5 +1,6 @@
 -- The device's bytes without a count: each run is heard from its start to its end, a frame of what its plan makes of it at each position.
-use Rattle.std.specs.Prelude.{◌≡◌, ◌≢◌, ℕ, ◌+◌, ◌-◌, min, Bool, ◌&&◌, nat_le, nat_lt, if◌then◌else◌, List, [], ◌∷◌, length, take, All, Option, Some, None, find, option_map}
+use Rattle.std.specs.Prelude.{◌≡◌, ◌≢◌, ℕ, ◌+◌, ◌-◌, ◌≤◌, min, Bool, ◌&&◌, nat_le, nat_lt, if◌then◌else◌, List, [], ◌∷◌, length, take, All, Option, Some, None, find, option_map}
+use Rattle.std.specs.List.{filter}
 use Rattle.pcm_oss.specs.declared.event.Event.{Event}
 use Rattle.pcm_wave.specs.declared.pool.Pool.{Pool}
 use Rattle.pcm_format.specs.Frames.{Frame}
@@ -82,12 +83,13 @@ HasNoShortage story = (slot : ℕ) → All IsUnbroken (story.runs slot)
 abbrev pub place_of : ℕ → Piece → ℕ
 place_of position piece = piece.index + (position - piece.position)
 
--- The pieces of a run stand in their place: they cover the positions from its start to its end and no other, and give at each
--- the frame that is as far into its stream.
-abbrev pub IsInPlace : DeviceSeen → ℕ → Run → Type 0
-IsInPlace device mixed run = (position : ℕ)
-    → option_map (place_of position) (find (covers position) run.pieces)
-    ≡ option_map (λ (span : Span). position - span.start) (span_at (spans_of device mixed (run ∷ [])) position)
+-- The pieces of a run stand in their place: they cover the positions from its start to its end and no other, each once, and give
+-- at each the frame that is as far into its stream.
+pub record IsInPlace (device : DeviceSeen) (mixed : ℕ) (run : Run) : Type 0 where
+  pub place : (position : ℕ)
+      → option_map (place_of position) (find (covers position) run.pieces)
+      ≡ option_map (λ (span : Span). position - span.start) (span_at (spans_of device mixed (run ∷ [])) position)
+  pub once : (position : ℕ) → length (filter (covers position) run.pieces) ≤ 1
 
 -- Two stories sound alike until a position: in each slot the same plans make the same of the same streams from the same starts
 -- to the same ends, with the same gain wherever one of them is heard.

@@ -29,8 +29,8 @@ pub fn reads_get_what_is_recorded()
         (recorded_bytes device book.settings (recorded_frames pool recording.start) 0 book.given) }
 {}
 
-/// The pieces of a run without a shortage cover the positions from its start to its end and no other, and at each they give the frame
-/// that is as far into its stream as the position is past the start.
+/// The pieces of a run without a shortage cover the positions from its start to its end, each once, and no other, and at each they
+/// give the frame that is as far into its stream as the position is past the start.
 pub fn pieces_stand_in_their_place()
     ensures { (device : DeviceSeen) (pool : Pool) (events : List Event) (slot : ℕ) → IsDevice device
         → All (Fits device pool) events
