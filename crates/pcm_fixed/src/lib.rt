@@ -1,0 +1,7 @@
+//! Lists of a fixed length. They hold what events fill: whoever has one can write its elements, and
+//! can't get at its allocator.
+#![tactic(auto)]
+
+mod fixed;
+
+pub use fixed::Fixed;
