@@ -7,6 +7,7 @@ use Rattle.std.proofs.lemmas.Int.{ints}
 use Rattle.std.proofs.lemmas.List.{get_or-drop, get_or-take, length-take-le, length-drop, length-append}
 use Rattle.std.proofs.lemmas.List.FromFn.{fill_by_all, length-map-range_with_len}
 use Rattle.std.proofs.Math.Nat.{mul-le-mul_right, mul-le-mul_left}
+use Rattle.pcm_fixed.specs.Fixed.{fixed_items}
 use Rattle.pcm_format.specs.Frames.{Frame}
 use Rattle.pcm_format.specs.Samples.{natural}
 use Rattle.pcm_format.proofs.Ranges.{map-range-same}
@@ -126,7 +127,7 @@ eaten-few c eaten n above there = omega (arith, mul-le-mul_left {m = 1} {n = c} 
 
 -- the window has as many frames as the filter has taps
 pub window-taps : (fitted : Fitted) (window : Window) → window.taps ≡ fitted.taps → length (frames_in window) ≡ fitted.taps
-window-taps fitted window same = length-map-range_with_len (λ i. window_frame window.channels window.samples.items (window.at + i)) 0 window.taps ∙ same
+window-taps fitted window same = length-map-range_with_len (λ i. window_frame window.channels (fixed_items window.samples) (window.at + i)) 0 window.taps ∙ same
 
 -- one output lies behind another
 pub step-on : (pace : Pace) (step next : Step) (j : ℕ) → IsStep pace step j → IsStep pace next (j + 1) → step.frames ≤ next.frames

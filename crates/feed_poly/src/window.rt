@@ -1,6 +1,7 @@
 //! The last frames of a stream.
 
-ghost use Rattle.std.specs.Prelude.{◌≡◌, ◌<◌, ◌≤◌, ◌+◌, ◌*◌, [], ◌∷◌, length, take, drop, replicate, vec_len, IfOk};
+ghost use Rattle.std.specs.Prelude.{◌≡◌, ◌<◌, ◌≤◌, ◌+◌, ◌*◌, [], ◌∷◌, length, take, drop, replicate, IfOk};
+ghost use Rattle.pcm_fixed.specs.Fixed.{fixed_items, fixed_len};
 ghost use Rattle.pcm_feeder.specs.Kept.{moved_on};
 ghost use Rattle.pcm_feeder.specs.Limits.{AreChannels};
 ghost use Rattle.pcm_feeder.specs.declared.limits.TheConstants.{TAPS};
@@ -8,6 +9,7 @@ ghost use Rattle.pcm_feeder.specs.Streams.{frames_of, silence};
 ghost use Rattle.feed_poly.specs.Places.{IsTwice, ArePut};
 ghost use Rattle.feed_poly.specs.Rows.{channel_in};
 
+use pcm_fixed::Fixed;
 use std::alloc::{AllocError, Global};
 
 // The places of one channel: two for each frame.
@@ -21,16 +23,16 @@ const SAMPLES: usize = 1024;
 /// next goes, and nothing moves when it comes.
 #[derive(Drop)]
 pub struct Window {
-    samples: Vec<i32>,
+    samples: Fixed<i32>,
     channels: usize,
     taps: usize,
     at: usize,
-    ghost size: { vec_len samples ≡ 1024 },
+    ghost size: { fixed_len samples ≡ 1024 },
     ghost limits: { AreChannels channels },
     ghost some: { 1 ≤ taps },
     ghost most: { taps ≤ TAPS },
     ghost inside: { at < taps },
-    ghost twice: { IsTwice taps samples.items },
+    ghost twice: { IsTwice taps (fixed_items samples) },
 }
 
 impl Window {
@@ -40,7 +42,7 @@ impl Window {
     pub fn new(alloc: Global) -> Result<Window, AllocError>
         ensures { IfOk result (λ made. frames_in made ≡ replicate made.taps (silence made.channels)) }
     {
-        let samples = vec![in alloc; 0i32; SAMPLES]?;
+        let samples = Fixed::new(vec![in alloc; 0i32; SAMPLES]?);
         Ok(Window {
             samples,
             channels: 1,

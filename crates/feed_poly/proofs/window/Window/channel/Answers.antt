@@ -1,4 +1,6 @@
-use Rattle.std.proofs.Common.{◌+◌, ◌-◌, ◌*◌, take, drop, ap, ◌∙◌, sym}
+use Rattle.std.proofs.Common.{◌+◌, ◌-◌, ◌*◌, take, drop, ap, ◌∙◌}
+use Rattle.pcm_fixed.specs.Fixed.{fixed_items}
+use Rattle.pcm_fixed.proofs.Items.{items-count}
 use Rattle.feed_poly.proofs.Windows.{channel-is}
 use Rattle.feed_poly.proofs.window.Window.channel.Goals as goal
 
@@ -7,4 +9,4 @@ returns-clause-value c =
     let window = c.args.self.now in
     let at = c.args.channel * 128 + window.at in
     ap (λ list. take (at + window.taps - at) (drop at list)) c.deref.ensures.value
-    ∙ channel-is window.channels window.taps window.at c.args.channel window.samples.items c.requires window.limits.most window.inside window.most (sym window.samples.ok.0 ∙ window.size)
+    ∙ channel-is window.channels window.taps window.at c.args.channel (fixed_items window.samples) c.requires window.limits.most window.inside window.most (items-count window.samples ∙ window.size)

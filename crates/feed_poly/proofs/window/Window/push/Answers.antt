@@ -1,5 +1,6 @@
-use Rattle.std.proofs.Common.{◌≡◌, ◌≢◌, ◌⊎◌, ◌+◌, length, inl, inr, ap, ◌∙◌, sym}
-use Rattle.std.proofs.lemmas.List.{with_items_is}
+use Rattle.std.proofs.Common.{◌≡◌, ◌≢◌, ◌⊎◌, ◌+◌, length, inl, inr, ap, ◌∙◌}
+use Rattle.pcm_fixed.specs.Fixed.{fixed_items}
+use Rattle.pcm_fixed.proofs.Items.{items-count, items-written}
 use Rattle.feed_poly.specs.Places.{ArePut, frames_from}
 use Rattle.feed_poly.proofs.Places.{twice-again, put-moves}
 use Rattle.feed_poly.proofs.window.Window.push.Goals as goal
@@ -9,17 +10,17 @@ pub invariant_of-self-clause-twice : goal.invariant_of-self-clause-twice
 invariant_of-self-clause-twice c =
     let window = c.args.self.now in
     let new = c.put_twice.new.samples in
-    let put : ArePut window.taps window.at c.args.frame.now (length c.args.frame.now) window.samples.items new = rw c.deref_mut.ensures.value at c.put_twice.ensures in
-    let stay = with_items_is window.samples new (put.size ∙ sym window.samples.ok.0) in
-    rw stay (twice-again window.taps window.at (length c.args.frame.now) c.args.frame.now window.samples.items new window.inside window.most window.twice put)
+    let put : ArePut window.taps window.at c.args.frame.now (length c.args.frame.now) (fixed_items window.samples) new = rw c.deref_mut.ensures.value at c.put_twice.ensures in
+    let stay = items-written window.samples new (put.size ∙ items-count window.samples) in
+    rw stay (twice-again window.taps window.at (length c.args.frame.now) c.args.frame.now (fixed_items window.samples) new window.inside window.most window.twice put)
 
 pub returns-clause-frames : goal.returns-clause-frames
 returns-clause-frames c =
     let window = c.args.self.now in
     let new = c.put_twice.new.samples in
-    let put : ArePut window.taps window.at c.args.frame.now window.channels window.samples.items new = rw (c.deref_mut.ensures.value, c.requires) at c.put_twice.ensures in
+    let put : ArePut window.taps window.at c.args.frame.now window.channels (fixed_items window.samples) new = rw (c.deref_mut.ensures.value, c.requires) at c.put_twice.ensures in
     let goes : ((window.at + 1 ≡ window.taps) × (c.if-next-self.self ≡ 0)) ⊎ ((window.at + 1 ≢ window.taps) × (c.if-next-self.self ≡ window.at + 1)) =
     elim c.if-next-self.branch [ then-next-self w ↦ inl (w.if-next-self.true, w.self-is) | else-next-self w ↦ inr (w.if-next-self.false, w.self-is) ] in
-    ap (λ items. frames_from window.channels window.taps items c.if-next-self.self) (with_items_is window.samples new (put.size ∙ sym window.samples.ok.0))
-    ∙ put-moves window.channels window.taps window.at c.if-next-self.self c.args.frame.now window.samples.items new window.inside window.most window.limits.most c.requires
+    ap (λ items. frames_from window.channels window.taps items c.if-next-self.self) (items-written window.samples new (put.size ∙ items-count window.samples))
+    ∙ put-moves window.channels window.taps window.at c.if-next-self.self c.args.frame.now (fixed_items window.samples) new window.inside window.most window.limits.most c.requires
     window.twice put goes
