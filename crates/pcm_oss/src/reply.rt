@@ -2,6 +2,7 @@
 
 ghost use Rattle.std.specs.Prelude.{◌≡◌, ◌≤◌, [], length, take, IfOk};
 
+use pcm_fixed::Fixed;
 use std::alloc::{AllocError, Global};
 use std::marker::Model;
 
@@ -55,20 +56,21 @@ pub const REPLY_BYTES: usize = 4096;
 #[derive(Debug, Drop)]
 pub struct ReplyBuf {
     result: Result<Answer, Errno>,
-    bytes: Vec<u8>,
+    bytes: Fixed<u8>,
     count: usize,
 }
 
 impl Model for ReplyBuf {
     ghost use Rattle.std.specs.Prelude.{◌≡◌, ◌≤◌, length, take};
+    ghost use Rattle.pcm_fixed.specs.Fixed.{fixed_items};
     ghost use Rattle.pcm_oss.specs.Replies.{Reply};
     ghost use Rattle.pcm_oss.specs.declared.reply.TheConstants.{REPLY_BYTES};
 
     ghost Value = { Reply };
 
-    ghost view = { λ buffer. record { result = buffer.result; bytes = take buffer.count buffer.bytes.items } };
+    ghost view = { λ buffer. record { result = buffer.result; bytes = take buffer.count (fixed_items buffer.bytes) } };
 
-    ghost invariant = { λ buffer. (length buffer.bytes.items ≡ REPLY_BYTES) × (buffer.count ≤ REPLY_BYTES) };
+    ghost invariant = { λ buffer. (length (fixed_items buffer.bytes) ≡ REPLY_BYTES) × (buffer.count ≤ REPLY_BYTES) };
 }
 
 impl ReplyBuf {
@@ -81,7 +83,7 @@ impl ReplyBuf {
     {
         Ok(ReplyBuf {
             result: Ok(Answer::Done),
-            bytes: vec![in alloc; 0; REPLY_BYTES]?,
+            bytes: Fixed::new(vec![in alloc; 0; REPLY_BYTES]?),
             count: 0,
         })
     }
