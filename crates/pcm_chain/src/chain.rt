@@ -1,7 +1,8 @@
 //! A chain of stages between a client's ring and the frames of a device.
 
-ghost use Rattle.std.specs.Prelude.{◌≡◌, ◌≤◌, ◌*◌, vec_len};
+ghost use Rattle.std.specs.Prelude.{◌≡◌, ◌≤◌, ◌*◌};
 ghost use Rattle.std.proofs.Props.{props};
+ghost use Rattle.pcm_fixed.specs.Fixed.{fixed_len};
 ghost use Rattle.pcm_plan.specs.Plans.{rate_in_plan};
 ghost use Rattle.pcm_chain.specs.Counts.{AreBounded};
 ghost use Rattle.pcm_chain.specs.declared.staging.TheConstants.{BLOCK_SAMPLES};
@@ -10,6 +11,7 @@ use crate::counts::Counts;
 use crate::stages::{feed_stages, fit_stages};
 use crate::staging::{BLOCK_SAMPLES, Staging};
 use pcm_feeder::{Feeder, Gain, RackOf, SixOf, Tables, UNITY};
+use pcm_fixed::Fixed;
 use pcm_format::{Format, Layout};
 use pcm_plan::Plan;
 use pcm_ring::ByteRing;
@@ -25,10 +27,10 @@ pub struct ChainOf<B> {
     plan: Plan,
     staging: Staging,
     // The frames of a block that come of a push.
-    block: Vec<i32>,
+    block: Fixed<i32>,
     counts: Counts,
     ghost bounded: { AreBounded (rate_in_plan plan) counts } by { Prim.hlevel props },
-    ghost block_size: { vec_len block ≡ BLOCK_SAMPLES },
+    ghost block_size: { fixed_len block ≡ BLOCK_SAMPLES },
 }
 
 /// How many frames a pull gave, and how many of the waiting ones it ate.
@@ -70,7 +72,7 @@ impl<B: Feeder> ChainOf<B> {
         ensures plan { IfOk result (λ made. (plan_in made).stages ≡ []) }
     {
         let staging = Staging::new(alloc)?;
-        let block = vec![in alloc; 0i32; BLOCK_SAMPLES]?;
+        let block = Fixed::new(vec![in alloc; 0i32; BLOCK_SAMPLES]?);
         Ok(ChainOf {
             boxes: rack.into_boxes(),
             plan: Plan::straight(Layout::One),

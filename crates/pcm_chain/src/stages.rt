@@ -1,6 +1,7 @@
 //! The boxes of stages, fitted and fed one after another.
 
 ghost use Rattle.std.specs.Prelude.{◌≡◌, ◌≢◌, ◌≤◌, ◌*◌, length, take, All};
+ghost use Rattle.pcm_fixed.specs.Fixed.{fixed_items};
 ghost use Rattle.pcm_rate.specs.Rates.{unchanged};
 ghost use Rattle.pcm_feeder.specs.declared.stage.Spec.{Spec};
 ghost use Rattle.pcm_feeder.specs.Kept.{fresh, IsFitted};
@@ -78,11 +79,11 @@ pub fn feed_stages<B: Feeder>(
     ensures others { (other : Spec) → All (λ spec. kind_of other ≢ kind_of spec) stages.now
         → kept_in B.kept boxes.new other ≡ kept_in B.kept boxes.old other }
     ensures fed { AreFed (kept_in B.kept boxes.old) (kept_in B.kept boxes.new) tables.now gain want
-        stages.now (first_frames frames source staging.old.now.items) }
+        stages.now (first_frames frames source (fixed_items staging.old.now)) }
     ensures given { result ≡ length (fed_through (kept_in B.kept boxes.old) tables.now gain want
-        stages.now (first_frames frames source staging.old.now.items)) }
+        stages.now (first_frames frames source (fixed_items staging.old.now))) }
     ensures out { out.new ≡ written (fed_through (kept_in B.kept boxes.old) tables.now gain want
-        stages.now (first_frames frames source staging.old.now.items)) out.old }
+        stages.now (first_frames frames source (fixed_items staging.old.now))) out.old }
 {
     if stages.is_empty() {
         let samples = frames * source;

@@ -1,6 +1,7 @@
 //! Where the frames of a block lie between its stages.
 
-ghost use Rattle.std.specs.Prelude.{◌≡◌, ◌≤◌, ◌+◌, ◌*◌, ◌/◌, ◌++◌, min, pos, length, take, drop, replicate, flat_map, All, vec_len};
+ghost use Rattle.std.specs.Prelude.{◌≡◌, ◌≤◌, ◌+◌, ◌*◌, ◌/◌, ◌++◌, min, pos, length, take, drop, replicate, flat_map, All};
+ghost use Rattle.pcm_fixed.specs.Fixed.{fixed_items, fixed_len};
 ghost use Rattle.pcm_num.specs.Limit.{FitsBits};
 ghost use Rattle.pcm_format.specs.Formats.{bits_of, bytes_of};
 ghost use Rattle.pcm_format.specs.Samples.{samples, spelled};
@@ -8,6 +9,7 @@ ghost use Rattle.pcm_ring.specs.Ring.{free_bytes};
 ghost use Rattle.pcm_feeder.specs.Limits.{AreChannels};
 ghost use Rattle.pcm_chain.specs.declared.staging.TheConstants.{BLOCK_FRAMES, BLOCK_SAMPLES, BLOCK_BYTES};
 
+use pcm_fixed::Fixed;
 use pcm_format::{Format, load_frames, spell_frames};
 use pcm_ring::ByteRing;
 use std::alloc::{AllocError, Global};
@@ -24,20 +26,20 @@ const BLOCK_BYTES: usize = 8192;
 /// The samples that the next stage takes, room for those that it gives, and room for bytes of a ring.
 #[derive(Drop)]
 pub struct Staging {
-    pub now: Vec<i32>,
-    pub next: Vec<i32>,
-    bytes: Vec<u8>,
-    ghost now_size: { vec_len now ≡ BLOCK_SAMPLES },
-    ghost next_size: { vec_len next ≡ BLOCK_SAMPLES },
-    ghost bytes_size: { vec_len bytes ≡ BLOCK_BYTES },
+    pub now: Fixed<i32>,
+    pub next: Fixed<i32>,
+    bytes: Fixed<u8>,
+    ghost now_size: { fixed_len now ≡ BLOCK_SAMPLES },
+    ghost next_size: { fixed_len next ≡ BLOCK_SAMPLES },
+    ghost bytes_size: { fixed_len bytes ≡ BLOCK_BYTES },
 }
 
 impl Staging {
     /// Room for a block. All memory of a chain is taken here.
     pub fn new(alloc: Global) -> Result<Staging, AllocError> {
-        let now = vec![in alloc; 0i32; BLOCK_SAMPLES]?;
-        let next = vec![in alloc; 0i32; BLOCK_SAMPLES]?;
-        let bytes = vec![in alloc; 0u8; BLOCK_BYTES]?;
+        let now = Fixed::new(vec![in alloc; 0i32; BLOCK_SAMPLES]?);
+        let next = Fixed::new(vec![in alloc; 0i32; BLOCK_SAMPLES]?);
+        let bytes = Fixed::new(vec![in alloc; 0u8; BLOCK_BYTES]?);
         Ok(Staging { now, next, bytes })
     }
 
@@ -47,7 +49,7 @@ impl Staging {
         requires waiting { count * bytes_of format ≤ length ring.old.bytes }
         ensures ring { ring.new
             ≡ record ring.old { bytes = drop (count * bytes_of format) ring.old.bytes } }
-        ensures loaded { take (count + silent) self.new.now.items
+        ensures loaded { take (count + silent) (fixed_items self.new.now)
             ≡ samples format (take (count * bytes_of format) ring.old.bytes) ++ replicate silent (pos 0) }
     {
         load_front(ring, format, count, &mut self.bytes, &mut self.now);
@@ -57,7 +59,7 @@ impl Staging {
     /// Copies samples to the front of `now`.
     pub fn copy(&mut self, samples: &[i32])
         requires within { length samples.now ≤ BLOCK_SAMPLES }
-        ensures loaded { take (length samples.now) self.new.now.items ≡ samples.now }
+        ensures loaded { take (length samples.now) (fixed_items self.new.now) ≡ samples.now }
         ensures fits { All (FitsBits 32) samples.now }
     {
         copy_front(samples, &mut self.now);
@@ -90,7 +92,7 @@ impl Staging {
 
     /// The samples given are those that the next stage takes.
     pub fn turn(&mut self)
-        ensures { self.new.now.items ≡ self.old.next.items }
+        ensures { fixed_items self.new.now ≡ fixed_items self.old.next }
     {
         std::mem::swap(&mut self.now, &mut self.next);
     }

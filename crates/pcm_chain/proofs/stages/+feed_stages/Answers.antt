@@ -1,5 +1,7 @@
 use Rattle.std.proofs.Common.{rules, ◌≡◌, ◌≤◌, ◌<◌, ◌-◌, ◌*◌, ◌++◌, length, take, drop, ap, ◌∙◌, arith}
 use Rattle.std.proofs.lemmas.List.{take_at}
+use Rattle.pcm_fixed.specs.Fixed.{fixed_items, fixed_len}
+use Rattle.pcm_fixed.proofs.Items.{items-count}
 use Rattle.pcm_feeder.specs.Turns.{Turn}
 use Rattle.pcm_chain.specs.Boxes.{kept_in}
 use Rattle.pcm_chain.specs.Feeds.{first_frames}
@@ -9,15 +11,15 @@ use Rattle.pcm_chain.proofs.stages.+feed_stages.Goals as goal
 pub returns-then-is_empty-clause-given : goal.returns-then-is_empty-clause-given
 returns-then-is_empty-clause-given g t c =
     let none : length c.args.stages.now ≡ 0 = search rules in
-    let room : c.args.frames * c.args.source ≤ length c.args.staging.now.now.items = omega (arith, c.args.staging.now.now_size, c.args.staging.now.now.ok, block-room c.args.frames c.args.source c.requires.offered c.requires.channels) in
-    (gone-none (kept_in g.B.Feeder.kept c.args.boxes.now) (kept_in g.B.Feeder.kept c.args.boxes.now) c.args.tables.now c.args.gain c.args.want c.args.stages.now c.args.frames c.args.source c.args.staging.now.now.items c.args.out.now none c.requires.channels room).given
+    let room : c.args.frames * c.args.source ≤ length (fixed_items c.args.staging.now.now) = omega (arith, c.args.staging.now.now_size, items-count c.args.staging.now.now, block-room c.args.frames c.args.source c.requires.offered c.requires.channels) in
+    (gone-none (kept_in g.B.Feeder.kept c.args.boxes.now) (kept_in g.B.Feeder.kept c.args.boxes.now) c.args.tables.now c.args.gain c.args.want c.args.stages.now c.args.frames c.args.source (fixed_items c.args.staging.now.now) c.args.out.now none c.requires.channels room).given
 
 pub returns-then-is_empty-clause-out : goal.returns-then-is_empty-clause-out
 returns-then-is_empty-clause-out g t c =
     let none : length c.args.stages.now ≡ 0 = search rules in
-    let room : c.args.frames * c.args.source ≤ length c.args.staging.now.now.items = omega (arith, c.args.staging.now.now_size, c.args.staging.now.now.ok, block-room c.args.frames c.args.source c.requires.offered c.requires.channels) in
+    let room : c.args.frames * c.args.source ≤ length (fixed_items c.args.staging.now.now) = omega (arith, c.args.staging.now.now_size, items-count c.args.staging.now.now, block-room c.args.frames c.args.source c.requires.offered c.requires.channels) in
     ap (λ list. list ++ drop (c.args.frames * c.args.source) c.args.out.now) (c.copy_from_slice.ensures.after ∙ ap (take (c.args.frames * c.args.source)) c.deref.ensures.value)
-    ∙ (gone-none (kept_in g.B.Feeder.kept c.args.boxes.now) (kept_in g.B.Feeder.kept c.args.boxes.now) c.args.tables.now c.args.gain c.args.want c.args.stages.now c.args.frames c.args.source c.args.staging.now.now.items c.args.out.now none c.requires.channels room).out
+    ∙ (gone-none (kept_in g.B.Feeder.kept c.args.boxes.now) (kept_in g.B.Feeder.kept c.args.boxes.now) c.args.tables.now c.args.gain c.args.want c.args.stages.now c.args.frames c.args.source (fixed_items c.args.staging.now.now) c.args.out.now none c.requires.channels room).out
 
 pub returns-then-is_empty-2 : goal.returns-then-is_empty-2
 returns-then-is_empty-2 g t c =
@@ -26,10 +28,10 @@ returns-then-is_empty-2 g t c =
     let last : length (take (length stages - 1) (drop 1 stages)) ≡ 0 = search rules in
     let cut = stages-cut stages _ (λ none. absurd (omega (arith, none, some))) in
     let h = at-head g.B.Feeder.kept c.args.boxes.now c.args.source c.args.want (length c.args.out.now) stages _ _ cut c.requires.limits c.requires.fitted c.requires.room in
-    let room : c.args.frames * c.args.source ≤ length c.args.staging.now.now.items = omega (arith, c.args.staging.now.now_size, c.args.staging.now.now.ok, block-room c.args.frames c.args.source c.requires.offered c.requires.channels) in
+    let room : c.args.frames * c.args.source ≤ length (fixed_items c.args.staging.now.now) = omega (arith, c.args.staging.now.now_size, items-count c.args.staging.now.now, block-room c.args.frames c.args.source c.requires.offered c.requires.channels) in
     let same = c.deref-then-is_empty-2.ensures.value in
     let done = gone-last (kept_in g.B.Feeder.kept c.args.boxes.now) (kept_in g.B.Feeder.kept c.feed_stage.new.boxes) c.args.tables.now c.args.gain c.args.want stages _ _ c.args.frames c.args.source c.feed_stage.result
-    c.args.staging.now.now.items c.args.out.now c.feed_stage.new.output cut last h.limits h.fitted h.source (omega (arith, c.requires.channels.least)) room
+    (fixed_items c.args.staging.now.now) c.args.out.now c.feed_stage.new.output cut last h.limits h.fitted h.source (omega (arith, c.requires.channels.least)) room
     (rw same at c.feed_stage.ensures.kept) (rw same at c.feed_stage.ensures.given) (rw same at c.feed_stage.ensures.frames) in
     record {
       kinds = c.feed_stage.ensures.kinds;
@@ -55,17 +57,17 @@ returns g t c =
     let some : 0 < length stages = search rules in
     let cut = stages-cut stages _ (λ none. absurd (omega (arith, none, some))) in
     let h = at-head kept c.args.boxes.now c.args.source c.args.want (length c.args.out.now) stages _ _ cut c.requires.limits c.requires.fitted c.requires.room in
-    let room : c.args.frames * c.args.source ≤ length c.args.staging.now.now.items = omega (arith, c.args.staging.now.now_size, c.args.staging.now.now.ok, block-room c.args.frames c.args.source c.requires.offered c.requires.channels) in
+    let room : c.args.frames * c.args.source ≤ length (fixed_items c.args.staging.now.now) = omega (arith, c.args.staging.now.now_size, items-count c.args.staging.now.now, block-room c.args.frames c.args.source c.requires.offered c.requires.channels) in
     let same = c.deref-2.ensures.value in
     let above = (let a = c.requires.channels.least in let above : 0 < c.args.source = omega arith in above) in
-    let does = feeds (kept_in kept c.args.boxes.now) c.args.tables.now c.args.gain c.args.want _ c.args.frames c.args.source c.args.staging.now.now.items h.fitted h.source above room in
-    let next = c.turn.new.self.now.items in
+    let does = feeds (kept_in kept c.args.boxes.now) c.args.tables.now c.args.gain c.args.want _ c.args.frames c.args.source (fixed_items c.args.staging.now.now) h.fitted h.source above room in
+    let next = fixed_items c.turn.new.self.now in
     let next_is = c.turn.ensures
-    ∙ take_at c.feed_stage-given.new.output (drop (length c.feed_stage-given.new.output) c.args.staging.now.next.items) c.args.staging.now.next.len (omega (arith, c.feed_stage-given.auto.output, c.deref_mut.ensures.len))
+    ∙ take_at c.feed_stage-given.new.output (drop (length c.feed_stage-given.new.output) (fixed_items c.args.staging.now.next)) (fixed_len c.args.staging.now.next) (omega (arith, c.feed_stage-given.auto.output, c.deref_mut.ensures.len))
     ∙ rw same at c.feed_stage-given.ensures.frames in
-    let front = given-front (kept_in kept c.args.boxes.now) c.args.tables.now c.args.gain c.args.want _ c.args.frames c.feed_stage-given.result c.args.source c.args.staging.now.now.items next _
+    let front = given-front (kept_in kept c.args.boxes.now) c.args.tables.now c.args.gain c.args.want _ c.args.frames c.feed_stage-given.result c.args.source (fixed_items c.args.staging.now.now) next _
     h.limits h.fitted h.source above room (rw same at c.feed_stage-given.ensures.given) next_is in
-    let done = gone-on kept c.args.boxes.now c.feed_stage-given.new.boxes c.feed_stages.new.boxes c.args.tables.now c.args.gain c.args.want stages _ _ (first_frames c.args.frames c.args.source c.args.staging.now.now.items)
+    let done = gone-on kept c.args.boxes.now c.feed_stage-given.new.boxes c.feed_stages.new.boxes c.args.tables.now c.args.gain c.args.want stages _ _ (first_frames c.args.frames c.args.source (fixed_items c.args.staging.now.now))
     (first_frames c.feed_stage-given.result c.channels_out.result next) c.feed_stages.result c.args.out.now c.feed_stages.new.out cut c.requires.distinct c.feed_stage-given.ensures.others
     (rw same at c.feed_stage-given.ensures.kept ∙ ap (λ (t : Turn). t.kept) does)
     (ap (λ channels. first_frames c.feed_stage-given.result channels next) c.channels_out.ensures ∙ front)

@@ -1,5 +1,6 @@
 use Rattle.std.proofs.Common.{◌≤◌, ◌*◌, List, ◌++◌, length, take, drop, replicate, refl, ap, ◌∙◌, subst, arith}
 use Rattle.std.proofs.Math.Nat.{mul_assoc}
+use Rattle.pcm_fixed.specs.Fixed.{fixed_items}
 use Rattle.pcm_format.specs.Formats.{bytes_of}
 use Rattle.pcm_format.specs.Frames.{Frame}
 use Rattle.pcm_format.specs.Layouts.{channels_of}
@@ -70,7 +71,7 @@ returns-clause-pulls g c x quiet before stands past =
     let waiting = waiting_frames plan c.args.format bytes in
     let layout = c.channels-source.ensures ∙ ap channels_of c.source.ensures in
     let within : advance.eaten ≤ length waiting = omega (arith, c.advance-advance.ensures.there, c.requires.waiting) in
-    let input = loaded-frames plan c.args.format bytes advance.eaten advance.silent source c.load.new.self.now.items layout within c.load.ensures.loaded in
+    let input = loaded-frames plan c.args.format bytes advance.eaten advance.silent source (fixed_items c.load.new.self.now) layout within c.load.ensures.loaded in
     let input_is = input ∙ ap (λ n. take advance.eaten waiting ++ replicate advance.silent (silence n)) layout in
     let Fed : List Frame → Type 0 = λ list. AreFed (kept_in kept c.args.self.now.boxes) (kept_in kept c.feed_stages.new.boxes) c.args.tables.now c.args.gain c.args.want plan.stages list in
     block-pulls kept c.args.tables.now c.args.gain c.args.ended c.args.want waiting c.args.self.now _ advance c.args.out.now c.feed_stages.new.out x quiet before (record {

@@ -3,6 +3,7 @@ use Rattle.std.specs.List.{flat_map}
 use Rattle.std.proofs.Math.Nat.{mul_assoc, mul-le-mul}
 use Rattle.std.proofs.lemmas.List.{take_at, length-append, length-take-le}
 use Rattle.std.proofs.lemmas.List.Elements.{All-append}
+use Rattle.pcm_fixed.specs.Fixed.{fixed_items, fixed_len}
 use Rattle.pcm_num.specs.Limit.{FitsBits}
 use Rattle.pcm_format.specs.Formats.{bits_of, bytes_of}
 use Rattle.pcm_format.specs.Frames.{Frame}
@@ -49,14 +50,14 @@ spell-kept-requires-clause-range g c =
     let layout = c.channels-source.ensures ∙ ap channels_of c.source.ensures in
     let above = channels_of-above plan.source in
     let input = pushed_frames plan c.args.input.now in
-    let offers = copied-frames (channels_of plan.source) c.args.frames c.channels-source.result c.args.input.now c.copy.new.self.now.items layout c.requires.whole c.copy.ensures.loaded in
+    let offers = copied-frames (channels_of plan.source) c.args.frames c.channels-source.result c.args.input.now (fixed_items c.copy.new.self.now) layout c.requires.whole c.copy.ensures.loaded in
     let have = frames_of-channels (channels_of plan.source) c.args.input.now in
     let whole = whole-is kept c.args.tables.now input _ old (record old { boxes = c.feed_stages.new.boxes; counts = c.after-self.result; bounded = subst (λ r. AreBounded r c.after-self.result) c.rate-rate.ensures.value c.after-self.ensures.bounded }) _ _ c.rate-rate.result c.args.frames c.advance_whole-advance.result c.stages.result.now c.rate-rate.ensures.value
     (count-frames (channels_of plan.source) c.args.frames c.args.input.now above c.requires.whole) c.advance_whole-advance.ensures c.stages.ensures.value offers refl have
     c.after-self.ensures.stands c.feed_stages.ensures.fed c.feed_stages.ensures.out in
     let s = c.requires.records in
     let more = block-records kept c.args.tables.now input old _ s.frames _ c.feed_stages.new.out whole.0 s.records in
-    let back = c.deref.ensures.value ∙ take_at c.feed_stages.new.out (drop (length c.feed_stages.new.out) old.block.items) old.block.len (omega (arith, c.feed_stages.auto.out, c.deref_mut.ensures.len)) in
+    let back = c.deref.ensures.value ∙ take_at c.feed_stages.new.out (drop (length c.feed_stages.new.out) (fixed_items old.block)) (fixed_len old.block) (omega (arith, c.feed_stages.auto.out, c.deref_mut.ensures.len)) in
     let front = come-first kept c.args.tables.now input old _ s.frames _ c.feed_stages.new.out c.deref.result.now c.advance_whole-advance.result.given c.channels-target.result more s.records have back
     (c.channels-target.ensures ∙ ap channels_of c.target.ensures) (omega (arith, whole.1)) in
     let fits = frames_of-bits 32 (channels_of plan.source) c.args.input.now c.copy.ensures.fits in
@@ -71,7 +72,7 @@ returns-clause-records g c =
     let layout = c.channels-source.ensures ∙ ap channels_of c.source.ensures in
     let above = channels_of-above plan.source in
     let input = pushed_frames plan c.args.input.now in
-    let offers = copied-frames (channels_of plan.source) c.args.frames c.channels-source.result c.args.input.now c.copy.new.self.now.items layout c.requires.whole c.copy.ensures.loaded in
+    let offers = copied-frames (channels_of plan.source) c.args.frames c.channels-source.result c.args.input.now (fixed_items c.copy.new.self.now) layout c.requires.whole c.copy.ensures.loaded in
     let have = frames_of-channels (channels_of plan.source) c.args.input.now in
     let whole = whole-is kept c.args.tables.now input _ old _ _ _ c.rate-rate.result c.args.frames c.advance_whole-advance.result c.stages.result.now c.rate-rate.ensures.value
     (count-frames (channels_of plan.source) c.args.frames c.args.input.now above c.requires.whole) c.advance_whole-advance.ensures c.stages.ensures.value offers refl have
@@ -89,13 +90,13 @@ returns-clause-pushes g c x stands =
     let layout = c.channels-source.ensures ∙ ap channels_of c.source.ensures in
     let above = channels_of-above plan.source in
     let input = pushed_frames plan c.args.input.now in
-    let offers = copied-frames (channels_of plan.source) c.args.frames c.channels-source.result c.args.input.now c.copy.new.self.now.items layout c.requires.whole c.copy.ensures.loaded in
+    let offers = copied-frames (channels_of plan.source) c.args.frames c.channels-source.result c.args.input.now (fixed_items c.copy.new.self.now) layout c.requires.whole c.copy.ensures.loaded in
     let have = frames_of-channels (channels_of plan.source) c.args.input.now in
     let whole = whole-is kept c.args.tables.now input _ old _ _ _ c.rate-rate.result c.args.frames c.advance_whole-advance.result c.stages.result.now c.rate-rate.ensures.value
     (count-frames (channels_of plan.source) c.args.frames c.args.input.now above c.requires.whole) c.advance_whole-advance.ensures c.stages.ensures.value offers refl have
     c.after-self.ensures.stands c.feed_stages.ensures.fed c.feed_stages.ensures.out in
     let more = block-records kept c.args.tables.now input old _ x _ c.feed_stages.new.out whole.0 stands in
-    let back = c.deref.ensures.value ∙ take_at c.feed_stages.new.out (drop (length c.feed_stages.new.out) old.block.items) old.block.len (omega (arith, c.feed_stages.auto.out, c.deref_mut.ensures.len)) in
+    let back = c.deref.ensures.value ∙ take_at c.feed_stages.new.out (drop (length c.feed_stages.new.out) (fixed_items old.block)) (fixed_len old.block) (omega (arith, c.feed_stages.auto.out, c.deref_mut.ensures.len)) in
     let front = come-first kept c.args.tables.now input old _ x _ c.feed_stages.new.out c.deref.result.now c.spell-kept.result c.channels-target.result more stands have back
     (c.channels-target.ensures ∙ ap channels_of c.target.ensures) (omega (arith, whole.1, c.spell-kept.ensures.kept)) in
     record {
