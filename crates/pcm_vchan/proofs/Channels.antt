@@ -4,6 +4,7 @@ use Rattle.std.specs.Prelude.{Vec, not, nat_lt, position}
 use Rattle.std.specs.Vec.{with_item}
 use Rattle.std.proofs.Props.{props}
 use mathlib.Core.HLevel.{is_prop→PathP}
+use Rattle.pcm_fixed.specs.Fixed.{fixed_len}
 use Rattle.pcm_format.specs.Frames.{Frame, frame_bytes}
 use Rattle.pcm_format.specs.Layouts.{channels_of}
 use Rattle.pcm_desk.specs.declared.limits.TheConstants.{RING_FRAMES, SLOTS}
@@ -178,7 +179,7 @@ parent_same {B = B} new old device channels recorders ring handed mixed bytes fr
   recorders_within = is_prop→PathP (λ j. (device j).record_slots ≤ SLOTS) (λ j. hlevel props) new.recorders_within old.recorders_within i;
   size = is_prop→PathP (λ j. (ring j).size ≡ (device j).ring_frames * frame_bytes (device j).settings) (λ j. hlevel props) new.size old.size i;
   full = is_prop→PathP (λ j. length (ring j).bytes ≡ (device j).ring_frames * frame_bytes (device j).settings) (λ j. hlevel props) new.full old.full i;
-  bytes_size = is_prop→PathP (λ j. (bytes j).len ≡ (device j).ring_frames * frame_bytes (device j).settings) (λ j. hlevel props) new.bytes_size old.bytes_size i;
-  frames_size = is_prop→PathP (λ j. (frames j).len ≡ (device j).ring_frames * channels_of (device j).settings.layout) (λ j. hlevel props) new.frames_size old.frames_size i;
-  sum_size = is_prop→PathP (λ j. (sum j).len ≡ (device j).ring_frames * channels_of (device j).settings.layout) (λ j. hlevel props) new.sum_size old.sum_size i;
+  bytes_size = is_prop→PathP (λ j. fixed_len (bytes j) ≡ (device j).ring_frames * frame_bytes (device j).settings) (λ j. hlevel props) new.bytes_size old.bytes_size i;
+  frames_size = is_prop→PathP (λ j. fixed_len (frames j) ≡ (device j).ring_frames * channels_of (device j).settings.layout) (λ j. hlevel props) new.frames_size old.frames_size i;
+  sum_size = is_prop→PathP (λ j. fixed_len (sum j) ≡ (device j).ring_frames * channels_of (device j).settings.layout) (λ j. hlevel props) new.sum_size old.sum_size i;
 }

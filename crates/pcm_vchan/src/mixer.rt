@@ -1,10 +1,11 @@
-//! One block of the mix, from all channels in the order of their slots.
+//! One block of the mix, from all channels in the order of their slots, and the ring that it goes into.
 
-ghost use Rattle.std.specs.Prelude.{◌≡◌, ◌≢◌, ℕ, List, [], ◌+◌, ◌*◌, ◌^◌, ◌<◌, ◌≤◌, length, take, All, slice_index_or};
+ghost use Rattle.std.specs.Prelude.{◌≡◌, ◌≢◌, ℕ, pos, List, [], ◌++◌, ◌+◌, ◌*◌, ◌^◌, ◌<◌, ◌≤◌, length, take, drop, replicate, flat_map, All, IfOk, slice_index_or};
 ghost use Rattle.pcm_num.specs.Limit.{FitsBits};
-ghost use Rattle.pcm_format.specs.Formats.{bits_of};
+ghost use Rattle.pcm_format.specs.Formats.{bits_of, bytes_of};
 ghost use Rattle.pcm_format.specs.Layouts.{channels_of};
 ghost use Rattle.pcm_format.specs.Frames.{frame_bytes};
+ghost use Rattle.pcm_format.specs.Samples.{spelled};
 ghost use Rattle.pcm_desk.specs.Device.{seen};
 ghost use Rattle.pcm_desk.specs.Desk.{mixing};
 ghost use Rattle.pcm_sound.specs.Blocks.{turned};
@@ -17,6 +18,8 @@ use pcm_desk::Device;
 use pcm_feeder::{Feeder, Tables};
 use pcm_format::spell_frames;
 use pcm_play::PlayChannelOf;
+use pcm_ring::ByteRing;
+use std::alloc::{AllocError, Global};
 
 // Adds the frames of each channel to a block of `n` frames. The other buffer holds one channel's part meanwhile.
 fn mix_channels<B: Feeder>(
@@ -88,8 +91,8 @@ fn mix_slot<B: Feeder>(
     channels[slot].refill(tables, n, frames, sum);
 }
 
-/// Mixes a block of `n` frames from silence on, and spells it into the front of `bytes`. `frames` and `sum` are scratch.
-pub fn mix_block<B: Feeder>(
+// Mixes a block of `n` frames from silence on, and spells it. `frames` and `sum` are scratch.
+fn mix_block<B: Feeder>(
     device: Device,
     tables: &Tables,
     channels: &mut [PlayChannelOf<B>],
@@ -101,7 +104,7 @@ pub fn mix_block<B: Feeder>(
     requires some { 0 < n }
     requires own { AreOf device channels.old }
     requires ready { All (IsReady B.kind B.kept tables.now) channels.old }
-    requires bytes { n * frame_bytes device.settings ≤ length bytes.old }
+    requires bytes { length bytes.old ≡ n * frame_bytes device.settings }
     requires frames { n * channels_of device.settings.layout ≤ length frames.old }
     requires sum { n * channels_of device.settings.layout ≤ length sum.old }
     requires count { All (λ channel. channel.book.given + n < 2 ^ 64) channels.old }
@@ -111,14 +114,74 @@ pub fn mix_block<B: Feeder>(
     ensures moves { Each (Moves B.kind B.kept tables.now [] n) channels.old channels.new }
     ensures books { Each (λ old new. new.book ≡ mixing (seen tables.now device) n old.book) channels.old channels.new }
     ensures bytes { (streams : ℕ → List ℕ) → AllStand B.kept tables.now channels.old streams
-        → take (n * frame_bytes device.settings) bytes.new
-        ≡ block_bytes (seen tables.now device)
+        → bytes.new ≡ block_bytes (seen tables.now device)
         (block_of (seen tables.now device) n (books_of channels.old) streams (length channels.old)) }
 {
     let samples = n * device.settings.layout.channels();
-    let bytes = &mut bytes[..n * device.settings.frame_bytes()];
     let sum = &mut sum[..samples];
     sum.fill(0);
     mix_channels(device, tables, channels, n, &mut frames[..samples], sum);
     spell_frames(device.settings.format, sum, bytes);
+}
+
+/// Hands the oldest `n` frames of a full ring over, and puts a block of as many from all channels behind the rest.
+/// `bytes`, `frames` and `sum` are scratch.
+pub fn turn_ring<B: Feeder>(
+    device: Device,
+    tables: &Tables,
+    channels: &mut [PlayChannelOf<B>],
+    n: usize,
+    ring: &mut ByteRing,
+    bytes: &mut [u8],
+    frames: &mut [i32],
+    sum: &mut [i32],
+    out: &mut [u8],
+)
+    requires some { 0 < n }
+    requires own { AreOf device channels.old }
+    requires ready { All (IsReady B.kind B.kept tables.now) channels.old }
+    requires full { length ring.old.bytes ≡ ring.old.size }
+    requires within { n * frame_bytes device.settings ≤ ring.old.size }
+    requires out { length out.old ≡ n * frame_bytes device.settings }
+    requires bytes { n * frame_bytes device.settings ≤ length bytes.old }
+    requires frames { n * channels_of device.settings.layout ≤ length frames.old }
+    requires sum { n * channels_of device.settings.layout ≤ length sum.old }
+    requires count { All (λ channel. channel.book.given + n < 2 ^ 64) channels.old }
+    requires counted { All (λ channel. channel.book.done + channel.book.written
+        < 2 ^ 64) channels.old }
+    ensures own { AreOf device channels.new }
+    ensures moves { Each (Moves B.kind B.kept tables.now [] n) channels.old channels.new }
+    ensures books { Each (λ old new. new.book ≡ mixing (seen tables.now device) n old.book) channels.old channels.new }
+    ensures size { ring.new.size ≡ ring.old.size }
+    ensures full { length ring.new.bytes ≡ ring.old.size }
+    ensures out { out.new ≡ take (n * frame_bytes device.settings) ring.old.bytes }
+    ensures ring { (streams : ℕ → List ℕ) → AllStand B.kept tables.now channels.old streams
+        → ring.new.bytes ≡ drop (n * frame_bytes device.settings) ring.old.bytes
+        ++ block_bytes (seen tables.now device)
+        (block_of (seen tables.now device) n (books_of channels.old) streams (length channels.old)) }
+{
+    let block = &mut bytes[..n * device.settings.frame_bytes()];
+    ring.take(out);
+    mix_block(device, tables, channels, n, block, frames, sum);
+    ring.put(block);
+}
+
+/// The ring of a device, full of the silence that is handed in. The bytes are scratch.
+pub fn silent_ring(
+    alloc: Global,
+    device: Device,
+    silence: &[i32],
+    bytes: &mut [u8],
+) -> Result<ByteRing, AllocError>
+    requires silent { silence.now ≡ replicate (length silence.now) (pos 0) }
+    requires bytes { length bytes.old ≡ length silence.now * bytes_of device.settings.format }
+    ensures size { IfOk result (λ made. made.size ≡ length bytes.old) }
+    ensures full { IfOk result (λ made. length made.bytes ≡ length bytes.old) }
+    ensures ring { IfOk result (λ made. made.bytes
+        ≡ flat_map (spelled device.settings.format) silence.now) }
+{
+    spell_frames(device.settings.format, silence, bytes);
+    let mut ring = ByteRing::new(alloc, bytes.len())?;
+    ring.put(bytes);
+    Ok(ring)
 }

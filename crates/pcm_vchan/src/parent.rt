@@ -2,6 +2,7 @@
 
 ghost use Rattle.std.specs.Borrow.{sem};
 ghost use Rattle.std.specs.Prelude.{◌≡◌, ◌+◌, ◌*◌, ◌^◌, ◌<◌, ◌≤◌, ◌++◌, [], ℕ, List, length, vec_len, All, OnErr, IfOk, IfSome, take, drop, position, slice_index_or};
+ghost use Rattle.pcm_fixed.specs.Fixed.{fixed_len};
 ghost use Rattle.pcm_format.specs.Frames.{frame_bytes};
 ghost use Rattle.pcm_format.specs.Layouts.{channels_of};
 ghost use Rattle.pcm_feeder.specs.Limits.{IsRate};
@@ -17,11 +18,12 @@ ghost use Rattle.pcm_play.specs.Channels.{IsReady, IsUnopened, Moves};
 ghost use Rattle.pcm_record.specs.Channels.{IsRecordReady, IsRecordUnopened};
 ghost use Rattle.pcm_vchan.specs.Blocks.{block_bytes, block_of, silent_block};
 
-use crate::mixer::mix_block;
+use crate::mixer::{silent_ring, turn_ring};
 use crate::recorder::capture_all;
 use pcm_desk::{Device, SLOTS};
 use pcm_feeder::{Feeder, RackOf, RacksOf, Tables};
-use pcm_format::{Settings, spell_frames};
+use pcm_fixed::Fixed;
+use pcm_format::Settings;
 use pcm_oss::{Errno, Way};
 use pcm_play::PlayChannelOf;
 use pcm_record::RecChannelOf;
@@ -37,9 +39,9 @@ pub struct ParentOf<B> {
     pub ring: ByteRing,
     pub handed: u64,
     pub mixed: u64,
-    bytes: Vec<u8>,
-    frames: Vec<i32>,
-    sum: Vec<i32>,
+    bytes: Fixed<u8>,
+    frames: Fixed<i32>,
+    sum: Fixed<i32>,
     ghost within: { device.ring_frames ≤ RING_FRAMES },
     ghost slots: { vec_len channels ≡ device.play_slots },
     ghost slots_within: { device.play_slots ≤ SLOTS },
@@ -47,9 +49,9 @@ pub struct ParentOf<B> {
     ghost recorders_within: { device.record_slots ≤ SLOTS },
     ghost size: { ring.size ≡ device.ring_frames * frame_bytes device.settings },
     ghost full: { length ring.bytes ≡ device.ring_frames * frame_bytes device.settings },
-    ghost bytes_size: { vec_len bytes ≡ device.ring_frames * frame_bytes device.settings },
-    ghost frames_size: { vec_len frames ≡ device.ring_frames * channels_of device.settings.layout },
-    ghost sum_size: { vec_len sum ≡ device.ring_frames * channels_of device.settings.layout },
+    ghost bytes_size: { fixed_len bytes ≡ device.ring_frames * frame_bytes device.settings },
+    ghost frames_size: { fixed_len frames ≡ device.ring_frames * channels_of device.settings.layout },
+    ghost sum_size: { fixed_len sum ≡ device.ring_frames * channels_of device.settings.layout },
 }
 
 impl<B: Feeder> ParentOf<B> {
@@ -92,9 +94,7 @@ impl<B: Feeder> ParentOf<B> {
         let mut bytes = vec![in alloc; 0u8; size]?;
         let frames = vec![in alloc; 0i32; samples]?;
         let sum = vec![in alloc; 0i32; samples]?;
-        spell_frames(device.settings.format, &sum, &mut bytes);
-        let mut ring = ByteRing::new(alloc, size)?;
-        ring.put(&bytes);
+        let ring = silent_ring(alloc, device, &sum, &mut bytes)?;
         Ok(ParentOf {
             device,
             channels,
@@ -102,9 +102,9 @@ impl<B: Feeder> ParentOf<B> {
             ring,
             handed: 0,
             mixed: 0,
-            bytes,
-            frames,
-            sum,
+            bytes: Fixed::new(bytes),
+            frames: Fixed::new(frames),
+            sum: Fixed::new(sum),
         })
     }
 
@@ -220,18 +220,17 @@ impl<B: Feeder> ParentOf<B> {
             ++ block_bytes (seen tables.now self.old.device) (block_of (seen tables.now self.old.device) n
             (parent_books self.old) streams (length self.old.channels.items)) }
     {
-        let size = n * self.device.settings.frame_bytes();
-        self.ring.take(out);
-        mix_block(
+        turn_ring(
             self.device,
             tables,
             &mut self.channels,
             n,
+            &mut self.ring,
             &mut self.bytes,
             &mut self.frames,
             &mut self.sum,
+            out,
         );
-        self.ring.put(&self.bytes[..size]);
         capture_all(self.device, tables, &mut self.recorders, n, captured);
         self.handed += n as u64;
         self.mixed += n as u64;

@@ -1,11 +1,9 @@
-use Rattle.std.proofs.Common.{◌≡◌, ◌*◌, pos, length, take, drop, replicate, All, sym, ap, ◌∙◌, subst, arith, length-take}
+use Rattle.std.proofs.Common.{◌≡◌, ◌*◌, pos, length, take, replicate, All, sym, ap, ◌∙◌, subst, arith, length-take}
 use Rattle.std.proofs.Math.Nat.{mul_assoc}
-use Rattle.std.proofs.lemmas.List.{take_at}
 use Rattle.std.proofs.lemmas.List.Elements.{All-replicate}
 use Rattle.pcm_num.specs.Limit.{FitsBits}
 use Rattle.pcm_format.specs.Formats.{bits_of, bytes_of}
 use Rattle.pcm_format.specs.Layouts.{channels_of}
-use Rattle.pcm_format.specs.Frames.{frame_bytes}
 use Rattle.pcm_format.proofs.Spelling.{silence-fits}
 use Rattle.pcm_desk.specs.Device.{seen}
 use Rattle.pcm_vchan.specs.Slots.{books_of}
@@ -21,22 +19,16 @@ pub spell_frames-requires-clause-lengths : goal.spell_frames-requires-clause-len
 spell_frames-requires-clause-lengths g c =
     let settings = c.args.device.settings in
     let width : c.args.n * c.channels.result ≡ c.args.n * channels_of settings.layout = ap (λ k. c.args.n * k) c.channels.ensures in
-    let size : c.args.n * c.frame_bytes.result ≡ c.args.n * (channels_of settings.layout * bytes_of settings.format) = ap (λ k. c.args.n * k) c.frame_bytes.ensures in
     let samples : length c.mix_channels.new.sum ≡ c.args.n * channels_of settings.layout =
     omega (arith, c.mix_channels.auto.sum, c.fill.ensures.len, length-take (c.args.n * c.channels.result) c.args.sum.now, c.requires.sum) in
-    let bytes : length (take (c.args.n * c.frame_bytes.result) c.args.bytes.now) ≡ c.args.n * (channels_of settings.layout * bytes_of settings.format) =
-    omega (arith, length-take (c.args.n * c.frame_bytes.result) c.args.bytes.now, c.requires.bytes) in
-    bytes ∙ sym (mul_assoc c.args.n (channels_of settings.layout) (bytes_of settings.format)) ∙ sym (ap (λ k. k * bytes_of settings.format) samples)
+    c.requires.bytes ∙ sym (mul_assoc c.args.n (channels_of settings.layout) (bytes_of settings.format)) ∙ sym (ap (λ k. k * bytes_of settings.format) samples)
 
 pub returns-clause-bytes : goal.returns-clause-bytes
 returns-clause-bytes g c = λ streams stand.
     let device = seen c.args.tables.now c.args.device in
     let slots = length c.args.channels.now in
     let width : c.args.n * c.channels.result ≡ c.args.n * channels_of c.args.device.settings.layout = ap (λ k. c.args.n * k) c.channels.ensures in
-    let size : c.args.n * c.frame_bytes.result ≡ c.args.n * frame_bytes c.args.device.settings = ap (λ k. c.args.n * k) c.frame_bytes.ensures in
     let long : length (take (c.args.n * c.channels.result) c.args.sum.now) ≡ c.args.n * channels_of c.args.device.settings.layout =
     omega (arith, length-take (c.args.n * c.channels.result) c.args.sum.now, c.requires.sum) in
     let silent : c.fill.new.self ≡ replicate (c.args.n * channels_of c.args.device.settings.layout) (pos 0) = c.fill.ensures.after (λ y same. same) ∙ ap (λ k. replicate k (pos 0)) long in
-    take_at c.spell_frames.new.out (drop (c.args.n * c.frame_bytes.result) c.args.bytes.now) (c.args.n * frame_bytes c.args.device.settings)
-    (omega (arith, c.spell_frames.auto.out, length-take (c.args.n * c.frame_bytes.result) c.args.bytes.now, c.requires.bytes))
-    ∙ c.spell_frames.ensures ∙ ap (block_bytes device) (c.mix_channels.ensures.sum streams stand ∙ ap (mixed_onto device c.args.n (books_of c.args.channels.now) streams slots) silent)
+    c.spell_frames.ensures ∙ ap (block_bytes device) (c.mix_channels.ensures.sum streams stand ∙ ap (mixed_onto device c.args.n (books_of c.args.channels.now) streams slots) silent)
