@@ -1,5 +1,6 @@
 pub mod Counted
 pub mod Desks
+pub mod InOrder
 pub mod Turning
 pub mod Blocks
 pub mod Standing

@@ -1,11 +1,15 @@
--- What an engine stands for.
-use Rattle.std.specs.Prelude.{◌≡◌, List, All}
+-- What an engine stands for, and what holds of every one.
+use Rattle.std.specs.Prelude.{◌≡◌, ◌≤◌, ◌*◌, ℕ, List, All, length}
 use Rattle.pcm_oss.specs.declared.event.Event.{Event}
 use Rattle.pcm_wave.specs.declared.pool.Pool.{Pool}
 use Rattle.pcm_feeder.specs.declared.kind.Kind.{Kind}
 use Rattle.pcm_feeder.specs.Kept.{Kept}
-use Rattle.pcm_desk.specs.Device.{DeviceSeen, seen}
-use Rattle.pcm_desk.specs.Desk.{Desk}
+use Rattle.pcm_desk.specs.Device.{DeviceSeen, device_frame_bytes, ring_frames, seen}
+use Rattle.pcm_desk.specs.Books.{ring_bytes}
+use Rattle.pcm_desk.specs.RecordBooks as records
+use Rattle.pcm_desk.specs.Safe.{BookIsSafe}
+use Rattle.pcm_desk.specs.RecordSafe.{RecordIsSafe}
+use Rattle.pcm_desk.specs.Desk.{Desk, book_at, rate_at, record_at, record_rate_at}
 use Rattle.pcm_sound.specs.Story.{story_of}
 use Rattle.pcm_engine.specs.declared.engine.EngineOf.{EngineOf}
 use Rattle.pcm_play.specs.Channels.{IsReady}
@@ -26,11 +30,28 @@ pub record Stands {B : Type 0} (kept : B → Kept) (engine : EngineOf B) (pool :
   pub playing : PartsStand kept (device_of engine) (desk_of engine) engine.parent.channels.items engine.parent.ring.bytes (story_of (device_of engine) pool events)
   pub recording : RecordersStand kept (device_of engine) pool engine.parent.recorders.items (story_of (device_of engine) pool events)
 
--- Each box of the engine is of its place's kind, and each channel stands for its book. Every engine is so, from its first
--- moment on; no type can say it of boxes.
+-- the book of each slot that plays is in order
+abbrev pub BooksAreSafe : DeviceSeen → Desk → Type 0
+BooksAreSafe device desk = (slot : ℕ) → BookIsSafe (rate_at device (book_at device desk slot)) (book_at device desk slot)
+
+-- the book of each slot that records is in order
+abbrev pub RecordsAreSafe : DeviceSeen → Desk → Type 0
+RecordsAreSafe device desk = (slot : ℕ) → RecordIsSafe (record_rate_at device (record_at device desk slot)) (record_at device desk slot)
+
+-- No ring passes its size: that of a channel has room for the fragments of its book, and the device's is always full.
+pub record RingsHold {B : Type 0} (engine : EngineOf B) : Type 0 where
+  pub playing : All (λ channel. length channel.ring.bytes ≤ ring_bytes channel.book) engine.parent.channels.items
+  pub recording : All (λ channel. length channel.ring.bytes ≤ records.ring_bytes channel.book) engine.parent.recorders.items
+  pub device : length engine.parent.ring.bytes ≡ ring_frames (device_of engine) * device_frame_bytes (device_of engine)
+
+-- Each box of the engine is of its place's kind, each channel stands for its book, all books are in order, and no ring passes its
+-- size. Every engine is so, from its first moment on, with whatever pools it is stepped; no type can say it of boxes.
 pub record AreReady {B : Type 0} (kind : B → Kind) (kept : B → Kept) (engine : EngineOf B) : Type 0 where
   pub playing : All (IsReady kind kept engine.tables) engine.parent.channels.items
   pub recording : All (IsRecordReady kind kept engine.tables) engine.parent.recorders.items
+  pub books : BooksAreSafe (device_of engine) (desk_of engine)
+  pub records : RecordsAreSafe (device_of engine) (desk_of engine)
+  pub rings : RingsHold engine
 
 -- all but the count of steps is as before: channels with their books, rings and chains, descriptors, the device's ring and counts
 pub record IsUnchanged {B : Type 0} (old new : EngineOf B) : Type 0 where

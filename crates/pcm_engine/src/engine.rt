@@ -47,10 +47,8 @@ impl<B: Feeder> EngineOf<B> {
     ghost use Rattle.pcm_wave.specs.Pools.{IsCaptureIn};
     ghost use Rattle.pcm_format.specs.Frames.{Frame};
     ghost use Rattle.pcm_desk.specs.Device.{IsInLimits, device_settings};
-    ghost use Rattle.pcm_desk.specs.Desk.{after, book_at, rate_at, record_at, record_rate_at};
+    ghost use Rattle.pcm_desk.specs.Desk.{after};
     ghost use Rattle.pcm_desk.specs.Own.{IsIsolated};
-    ghost use Rattle.pcm_desk.specs.Safe.{BookIsSafe};
-    ghost use Rattle.pcm_desk.specs.RecordSafe.{RecordIsSafe};
     ghost use Rattle.pcm_sound.specs.Story.{story_of};
     ghost use Rattle.pcm_sound.specs.Replies.{reply_to};
     ghost use Rattle.pcm_sound.specs.DeviceList.{device_text};
@@ -59,7 +57,7 @@ impl<B: Feeder> EngineOf<B> {
     ghost use Rattle.pcm_vchan.specs.Slots.{AllRecord, AllStand};
     ghost use Rattle.pcm_vchan.specs.Parents.{parent_books};
     ghost use Rattle.pcm_engine.specs.Steps.{ChannelsMove, RecordersMove, bytes_answered, ring_after};
-    ghost use Rattle.pcm_engine.specs.Engines.{device_of, desk_of, AreReady, Stands, IsUnchanged};
+    ghost use Rattle.pcm_engine.specs.Engines.{device_of, desk_of, AreReady, BooksAreSafe, IsUnchanged, RecordsAreSafe, RingsHold, Stands};
 
     /// The engine of a device with its filters, before its first event. Its channels pick their stages from the racks, one rack a slot; after
     /// a refusal the racks are dropped. All memory of the engine is taken here.
@@ -107,7 +105,16 @@ impl<B: Feeder> EngineOf<B> {
         ensures steps { self.new.steps ≡ self.old.steps + 1 }
         ensures ready { AreReady B.kind B.kept self.new }
 
-        // Whatever it stood for, it stands for that with the event appended.
+        // The desk and the answer are those of the rules, the counts of every book are in order, and no ring passes its size.
+        ensures desk { desk_of self.new
+            ≡ (after (device_of self.old) (desk_of self.old) event.now).desk }
+        ensures result { reply.new.result
+            ≡ (after (device_of self.old) (desk_of self.old) event.now).reply }
+        ensures safe { BooksAreSafe (device_of self.new) (desk_of self.new) }
+        ensures records_safe { RecordsAreSafe (device_of self.new) (desk_of self.new) }
+        ensures rings { RingsHold self.new }
+
+        // Whatever it stood for with this pool, it stands for that with the event appended.
         ensures stands { (events : List Event) → Stands B.kept self.old pool.now events
             → Stands B.kept self.new pool.now (events ++ event.now ∷ []) }
         ensures reply { (events : List Event) → Stands B.kept self.old pool.now events
@@ -122,13 +129,6 @@ impl<B: Feeder> EngineOf<B> {
             → plain_text (device_of self.old) pool.now (events ++ event.now ∷ [])
             ≡ device_text (device_of self.old) pool.now events ++ take result out.new }
 
-        // The counts of every book are in order, and no ring holds more than its size.
-        ensures safe { (events : List Event) → Stands B.kept self.old pool.now events
-            → (slot : ℕ) → let book = book_at (device_of self.new) (desk_of self.new) slot in
-            BookIsSafe (rate_at (device_of self.new) book) book }
-        ensures records_safe { (events : List Event) → Stands B.kept self.old pool.now events
-            → (slot : ℕ) → let book = record_at (device_of self.new) (desk_of self.new) slot in
-            RecordIsSafe (record_rate_at (device_of self.new) book) book }
         ensures refused { IsErr reply.new.result → IsUnchanged self.old self.new }
 
         // No client sees what others do, but that a slot is taken: no two descriptors hold one, and no book looks at another.

@@ -8,6 +8,7 @@ use Rattle.pcm_desk.specs.Device.{seen}
 use Rattle.pcm_format.specs.Layouts.{channels_of}
 use Rattle.pcm_sound.specs.Story.{story_at_start}
 use Rattle.pcm_engine.specs.Stands.{RecordersStand}
+use Rattle.pcm_engine.proofs.InOrder.{ready-all}
 use Rattle.pcm_engine.proofs.Starting.{parent-starts, ready-unopened, record-ready-unopened, record_books_of-unopened, recorders-start}
 use Rattle.pcm_engine.proofs.engine.EngineOf.new.Goals as goal
 
@@ -32,10 +33,9 @@ invariant_of-result g c =
     }
 
 pub returns-clause-ready : goal.returns-clause-ready
-returns-clause-ready g c = record {
-  playing = ready-unopened g.B.Feeder.kind g.B.Feeder.kept c.args.tables c.args.device c.in_ok-parent.parent.channels.items c.in_ok-parent.ensures.channels;
-  recording = record-ready-unopened g.B.Feeder.kind g.B.Feeder.kept c.args.tables c.args.device c.in_ok-parent.parent.recorders.items c.in_ok-parent.ensures.recording;
-}
+returns-clause-ready g c = ready-all g.B.Feeder.kind g.B.Feeder.kept _
+    (ready-unopened g.B.Feeder.kind g.B.Feeder.kept c.args.tables c.args.device c.in_ok-parent.parent.channels.items c.in_ok-parent.ensures.channels)
+    (record-ready-unopened g.B.Feeder.kind g.B.Feeder.kept c.args.tables c.args.device c.in_ok-parent.parent.recorders.items c.in_ok-parent.ensures.recording)
 
 pub returns-clause-stands : goal.returns-clause-stands
 returns-clause-stands g c = λ pool.

@@ -6,11 +6,9 @@ use Rattle.pcm_oss.specs.declared.event.Event.{Event}
 use Rattle.pcm_play.specs.Channels.{IsReady}
 use Rattle.pcm_record.specs.Channels.{IsRecordReady}
 use Rattle.pcm_sound.specs.Replies.{bytes_to}
-use Rattle.pcm_desk.specs.Desk.{Desk, after, book_at, rate_at, record_at, record_rate_at}
+use Rattle.pcm_desk.specs.Desk.{Desk, after}
 use Rattle.pcm_desk.specs.Events.{frames_taken}
 use Rattle.pcm_desk.specs.Own.{IsIsolated}
-use Rattle.pcm_desk.specs.Safe.{BookIsSafe}
-use Rattle.pcm_desk.specs.RecordSafe.{RecordIsSafe}
 use Rattle.pcm_sound.specs.Story.{story_of, story_at_start}
 use Rattle.pcm_sound.specs.DeviceList.{device_body}
 use Rattle.pcm_sound.specs.Valid.{StoryIsValid}
@@ -21,6 +19,7 @@ use Rattle.pcm_engine.specs.Steps.{bytes_answered, bytes_brought}
 use Rattle.pcm_engine.specs.Engines.{device_of, desk_of}
 use Rattle.pcm_vchan.proofs.Channels.{ready-after}
 use Rattle.pcm_sound.proofs.Isolation.{isolated}
+use Rattle.pcm_engine.proofs.InOrder.{ready-all, rings-hold}
 use Rattle.pcm_engine.proofs.Recording.{all-record, answered-told, recorders-ready, recorders-told, reply-made}
 use Rattle.pcm_engine.proofs.Standing.{Stepped, stands-told, body-told}
 use Rattle.pcm_engine.proofs.engine.EngineOf.step.Goals as goal
@@ -29,12 +28,11 @@ pub returns-clause-ready : goal.returns-clause-ready
 returns-clause-ready g c =
     let old = c.args.self.now in
     let new = c.apply.new.self in
-    record {
-      playing = subst (λ (t : Filters). All (IsReady g.B.Feeder.kind g.B.Feeder.kept t) new.parent.channels.items) (sym c.apply.ensures.tables)
-          (ready-after g.B.Feeder.kind g.B.Feeder.kept old.tables (bytes_brought c.args.pool.now c.args.event.now) (frames_taken c.args.event.now) old.parent.channels.items new.parent.channels.items c.apply.ensures.slots c.apply.ensures.channels c.requires.ready.playing);
-      recording = subst (λ (t : Filters). All (IsRecordReady g.B.Feeder.kind g.B.Feeder.kept t) new.parent.recorders.items) (sym c.apply.ensures.tables)
-          (recorders-ready g.B.Feeder.kind g.B.Feeder.kept (device_of old) c.args.pool.now old.parent.handed c.args.event.now old.parent.recorders.items new.parent.recorders.items c.apply.ensures.recorders_slots c.apply.ensures.recorders c.requires.ready.recording);
-    }
+    let playing = subst (λ (t : Filters). All (IsReady g.B.Feeder.kind g.B.Feeder.kept t) new.parent.channels.items) (sym c.apply.ensures.tables)
+    (ready-after g.B.Feeder.kind g.B.Feeder.kept old.tables (bytes_brought c.args.pool.now c.args.event.now) (frames_taken c.args.event.now) old.parent.channels.items new.parent.channels.items c.apply.ensures.slots c.apply.ensures.channels c.requires.ready.playing) in
+    let recording = subst (λ (t : Filters). All (IsRecordReady g.B.Feeder.kind g.B.Feeder.kept t) new.parent.recorders.items) (sym c.apply.ensures.tables)
+    (recorders-ready g.B.Feeder.kind g.B.Feeder.kept (device_of old) c.args.pool.now old.parent.handed c.args.event.now old.parent.recorders.items new.parent.recorders.items c.apply.ensures.recorders_slots c.apply.ensures.recorders c.requires.ready.recording) in
+    ready-all g.B.Feeder.kind g.B.Feeder.kept new playing recording
 
 pub returns-clause-stands : goal.returns-clause-stands
 returns-clause-stands g c = λ events s.
@@ -106,16 +104,13 @@ returns-clause-plain g c = λ events s unbroken.
     sym (plain-body device (story_of device pool longer) valid unbroken) ∙ returns-clause-bytes g c events s
 
 pub returns-clause-safe : goal.returns-clause-safe
-returns-clause-safe g c = λ events s slot.
-    let stood = returns-clause-stands g c events s in
-    let device = device_of c.apply.new.self in
-    subst (λ (desk : Desk). BookIsSafe (rate_at device (book_at device desk slot)) (book_at device desk slot)) (sym stood.playing.desk_is) (stood.playing.valid.safe slot)
+returns-clause-safe g c = (returns-clause-ready g c).books
 
 pub returns-clause-records_safe : goal.returns-clause-records_safe
-returns-clause-records_safe g c = λ events s slot.
-    let stood = returns-clause-stands g c events s in
-    let device = device_of c.apply.new.self in
-    subst (λ (desk : Desk). RecordIsSafe (record_rate_at device (record_at device desk slot)) (record_at device desk slot)) (sym stood.playing.desk_is) (stood.recording.valid slot).safe
+returns-clause-records_safe g c = (returns-clause-ready g c).records
+
+pub returns-clause-rings : goal.returns-clause-rings
+returns-clause-rings g c = rings-hold c.apply.new.self
 
 pub returns-clause-isolated : goal.returns-clause-isolated
 returns-clause-isolated g c =
