@@ -6,3 +6,4 @@ pub mod Blocks
 pub mod Standing
 pub mod Recording
 pub mod Starting
+pub mod Pools

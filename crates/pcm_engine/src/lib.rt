@@ -4,6 +4,8 @@
 
 mod clients;
 mod engine;
+mod laws;
 mod recordings;
 
 pub use engine::{Engine, EngineOf};
+pub use laws::engines_stand_with_alike_pools;

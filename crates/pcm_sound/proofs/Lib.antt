@@ -14,3 +14,4 @@ pub mod Recordings
 pub mod Recorded
 pub mod Following
 pub mod Isolation
+pub mod Pools

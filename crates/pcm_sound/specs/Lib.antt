@@ -10,3 +10,4 @@ pub mod Plain
 pub mod Places
 pub mod Blocks
 pub mod Valid
+pub mod Pools

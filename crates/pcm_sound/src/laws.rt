@@ -12,6 +12,7 @@ ghost use Rattle.pcm_desk.specs.RecordBooks.{is_running};
 ghost use Rattle.pcm_sound.specs.DeviceList.{device_text};
 ghost use Rattle.pcm_sound.specs.Plain.{AgreeInCommon, HasNoShortage, IsInPlace, IsUnbroken, SoundAlike, plain_text};
 ghost use Rattle.pcm_sound.specs.Plans.{recorded_bytes};
+ghost use Rattle.pcm_sound.specs.Pools.{AreAlike, IsLonger};
 ghost use Rattle.pcm_sound.specs.Recordings.{recorded_frames};
 ghost use Rattle.pcm_sound.specs.Runs.{piece_of};
 ghost use Rattle.pcm_sound.specs.Story.{story_of};
@@ -61,4 +62,15 @@ pub fn what_sounds_alike_has_equal_bytes()
 pub fn shortages_are_counted()
     ensures { (device : DeviceSeen) (position n : ℕ) (book : Book) → 0 < n → book.underruns < 2 ^ 32 - 1
         → ((piece_of device position n book).short ≡ 0) ↔ ((mixing device n book).underruns ≡ book.underruns) }
+{}
+
+/// A story knows a pool by the bytes of its events and the frames that are recorded: pools that are alike tell one story, and one that has
+/// more bytes behind those of another is like it to all events that fit that one.
+pub fn alike_pools_tell_one_story()
+    ensures story { (device : DeviceSeen) (one other : Pool) (events : List Event) → AreAlike one other events
+        → story_of device other events ≡ story_of device one events }
+    ensures longer { (device : DeviceSeen) (one other : Pool) (events : List Event) → IsLonger one other
+        → All (Fits device one) events → AreAlike one other events }
+    ensures fits { (device : DeviceSeen) (one other : Pool) (event : Event) → IsLonger one other
+        → Fits device one event → Fits device other event }
 {}

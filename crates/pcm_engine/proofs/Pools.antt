@@ -1,0 +1,38 @@
+-- An engine stands for its events with every pool that is the same to them.
+use Rattle.std.proofs.Common.{◌≡◌, ℕ, List, get_or, map, sym, subst}
+use Rattle.std.specs.List.{range_with_len}
+use Rattle.pcm_format.specs.Frames.{Frame}
+use Rattle.pcm_oss.specs.declared.event.Event.{Event}
+use Rattle.pcm_wave.specs.declared.pool.Pool.{Pool}
+use Rattle.pcm_wave.specs.Pools.{capture_frames, silent_frame}
+use Rattle.pcm_feeder.specs.Kept.{Kept}
+use Rattle.pcm_desk.specs.Device.{DeviceSeen, device_settings, filters_of}
+use Rattle.pcm_desk.specs.Desk.{record_at}
+use Rattle.pcm_sound.specs.Pools.{AreAlike}
+use Rattle.pcm_sound.specs.Story.{Story, story_of}
+use Rattle.pcm_sound.proofs.Pools.{recordings-alike, story-alike}
+use Rattle.pcm_record.specs.declared.channel.RecChannelOf.{RecChannelOf}
+use Rattle.pcm_record.specs.Channels.{RecordStands}
+use Rattle.pcm_engine.specs.declared.engine.EngineOf.{EngineOf}
+use Rattle.pcm_engine.specs.Engines.{Stands, desk_of, device_of}
+use Rattle.pcm_engine.specs.Stands.{PartsStand, RecordersStand, bytes_kept}
+
+-- channels that record stand for a story with either pool
+recorders_alike : {B : Type 0} (kept : B → Kept) (device : DeviceSeen) (one other : Pool) (recorders : List (RecChannelOf B)) (story : Story) → capture_frames other ≡ capture_frames one
+    → RecordersStand kept device one recorders story → RecordersStand kept device other recorders story
+recorders_alike {B} kept device one other recorders story captured s = record {
+  slots = λ slot channel there.
+      subst (λ (frames : List Frame). RecordStands kept (filters_of device) (get_or recorders slot channel) (record_at device story.desk slot) (bytes_kept device story slot)
+      (map (λ (k : ℕ). get_or frames k (silent_frame (device_settings device).layout)) (range_with_len (story.recordings slot).start (record_at device story.desk slot).captured))) (sym captured)
+      (s.slots slot channel there);
+  valid = recordings-alike device one other story captured s.valid;
+}
+
+pub stands-alike : {B : Type 0} (kept : B → Kept) (engine : EngineOf B) (one other : Pool) (events : List Event) → AreAlike one other events → Stands kept engine one events → Stands kept engine other events
+stands-alike kept engine one other events alike s =
+    let device : DeviceSeen = device_of engine in
+    let same : story_of device one events ≡ story_of device other events = sym (story-alike device one other events alike) in
+    record {
+      playing = subst (PartsStand kept device (desk_of engine) engine.parent.channels.items engine.parent.ring.bytes) same s.playing;
+      recording = subst (RecordersStand kept device other engine.parent.recorders.items) same (recorders_alike kept device one other engine.parent.recorders.items (story_of device one events) alike.captured s.recording);
+    }
