@@ -1,5 +1,5 @@
 -- Two open descriptors never hold one channel, whatever events come.
-use Rattle.std.proofs.Common.{◌≡◌, ◌≢◌, ℕ, ◌<◌, ◌≤◌, Bool, true, false, cond, List, length, set, get_or, map, replicate, Option, Some, None, ◌⊎◌, inl, inr, refl, sym, ap, ◌∙◌, subst, arith, get_or-set_same, get_or-set_other}
+use Rattle.std.proofs.Common.{◌≡◌, ◌≢◌, ℕ, ◌<◌, ◌≤◌, Bool, true, false, cond, List, [], ◌∷◌, length, set, get_or, map, replicate, Option, Some, None, ◌⊎◌, inl, inr, refl, sym, ap, ◌∙◌, subst, arith, get_or-set_same, get_or-set_other}
 use Rattle.std.specs.Prelude.{is_some}
 use Rattle.std.proofs.lemmas.Bool.{cases_lt, cases_eq}
 use Rattle.std.proofs.lemmas.List.{get_or-map, get_or_past, get_or-replicate, length-map, length-replicate, length-set, set_past}
@@ -23,6 +23,7 @@ use Rattle.pcm_desk.specs.RecordBooks as records
 use Rattle.pcm_desk.specs.RecordBooks.{RecordTurn}
 use Rattle.pcm_desk.specs.RecordRequests as record_requests
 use Rattle.pcm_desk.specs.Desk.{Desk, DeskTurn, after, asking, book_at, by_way, capturing, close_on, close_play, close_record, closing, desk_at_start, held_by, interrupt_turn, ioctl_on, least_free, least_free_record, mixing, open_play, open_record, play_turn, rate_at, read_on, record_at, record_rate_at, record_turn, refusing, turning, unopened, record_unopened, with_book, with_record, write_on}
+use Rattle.pcm_desk.specs.Events.{after_all}
 use Rattle.pcm_desk.specs.Own.{HoldApart, MayBeHeld, is_held, slots_of}
 use Rattle.pcm_desk.proofs.Holding.{held-ask, held-mixing, held-write}
 use Rattle.pcm_desk.proofs.RecordHolding.{record-held-ask, record-held-captured, record-held-read}
@@ -346,6 +347,11 @@ apart-after device desk (Read fd count) h = read device desk fd count h
 apart-after device desk (Ioctl fd request) h = asked device request desk fd h
 apart-after device desk (Close fd) h = closed device desk fd h
 apart-after device desk (Intr n) h = passed device n desk h
+
+-- and after any events
+pub apart-all : (device : DeviceSeen) (desk : Desk) (events : List Event) → HoldApart desk → HoldApart (after_all device desk events)
+apart-all device desk [] h = h
+apart-all device desk (event ∷ events) h = apart-all device (after device desk event).desk events (apart-after device desk event h)
 
 -- a desk with no open descriptor
 pub apart-shut : (desk : Desk) → ((fd : ℕ) (held : Held) → held_by desk fd ≡ Some held → ⊥) → HoldApart desk

@@ -8,6 +8,10 @@ pub mod RecordSafe
 pub mod RecordLeaves
 pub mod RecordHolding
 pub mod Apart
+pub mod Slots
+pub mod Turning
+pub mod Isolation
+pub mod OwnEvents
 pub mod Silent
 pub mod Props
 pub mod Ratios

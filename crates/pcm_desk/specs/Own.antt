@@ -107,6 +107,11 @@ pub record HoldApart (desk : Desk) : Type 0 where
   pub taken : (fd : ℕ) (held : Held) → held_by desk fd ≡ Some held → MayBeHeld desk held.way held.slot
   pub apart : (fd other : ℕ) (held theirs : Held) → held_by desk fd ≡ Some held → held_by desk other ≡ Some theirs → held ≡ theirs → fd ≡ other
 
+-- what an event of its own leaves an open descriptor to hold
+abbrev pub held_after : Event → Held → Option Held
+held_after (Close fd) held = None
+held_after _ held = Some held
+
 -- What an event leaves of the books of a desk, and its reply: no book looks at another.
 pub record IsIsolated (device : DeviceSeen) (event : Event) (old new : Desk) (reply : Result Answer Errno) : Type 0 where
   -- an event of an open descriptor goes by the book of that descriptor
@@ -114,12 +119,18 @@ pub record IsIsolated (device : DeviceSeen) (event : Event) (old new : Desk) (re
       → channel_at device new held ≡ (own_turn device event (channel_at device old held)).channel
   pub answer : (fd : ℕ) (held : Held) → descriptor_of event ≡ Some fd → held_by old fd ≡ Some held
       → reply ≡ (own_turn device event (channel_at device old held)).reply
+  -- which it holds until it is closed
+  pub until : (fd : ℕ) (held : Held) → descriptor_of event ≡ Some fd → held_by old fd ≡ Some held → held_by new fd ≡ held_after event held
   -- and leaves every other book
   pub others : (fd : ℕ) (other held : Held) → descriptor_of event ≡ Some fd → held_by old fd ≡ Some held → other ≢ held
       → channel_at device new other ≡ channel_at device old other
-  -- any event of a descriptor leaves what every other one holds, and its book
-  pub holds : (fd other : ℕ) (theirs : Held) → descriptor_of event ≡ Some fd → other ≢ fd → held_by old other ≡ Some theirs → held_by new other ≡ Some theirs
+  -- an event of a descriptor that is shut leaves every book but that of the slot that it holds then, be it free or drain behind a close
+  pub untaken : (fd : ℕ) (other : Held) → descriptor_of event ≡ Some fd → held_by old fd ≡ None → fd < length old.descriptors
+      → held_by new fd ≢ Some other → channel_at device new other ≡ channel_at device old other
+  -- any event of a descriptor leaves what every other one holds, or that it is shut, and its book
+  pub holds : (fd other : ℕ) → descriptor_of event ≡ Some fd → other ≢ fd → held_by new other ≡ held_by old other
   pub strangers : (fd other : ℕ) (theirs : Held) → descriptor_of event ≡ Some fd → other ≢ fd → held_by old other ≡ Some theirs
       → channel_at device new theirs ≡ channel_at device old theirs
-  -- an interrupt goes by each book alone
+  -- an interrupt goes by each book alone, and leaves what every descriptor holds, or that it is shut
   pub each : descriptor_of event ≡ None → (held : Held) → channel_at device new held ≡ (own_turn device event (channel_at device old held)).channel
+  pub passes : descriptor_of event ≡ None → (fd : ℕ) → held_by new fd ≡ held_by old fd

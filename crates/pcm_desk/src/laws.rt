@@ -1,8 +1,9 @@
 //! What holds of all books and desks: the functions here have no work, and their contracts are the laws.
 
-ghost use Rattle.std.specs.Prelude.{◌≡◌, ℕ, false};
+ghost use Rattle.std.specs.Prelude.{◌≡◌, ℕ, false, All, List, Some};
 ghost use Rattle.pcm_format.specs.declared.settings.Settings.{Settings};
 ghost use Rattle.pcm_oss.specs.declared.event.Event.{Event};
+ghost use Rattle.pcm_oss.specs.declared.event.Way.{Way};
 ghost use Rattle.pcm_oss.specs.declared.request.Request.{Request};
 ghost use Rattle.pcm_rate.specs.declared.rate.Rate.{Rate};
 ghost use Rattle.pcm_rate.specs.Rates.{IsRatio};
@@ -15,8 +16,11 @@ ghost use Rattle.pcm_desk.specs.RecordBooks as records;
 ghost use Rattle.pcm_desk.specs.RecordRequests as record_requests;
 ghost use Rattle.pcm_desk.specs.RecordSafe.{RecordIsSafe};
 ghost use Rattle.pcm_desk.specs.Device.{DeviceSeen};
-ghost use Rattle.pcm_desk.specs.Desk.{Desk, after, desk_at_start};
-ghost use Rattle.pcm_desk.specs.Own.{HoldApart};
+ghost use Rattle.pcm_desk.specs.declared.device.Held.{Held};
+ghost use Rattle.pcm_desk.specs.Desk.{Desk, after, desk_at_start, held_by};
+ghost use Rattle.pcm_desk.specs.Events.{after_all};
+ghost use Rattle.pcm_desk.specs.Own.{HoldApart, IsIsolated, channel_at};
+ghost use Rattle.pcm_desk.specs.OwnEvents.{Opens, channel_begun, closes, own_after, own_events, own_replies, replies_to};
 
 /// The counts of a book stay in order through every event, for every rate between its client and the mix.
 pub fn books_stay_in_order()
@@ -53,4 +57,42 @@ pub fn descriptors_hold_apart()
     ensures start { (device : DeviceSeen) → HoldApart (desk_at_start device) }
     ensures after { (device : DeviceSeen) (desk : Desk) (event : Event) → HoldApart desk
         → HoldApart (after device desk event).desk }
+    ensures always { (device : DeviceSeen) (events : List Event)
+        → HoldApart (after_all device (desk_at_start device) events) }
+{}
+
+/// No client is told what others do, but that no slot is free and which one it got: what it is told goes by its settings, its own events and the
+/// interrupts between them.
+pub fn openings_stand_alone()
+    ensures isolated { (device : DeviceSeen) (event : Event) (desk : Desk) → HoldApart desk
+        → IsIsolated device event desk (after device desk event).desk (after device desk event).reply }
+    ensures begun { (device : DeviceSeen) (fd : ℕ) (way : Way) (settings : Settings) (held : Held) (old new : Desk)
+        → Opens device fd way settings held old new → channel_at device new held ≡ channel_begun way settings }
+    // along a list of events
+    ensures told { (device : DeviceSeen) (desk : Desk) (fd : ℕ) (held : Held) (events : List Event)
+        → HoldApart desk → held_by desk fd ≡ Some held
+        → replies_to device fd desk events
+        ≡ own_replies device (channel_at device desk held) (own_events fd events) }
+    ensures holds { (device : DeviceSeen) (desk : Desk) (fd : ℕ) (held : Held) (events : List Event)
+        → HoldApart desk → held_by desk fd ≡ Some held → All (λ event. closes fd event ≡ false) events
+        → held_by (after_all device desk events) fd ≡ Some held }
+    ensures book { (device : DeviceSeen) (desk : Desk) (fd : ℕ) (held : Held) (events : List Event)
+        → HoldApart desk → held_by desk fd ≡ Some held → All (λ event. closes fd event ≡ false) events
+        → channel_at device (after_all device desk events) held
+        ≡ own_after device (channel_at device desk held) (own_events fd events) }
+    // two openings, of one script or of two
+    ensures alike { (device : DeviceSeen) (fd at : ℕ) (way : Way) (settings : Settings) (held theirs : Held)
+        (one new other anew : Desk) (events others : List Event)
+        → HoldApart one → HoldApart other
+        → Opens device fd way settings held one new → Opens device at way settings theirs other anew
+        → own_events fd events ≡ own_events at others
+        → replies_to device fd new events ≡ replies_to device at anew others }
+    ensures books_alike { (device : DeviceSeen) (fd at : ℕ) (way : Way) (settings : Settings) (held theirs : Held)
+        (one new other anew : Desk) (events others : List Event)
+        → HoldApart one → HoldApart other
+        → Opens device fd way settings held one new → Opens device at way settings theirs other anew
+        → All (λ event. closes fd event ≡ false) events → All (λ event. closes at event ≡ false) others
+        → own_events fd events ≡ own_events at others
+        → channel_at device (after_all device new events) held
+        ≡ channel_at device (after_all device anew others) theirs }
 {}

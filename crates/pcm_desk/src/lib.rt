@@ -16,7 +16,9 @@ mod turns;
 
 pub use book::{Book, State};
 pub use device::{Device, Held, OPENING, QUALITY_MOST};
-pub use laws::{books_stay_in_order, descriptors_hold_apart, record_books_stay_in_order};
+pub use laws::{
+    books_stay_in_order, descriptors_hold_apart, openings_stand_alone, record_books_stay_in_order,
+};
 pub use limits::{DESCRIPTORS, DEVICE_BYTES, EVENTS, READ_BYTES, RING_FRAMES, SLOTS, WRITE_BYTES};
 pub use record_book::{RecordBook, RecordState};
 pub use record_turn::{RECORD_BIT, RecordAsked};

@@ -29,7 +29,7 @@ use Rattle.pcm_sound.specs.Valid.{StoryIsValid}
 use Rattle.pcm_sound.proofs.DeviceLists.{IsDeviceFrame, mix_of-same, mix_of-more, mix_of-frame, sounding-frame, new_block}
 use Rattle.pcm_sound.proofs.Slots.{playing-own}
 use Rattle.pcm_sound.proofs.Sounding.{sounding-marking}
-use Rattle.pcm_sound.proofs.Stories.{book_at-mixing}
+use Rattle.pcm_desk.proofs.Slots.{book_at-mixing}
 use Rattle.pcm_sound.proofs.Turns.{turn}
 use Rattle.pcm_vchan.specs.Blocks.{silent_block, mixed_onto, block_of}
 use Rattle.pcm_engine.specs.Stands.{bytes_counted}

@@ -7,3 +7,4 @@ pub mod Standing
 pub mod Recording
 pub mod Starting
 pub mod Pools
+pub mod Waiting

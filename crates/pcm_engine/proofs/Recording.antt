@@ -26,22 +26,24 @@ use Rattle.pcm_desk.specs.declared.device.Held.{Held}
 use Rattle.pcm_desk.specs.declared.record_book.RecordBook.{RecordBook}
 use Rattle.pcm_desk.specs.Device.{DeviceSeen, IsDevice, device_settings, filters_of, seen}
 use Rattle.pcm_desk.specs.RecordBooks.{fill_of, is_running, keeping}
-use Rattle.pcm_desk.specs.Desk.{Desk, after, by_way, capturing, held_by, record_at, record_rate_at, record_unopened}
+use Rattle.pcm_desk.specs.Desk.{Desk, after, book_at, by_way, capturing, held_by, record_at, record_rate_at, record_unopened}
 use Rattle.pcm_desk.specs.Events.{Fits, frames_taken}
+use Rattle.pcm_desk.specs.Own as own
 use Rattle.pcm_sound.specs.Plans.{recorded_bytes}
 use Rattle.pcm_sound.specs.Recordings.{Recording, read_bytes, recording_after}
 use Rattle.pcm_sound.specs.Replies.{bytes_got, bytes_to}
 use Rattle.pcm_sound.specs.Story.{Story, told}
 use Rattle.pcm_sound.specs.Valid.{RecordingIsValid, RecordingsAreValid, StoryIsValid}
 use Rattle.pcm_sound.proofs.Following.{bytes_in, frames_of_book, recording-follows, recording-hears}
-use Rattle.pcm_sound.proofs.Recorded.{idle-unstarted, handed-after, record_at-capturing, recordings-told}
+use Rattle.pcm_desk.proofs.Slots.{record_at-capturing}
+use Rattle.pcm_sound.proofs.Recorded.{idle-unstarted, handed-after, recordings-told}
 use Rattle.pcm_record.specs.declared.channel.RecChannelOf.{RecChannelOf}
 use Rattle.pcm_record.specs.Channels.{IsRecordReady, RecordMoves, RecordStands}
 use Rattle.pcm_vchan.specs.Captures.{Captures}
 use Rattle.pcm_vchan.specs.Slots.{AllRecord, Each, RecordersAreOf, record_books_of}
 use Rattle.pcm_vchan.proofs.Channels.{record-ready-moved}
 use Rattle.pcm_engine.specs.Stands.{RecordersStand, bytes_kept, frames_captured}
-use Rattle.pcm_engine.specs.Steps.{RecordersMove, bytes_answered, bytes_read}
+use Rattle.pcm_engine.specs.Steps.{RecordersMove, bytes_answered, bytes_read, channel_read}
 
 -- the record book of a slot is that of its channel
 pub record_at-books : {B : Type 0} (device : DeviceSeen) (desk : Desk) (recorders : List (RecChannelOf B)) (slot : ℕ) (other : RecChannelOf B) → desk.recording ≡ record_books_of recorders → slot < length recorders → record_at device desk slot ≡ (get_or recorders slot other).book
@@ -192,7 +194,7 @@ answered-told device pool story (Write fd source at count) v = refl
 answered-told device pool story (Read fd count) v = held_at (held_by story.desk fd)
   where
     way_at : (way : Way) (slot : ℕ)
-        → by_way way [] (take (min count (fill_of (record_at device story.desk slot))) (drop (record_at device story.desk slot).read (bytes_kept device story slot)))
+        → channel_read count (by_way way (own.Playing (book_at device story.desk slot)) (own.Recording (record_at device story.desk slot))) (bytes_kept device story slot)
         ≡ by_way way [] (read_bytes count (record_at device story.desk slot) (story.recordings slot))
     way_at Play slot = refl
     way_at Rec slot = read_counted device pool story.desk.handed count (is_running (record_at device story.desk slot).state) (record_at device story.desk slot) (story.recordings slot) refl (v slot)

@@ -1,5 +1,5 @@
 -- What becomes of a desk whose parent lent one channel.
-use Rattle.std.proofs.Common.{◌≡◌, ℕ, ◌<◌, List, length, set, get_or, min, [], take, drop, Option, Some, None, Result, Ok, Err, refl, sym, ap, ◌∙◌, subst, arith}
+use Rattle.std.proofs.Common.{◌≡◌, ℕ, ◌<◌, List, length, set, get_or, min, take, drop, Option, Some, None, Result, Ok, Err, refl, sym, ap, ◌∙◌, subst, arith}
 use Rattle.std.specs.Prelude.{IfOk}
 use Rattle.std.proofs.lemmas.List.{length-map}
 use Rattle.pcm_oss.specs.declared.event.Way.{Way}
@@ -14,7 +14,7 @@ use Rattle.pcm_desk.specs.Device.{DeviceSeen}
 use Rattle.pcm_desk.specs.Books.{BookTurn}
 use Rattle.pcm_desk.specs.RecordBooks.{RecordTurn, closed, fill_of}
 use Rattle.pcm_desk.specs.Desk.{Desk, DeskTurn, book_at, by_way, close_on, close_play, close_record, closing, held_by, play_turn, record_at, record_turn, record_unopened, turning, unopened, with_book, with_descriptor, with_record}
-use Rattle.pcm_desk.specs.Own.{HoldApart, slots_of}
+use Rattle.pcm_desk.specs.Own.{HoldApart, Playing, Recording, slots_of}
 use Rattle.pcm_play.specs.declared.channel.PlayChannelOf.{PlayChannelOf}
 use Rattle.pcm_record.specs.declared.channel.RecChannelOf.{RecChannelOf}
 use Rattle.pcm_vchan.specs.declared.parent.ParentOf.{ParentOf}
@@ -23,7 +23,7 @@ use Rattle.pcm_vchan.specs.Parents.{parent_books, record_books}
 use Rattle.pcm_vchan.specs.Lending.{with_channel, with_recorder}
 use Rattle.pcm_vchan.proofs.Channels.{book_at-channel, books_of-set, record_at-channel, record_books_of-set}
 use Rattle.pcm_engine.specs.Desks.{desk_with}
-use Rattle.pcm_engine.specs.Steps.{bytes_read}
+use Rattle.pcm_engine.specs.Steps.{bytes_read, channel_read}
 
 -- ---- where a descriptor's channel is
 
@@ -97,7 +97,7 @@ pub bytes_read-held : (device : DeviceSeen) (desk : Desk) (bytes : ℕ → List 
     → bytes_read device desk bytes count found ≡ take (min count (fill_of book)) (drop book.read (bytes held.slot))
 bytes_read-held device desk bytes count found held book e is same =
     ap (bytes_read device desk bytes count) e
-    ∙ ap (λ (w : Way). by_way w [] (take (min count (fill_of (record_at device desk held.slot))) (drop (record_at device desk held.slot).read (bytes held.slot)))) is
+    ∙ ap (λ (w : Way). channel_read count (by_way w (Playing (book_at device desk held.slot)) (Recording (record_at device desk held.slot))) (bytes held.slot)) is
     ∙ ap (λ (b : RecordBook). take (min count (fill_of b)) (drop b.read (bytes held.slot))) (sym same)
 
 -- two facts of what a call gave make a third

@@ -1,5 +1,5 @@
 -- What an engine stands for, and what holds of every one.
-use Rattle.std.specs.Prelude.{◌≡◌, ◌≤◌, ◌*◌, ℕ, List, All, length}
+use Rattle.std.specs.Prelude.{◌≡◌, ◌≤◌, ◌*◌, ℕ, List, All, length, map}
 use Rattle.pcm_oss.specs.declared.event.Event.{Event}
 use Rattle.pcm_wave.specs.declared.pool.Pool.{Pool}
 use Rattle.pcm_feeder.specs.declared.kind.Kind.{Kind}
@@ -24,6 +24,10 @@ device_of engine = seen engine.tables engine.parent.device
 -- the engine's books, descriptors and counts
 abbrev pub desk_of : {B : Type 0} → EngineOf B → Desk
 desk_of engine = desk_with engine.parent engine.descriptors
+
+-- the bytes that wait in each ring of a channel that records, by slot
+abbrev pub waiting_in : {B : Type 0} → EngineOf B → List (List ℕ)
+waiting_in engine = map (λ channel. channel.ring.bytes) engine.parent.recorders.items
 
 -- the engine stands for a list of events, whose bytes are found in a pool
 pub record Stands {B : Type 0} (kept : B → Kept) (engine : EngineOf B) (pool : Pool) (events : List Event) : Type 0 where

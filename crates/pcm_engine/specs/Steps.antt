@@ -1,5 +1,5 @@
 -- What one event leaves of an engine's parts.
-use Rattle.std.specs.Prelude.{ℕ, ◌*◌, min, List, [], ◌++◌, take, drop, Option, Some, None}
+use Rattle.std.specs.Prelude.{ℕ, ◌*◌, min, List, [], ◌++◌, take, drop, Option, Some, None, slice_index_or}
 use Rattle.pcm_oss.specs.declared.event.Event.{Event}
 use Rattle.pcm_oss.specs.declared.event.Event.TheVariants.{Open, Write, Read, Ioctl, Close, Intr}
 use Rattle.pcm_wave.specs.declared.pool.Pool.{Pool}
@@ -11,7 +11,8 @@ use Rattle.pcm_feeder.specs.Streams.{interleaved}
 use Rattle.pcm_desk.specs.declared.book.Book.{Book}
 use Rattle.pcm_desk.specs.declared.device.Held.{Held}
 use Rattle.pcm_desk.specs.Device.{DeviceSeen, device_frame_bytes, device_settings, filters_of}
-use Rattle.pcm_desk.specs.Desk.{Desk, by_way, held_by, record_at}
+use Rattle.pcm_desk.specs.Desk.{Desk, by_way, held_by}
+use Rattle.pcm_desk.specs.Own.{Channel, Playing, Recording, channel_at}
 use Rattle.pcm_desk.specs.RecordBooks.{fill_of}
 use Rattle.pcm_desk.specs.Events.{frames_taken}
 use Rattle.pcm_play.specs.declared.channel.PlayChannelOf.{PlayChannelOf}
@@ -54,11 +55,20 @@ RecordersMove kind kept device pool handed (Close fd) old new = Each (RecordMove
 RecordersMove kind kept device pool handed (Intr n) old new =
     Each (Captures kind kept device n (interleaved (captured_frames (device_settings device).layout pool handed n))) old new
 
--- the bytes that a read gets of what a descriptor holds, from the bytes that were kept in each slot
+-- the bytes that a read of so many gets of a channel, from those that were kept of its recording: the oldest that no read got
+abbrev pub channel_read : ℕ → Channel → List ℕ → List ℕ
+channel_read count (Playing book) bytes = []
+channel_read count (Recording book) bytes = take (min count (fill_of book)) (drop book.read bytes)
+
+-- the bytes that a read gets of what a descriptor holds, from the bytes that were kept in each slot: it looks at its own alone
 abbrev pub bytes_read : DeviceSeen → Desk → (ℕ → List ℕ) → ℕ → Option Held → List ℕ
 bytes_read device desk bytes count None = []
-bytes_read device desk bytes count (Some held) =
-    by_way held.way [] (take (min count (fill_of (record_at device desk held.slot))) (drop (record_at device desk held.slot).read (bytes held.slot)))
+bytes_read device desk bytes count (Some held) = channel_read count (channel_at device desk held) (bytes held.slot)
+
+-- the same from the bytes that wait in each ring: the first ones of its own
+abbrev pub front_taken : List (List ℕ) → ℕ → Option Held → List ℕ
+front_taken rings count None = []
+front_taken rings count (Some held) = by_way held.way [] (take count (slice_index_or rings held.slot []))
 
 -- the bytes that come with the reply to an event
 abbrev pub bytes_answered : DeviceSeen → Desk → (ℕ → List ℕ) → Event → List ℕ

@@ -43,11 +43,12 @@ pub struct EngineOf<B> {
 
 impl<B: Feeder> EngineOf<B> {
     ghost use Rattle.pcm_oss.specs.declared.event.Event.{Event};
+    ghost use Rattle.pcm_oss.specs.declared.event.Event.TheVariants.{Read};
     ghost use Rattle.pcm_wave.specs.declared.pool.Pool.{Pool};
     ghost use Rattle.pcm_wave.specs.Pools.{IsCaptureIn};
     ghost use Rattle.pcm_format.specs.Frames.{Frame};
     ghost use Rattle.pcm_desk.specs.Device.{IsInLimits, device_settings};
-    ghost use Rattle.pcm_desk.specs.Desk.{after};
+    ghost use Rattle.pcm_desk.specs.Desk.{after, held_by};
     ghost use Rattle.pcm_desk.specs.Own.{IsIsolated};
     ghost use Rattle.pcm_sound.specs.Story.{story_of};
     ghost use Rattle.pcm_sound.specs.Replies.{reply_to};
@@ -56,8 +57,8 @@ impl<B: Feeder> EngineOf<B> {
     ghost use Rattle.pcm_feeder.specs.Racks.{AreRacks, list_of};
     ghost use Rattle.pcm_vchan.specs.Slots.{AllRecord, AllStand};
     ghost use Rattle.pcm_vchan.specs.Parents.{parent_books};
-    ghost use Rattle.pcm_engine.specs.Steps.{ChannelsMove, RecordersMove, bytes_answered, ring_after};
-    ghost use Rattle.pcm_engine.specs.Engines.{device_of, desk_of, AreReady, BooksAreSafe, IsUnchanged, RecordsAreSafe, RingsHold, Stands};
+    ghost use Rattle.pcm_engine.specs.Steps.{ChannelsMove, RecordersMove, bytes_answered, front_taken, ring_after};
+    ghost use Rattle.pcm_engine.specs.Engines.{device_of, desk_of, AreReady, BooksAreSafe, IsUnchanged, RecordsAreSafe, RingsHold, Stands, waiting_in};
 
     /// The engine of a device with its filters, before its first event. Its channels pick their stages from the racks, one rack a slot; after
     /// a refusal the racks are dropped. All memory of the engine is taken here.
@@ -131,10 +132,17 @@ impl<B: Feeder> EngineOf<B> {
 
         ensures refused { IsErr reply.new.result → IsUnchanged self.old self.new }
 
-        // No client sees what others do, but that a slot is taken: no two descriptors hold one, and no book looks at another.
+        // No client sees what others do, but that a slot is taken: no two descriptors hold one, no book looks at another, and a
+        // read gets what was kept in its own slot, by its own book.
         ensures apart { HoldApart (desk_of self.new) }
         ensures isolated { IsIsolated (device_of self.old) event.now
             (desk_of self.old) (desk_of self.new) reply.new.result }
+        ensures read { (bytes : ℕ → List ℕ) (frames : ℕ → List Frame)
+            → AllRecord B.kept self.old.tables self.old.parent.recorders.items bytes frames
+            → reply.new.bytes
+            ≡ bytes_answered (device_of self.old) (desk_of self.old) bytes event.now }
+        ensures taken { (fd count : ℕ) → event.now ≡ Read fd count
+            → reply.new.bytes ≡ front_taken (waiting_in self.old) count (held_by (desk_of self.old) fd) }
 
         ensures count { result ≡ bytes_handed (device_of self.old) event.now }
         ensures rest { drop result out.new ≡ drop result out.old }

@@ -33,7 +33,8 @@ use Rattle.pcm_sound.specs.Recordings.{Recording, handing, recorded_frames, reco
 use Rattle.pcm_sound.specs.Story.{Story}
 use Rattle.pcm_sound.specs.Valid.{IsRecorded, RecordingIsValid, RecordingsAreValid}
 use Rattle.pcm_sound.proofs.Recordings.{captured-add, recorded-captured}
-use Rattle.pcm_sound.proofs.Recorded.{AllTurned, Turned, all-close, all-ioctl, all-open, all-write, idle-unstarted, record_at-with}
+use Rattle.pcm_sound.proofs.Recorded.{AllTurned, Turned, all-close, all-ioctl, all-open, all-write, idle-unstarted}
+use Rattle.pcm_desk.proofs.Slots.{record_at-with}
 
 -- the bytes of a recording that its book counts
 abbrev pub bytes_in : RecordBook → Recording → List ℕ

@@ -13,5 +13,5 @@ pub mod Turns
 pub mod Recordings
 pub mod Recorded
 pub mod Following
-pub mod Isolation
 pub mod Pools
+pub mod OwnReplies

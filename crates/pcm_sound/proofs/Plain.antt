@@ -12,7 +12,7 @@ use Rattle.pcm_feeder.specs.declared.stage.Gain.{Gain}
 use Rattle.pcm_desk.specs.Device.{DeviceSeen, device_frame_bytes, device_settings, mix_settings, ring_frames}
 use Rattle.pcm_desk.specs.Desk.{book_at}
 use Rattle.pcm_sound.specs.Gains.{last_gain}
-use Rattle.pcm_sound.specs.Runs.{Run, sounding}
+use Rattle.pcm_sound.specs.Runs.{Run}
 use Rattle.pcm_sound.specs.Story.{Story}
 use Rattle.pcm_sound.specs.Mix.{Table}
 use Rattle.pcm_sound.specs.DeviceList.{device_body, device_body_of, device_bytes, device_frame, device_list, mix_at, silence_in, table_of}

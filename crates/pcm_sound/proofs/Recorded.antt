@@ -1,10 +1,9 @@
 -- A recording stays what its book counts through every event that fits.
-use Rattle.std.proofs.Common.{◌≡◌, ℕ, ◌+◌, ◌-◌, Bool, true, false, cond, eqb, List, [], ◌∷◌, ◌++◌, length, get_or, map, take, drop, min, Option, Some, None, Ok, Err, ◌⊎◌, inl, inr, refl, sym, ap, ◌∙◌, subst, arith, get_or-set_same, get_or-set_other}
+use Rattle.std.proofs.Common.{◌≡◌, ℕ, ◌+◌, ◌-◌, Bool, true, false, cond, eqb, List, [], ◌∷◌, ◌++◌, get_or, take, drop, min, Option, Some, None, Ok, Err, ◌⊎◌, inl, inr, refl, sym, ap, ◌∙◌, subst, arith}
 use Rattle.std.specs.Prelude.{All, is_some, nat_lt, not, ◌&&◌}
 use Rattle.std.proofs.Math.Seq.{take-add}
-use Rattle.std.proofs.lemmas.Bool.{cases_lt, cases_eq}
 use Rattle.std.proofs.lemmas.List.Elements.{All-head, All-tail}
-use Rattle.std.proofs.lemmas.List.{append-nil, get_or-map, get_or_past, length-map, set_past}
+use Rattle.std.proofs.lemmas.List.{append-nil}
 use Rattle.pcm_format.specs.declared.settings.Settings.{Settings}
 use Rattle.pcm_oss.specs.declared.event.Event.{Event}
 use Rattle.pcm_oss.specs.declared.event.Event.TheVariants.{Open, Write, Read, Ioctl, Close, Intr}
@@ -27,11 +26,12 @@ use Rattle.pcm_desk.specs.RecordBooks as records
 use Rattle.pcm_desk.specs.RecordBooks.{captures, fill_of, is_running, read_turn}
 use Rattle.pcm_desk.specs.RecordRequests as record_requests
 use Rattle.pcm_desk.specs.RecordSafe.{IsInOrder, IsUnstarted, RecordIsSafe}
-use Rattle.pcm_desk.specs.Desk.{Desk, DeskTurn, after, asking, by_way, capturing, close_on, close_play, close_record, held_by, interrupt_turn, ioctl_on, least_free, least_free_record, open_play, open_record, open_turn, play_turn, read_on, record_at, record_rate_at, record_turn, record_unopened, refusing, turning, with_record, write_on}
+use Rattle.pcm_desk.specs.Desk.{Desk, DeskTurn, after, asking, by_way, close_on, close_play, close_record, held_by, interrupt_turn, ioctl_on, least_free, least_free_record, open_play, open_record, open_turn, play_turn, read_on, record_at, record_rate_at, record_turn, record_unopened, refusing, turning, with_record, write_on}
 use Rattle.pcm_desk.specs.Events.{Fits, frames_taken}
 use Rattle.pcm_desk.proofs.RecordAsking.{record-ask-rate, record-ask-settings}
 use Rattle.pcm_desk.proofs.RecordLeaves.{Ends, Stays, record-ask-leaves}
 use Rattle.pcm_desk.proofs.RecordSafe.{can-none, record-safe-ask, record-safe-begun, record-safe-captured, record-safe-closed, record-safe-read, safe-unstarted}
+use Rattle.pcm_desk.proofs.Slots.{record_at-capturing, record_at-with}
 use Rattle.pcm_oss.proofs.Limits.{usual-fragments}
 use Rattle.pcm_sound.specs.Plans.{recorded_bytes}
 use Rattle.pcm_sound.specs.Recordings.{Recording, going_on, handing, recorded_frames, recording_after, recording_from, starts_recording}
@@ -128,18 +128,6 @@ read_at device pool handed fd count book recording v running =
     }
 
 -- ---- the desk
-
--- the record book of a slot after one was set
-pub record_at-with : (device : DeviceSeen) (desk : Desk) (at slot : ℕ) (book : RecordBook)
-    → ((slot ≡ at) × (record_at device (with_record desk at book) slot ≡ book)) ⊎ (record_at device (with_record desk at book) slot ≡ record_at device desk slot)
-record_at-with device desk at slot book =
-    elim (cases_lt at (length desk.recording)) [
-      | inl here ↦ elim (cases_eq slot at) [
-        | inl e ↦ inl (e, rw e (get_or-set_same desk.recording at book (record_unopened device) here))
-        | inr n ↦ inr (get_or-set_other desk.recording at slot book (record_unopened device) n)
-      ]
-      | inr past ↦ inr (ap (λ books. get_or books slot (record_unopened device)) (set_past desk.recording at book past))
-    ]
 
 -- a record book that is within its limits and in order
 pub record IsGood (device : DeviceSeen) (book : RecordBook) : Type 0 where
@@ -313,15 +301,6 @@ read_on_desk device pool (Some held) desk fd count slot recording v =
 -- a read changes no count of the device
 handed_read : (device : DeviceSeen) (held : Option Held) (desk : Desk) (count : ℕ) → (read_on device held desk count).desk.handed ≡ desk.handed
 handed_read device held desk count = handed_turning desk (λ slot. refusing desk Inval) (record_turn device (read_turn count) desk) held (λ slot. refl) (λ slot. refl)
-
--- the record book of a slot after an interrupt
-pub record_at-capturing : (device : DeviceSeen) (desk : Desk) (n slot : ℕ) → record_at device (interrupt_turn device desk n).desk slot ≡ capturing device n (record_at device desk slot)
-record_at-capturing device desk n slot =
-    elim (cases_lt slot (length desk.recording)) [
-      | inl here ↦ get_or-map (capturing device n) desk.recording slot (record_unopened device) (record_unopened device) here
-      | inr past ↦ get_or_past (map (capturing device n) desk.recording) slot (record_unopened device) (omega (arith, length-map desk.recording (capturing device n)))
-          ∙ sym (ap (capturing device n) (get_or_past desk.recording slot (record_unopened device) past))
-    ]
 
 captured_at : (device : DeviceSeen) (pool : Pool) (handed n : ℕ) (state : RecordState) (book : RecordBook) (recording : Recording) → book.state ≡ state → IsDevice device → IsCaptureIn (device_settings device).layout pool
     → RecordingIsValid device pool handed book recording

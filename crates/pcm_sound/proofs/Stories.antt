@@ -1,8 +1,8 @@
 -- A story stays valid through every event that fits, and what was mixed stays as it was.
-use Rattle.std.proofs.Common.{◌≡◌, ℕ, suc, zero, ◌+◌, ◌-◌, ◌<◌, ◌≤◌, Bool, true, false, cond, List, [], ◌∷◌, ◌++◌, length, get_or, map, drop, replicate, Option, Some, None, ◌⊎◌, inl, inr, refl, sym, ap, ◌∙◌, subst, arith, All, length-take, length-drop, get_or-set_same, get_or-set_other}
+use Rattle.std.proofs.Common.{◌≡◌, ℕ, suc, zero, ◌+◌, ◌-◌, ◌<◌, ◌≤◌, Bool, true, false, cond, List, [], ◌∷◌, ◌++◌, length, get_or, drop, replicate, Option, Some, None, inl, inr, refl, sym, ap, ◌∙◌, subst, arith, All, length-take, length-drop}
 use Rattle.std.specs.Prelude.{is_some, nat_le, not, eqb}
-use Rattle.std.proofs.lemmas.List.{get_or-map, get_or_past, get_or-replicate, length-replicate, set_past, length-map}
-use Rattle.std.proofs.lemmas.Bool.{cases_lt, cases_eq, eqb-true, not-false, or_parts}
+use Rattle.std.proofs.lemmas.List.{get_or_past, get_or-replicate, length-replicate}
+use Rattle.std.proofs.lemmas.Bool.{cases_lt, eqb-true, not-false, or_parts}
 use Rattle.std.proofs.lemmas.Bool.Decides.{nat_tests}
 use Rattle.std.proofs.lemmas.List.Elements.{All-head, All-nil, All-tail}
 use Rattle.std.proofs.lemmas.List.Quantifiers.{position-Some}
@@ -28,12 +28,13 @@ use Rattle.pcm_desk.specs.RecordRequests as record_requests
 use Rattle.pcm_desk.specs.Device.{DeviceSeen, IsDevice, play_slots, rate_between}
 use Rattle.pcm_desk.specs.Books.{begun, is_draining, is_free, write_turn}
 use Rattle.pcm_desk.specs.Safe.{BookIsSafe}
-use Rattle.pcm_desk.specs.Desk.{Desk, DeskTurn, unopened, held_by, least_free, least_free_record, book_at, record_at, by_way, with_book, with_record, with_descriptor, refusing, open_play, open_record, open_turn, play_turn, record_turn, turning, write_on, read_on, asking, ioctl_on, close_on, close_play, close_record, closing, mixing, interrupt_turn, after, rate_at}
+use Rattle.pcm_desk.specs.Desk.{Desk, DeskTurn, unopened, held_by, least_free, least_free_record, book_at, record_at, by_way, with_book, with_record, with_descriptor, refusing, open_play, open_record, open_turn, play_turn, record_turn, turning, write_on, read_on, asking, ioctl_on, close_on, close_play, close_record, closing, mixing, after, rate_at}
 use Rattle.pcm_desk.specs.Events.{Fits, frames_taken}
 use Rattle.pcm_desk.proofs.Safe.{unstarted, safe-begun, safe-write, safe-close, safe-refilled, settings-refilled}
 use Rattle.pcm_desk.proofs.Asking.{safe-ask}
 use Rattle.pcm_desk.proofs.Leaves.{ask-leaves, close-leaves, close-keeps}
 use Rattle.pcm_desk.proofs.Ratios.{ratio-between}
+use Rattle.pcm_desk.proofs.Slots.{book_at-mixing, book_at-with}
 use Rattle.pcm_sound.specs.Gains.{GainSet, begins, book_gain, last_gain, sets_volume}
 use Rattle.pcm_sound.specs.Runs.{Run, asks_drop, drops, taking, playing, carrying, marking, sounding}
 use Rattle.pcm_sound.specs.Story.{Story, story_at_start, story_of, told, told_all}
@@ -82,32 +83,6 @@ safe-mixing device (suc n) book d s safe =
     (safe-refilled (rate_at device book) (suc n) book (ratio-between device book.settings d s) safe)
 
 -- ---- the desk
-
--- the book of a slot after one book was set
-pub book_at-with : (device : DeviceSeen) (desk : Desk) (at slot : ℕ) (book : Book)
-    → ((slot ≡ at) × (book_at device (with_book desk at book) slot ≡ book)) ⊎ (book_at device (with_book desk at book) slot ≡ book_at device desk slot)
-book_at-with device desk at slot book =
-    elim (cases_lt at (length desk.play)) [
-      | inl here ↦ elim (cases_eq slot at) [
-        | inl e ↦ inl (e, rw e (get_or-set_same desk.play at book (unopened device) here))
-        | inr n ↦ inr (get_or-set_other desk.play at slot book (unopened device) n)
-      ]
-      | inr past ↦ inr (ap (λ books. get_or books slot (unopened device)) (set_past desk.play at book past))
-    ]
-
--- nothing is mixed of a book that nobody has opened
-mixing-unopened : (device : DeviceSeen) (n : ℕ) → mixing device n (unopened device) ≡ unopened device
-mixing-unopened device zero = refl
-mixing-unopened device (suc n) = refl
-
--- the book of a slot after an interrupt
-pub book_at-mixing : (device : DeviceSeen) (desk : Desk) (n slot : ℕ) → book_at device (interrupt_turn device desk n).desk slot ≡ mixing device n (book_at device desk slot)
-book_at-mixing device desk n slot =
-    elim (cases_lt slot (length desk.play)) [
-      | inl here ↦ get_or-map (mixing device n) desk.play slot (unopened device) (unopened device) here
-      | inr past ↦ get_or_past (map (mixing device n) desk.play) slot (unopened device) (omega (arith, length-map desk.play (mixing device n)))
-          ∙ sym (ap (mixing device n) (get_or_past desk.play slot (unopened device) past) ∙ mixing-unopened device n)
-    ]
 
 -- the rate of each slot's book is within the limits
 abbrev pub HaveRates : DeviceSeen → Desk → Type 0

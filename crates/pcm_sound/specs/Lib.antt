@@ -11,3 +11,4 @@ pub mod Places
 pub mod Blocks
 pub mod Valid
 pub mod Pools
+pub mod OwnReplies

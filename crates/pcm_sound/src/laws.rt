@@ -1,21 +1,28 @@
 //! What holds of all recordings, and of all runs without a shortage: the functions here have no work, and their contracts are the laws.
 
 ghost use Rattle.std.specs.Prelude.{◌≡◌, ◌<◌, ◌-◌, ◌^◌, ◌↔◌, ℕ, true, min, List, take, All};
+ghost use Rattle.pcm_format.specs.declared.settings.Settings.{Settings};
 ghost use Rattle.pcm_oss.specs.declared.event.Event.{Event};
+ghost use Rattle.pcm_oss.specs.declared.event.Event.TheVariants.{Open};
+ghost use Rattle.pcm_oss.specs.declared.event.Way.{Way};
 ghost use Rattle.pcm_wave.specs.declared.pool.Pool.{Pool};
-ghost use Rattle.pcm_wave.specs.Pools.{IsCaptureIn};
+ghost use Rattle.pcm_wave.specs.Pools.{IsCaptureIn, capture_frames};
 ghost use Rattle.pcm_desk.specs.declared.book.Book.{Book};
+ghost use Rattle.pcm_desk.specs.declared.device.Held.{Held};
 ghost use Rattle.pcm_desk.specs.Device.{DeviceSeen, IsDevice, device_settings};
 ghost use Rattle.pcm_desk.specs.Desk.{mixing, record_at};
 ghost use Rattle.pcm_desk.specs.Events.{Fits};
+ghost use Rattle.pcm_desk.specs.Own.{HoldApart};
+ghost use Rattle.pcm_desk.specs.OwnEvents.{Opens, own_events};
 ghost use Rattle.pcm_desk.specs.RecordBooks.{is_running};
 ghost use Rattle.pcm_sound.specs.DeviceList.{device_text};
+ghost use Rattle.pcm_sound.specs.OwnReplies.{client_replies};
 ghost use Rattle.pcm_sound.specs.Plain.{AgreeInCommon, HasNoShortage, IsInPlace, IsUnbroken, SoundAlike, plain_text};
 ghost use Rattle.pcm_sound.specs.Plans.{recorded_bytes};
 ghost use Rattle.pcm_sound.specs.Pools.{AreAlike, IsLonger};
 ghost use Rattle.pcm_sound.specs.Recordings.{recorded_frames};
 ghost use Rattle.pcm_sound.specs.Runs.{piece_of};
-ghost use Rattle.pcm_sound.specs.Story.{story_of};
+ghost use Rattle.pcm_sound.specs.Story.{Story, story_of, told};
 
 /// What all reads of a running recording got, joined, is a prefix of all that is recorded from its start on, as long as no interrupt lost
 /// a frame.
@@ -73,4 +80,18 @@ pub fn alike_pools_tell_one_story()
         → All (Fits device one) events → AreAlike one other events }
     ensures fits { (device : DeviceSeen) (one other : Pool) (event : Event) → IsLonger one other
         → Fits device one event → Fits device other event }
+{}
+
+/// Two openings with equal settings, equal events of their own and equal interrupts between them get equal replies, the bytes of reads
+/// included, whatever others do: in one script or in two, as long as the same is captured and as many frames were handed over before.
+pub fn clients_are_told_alike()
+    ensures { (device : DeviceSeen) (pool more : Pool) (fd at : ℕ) (way : Way) (settings : Settings) (held theirs : Held)
+        (one other : Story) (events others : List Event)
+        → capture_frames more ≡ capture_frames pool → one.desk.handed ≡ other.desk.handed
+        → HoldApart one.desk → HoldApart other.desk
+        → let new = told device pool one (Open fd way settings) in
+        let anew = told device more other (Open at way settings) in
+        Opens device fd way settings held one.desk new.desk → Opens device at way settings theirs other.desk anew.desk
+        → own_events fd events ≡ own_events at others
+        → client_replies device pool fd new events ≡ client_replies device more at anew others }
 {}

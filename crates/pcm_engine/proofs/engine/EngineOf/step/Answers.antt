@@ -6,7 +6,7 @@ use Rattle.pcm_oss.specs.declared.event.Event.{Event}
 use Rattle.pcm_play.specs.Channels.{IsReady}
 use Rattle.pcm_record.specs.Channels.{IsRecordReady}
 use Rattle.pcm_sound.specs.Replies.{bytes_to}
-use Rattle.pcm_desk.specs.Desk.{Desk, after}
+use Rattle.pcm_desk.specs.Desk.{Desk, after, held_by}
 use Rattle.pcm_desk.specs.Events.{frames_taken}
 use Rattle.pcm_desk.specs.Own.{IsIsolated}
 use Rattle.pcm_sound.specs.Story.{story_of, story_at_start}
@@ -18,10 +18,11 @@ use Rattle.pcm_engine.specs.Stands.{PartsStand, RecordersStand, bytes_kept, fram
 use Rattle.pcm_engine.specs.Steps.{bytes_answered, bytes_brought}
 use Rattle.pcm_engine.specs.Engines.{device_of, desk_of}
 use Rattle.pcm_vchan.proofs.Channels.{ready-after}
-use Rattle.pcm_sound.proofs.Isolation.{isolated}
+use Rattle.pcm_desk.proofs.Isolation.{isolated}
 use Rattle.pcm_engine.proofs.InOrder.{ready-all, rings-hold}
 use Rattle.pcm_engine.proofs.Recording.{all-record, answered-told, recorders-ready, recorders-told, reply-made}
 use Rattle.pcm_engine.proofs.Standing.{Stepped, stands-told, body-told}
+use Rattle.pcm_engine.proofs.Waiting.{read-waiting}
 use Rattle.pcm_engine.proofs.engine.EngineOf.step.Goals as goal
 
 pub returns-clause-ready : goal.returns-clause-ready
@@ -120,3 +121,10 @@ returns-clause-isolated g c =
     let alone = isolated device c.args.event.now desk old.apart in
     subst (λ (new : Desk). IsIsolated device c.args.event.now desk new c.apply.new.reply.result) (sym c.apply.ensures.desk)
     (subst (IsIsolated device c.args.event.now desk (after device desk c.args.event.now).desk) (sym c.apply.ensures.reply) alone)
+
+pub returns-clause-taken : goal.returns-clause-taken
+returns-clause-taken g c = λ fd count is.
+    let old = c.args.self.now in
+    read-waiting g.B.Feeder.kind g.B.Feeder.kept old.tables (device_of old) (desk_of old) old.parent.recorders.items count (held_by (desk_of old) fd) c.apply.new.reply.bytes refl c.requires.ready.recording
+    (λ held e. old.apart.within fd held e)
+    (λ bytes frames stand. c.apply.ensures.bytes bytes frames stand ∙ ap (λ (event : Event). bytes_answered (device_of old) (desk_of old) bytes event) is)

@@ -1,0 +1,304 @@
+-- No book of a desk looks at another, and no event but its own changes what a descriptor holds.
+use Rattle.std.proofs.Common.{◌≡◌, ℕ, ◌<◌, true, false, List, length, set, get_or, Option, Some, None, Ok, inl, inr, refl, sym, ap, ◌∙◌, subst, arith, get_or-set_same, get_or-set_other}
+use Rattle.std.specs.Prelude.{◌≢◌}
+use Rattle.std.proofs.lemmas.Bool.{cases_lt}
+use Rattle.std.proofs.lemmas.List.{get_or_past, set_past}
+use Rattle.std.proofs.lemmas.List.Quantifiers.{position-Some}
+use Rattle.pcm_format.specs.declared.settings.Settings.{Settings}
+use Rattle.pcm_oss.specs.declared.event.Event.{Event}
+use Rattle.pcm_oss.specs.declared.event.Event.TheVariants.{Open, Write, Read, Ioctl, Close, Intr}
+use Rattle.pcm_oss.specs.declared.event.Way.{Way}
+use Rattle.pcm_oss.specs.declared.event.Way.TheVariants.{Play, Rec}
+use Rattle.pcm_oss.specs.declared.request.Request.{Request}
+use Rattle.pcm_oss.specs.declared.reply.Answer.TheVariants.{Done}
+use Rattle.pcm_oss.specs.declared.reply.Errno.TheVariants.{Exist, Inval}
+use Rattle.pcm_wave.specs.declared.pool.Source.{Source}
+use Rattle.pcm_desk.specs.declared.book.Book.{Book}
+use Rattle.pcm_desk.specs.declared.device.Held.{Held}
+use Rattle.pcm_desk.specs.declared.record_book.RecordBook.{RecordBook}
+use Rattle.pcm_desk.specs.Device.{DeviceSeen}
+use Rattle.pcm_desk.specs.Books.{BookTurn, begun, is_free, write_turn}
+use Rattle.pcm_desk.specs.RecordBooks as records
+use Rattle.pcm_desk.specs.RecordBooks.{RecordTurn}
+use Rattle.pcm_desk.specs.RecordRequests as record_requests
+use Rattle.pcm_desk.specs.Desk.{Desk, DeskTurn, after, asking, book_at, by_way, close_on, close_play, close_record, closing, held_by, ioctl_on, least_free, least_free_record, open_play, open_record, open_turn, play_turn, read_on, record_at, record_turn, record_unopened, refusing, unopened, write_on}
+use Rattle.pcm_desk.specs.Own.{Channel, ChannelTurn, HoldApart, IsIsolated, Playing, Recording, channel_at, descriptor_of, held_after, is_held, own_turn, slots_of}
+use Rattle.pcm_desk.specs.OwnEvents.{channel_begun}
+use Rattle.pcm_desk.proofs.Apart.{free-unheld}
+use Rattle.pcm_desk.proofs.Slots.{book_at-mixing, record_at-capturing}
+use Rattle.pcm_desk.proofs.Turning.{by-opening, by-turning}
+
+-- the number of a descriptor
+abbrev number_of : Option ℕ → ℕ
+number_of None = 0
+number_of (Some fd) = fd
+
+named : (at fd : ℕ) → Some at ≡ Some fd → at ≡ fd
+named at fd e = ap number_of e
+
+-- two slots of one way are two channels
+abbrev channel_named : (way : Way) (slot : ℕ) → Held
+channel_named way slot = record { way = way; slot = slot }
+
+-- the one channel of an event, and the others
+pub record TurnsOne (device : DeviceSeen) (turn : Channel → ChannelTurn) (held : Held) (old : Desk) (new : DeskTurn) : Type 0 where
+  pub own : channel_at device new.desk held ≡ (turn (channel_at device old held)).channel
+  pub reply : new.reply ≡ (turn (channel_at device old held)).reply
+  pub others : (other : Held) → other ≢ held → channel_at device new.desk other ≡ channel_at device old other
+
+-- ---- one book of each way
+
+-- another channel that plays than the one at a slot
+other_play : (device : DeviceSeen) (desk : Desk) (slot : ℕ) (book : Book) (way : Way) (other : ℕ) → (channel_named way other ≢ channel_named Play slot)
+    → channel_at device (record desk { play = set desk.play slot book }) (channel_named way other) ≡ channel_at device desk (channel_named way other)
+other_play device desk slot book Play other differ = ap Playing (get_or-set_other desk.play slot other book (unopened device) (λ same. differ (ap (channel_named Play) same)))
+other_play device desk slot book Rec other differ = refl
+
+other_record : (device : DeviceSeen) (desk : Desk) (slot : ℕ) (book : RecordBook) (way : Way) (other : ℕ) → (channel_named way other ≢ channel_named Rec slot)
+    → channel_at device (record desk { recording = set desk.recording slot book }) (channel_named way other) ≡ channel_at device desk (channel_named way other)
+other_record device desk slot book Play other differ = refl
+other_record device desk slot book Rec other differ = ap Recording (get_or-set_other desk.recording slot other book (record_unopened device) (λ same. differ (ap (channel_named Rec) same)))
+
+-- ---- an event of a descriptor
+
+-- an event that turns a book that plays
+one_play : (device : DeviceSeen) (turn : Book → BookTurn) (own : Channel → ChannelTurn) (desk : Desk) (slot : ℕ) (new : DeskTurn) → slot < length desk.play
+    → new.reply ≡ (own (Playing (book_at device desk slot))).reply → (own (Playing (book_at device desk slot))).channel ≡ Playing (turn (book_at device desk slot)).book
+    → ((held : Held) → channel_at device new.desk held ≡ channel_at device (play_turn device turn desk slot).desk held)
+    → TurnsOne device own (channel_named Play slot) desk new
+one_play device turn own desk slot new there reply is same =
+    let book : Book = (turn (book_at device desk slot)).book in
+    record {
+      own = same (channel_named Play slot) ∙ ap Playing (get_or-set_same desk.play slot book (unopened device) there) ∙ sym is;
+      reply = reply;
+      others = λ other differ. same other ∙ other_play device desk slot book other.way other.slot differ;
+    }
+
+one_record : (device : DeviceSeen) (turn : RecordBook → RecordTurn) (own : Channel → ChannelTurn) (desk : Desk) (slot : ℕ) (new : DeskTurn) → slot < length desk.recording
+    → new.reply ≡ (own (Recording (record_at device desk slot))).reply → (own (Recording (record_at device desk slot))).channel ≡ Recording (turn (record_at device desk slot)).book
+    → ((held : Held) → channel_at device new.desk held ≡ channel_at device (record_turn device turn desk slot).desk held)
+    → TurnsOne device own (channel_named Rec slot) desk new
+one_record device turn own desk slot new there reply is same =
+    let book : RecordBook = (turn (record_at device desk slot)).book in
+    record {
+      own = same (channel_named Rec slot) ∙ ap Recording (get_or-set_same desk.recording slot book (record_unopened device) there) ∙ sym is;
+      reply = reply;
+      others = λ other differ. same other ∙ other_record device desk slot book other.way other.slot differ;
+    }
+
+-- an event that is refused
+one_refused : (device : DeviceSeen) (own : Channel → ChannelTurn) (held : Held) (desk : Desk) (new : DeskTurn) → new.desk ≡ desk → new.reply ≡ (own (channel_at device desk held)).reply → (own (channel_at device desk held)).channel ≡ channel_at device desk held
+    → TurnsOne device own held desk new
+one_refused device own held desk new same reply is = record {
+  own = ap (λ (d : Desk). channel_at device d held) same ∙ sym is;
+  reply = reply;
+  others = λ other differ. ap (λ (d : Desk). channel_at device d other) same;
+}
+
+write_one : (device : DeviceSeen) (way : Way) (slot : ℕ) (desk : Desk) (fd at count : ℕ) (source : Source) → slot < slots_of desk way
+    → TurnsOne device (own_turn device (Write fd source at count)) (channel_named way slot) desk (write_on device (Some (channel_named way slot)) desk count)
+write_one device Play slot desk fd at count source there = one_play device (write_turn count) (own_turn device (Write fd source at count)) desk slot (write_on device (Some (channel_named Play slot)) desk count) there refl refl (λ held. refl)
+write_one device Rec slot desk fd at count source there = one_refused device (own_turn device (Write fd source at count)) (channel_named Rec slot) desk (write_on device (Some (channel_named Rec slot)) desk count) refl refl refl
+
+read_one : (device : DeviceSeen) (way : Way) (slot : ℕ) (desk : Desk) (fd count : ℕ) → slot < slots_of desk way
+    → TurnsOne device (own_turn device (Read fd count)) (channel_named way slot) desk (read_on device (Some (channel_named way slot)) desk count)
+read_one device Play slot desk fd count there = one_refused device (own_turn device (Read fd count)) (channel_named Play slot) desk (read_on device (Some (channel_named Play slot)) desk count) refl refl refl
+read_one device Rec slot desk fd count there = one_record device (records.read_turn count) (own_turn device (Read fd count)) desk slot (read_on device (Some (channel_named Rec slot)) desk count) there refl refl (λ held. refl)
+
+ioctl_one : (device : DeviceSeen) (way : Way) (slot : ℕ) (desk : Desk) (fd : ℕ) (request : Request) → slot < slots_of desk way
+    → TurnsOne device (own_turn device (Ioctl fd request)) (channel_named way slot) desk (ioctl_on device (Some (channel_named way slot)) desk request)
+ioctl_one device Play slot desk fd request there = one_play device (asking device request) (own_turn device (Ioctl fd request)) desk slot (ioctl_on device (Some (channel_named Play slot)) desk request) there refl refl (λ held. refl)
+ioctl_one device Rec slot desk fd request there = one_record device (record_requests.ask_turn request) (own_turn device (Ioctl fd request)) desk slot (ioctl_on device (Some (channel_named Rec slot)) desk request) there refl refl (λ held. refl)
+
+close_one : (device : DeviceSeen) (way : Way) (slot : ℕ) (desk : Desk) (fd at : ℕ) → slot < slots_of desk way
+    → TurnsOne device (own_turn device (Close fd)) (channel_named way slot) desk (close_on device (Some (channel_named way slot)) desk at)
+close_one device Play slot desk fd at there =
+    one_play device (λ book. record { book = closing device book; reply = Ok Done }) (own_turn device (Close fd)) desk slot (close_on device (Some (channel_named Play slot)) desk at) there refl refl (λ held. refl)
+close_one device Rec slot desk fd at there =
+    one_record device (λ book. record { book = records.closed book; reply = Ok Done }) (own_turn device (Close fd)) desk slot (close_on device (Some (channel_named Rec slot)) desk at) there refl refl (λ held. refl)
+
+-- an open descriptor is refused
+open_one : (device : DeviceSeen) (way : Way) (settings : Settings) (held : Held) (desk : Desk) (fd : ℕ) → held_by desk fd ≡ Some held
+    → TurnsOne device (own_turn device (Open fd way settings)) held desk (open_turn desk fd way settings)
+open_one device way settings held desk fd e = rw e (one_refused device (own_turn device (Open fd way settings)) held desk (refusing desk Exist) refl refl refl)
+
+-- a descriptor that is open turns its own book
+turns : (device : DeviceSeen) (event : Event) (held : Held) (desk : Desk) (fd : ℕ) → descriptor_of event ≡ Some fd → held_by desk fd ≡ Some held → held.slot < slots_of desk held.way
+    → TurnsOne device (own_turn device event) held desk (after device desk event)
+turns device (Open at way settings) held desk fd n e there = open_one device way settings held desk at (ap (held_by desk) (named at fd n) ∙ e)
+turns device (Write at source from count) held desk fd n e there = rw (ap (held_by desk) (named at fd n) ∙ e) (write_one device held.way held.slot desk at from count source there)
+turns device (Read at count) held desk fd n e there = rw (ap (held_by desk) (named at fd n) ∙ e) (read_one device held.way held.slot desk at count there)
+turns device (Ioctl at request) held desk fd n e there = rw (ap (held_by desk) (named at fd n) ∙ e) (ioctl_one device held.way held.slot desk at request there)
+turns device (Close at) held desk fd n e there = rw (ap (held_by desk) (named at fd n) ∙ e) (close_one device held.way held.slot desk at at there)
+turns device (Intr frames) held desk fd n e there = cc
+
+-- an interrupt goes by each book alone
+passed : (device : DeviceSeen) (desk : Desk) (frames : ℕ) (way : Way) (slot : ℕ) → channel_at device (after device desk (Intr frames)).desk (channel_named way slot) ≡ (own_turn device (Intr frames) (channel_at device desk (channel_named way slot))).channel
+passed device desk frames Play slot = ap Playing (book_at-mixing device desk frames slot)
+passed device desk frames Rec slot = ap Recording (record_at-capturing device desk frames slot)
+
+each_alone : (device : DeviceSeen) (event : Event) (desk : Desk) → descriptor_of event ≡ None → (held : Held) → channel_at device (after device desk event).desk held ≡ (own_turn device event (channel_at device desk held)).channel
+each_alone device (Open at way settings) desk n held = cc
+each_alone device (Write at source from count) desk n held = cc
+each_alone device (Read at count) desk n held = cc
+each_alone device (Ioctl at request) desk n held = cc
+each_alone device (Close at) desk n held = cc
+each_alone device (Intr frames) desk n held = passed device desk frames held.way held.slot
+
+-- ---- what descriptors hold
+
+-- any event of another descriptor leaves what this one holds
+holds_same : (device : DeviceSeen) (event : Event) (desk : Desk) (fd other : ℕ) → descriptor_of event ≡ Some fd → other ≢ fd → held_by (after device desk event).desk other ≡ held_by desk other
+holds_same device (Open at way settings) desk fd other n differ =
+    let apart : other ≢ at = λ same. differ (same ∙ named at fd n) in
+    by-opening (λ (w : Way) (d : Desk). held_by d other ≡ held_by desk other) way desk at settings (λ w. refl)
+    (λ slot e. get_or-set_other desk.descriptors at other (Some (channel_named Play slot)) None apart)
+    (λ slot e. get_or-set_other desk.descriptors at other (Some (channel_named Rec slot)) None apart)
+holds_same device (Write at source from count) desk fd other n differ =
+    by-turning (λ (d : Desk). held_by d other ≡ held_by desk other) (play_turn device (write_turn count) desk) (λ slot. refusing desk Inval) (held_by desk at) desk refl (λ slot. refl) (λ slot. refl)
+holds_same device (Read at count) desk fd other n differ =
+    by-turning (λ (d : Desk). held_by d other ≡ held_by desk other) (λ slot. refusing desk Inval) (record_turn device (records.read_turn count) desk) (held_by desk at) desk refl (λ slot. refl) (λ slot. refl)
+holds_same device (Ioctl at request) desk fd other n differ =
+    by-turning (λ (d : Desk). held_by d other ≡ held_by desk other) (play_turn device (asking device request) desk) (record_turn device (record_requests.ask_turn request) desk) (held_by desk at) desk refl (λ slot. refl) (λ slot. refl)
+holds_same device (Close at) desk fd other n differ =
+    let apart : other ≢ at = λ same. differ (same ∙ named at fd n) in
+    by-turning (λ (d : Desk). held_by d other ≡ held_by desk other) (close_play device desk at) (close_record device desk at) (held_by desk at) desk refl
+    (λ slot. get_or-set_other desk.descriptors at other None None apart) (λ slot. get_or-set_other desk.descriptors at other None None apart)
+holds_same device (Intr frames) desk fd other n differ = cc
+
+-- a descriptor that holds something is there
+descriptor_there : (desk : Desk) (fd : ℕ) (held : Held) → held_by desk fd ≡ Some held → fd < length desk.descriptors
+descriptor_there desk fd held e =
+    elim (cases_lt fd (length desk.descriptors)) [
+      | inl here ↦ here
+      | inr past ↦ absurd (let none : None ≡ Some held = sym (get_or_past desk.descriptors fd None past) ∙ e in cc)
+    ]
+
+-- a close shuts its descriptor
+closed_shut : (device : DeviceSeen) (desk : Desk) (fd : ℕ) (held : Held) → fd < length desk.descriptors → held_by (close_on device (Some held) desk fd).desk fd ≡ None
+closed_shut device desk fd held there =
+    elim held.way as (λ (way : Way). held_by (by_way way (close_play device desk fd held.slot) (close_record device desk fd held.slot)).desk fd ≡ None) [
+      | Play ↦ get_or-set_same desk.descriptors fd None None there
+      | Rec ↦ get_or-set_same desk.descriptors fd None None there
+    ]
+
+-- an event of its own leaves an open descriptor its channel, but for a close
+holds_until : (device : DeviceSeen) (event : Event) (desk : Desk) (fd : ℕ) (held : Held) → descriptor_of event ≡ Some fd → held_by desk fd ≡ Some held → held_by (after device desk event).desk fd ≡ held_after event held
+holds_until device (Open at way settings) desk fd held n e = rw (ap (held_by desk) (named at fd n) ∙ e) e
+holds_until device (Write at source from count) desk fd held n e =
+    by-turning (λ (d : Desk). held_by d fd ≡ Some held) (play_turn device (write_turn count) desk) (λ slot. refusing desk Inval) (held_by desk at) desk e (λ slot. e) (λ slot. e)
+holds_until device (Read at count) desk fd held n e =
+    by-turning (λ (d : Desk). held_by d fd ≡ Some held) (λ slot. refusing desk Inval) (record_turn device (records.read_turn count) desk) (held_by desk at) desk e (λ slot. e) (λ slot. e)
+holds_until device (Ioctl at request) desk fd held n e =
+    by-turning (λ (d : Desk). held_by d fd ≡ Some held) (play_turn device (asking device request) desk) (record_turn device (record_requests.ask_turn request) desk) (held_by desk at) desk e (λ slot. e) (λ slot. e)
+holds_until device (Close at) desk fd held n e =
+    subst (λ (k : ℕ). held_by (close_on device (held_by desk k) desk k).desk fd ≡ None) (sym (named at fd n))
+    (subst (λ (h : Option Held). held_by (close_on device h desk fd).desk fd ≡ None) (sym e) (closed_shut device desk fd held (descriptor_there desk fd held e)))
+holds_until device (Intr frames) desk fd held n e = cc
+
+-- an interrupt leaves what each holds
+holds_passing : (device : DeviceSeen) (event : Event) (desk : Desk) → descriptor_of event ≡ None → (fd : ℕ) → held_by (after device desk event).desk fd ≡ held_by desk fd
+holds_passing device (Open at way settings) desk n fd = cc
+holds_passing device (Write at source from count) desk n fd = cc
+holds_passing device (Read at count) desk n fd = cc
+holds_passing device (Ioctl at request) desk n fd = cc
+holds_passing device (Close at) desk n fd = cc
+holds_passing device (Intr frames) desk n fd = refl
+
+-- ---- a descriptor that is shut
+
+-- it holds the slot that an open took
+taken_there : (desk : Desk) (fd : ℕ) (mine other : Held) → fd < length desk.descriptors → get_or (set desk.descriptors fd (Some mine)) fd None ≢ Some other → other ≢ mine
+taken_there desk fd mine other there differ same = differ (get_or-set_same desk.descriptors fd (Some mine) None there ∙ ap (λ (h : Held). Some h) (sym same))
+
+-- each channel but that one stays
+untaken_same : (device : DeviceSeen) (event : Event) (desk : Desk) (fd : ℕ) (other : Held) → descriptor_of event ≡ Some fd → held_by desk fd ≡ None → fd < length desk.descriptors
+    → held_by (after device desk event).desk fd ≢ Some other → channel_at device (after device desk event).desk other ≡ channel_at device desk other
+untaken_same device (Open at way settings) desk fd other n e there differ =
+    let is : at ≡ fd = named at fd n in
+    let here : at < length desk.descriptors = omega arith in
+    by-opening (λ (w : Way) (d : Desk). held_by d at ≢ Some other → channel_at device d other ≡ channel_at device desk other) way desk at settings (λ w apart. refl)
+    (λ slot found apart. other_play device desk slot (begun settings) other.way other.slot (taken_there desk at (channel_named Play slot) other here apart))
+    (λ slot found apart. other_record device desk slot (records.begun settings) other.way other.slot (taken_there desk at (channel_named Rec slot) other here apart))
+    (subst (λ (k : ℕ). held_by (open_turn desk at way settings).desk k ≢ Some other) (sym is) differ)
+untaken_same device (Write at source from count) desk fd other n e there differ = rw (ap (held_by desk) (named at fd n) ∙ e) refl
+untaken_same device (Read at count) desk fd other n e there differ = rw (ap (held_by desk) (named at fd n) ∙ e) refl
+untaken_same device (Ioctl at request) desk fd other n e there differ = rw (ap (held_by desk) (named at fd n) ∙ e) refl
+untaken_same device (Close at) desk fd other n e there differ = rw (ap (held_by desk) (named at fd n) ∙ e) refl
+untaken_same device (Intr frames) desk fd other n e there differ = cc
+
+-- no open takes a slot that some descriptor holds
+play_taken : (device : DeviceSeen) (desk : Desk) (slot other : ℕ) (way : Way) (taken : ℕ) → HoldApart desk → least_free desk.play ≡ Some slot → held_by desk other ≡ Some (channel_named way taken) → channel_named way taken ≢ channel_named Play slot
+play_taken device desk slot other Play taken h found e same =
+    let free = position-Some (λ (book : Book). is_free book.state) desk.play slot (unopened device) found in
+    free-unheld (get_or desk.play slot (unopened device)).state free.1 (subst (λ (k : ℕ). is_held (get_or desk.play k (unopened device)).state ≡ true) (ap (λ (x : Held). x.slot) same) (h.taken other (channel_named Play taken) e (unopened device)))
+play_taken device desk slot other Rec taken h found e same = let clash : Rec ≡ Play = ap (λ (x : Held). x.way) same in cc
+
+record_taken : (device : DeviceSeen) (desk : Desk) (slot other : ℕ) (way : Way) (taken : ℕ) → HoldApart desk → least_free_record desk.recording ≡ Some slot → held_by desk other ≡ Some (channel_named way taken) → channel_named way taken ≢ channel_named Rec slot
+record_taken device desk slot other Rec taken h found e same =
+    let free = position-Some (λ (book : RecordBook). records.is_free book.state) desk.recording slot (record_unopened device) found in
+    let held : records.is_free (get_or desk.recording slot (record_unopened device)).state ≡ false = subst (λ (k : ℕ). records.is_free (get_or desk.recording k (record_unopened device)).state ≡ false) (ap (λ (x : Held). x.slot) same) (h.taken other (channel_named Rec taken) e (record_unopened device)) in
+    let clash : true ≡ false = sym free.1 ∙ held in
+    cc
+record_taken device desk slot other Play taken h found e same = let clash : Play ≡ Rec = ap (λ (x : Held). x.way) same in cc
+
+-- so each channel that another descriptor holds stays
+shut_leaves : (device : DeviceSeen) (event : Event) (desk : Desk) (fd other : ℕ) (theirs : Held) → HoldApart desk → descriptor_of event ≡ Some fd → held_by desk fd ≡ None → held_by desk other ≡ Some theirs
+    → channel_at device (after device desk event).desk theirs ≡ channel_at device desk theirs
+shut_leaves device (Open at way settings) desk fd other theirs h n e m =
+    by-opening (λ (w : Way) (d : Desk). channel_at device d theirs ≡ channel_at device desk theirs) way desk at settings (λ w. refl)
+    (λ slot found. other_play device desk slot (begun settings) theirs.way theirs.slot (play_taken device desk slot other theirs.way theirs.slot h found m))
+    (λ slot found. other_record device desk slot (records.begun settings) theirs.way theirs.slot (record_taken device desk slot other theirs.way theirs.slot h found m))
+shut_leaves device (Write at source from count) desk fd other theirs h n e m = rw (ap (held_by desk) (named at fd n) ∙ e) refl
+shut_leaves device (Read at count) desk fd other theirs h n e m = rw (ap (held_by desk) (named at fd n) ∙ e) refl
+shut_leaves device (Ioctl at request) desk fd other theirs h n e m = rw (ap (held_by desk) (named at fd n) ∙ e) refl
+shut_leaves device (Close at) desk fd other theirs h n e m = rw (ap (held_by desk) (named at fd n) ∙ e) refl
+shut_leaves device (Intr frames) desk fd other theirs h n e m = cc
+
+-- any event of a descriptor leaves what another one holds as it is
+leaves : (device : DeviceSeen) (event : Event) (desk : Desk) (fd other : ℕ) (theirs : Held) (mine : Option Held) → HoldApart desk → descriptor_of event ≡ Some fd → other ≢ fd → held_by desk other ≡ Some theirs → held_by desk fd ≡ mine
+    → channel_at device (after device desk event).desk theirs ≡ channel_at device desk theirs
+leaves device event desk fd other theirs None h n differ m e = shut_leaves device event desk fd other theirs h n e m
+leaves device event desk fd other theirs (Some held) h n differ m e =
+    (turns device event held desk fd n e (h.within fd held e)).others theirs (λ same. differ (h.apart other fd theirs held m e same))
+
+-- every event leaves the books of a desk to themselves
+pub isolated : (device : DeviceSeen) (event : Event) (desk : Desk) → HoldApart desk → IsIsolated device event desk (after device desk event).desk (after device desk event).reply
+isolated device event desk hold = record {
+  own = λ fd held n e. (turns device event held desk fd n e (hold.within fd held e)).own;
+  answer = λ fd held n e. (turns device event held desk fd n e (hold.within fd held e)).reply;
+  until = λ fd held n e. holds_until device event desk fd held n e;
+  others = λ fd other held n e differ. (turns device event held desk fd n e (hold.within fd held e)).others other differ;
+  untaken = λ fd other n e there differ. untaken_same device event desk fd other n e there differ;
+  holds = λ fd other n differ. holds_same device event desk fd other n differ;
+  strangers = λ fd other theirs n differ m. leaves device event desk fd other theirs (held_by desk fd) hold n differ m refl;
+  each = each_alone device event desk;
+  passes = holds_passing device event desk;
+}
+
+-- ---- an opening
+
+-- the channel that an opened descriptor holds
+begins : (device : DeviceSeen) (desk : Desk) (fd : ℕ) (mine held : Held) (new : Desk) (channel : Channel) → held_by desk fd ≡ None → new.descriptors ≡ set desk.descriptors fd (Some mine) → channel_at device new mine ≡ channel → held_by new fd ≡ Some held
+    → channel_at device new held ≡ channel
+begins device desk fd mine held new channel shut put is holds =
+    let reads : get_or (set desk.descriptors fd (Some mine)) fd None ≡ Some held = ap (λ (l : List (Option Held)). get_or l fd None) (sym put) ∙ holds in
+    elim (cases_lt fd (length desk.descriptors)) [
+      | inl here ↦ (let same : Some held ≡ Some mine = sym reads ∙ get_or-set_same desk.descriptors fd (Some mine) None here in
+          ap (channel_at device new) (ap (λ (h : Option Held). held_or h) same) ∙ is)
+      | inr past ↦ absurd (let none : None ≡ Some held = sym shut ∙ ap (λ (l : List (Option Held)). get_or l fd None) (sym (set_past desk.descriptors fd (Some mine) past)) ∙ reads in cc)
+    ]
+  where
+    held_or : Option Held → Held
+    held_or None = mine
+    held_or (Some h) = h
+
+pub opened-begins : (device : DeviceSeen) (desk : Desk) (fd : ℕ) (way : Way) (settings : Settings) (held : Held) → held_by desk fd ≡ None → held_by (open_turn desk fd way settings).desk fd ≡ Some held
+    → channel_at device (open_turn desk fd way settings).desk held ≡ channel_begun way settings
+opened-begins device desk fd way settings held shut =
+    by-opening (λ (w : Way) (d : Desk). held_by d fd ≡ Some held → channel_at device d held ≡ channel_begun w settings) way desk fd settings
+    (λ w holds. absurd (let none : None ≡ Some held = sym shut ∙ holds in cc))
+    (λ slot found. begins device desk fd (channel_named Play slot) held (open_play (Some slot) desk fd settings).desk (Playing (begun settings)) shut refl
+    (ap Playing (get_or-set_same desk.play slot (begun settings) (unopened device) (position-Some (λ (book : Book). is_free book.state) desk.play slot (unopened device) found).0)))
+    (λ slot found. begins device desk fd (channel_named Rec slot) held (open_record (Some slot) desk fd settings).desk (Recording (records.begun settings)) shut refl
+    (ap Recording (get_or-set_same desk.recording slot (records.begun settings) (record_unopened device) (position-Some (λ (book : RecordBook). records.is_free book.state) desk.recording slot (record_unopened device) found).0)))

@@ -1,0 +1,73 @@
+-- What the events of one descriptor come to along a list of events, from its opening on until its close.
+use Rattle.std.specs.Prelude.{◌≡◌, ℕ, Bool, true, false, ◌==◌, if◌then◌else◌, List, [], ◌∷◌, Option, Some, None, Result}
+use Rattle.pcm_format.specs.declared.settings.Settings.{Settings}
+use Rattle.pcm_oss.specs.declared.event.Event.{Event}
+use Rattle.pcm_oss.specs.declared.event.Event.TheVariants.{Open, Write, Read, Ioctl, Close, Intr}
+use Rattle.pcm_oss.specs.declared.event.Way.{Way}
+use Rattle.pcm_oss.specs.declared.reply.Answer.{Answer}
+use Rattle.pcm_oss.specs.declared.reply.Errno.{Errno}
+use Rattle.pcm_wave.specs.declared.pool.Source.TheVariants.{Inline}
+use Rattle.pcm_desk.specs.declared.device.Held.{Held}
+use Rattle.pcm_desk.specs.Device.{DeviceSeen}
+use Rattle.pcm_desk.specs.Books.{begun}
+use Rattle.pcm_desk.specs.RecordBooks as records
+use Rattle.pcm_desk.specs.Desk.{Desk, DeskTurn, after, by_way, held_by}
+use Rattle.pcm_desk.specs.Own.{Channel, ChannelTurn, Playing, Recording, descriptor_of, own_turn}
+
+-- a descriptor is this one; an event that names none is everyone's
+abbrev pub names : ℕ → Option ℕ → Bool
+names fd None = true
+names fd (Some at) = at == fd
+
+-- an event of the descriptor, or an interrupt
+abbrev pub concerns : ℕ → Event → Bool
+concerns fd event = names fd (descriptor_of event)
+
+-- the close of the descriptor
+abbrev pub closes : ℕ → Event → Bool
+closes fd (Close at) = at == fd
+closes fd _ = false
+
+-- An event without the number of its descriptor. Of the bytes of a write only their number counts.
+abbrev pub unnamed : Event → Event
+unnamed (Open fd way settings) = Open 0 way settings
+unnamed (Write fd source at count) = Write 0 Inline 0 count
+unnamed (Read fd count) = Read 0 count
+unnamed (Ioctl fd request) = Ioctl 0 request
+unnamed (Close fd) = Close 0
+unnamed (Intr n) = Intr n
+
+-- the events of an open descriptor and the interrupts between them, until it is closed
+abbrev pub own_events : ℕ → List Event → List Event
+own_events fd [] = []
+own_events fd (event ∷ events) =
+    if concerns fd event then unnamed event ∷ (if closes fd event then [] else own_events fd events) else own_events fd events
+
+-- the replies to these events, at a desk and all that comes of it
+abbrev pub replies_to : DeviceSeen → ℕ → Desk → List Event → List (Result Answer Errno)
+replies_to device fd desk [] = []
+replies_to device fd desk (event ∷ events) =
+    let turn : DeskTurn = after device desk event in
+    if concerns fd event then turn.reply ∷ (if closes fd event then [] else replies_to device fd turn.desk events) else replies_to device fd turn.desk events
+
+-- the replies to a channel's own events, by its book alone
+abbrev pub own_replies : DeviceSeen → Channel → List Event → List (Result Answer Errno)
+own_replies device channel [] = []
+own_replies device channel (event ∷ events) =
+    let turn : ChannelTurn = own_turn device event channel in
+    turn.reply ∷ own_replies device turn.channel events
+
+-- and its book after them
+abbrev pub own_after : DeviceSeen → Channel → List Event → Channel
+own_after device channel [] = channel
+own_after device channel (event ∷ events) = own_after device (own_turn device event channel).channel events
+
+-- a channel whose opening begins
+abbrev pub channel_begun : Way → Settings → Channel
+channel_begun way settings = by_way way (Playing (begun settings)) (Recording (records.begun settings))
+
+-- a descriptor that was shut is opened at a desk, and holds this channel then
+pub record Opens (device : DeviceSeen) (fd : ℕ) (way : Way) (settings : Settings) (held : Held) (old new : Desk) : Type 0 where
+  pub shut : held_by old fd ≡ None
+  pub is : new ≡ (after device old (Open fd way settings)).desk
+  pub holds : held_by new fd ≡ Some held

@@ -1,0 +1,349 @@
+-- What a client is told, the bytes of its reads included, goes by its own events, and by what is captured.
+use Rattle.std.proofs.Common.{◌≡◌, ℕ, ◌+◌, ◌-◌, Bool, true, false, cond, List, [], ◌∷◌, ◌++◌, drop, min, take, Some, Ok, Err, refl, sym, ap, ◌∙◌, subst, arith}
+use Rattle.std.specs.Prelude.{eqb, nat_lt, not, ◌&&◌}
+use Rattle.std.proofs.lemmas.Bool.{eqb-true}
+use Rattle.std.proofs.lemmas.List.{append-nil}
+use Rattle.pcm_format.specs.declared.settings.Settings.{Settings}
+use Rattle.pcm_oss.specs.declared.event.Event.{Event}
+use Rattle.pcm_oss.specs.declared.event.Event.TheVariants.{Open, Write, Read, Ioctl, Close, Intr}
+use Rattle.pcm_oss.specs.declared.event.Way.{Way}
+use Rattle.pcm_oss.specs.declared.event.Way.TheVariants.{Play, Rec}
+use Rattle.pcm_oss.specs.declared.reply.Answer.TheVariants.{Got}
+use Rattle.pcm_oss.specs.declared.reply.Errno.TheVariants.{Again}
+use Rattle.pcm_oss.specs.Replies.{Reply}
+use Rattle.pcm_wave.specs.declared.pool.Pool.{Pool}
+use Rattle.pcm_wave.specs.Pools.{capture_frames}
+use Rattle.pcm_desk.specs.declared.book.Book.{Book}
+use Rattle.pcm_desk.specs.declared.device.Held.{Held}
+use Rattle.pcm_desk.specs.declared.record_book.RecordBook.{RecordBook}
+use Rattle.pcm_desk.specs.declared.record_book.RecordState.{RecordState}
+use Rattle.pcm_desk.specs.declared.record_book.RecordState.TheVariants.{Free, Setup, Running}
+use Rattle.pcm_desk.specs.Device.{DeviceSeen, record_rate_between}
+use Rattle.pcm_desk.specs.RecordBooks as records
+use Rattle.pcm_desk.specs.RecordBooks.{captured, fill_of, is_running, read_turn}
+use Rattle.pcm_desk.specs.RecordRequests as record_requests
+use Rattle.pcm_desk.specs.RecordSafe.{RecordIsSafe}
+use Rattle.pcm_desk.specs.Desk.{by_way, capturing, held_by, record_rate_at}
+use Rattle.pcm_desk.specs.Events.{frames_taken}
+use Rattle.pcm_desk.specs.Own.{Channel, ChannelTurn, HoldApart, Playing, Recording, channel_at, own_turn}
+use Rattle.pcm_desk.specs.OwnEvents.{Opens, channel_begun, closes, concerns, own_events, unnamed}
+use Rattle.pcm_desk.proofs.Apart.{apart-after}
+use Rattle.pcm_desk.proofs.OwnEvents.{IsMine, begun-own, mine-turns, other-stays}
+use Rattle.pcm_desk.proofs.RecordAsking.{record-ask-settings}
+use Rattle.pcm_desk.proofs.RecordSafe.{record-safe-ask, record-safe-begun, record-safe-captured, record-safe-closed, record-safe-read}
+use Rattle.pcm_desk.proofs.Turning.{handed-taken}
+use Rattle.pcm_sound.specs.OwnReplies.{client_replies}
+use Rattle.pcm_sound.specs.Recordings as recordings
+use Rattle.pcm_sound.specs.Recordings.{going_on, read_bytes, recording_from, starts_recording}
+use Rattle.pcm_sound.specs.Replies.{bytes_got, bytes_to, reply_to}
+use Rattle.pcm_sound.specs.Story.{Story, told}
+use Rattle.pcm_sound.proofs.Pools.{going-alike}
+use Rattle.pcm_sound.proofs.Recorded.{idle-unstarted}
+
+-- ---- a channel by itself: its book, its recording, and the frames handed over
+
+-- the bytes that a read gets of a channel
+abbrev read_of : ℕ → Channel → recordings.Recording → List ℕ
+read_of count (Playing book) recording = []
+read_of count (Recording book) recording = read_bytes count book recording
+
+-- the bytes that an event gets of it
+abbrev own_bytes : Event → Channel → recordings.Recording → List ℕ
+own_bytes (Open fd way settings) channel recording = []
+own_bytes (Write fd source at count) channel recording = []
+own_bytes (Read fd count) channel recording = read_of count channel recording
+own_bytes (Ioctl fd request) channel recording = []
+own_bytes (Close fd) channel recording = []
+own_bytes (Intr n) channel recording = []
+
+-- its recording after an event, from its book before and after
+abbrev next_recording : DeviceSeen → Pool → ℕ → Event → Channel → Channel → recordings.Recording → recordings.Recording
+next_recording device pool handed event (Recording old) (Recording new) recording = cond (starts_recording old new) (recording_from handed) (going_on device pool event old new recording)
+next_recording device pool handed event (Recording old) (Playing new) recording = recording
+next_recording device pool handed event (Playing old) new recording = recording
+
+-- the replies to its own events
+abbrev own_told : DeviceSeen → Pool → Channel → recordings.Recording → ℕ → List Event → List Reply
+own_told device pool channel recording handed [] = []
+own_told device pool channel recording handed (event ∷ events) =
+    record { result = (own_turn device event channel).reply; bytes = own_bytes event channel recording }
+    ∷ own_told device pool (own_turn device event channel).channel (next_recording device pool handed event channel (own_turn device event channel).channel recording) (handed + frames_taken event) events
+
+-- the recording of what a descriptor holds
+abbrev own_recording : Story → Held → recordings.Recording
+own_recording story held = by_way held.way (recording_from 0) (story.recordings held.slot)
+
+-- ---- from a story to one channel of it
+
+-- its recording goes on by its book
+next_told : (device : DeviceSeen) (pool : Pool) (story : Story) (event : Event) (way : Way) (slot : ℕ)
+    → let held : Held = record { way = way; slot = slot } in let new : Story = told device pool story event in
+    own_recording new held ≡ next_recording device pool story.desk.handed event (channel_at device story.desk held) (channel_at device new.desk held) (own_recording story held)
+next_told device pool story event Play slot = refl
+next_told device pool story event Rec slot = refl
+
+-- an event of another descriptor leaves it
+unread : (book : RecordBook) (recording : recordings.Recording) → recordings.handing book book recording ≡ recording
+unread book recording =
+    let none : book.read - book.read ≡ 0 = omega arith in
+    ap (λ (got : List ℕ). record recording { got = got }) (ap (λ n. recording.got ++ take n (drop book.read recording.kept)) none ∙ append-nil recording.got)
+
+goes_nowhere : (device : DeviceSeen) (pool : Pool) (event : Event) (fd : ℕ) (book : RecordBook) (recording : recordings.Recording) → concerns fd event ≡ false → going_on device pool event book book recording ≡ recording
+goes_nowhere device pool (Open at way settings) fd book recording n = refl
+goes_nowhere device pool (Write at source from count) fd book recording n = refl
+goes_nowhere device pool (Read at count) fd book recording n = unread book recording
+goes_nowhere device pool (Ioctl at request) fd book recording n = refl
+goes_nowhere device pool (Close at) fd book recording n = refl
+goes_nowhere device pool (Intr frames) fd book recording n = cc
+
+starts_none : (running : Bool) (start other : recordings.Recording) → cond (not running && running) start other ≡ other
+starts_none true start other = refl
+starts_none false start other = refl
+
+next_same : (device : DeviceSeen) (pool : Pool) (handed : ℕ) (event : Event) (fd : ℕ) (channel : Channel) (recording : recordings.Recording) → concerns fd event ≡ false → next_recording device pool handed event channel channel recording ≡ recording
+next_same device pool handed event fd (Playing book) recording n = refl
+next_same device pool handed event fd (Recording book) recording n = starts_none (is_running book.state) (recording_from handed) (going_on device pool event book book recording) ∙ goes_nowhere device pool event fd book recording n
+
+-- nor does it hand frames over
+takes_none : (event : Event) (fd : ℕ) → concerns fd event ≡ false → frames_taken event ≡ 0
+takes_none (Open at way settings) fd n = refl
+takes_none (Write at source from count) fd n = refl
+takes_none (Read at count) fd n = refl
+takes_none (Ioctl at request) fd n = refl
+takes_none (Close at) fd n = refl
+takes_none (Intr frames) fd n = cc
+
+-- a read of its own gets the bytes of its recording
+read_own : (device : DeviceSeen) (story : Story) (count : ℕ) (way : Way) (slot : ℕ)
+    → let held : Held = record { way = way; slot = slot } in bytes_got device story count (Some held) ≡ read_of count (channel_at device story.desk held) (own_recording story held)
+read_own device story count Play slot = refl
+read_own device story count Rec slot = refl
+
+-- the bytes of a reply to an event of its own, or to an interrupt
+bytes_own : (device : DeviceSeen) (pool : Pool) (story : Story) (event : Event) (fd : ℕ) (held : Held) → concerns fd event ≡ true → held_by story.desk fd ≡ Some held
+    → bytes_to device story event ≡ own_bytes event (channel_at device story.desk held) (own_recording story held)
+bytes_own device pool story (Open at way settings) fd held n e = refl
+bytes_own device pool story (Write at source from count) fd held n e = refl
+bytes_own device pool story (Read at count) fd held n e =
+    ap (λ (k : ℕ). bytes_got device story count (held_by story.desk k)) (eqb-true at fd n) ∙ ap (bytes_got device story count) e ∙ read_own device story count held.way held.slot
+bytes_own device pool story (Ioctl at request) fd held n e = refl
+bytes_own device pool story (Close at) fd held n e = refl
+bytes_own device pool story (Intr frames) fd held n e = refl
+
+-- neither the number of a descriptor nor the bytes of a write say anything to a channel
+told_unnamed : (device : DeviceSeen) (pool : Pool) (event : Event) (channel : Channel) (recording : recordings.Recording) (handed : ℕ) (more : List Event)
+    → own_told device pool channel recording handed (unnamed event ∷ more) ≡ own_told device pool channel recording handed (event ∷ more)
+told_unnamed device pool (Open fd way settings) (Playing book) recording handed more = refl
+told_unnamed device pool (Open fd way settings) (Recording book) recording handed more = refl
+told_unnamed device pool (Write fd source at count) (Playing book) recording handed more = refl
+told_unnamed device pool (Write fd source at count) (Recording book) recording handed more = refl
+told_unnamed device pool (Read fd count) (Playing book) recording handed more = refl
+told_unnamed device pool (Read fd count) (Recording book) recording handed more = refl
+told_unnamed device pool (Ioctl fd request) (Playing book) recording handed more = refl
+told_unnamed device pool (Ioctl fd request) (Recording book) recording handed more = refl
+told_unnamed device pool (Close fd) (Playing book) recording handed more = refl
+told_unnamed device pool (Close fd) (Recording book) recording handed more = refl
+told_unnamed device pool (Intr n) channel recording handed more = refl
+
+-- what a client is told by one channel of a story
+abbrev told_by : DeviceSeen → Pool → Story → Held → List Event → List Reply
+told_by device pool story held events = own_told device pool (channel_at device story.desk held) (own_recording story held) story.desk.handed events
+
+-- one event, and those behind it
+told_step : (device : DeviceSeen) (pool : Pool) (story : Story) (event : Event) (events : List Event) (fd : ℕ) (held : Held) (own closing : Bool) → concerns fd event ≡ own → closes fd event ≡ closing → HoldApart story.desk → held_by story.desk fd ≡ Some held
+    → let new : Story = told device pool story event in
+    (held_by new.desk fd ≡ Some held → client_replies device pool fd new events ≡ told_by device pool new held (own_events fd events))
+    → cond own (reply_to device story event ∷ cond closing [] (client_replies device pool fd new events)) (client_replies device pool fd new events)
+    ≡ told_by device pool story held (cond own (unnamed event ∷ cond closing [] (own_events fd events)) (own_events fd events))
+told_step device pool story event events fd held true closing o c h m rest =
+    behind closing c ∙ sym (told_unnamed device pool event channel recording story.desk.handed (cond closing [] (own_events fd events)))
+  where
+    channel : Channel
+    channel = channel_at device story.desk held
+
+    recording : recordings.Recording
+    recording = own_recording story held
+
+    new : Story
+    new = told device pool story event
+
+    is : IsMine device event held fd story.desk
+    is = mine-turns device event story.desk fd held o h m
+
+    first : reply_to device story event ≡ record { result = (own_turn device event channel).reply; bytes = own_bytes event channel recording }
+    first = λ i. record { result = is.reply i; bytes = bytes_own device pool story event fd held o m i }
+
+    -- from the story's own channel to the channel by itself
+    goes_on : (more : List Event) → told_by device pool new held more
+        ≡ own_told device pool (own_turn device event channel).channel (next_recording device pool story.desk.handed event channel (own_turn device event channel).channel recording) (story.desk.handed + frames_taken event) more
+    goes_on more =
+        ap (λ (r : recordings.Recording). own_told device pool (channel_at device new.desk held) r new.desk.handed more) (next_told device pool story event held.way held.slot)
+        ∙ ap (λ (n : ℕ). own_told device pool (channel_at device new.desk held) (next_recording device pool story.desk.handed event channel (channel_at device new.desk held) recording) n more) (handed-taken device story.desk event)
+        ∙ ap (λ (c : Channel). own_told device pool c (next_recording device pool story.desk.handed event channel c recording) (story.desk.handed + frames_taken event) more) is.channel
+
+    behind : (b : Bool) → closes fd event ≡ b
+        → reply_to device story event ∷ cond b [] (client_replies device pool fd new events) ≡ own_told device pool channel recording story.desk.handed (event ∷ cond b [] (own_events fd events))
+    behind true e = ap (λ (r : Reply). r ∷ []) first
+    behind false e =
+        ap (λ (r : Reply). r ∷ client_replies device pool fd new events) first
+        ∙ ap (λ (list : List Reply). record { result = (own_turn device event channel).reply; bytes = own_bytes event channel recording } ∷ list) (rest (is.holds e) ∙ goes_on (own_events fd events))
+told_step device pool story event events fd held false closing o c h m rest =
+    let new : Story = told device pool story event in
+    let more : List Event = own_events fd events in
+    let channel : Channel = channel_at device story.desk held in
+    let is = other-stays device event story.desk fd held o h m in
+    let none : new.desk.handed ≡ story.desk.handed = (let taken = handed-taken device story.desk event in let nothing = takes_none event fd o in omega arith) in
+    rest is.holds
+    ∙ ap (λ (r : recordings.Recording). own_told device pool (channel_at device new.desk held) r new.desk.handed more)
+    (next_told device pool story event held.way held.slot ∙ ap (λ (c : Channel). next_recording device pool story.desk.handed event channel c (own_recording story held)) is.channel
+    ∙ next_same device pool story.desk.handed event fd channel (own_recording story held) o)
+    ∙ ap (λ (n : ℕ). own_told device pool (channel_at device new.desk held) (own_recording story held) n more) none
+    ∙ ap (λ (c : Channel). own_told device pool c (own_recording story held) story.desk.handed more) is.channel
+
+-- What a client is told goes by the book of its channel, its recording and its own events.
+told_own : (device : DeviceSeen) (pool : Pool) (story : Story) (fd : ℕ) (held : Held) (events : List Event) → HoldApart story.desk → held_by story.desk fd ≡ Some held
+    → client_replies device pool fd story events ≡ told_by device pool story held (own_events fd events)
+told_own device pool story fd held [] h m = refl
+told_own device pool story fd held (event ∷ events) h m =
+    told_step device pool story event events fd held (concerns fd event) (closes fd event) refl refl h m
+    (λ goes. told_own device pool (told device pool story event) fd held events (apart-after device story.desk event h) goes)
+
+-- ---- two recordings
+
+-- the book of a channel that records is in order
+abbrev IsSafe : DeviceSeen → Channel → Type 0
+IsSafe device (Playing book) = Unit {0}
+IsSafe device (Recording book) = RecordIsSafe (record_rate_at device book) book
+
+-- it has started
+abbrev runs : Channel → Bool
+runs (Playing book) = false
+runs (Recording book) = is_running book.state
+
+captured_settings : (state : RecordState) (device : DeviceSeen) (n : ℕ) (book : RecordBook) → (records.captured_in (record_rate_at device book) state n book).settings ≡ book.settings
+captured_settings Free device n book = refl
+captured_settings Setup device n book = refl
+captured_settings Running device n book = refl
+
+read_in : (b : Bool) (count : ℕ) (book : RecordBook) → (cond {A = records.RecordTurn} b (record { book = book; reply = Err Again }) (record { book = record book { read = book.read + min count (fill_of book) }; reply = Ok (Got (min count (fill_of book))) })).book.settings ≡ book.settings
+read_in true count book = refl
+read_in false count book = refl
+
+read_settings : (count : ℕ) (book : RecordBook) → (read_turn count book).book.settings ≡ book.settings
+read_settings count book = read_in (nat_lt 0 count && eqb (fill_of book) 0) count book
+
+-- it stays in order
+safe_own : (device : DeviceSeen) (event : Event) (channel : Channel) → IsSafe device channel → IsSafe device (own_turn device event channel).channel
+safe_own device (Open fd way settings) channel s = s
+safe_own device (Write fd source at count) (Playing book) s = tt
+safe_own device (Write fd source at count) (Recording book) s = s
+safe_own device (Read fd count) (Playing book) s = tt
+safe_own device (Read fd count) (Recording book) s =
+    subst (λ (settings : Settings). RecordIsSafe (record_rate_between device settings) (read_turn count book).book) (sym (read_settings count book)) (record-safe-read (record_rate_at device book) count book s)
+safe_own device (Ioctl fd request) (Playing book) s = tt
+safe_own device (Ioctl fd request) (Recording book) s =
+    let new : RecordBook = (record_requests.ask_turn request book).book in
+    record-safe-ask (record_rate_at device book) (record_rate_at device new) request book (λ e. ap (λ (settings : Settings). record_rate_between device settings) (record-ask-settings request book e)) s
+safe_own device (Close fd) (Playing book) s = tt
+safe_own device (Close fd) (Recording book) s = record-safe-closed (record_rate_at device book) book s
+safe_own device (Intr n) (Playing book) s = tt
+safe_own device (Intr n) (Recording book) s =
+    subst (λ (settings : Settings). RecordIsSafe (record_rate_between device settings) (capturing device n book)) (sym (captured_settings book.state device n book)) (record-safe-captured (record_rate_at device book) n book s)
+
+-- equal bytes are read of equal recordings, and none of a channel that has none
+read_alike : (device : DeviceSeen) (count : ℕ) (channel : Channel) (one other : recordings.Recording) → IsSafe device channel → (runs channel ≡ true → other ≡ one) → read_of count channel other ≡ read_of count channel one
+read_alike device count (Playing book) one other s same = refl
+read_alike device count (Recording book) one other s same = at (is_running book.state) refl
+  where
+    at : (b : Bool) → is_running book.state ≡ b → read_bytes count book other ≡ read_bytes count book one
+    at true e = ap (read_bytes count book) (same e)
+    at false e =
+        let none = idle-unstarted book.state book e s.order in
+        let empty : min count (fill_of book) ≡ 0 = omega (arith, none.kept_none) in
+        rw empty refl
+
+bytes_alike : (device : DeviceSeen) (event : Event) (channel : Channel) (one other : recordings.Recording) → IsSafe device channel → (runs channel ≡ true → other ≡ one) → own_bytes event channel other ≡ own_bytes event channel one
+bytes_alike device (Open fd way settings) channel one other s same = refl
+bytes_alike device (Write fd source at count) channel one other s same = refl
+bytes_alike device (Read fd count) channel one other s same = read_alike device count channel one other s same
+bytes_alike device (Ioctl fd request) channel one other s same = refl
+bytes_alike device (Close fd) channel one other s same = refl
+bytes_alike device (Intr n) channel one other s same = refl
+
+-- a channel that plays never records
+plays_on : (device : DeviceSeen) (event : Event) (book : Book) → runs (own_turn device event (Playing book)).channel ≡ false
+plays_on device (Open fd way settings) book = refl
+plays_on device (Write fd source at count) book = refl
+plays_on device (Read fd count) book = refl
+plays_on device (Ioctl fd request) book = refl
+plays_on device (Close fd) book = refl
+plays_on device (Intr n) book = refl
+
+-- recordings that are equal while they run go on to be, where the same is captured
+going_same : (device : DeviceSeen) (pool more : Pool) (handed : ℕ) (event : Event) (old : RecordBook) (new : Channel) (one other : recordings.Recording) → capture_frames more ≡ capture_frames pool → (is_running old.state ≡ true → other ≡ one)
+    → runs new ≡ true → next_recording device more handed event (Recording old) new other ≡ next_recording device pool handed event (Recording old) new one
+going_same device pool more handed event old (Playing new) one other frames same running = cc
+going_same device pool more handed event old (Recording new) one other frames same running = at (is_running old.state) refl (is_running new.state) running
+  where
+    at : (was : Bool) → is_running old.state ≡ was → (is : Bool) → is ≡ true
+        → cond (not was && is) (recording_from handed) (going_on device more event old new other) ≡ cond (not was && is) (recording_from handed) (going_on device pool event old new one)
+    at false e true running = refl
+    at false e false running = cc
+    at true e is running = ap (going_on device more event old new) (same e) ∙ going-alike device pool more event old new one frames
+
+next_alike : (device : DeviceSeen) (pool more : Pool) (handed : ℕ) (event : Event) (channel : Channel) (one other : recordings.Recording) → capture_frames more ≡ capture_frames pool → (runs channel ≡ true → other ≡ one)
+    → let new : Channel = (own_turn device event channel).channel in
+    runs new ≡ true → next_recording device more handed event channel new other ≡ next_recording device pool handed event channel new one
+next_alike device pool more handed event (Playing book) one other frames same running = absurd (let clash : true ≡ false = sym running ∙ plays_on device event book in cc)
+next_alike device pool more handed event (Recording book) one other frames same running = going_same device pool more handed event book (own_turn device event (Recording book)).channel one other frames same running
+
+told_alike : (device : DeviceSeen) (pool more : Pool) (channel : Channel) (one other : recordings.Recording) (handed : ℕ) (events : List Event) → capture_frames more ≡ capture_frames pool → IsSafe device channel → (runs channel ≡ true → other ≡ one)
+    → own_told device more channel other handed events ≡ own_told device pool channel one handed events
+told_alike device pool more channel one other handed [] frames s same = refl
+told_alike device pool more channel one other handed (event ∷ events) frames s same =
+    let turn : ChannelTurn = own_turn device event channel in
+    let next : recordings.Recording = next_recording device more handed event channel turn.channel other in
+    ap (λ (bytes : List ℕ). record { result = turn.reply; bytes = bytes } ∷ own_told device more turn.channel next (handed + frames_taken event) events) (bytes_alike device event channel one other s same)
+    ∙ ap (λ (list : List Reply). record { result = turn.reply; bytes = own_bytes event channel one } ∷ list)
+    (told_alike device pool more turn.channel (next_recording device pool handed event channel turn.channel one) next (handed + frames_taken event) events frames (safe_own device event channel s)
+    (λ running. next_alike device pool more handed event channel one other frames same running))
+
+-- ---- two openings
+
+begun_safe : (device : DeviceSeen) (way : Way) (settings : Settings) → IsSafe device (channel_begun way settings)
+begun_safe device Play settings = tt
+begun_safe device Rec settings = record-safe-begun (record_rate_between device settings) settings
+
+begun_idle : (way : Way) (settings : Settings) → runs (channel_begun way settings) ≡ false
+begun_idle Play settings = refl
+begun_idle Rec settings = refl
+
+-- what an opening is told
+opening_told : (device : DeviceSeen) (pool : Pool) (fd : ℕ) (way : Way) (settings : Settings) (held : Held) (story : Story) (events : List Event) → HoldApart story.desk
+    → Opens device fd way settings held story.desk (told device pool story (Open fd way settings)).desk
+    → client_replies device pool fd (told device pool story (Open fd way settings)) events
+    ≡ own_told device pool (channel_begun way settings) (own_recording (told device pool story (Open fd way settings)) held) story.desk.handed (own_events fd events)
+opening_told device pool fd way settings held story events h o =
+    let new : Story = told device pool story (Open fd way settings) in
+    let own : List Event = own_events fd events in
+    let taken : new.desk.handed ≡ story.desk.handed = (let t = handed-taken device story.desk (Open fd way settings) in omega arith) in
+    told_own device pool new fd held events (apart-after device story.desk (Open fd way settings) h) o.holds
+    ∙ ap (λ (c : Channel). own_told device pool c (own_recording new held) new.desk.handed own) (begun-own device fd way settings held story.desk new.desk o)
+    ∙ ap (λ (n : ℕ). own_told device pool (channel_begun way settings) (own_recording new held) n own) taken
+
+-- Two openings with the same settings, the same events of their own and the same frames captured are told the same, bytes included.
+pub clients-alike : (device : DeviceSeen) (pool more : Pool) (fd at : ℕ) (way : Way) (settings : Settings) (held theirs : Held) (one other : Story) (events others : List Event) → capture_frames more ≡ capture_frames pool
+    → one.desk.handed ≡ other.desk.handed → HoldApart one.desk → HoldApart other.desk
+    → Opens device fd way settings held one.desk (told device pool one (Open fd way settings)).desk
+    → Opens device at way settings theirs other.desk (told device more other (Open at way settings)).desk
+    → own_events fd events ≡ own_events at others
+    → client_replies device pool fd (told device pool one (Open fd way settings)) events ≡ client_replies device more at (told device more other (Open at way settings)) others
+clients-alike device pool more fd at way settings held theirs one other events others frames handed h k o p same =
+    let mine : recordings.Recording = own_recording (told device pool one (Open fd way settings)) held in
+    let its : recordings.Recording = own_recording (told device more other (Open at way settings)) theirs in
+    opening_told device pool fd way settings held one events h o
+    ∙ ap (λ (n : ℕ). own_told device pool (channel_begun way settings) mine n (own_events fd events)) handed
+    ∙ ap (own_told device pool (channel_begun way settings) mine other.desk.handed) same
+    ∙ sym (told_alike device pool more (channel_begun way settings) mine its other.desk.handed (own_events at others) frames (begun_safe device way settings)
+    (λ running. absurd (let clash : true ≡ false = sym running ∙ begun_idle way settings in cc)))
+    ∙ sym (opening_told device more at way settings theirs other others k p)
