@@ -1,7 +1,8 @@
 //! The engine and its events.
 
 ghost use Rattle.std.specs.Prelude.{◌≡◌, [], ◌∷◌, ◌++◌, ◌+◌, ◌*◌, ◌^◌, ◌<◌, ◌≤◌, length, vec_len, take, drop, All, List, ℕ, IfOk, IsErr};
-ghost use Rattle.pcm_desk.specs.declared.limits.TheConstants.{DESCRIPTORS, EVENTS, RING_FRAMES};
+ghost use Rattle.pcm_desk.specs.declared.limits.TheConstants.{DESCRIPTORS, RING_FRAMES};
+ghost use Rattle.pcm_engine.specs.declared.limits.TheConstants.{STEPS};
 ghost use Rattle.pcm_desk.specs.Events.{Fits, bytes_handed};
 ghost use Rattle.pcm_desk.specs.Device.{seen};
 ghost use Rattle.pcm_desk.specs.Own.{HoldApart};
@@ -99,7 +100,7 @@ impl<B: Feeder> EngineOf<B> {
         requires fits { Fits (device_of self.old) pool.now event.now }
         requires room { bytes_handed (device_of self.old) event.now ≤ length out.old }
         requires captures { IsCaptureIn (device_settings (device_of self.old)).layout pool.now }
-        requires count { self.old.steps < EVENTS }
+        requires count { self.old.steps < STEPS }
         requires ready { AreReady B.kind B.kept self.old }
 
         ensures device { device_of self.new ≡ device_of self.old }
@@ -155,7 +156,7 @@ impl<B: Feeder> EngineOf<B> {
         requires fits { Fits (device_of self.old) pool.now event.now }
         requires room { bytes_handed (device_of self.old) event.now ≤ length out.old }
         requires captures { IsCaptureIn (device_settings (device_of self.old)).layout pool.now }
-        requires count { self.old.steps < EVENTS }
+        requires count { self.old.steps < STEPS }
         requires ready { AreReady B.kind B.kept self.old }
         ensures device { self.new.parent.device ≡ self.old.parent.device }
         ensures tables { self.new.tables ≡ self.old.tables }

@@ -5,7 +5,9 @@
 mod clients;
 mod engine;
 mod laws;
+mod limits;
 mod recordings;
 
 pub use engine::{Engine, EngineOf};
 pub use laws::engines_stand_with_alike_pools;
+pub use limits::STEPS;
