@@ -5,6 +5,7 @@ pub mod Refusals
 pub mod OneClient
 pub mod Fragments
 pub mod SeveralClients
+pub mod OwnRows
 pub mod ClientFormats
 pub mod ClientRates
 pub mod Samples
