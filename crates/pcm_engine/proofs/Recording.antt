@@ -36,7 +36,7 @@ use Rattle.pcm_sound.specs.Story.{Story, told}
 use Rattle.pcm_sound.specs.Valid.{RecordingIsValid, RecordingsAreValid, StoryIsValid}
 use Rattle.pcm_sound.proofs.Following.{bytes_in, frames_of_book, recording-follows, recording-hears}
 use Rattle.pcm_desk.proofs.Slots.{record_at-capturing}
-use Rattle.pcm_sound.proofs.Recorded.{idle-unstarted, handed-after, recordings-told}
+use Rattle.pcm_sound.proofs.Recorded.{idle-unstarted, recordings-told}
 use Rattle.pcm_record.specs.declared.channel.RecChannelOf.{RecChannelOf}
 use Rattle.pcm_record.specs.Channels.{IsRecordReady, RecordMoves, RecordStands}
 use Rattle.pcm_vchan.specs.Captures.{Captures}
@@ -142,7 +142,7 @@ recorders-told kind kept device own pool story event old new before now c fits s
     record {
       slots = slots_stand kind kept device own pool story event before now v.limits c fits seen_is are (ap (λ (d : Desk). d.recording) (sym old_is) ∙ b) (ap (λ (d : Desk). d.recording) (sym desk_is) ∙ n) same
           (subst (λ (d : Desk). RecordersMove kind kept device pool d.handed event before now) old_is moves) s;
-      valid = recordings-told device pool story event v.limits c fits (handed-after device pool story event fits v) s.valid;
+      valid = recordings-told device pool story event v.limits c fits s.valid;
     }
 
 -- as many frames are captured as are asked for

@@ -32,14 +32,15 @@ use Rattle.pcm_desk.proofs.RecordAsking.{record-ask-rate, record-ask-settings}
 use Rattle.pcm_desk.proofs.RecordLeaves.{Ends, Stays, record-ask-leaves}
 use Rattle.pcm_desk.proofs.RecordSafe.{can-none, record-safe-ask, record-safe-begun, record-safe-captured, record-safe-closed, record-safe-read, safe-unstarted}
 use Rattle.pcm_desk.proofs.Slots.{record_at-capturing, record_at-with}
+use Rattle.pcm_desk.proofs.Turning.{handed-taken}
 use Rattle.pcm_oss.proofs.Limits.{usual-fragments}
 use Rattle.pcm_sound.specs.Plans.{recorded_bytes}
 use Rattle.pcm_sound.specs.Recordings.{Recording, going_on, handing, recorded_frames, recording_after, recording_from, starts_recording}
 use Rattle.pcm_sound.specs.Recordings as recordings
 use Rattle.pcm_sound.specs.Story.{Story, story_at_start, story_of, told, told_all}
-use Rattle.pcm_sound.specs.Valid.{IsRecorded, RecordingIsValid, RecordingsAreValid, StoryIsValid}
+use Rattle.pcm_sound.specs.Valid.{IsRecorded, RecordingIsValid, RecordingsAreValid}
 use Rattle.pcm_sound.proofs.Recordings.{recorded-interrupt}
-use Rattle.pcm_sound.proofs.Stories.{get_or-same, keeps, valid-start, valid-told}
+use Rattle.pcm_sound.proofs.Stories.{get_or-same}
 
 -- ---- one slot
 
@@ -223,15 +224,6 @@ all-close device held desk fd =
 
 -- ---- stories
 
-handed_turning : (desk : Desk) (play recording : ℕ → DeskTurn) (held : Option Held) → ((slot : ℕ) → (play slot).desk.handed ≡ desk.handed) → ((slot : ℕ) → (recording slot).desk.handed ≡ desk.handed)
-    → (turning play recording held desk).desk.handed ≡ desk.handed
-handed_turning desk play recording None p r = refl
-handed_turning desk play recording (Some held) p r =
-    elim held.way as (λ (way : Way). (by_way way (play held.slot) (recording held.slot)).desk.handed ≡ desk.handed) [
-      | Play ↦ p held.slot
-      | Rec ↦ r held.slot
-    ]
-
 -- such an event leaves recordings valid
 turned-story : (device : DeviceSeen) (pool : Pool) (story : Story) (event : Event) → AllTurned device story.desk (after device story.desk event).desk → (after device story.desk event).desk.handed ≡ story.desk.handed
     → ((slot : ℕ) → going_on device pool event (record_at device story.desk slot) (record_at device (after device story.desk event).desk slot) (story.recordings slot) ≡ story.recordings slot)
@@ -298,10 +290,6 @@ read_on_desk device pool (Some held) desk fd count slot recording v =
       | Rec ↦ read_desk device pool desk fd count held.slot slot recording v
     ]
 
--- a read changes no count of the device
-handed_read : (device : DeviceSeen) (held : Option Held) (desk : Desk) (count : ℕ) → (read_on device held desk count).desk.handed ≡ desk.handed
-handed_read device held desk count = handed_turning desk (λ slot. refusing desk Inval) (record_turn device (read_turn count) desk) held (λ slot. refl) (λ slot. refl)
-
 captured_at : (device : DeviceSeen) (pool : Pool) (handed n : ℕ) (state : RecordState) (book : RecordBook) (recording : Recording) → book.state ≡ state → IsDevice device → IsCaptureIn (device_settings device).layout pool
     → RecordingIsValid device pool handed book recording
     → let new : RecordBook = records.captured_in (record_rate_at device book) state n book in
@@ -327,22 +315,26 @@ captured_slot device pool desk n slot recording d is v =
     subst (λ (new : RecordBook). RecordingIsValid device pool (desk.handed + n) new (recording_after device pool desk (Intr n) old new recording)) (sym (record_at-capturing device desk n slot))
     (captured_at device pool desk.handed n old.state old recording refl d is v)
 
+-- an event that takes no frames hands none over
+handed_same : (device : DeviceSeen) (desk : Desk) (event : Event) → frames_taken event ≡ 0 → (after device desk event).desk.handed ≡ desk.handed
+handed_same device desk event none = let taken = handed-taken device desk event in omega arith
+
 -- each recording stays valid through an event that fits, where what is recorded has the device's layout
 pub recordings-told : (device : DeviceSeen) (pool : Pool) (story : Story) (event : Event) → IsDevice device → IsCaptureIn (device_settings device).layout pool → Fits device pool event
-    → (after device story.desk event).desk.handed ≡ story.desk.handed + frames_taken event → RecordingsAreValid device pool story → RecordingsAreValid device pool (told device pool story event)
-recordings-told device pool story (Open fd way settings) d is fits handed v =
-    turned-story device pool story (Open fd way settings) (all-open device story.desk fd way settings fits.1) (omega (arith, handed)) (λ slot. refl) v
-recordings-told device pool story (Write fd source at count) d is fits handed v =
-    turned-story device pool story (Write fd source at count) (all-write device (held_by story.desk fd) story.desk count) (omega (arith, handed)) (λ slot. refl) v
-recordings-told device pool story (Read fd count) d is fits handed v = λ slot.
+    → RecordingsAreValid device pool story → RecordingsAreValid device pool (told device pool story event)
+recordings-told device pool story (Open fd way settings) d is fits v =
+    turned-story device pool story (Open fd way settings) (all-open device story.desk fd way settings fits.1) (handed_same device story.desk (Open fd way settings) refl) (λ slot. refl) v
+recordings-told device pool story (Write fd source at count) d is fits v =
+    turned-story device pool story (Write fd source at count) (all-write device (held_by story.desk fd) story.desk count) (handed_same device story.desk (Write fd source at count) refl) (λ slot. refl) v
+recordings-told device pool story (Read fd count) d is fits v = λ slot.
     let new : RecordBook = record_at device (read_on device (held_by story.desk fd) story.desk count).desk slot in
-    subst (λ (n : ℕ). RecordingIsValid device pool n new ((told device pool story (Read fd count)).recordings slot)) (sym (handed_read device (held_by story.desk fd) story.desk count))
+    subst (λ (n : ℕ). RecordingIsValid device pool n new ((told device pool story (Read fd count)).recordings slot)) (sym (handed_same device story.desk (Read fd count) refl))
     (read_on_desk device pool (held_by story.desk fd) story.desk fd count slot (story.recordings slot) (v slot))
-recordings-told device pool story (Ioctl fd request) d is fits handed v =
-    turned-story device pool story (Ioctl fd request) (all-ioctl device (held_by story.desk fd) story.desk request) (omega (arith, handed)) (λ slot. refl) v
-recordings-told device pool story (Close fd) d is fits handed v =
-    turned-story device pool story (Close fd) (all-close device (held_by story.desk fd) story.desk fd) (omega (arith, handed)) (λ slot. refl) v
-recordings-told device pool story (Intr n) d is fits handed v = λ slot. captured_slot device pool story.desk n slot (story.recordings slot) d is (v slot)
+recordings-told device pool story (Ioctl fd request) d is fits v =
+    turned-story device pool story (Ioctl fd request) (all-ioctl device (held_by story.desk fd) story.desk request) (handed_same device story.desk (Ioctl fd request) refl) (λ slot. refl) v
+recordings-told device pool story (Close fd) d is fits v =
+    turned-story device pool story (Close fd) (all-close device (held_by story.desk fd) story.desk fd) (handed_same device story.desk (Close fd) refl) (λ slot. refl) v
+recordings-told device pool story (Intr n) d is fits v = λ slot. captured_slot device pool story.desk n slot (story.recordings slot) d is (v slot)
 
 -- before the first event
 pub recordings-start : (device : DeviceSeen) (pool : Pool) → IsDevice device → RecordingsAreValid device pool (story_at_start device)
@@ -353,22 +345,14 @@ recordings-start device pool d slot =
       running = λ running. cc;
     })
 
--- an event hands over the frames that it takes
-pub handed-after : (device : DeviceSeen) (pool : Pool) (story : Story) (event : Event) → Fits device pool event → StoryIsValid device story → (after device story.desk event).desk.handed ≡ story.desk.handed + frames_taken event
-handed-after device pool story (Open fd way settings) fits v = let same = (keeps device pool story (Open fd way settings) fits refl v).handed_same in omega arith
-handed-after device pool story (Write fd source at count) fits v = let same = (keeps device pool story (Write fd source at count) fits refl v).handed_same in omega arith
-handed-after device pool story (Read fd count) fits v = let same = (keeps device pool story (Read fd count) fits refl v).handed_same in omega arith
-handed-after device pool story (Ioctl fd request) fits v = let same = (keeps device pool story (Ioctl fd request) fits refl v).handed_same in omega arith
-handed-after device pool story (Close fd) fits v = let same = (keeps device pool story (Close fd) fits refl v).handed_same in omega arith
-handed-after device pool story (Intr n) fits v = refl
-
-recordings_told_all : (device : DeviceSeen) (pool : Pool) (story : Story) (events : List Event) → IsDevice device → IsCaptureIn (device_settings device).layout pool → All (Fits device pool) events → StoryIsValid device story
+-- and through events that fit
+recordings_told_all : (device : DeviceSeen) (pool : Pool) (story : Story) (events : List Event) → IsDevice device → IsCaptureIn (device_settings device).layout pool → All (Fits device pool) events
     → RecordingsAreValid device pool story → RecordingsAreValid device pool (told_all device pool story events)
-recordings_told_all device pool story [] d is fit s v = v
-recordings_told_all device pool story (event ∷ events) d is fit s v =
+recordings_told_all device pool story [] d is fit v = v
+recordings_told_all device pool story (event ∷ events) d is fit v =
     let fits = All-head (Fits device pool) event events fit in
-    recordings_told_all device pool (told device pool story event) events d is (All-tail (Fits device pool) event events fit) (valid-told device pool story event fits s)
-    (recordings-told device pool story event d is fits (handed-after device pool story event fits s) v)
+    recordings_told_all device pool (told device pool story event) events d is (All-tail (Fits device pool) event events fit)
+    (recordings-told device pool story event d is fits v)
 
 -- what reads got of a recording that lost nothing is the front of all that is recorded
 pub reads-front : (device : DeviceSeen) (pool : Pool) (events : List Event) (slot : ℕ) → IsDevice device → IsCaptureIn (device_settings device).layout pool → All (Fits device pool) events
@@ -378,7 +362,7 @@ pub reads-front : (device : DeviceSeen) (pool : Pool) (events : List Event) (slo
     is_running book.state ≡ true → recording.whole ≡ true
     → recording.got ≡ take book.read (recorded_bytes device book.settings (recorded_frames pool recording.start) 0 book.given)
 reads-front device pool events slot d is fit running whole =
-    let v = recordings_told_all device pool (story_at_start device) events d is fit (valid-start device d) (recordings-start device pool d) slot in
+    let v = recordings_told_all device pool (story_at_start device) events d is fit (recordings-start device pool d) slot in
     let r = v.running running in
     let story : Story = story_of device pool events in
     r.got ∙ ap (take (record_at device story.desk slot).read) (r.whole whole)
