@@ -11,8 +11,8 @@ use Rattle.pcm_verdict.specs.Outputs.{Output, Written, output_of}
 use Rattle.pcm_verdict.specs.Verdict.{Accepted, Runs, Checks, Converts, Soaks, Conversion, Inputs, if_command}
 use Rattle.pcm_replay.specs.declared.ending.Ending.{Ending}
 use Rattle.pcm_replay.specs.declared.ending.Ending.TheVariants.{Usage, CannotRead, BadConfig, BadScript, BadWave, CannotWrite, NoMemory}
-use Rattle.pcm_replay.specs.Commands.{MayRead}
-use Rattle.pcm_replay.specs.Endings.{CutsLines, CutsShort, DoesCommand, DoesWords, EndsCall, EndsCommand, HasRun, InAccepted, InLine, IsCommandCut, IsOf}
+use Rattle.pcm_replay.specs.Commands.{IsOf, MayRead}
+use Rattle.pcm_replay.specs.Endings.{CutsLines, CutsShort, DoesCommand, DoesWords, EndsCall, EndsCommand, HasRun, InAccepted, InLine, IsCommandCut}
 use Rattle.pcm_replay.specs.Outcomes.{InFaultLine, InOutput, IsCut, Spells, command_part, verdict_on}
 use Rattle.pcm_replay.specs.Cuts.{CutsCall}
 use Rattle.pcm_replay.specs.Outside.{Outside, both}
@@ -69,16 +69,16 @@ pub ends-command : {A : Type 0} (command : Command) (part : Part A) (ending : En
 ends-command command part ending before after leads ends = of-part command ending before after (ends-as (command_part command) part ending before after leads ends)
 
 -- what it was to leave was cut short, once all was read
-pub cuts-command : (command : Command) (accepted : Accepted) (ending : Ending) (before between after : Outside) → Comes (command_part command) (Ok accepted) before.files → OnlyHasRead before between
+pub cuts-command : (command : Command) (accepted : Accepted) (ending : Ending) (before between after : Outside) → IsOf command accepted → Comes (command_part command) (Ok accepted) before.files → OnlyHasRead before between
     → CutsShort ending accepted between after → EndsCommand command ending before after
-cuts-command command accepted Usage before between after came only cut = absurd cut
-cuts-command command accepted CannotRead before between after came only cut = absurd cut
-cuts-command command accepted BadConfig before between after came only cut = absurd cut
-cuts-command command accepted BadScript before between after came only cut = absurd cut
-cuts-command command accepted BadWave before between after came only cut = absurd cut
-cuts-command command accepted CannotWrite before between after came only cut =
-    InAccepted (record { accepted = accepted; came = came; cut = cut-later accepted before between after only cut })
-cuts-command command accepted NoMemory before between after came only same = record {
+cuts-command command accepted Usage before between after is_of came only cut = absurd cut
+cuts-command command accepted CannotRead before between after is_of came only cut = absurd cut
+cuts-command command accepted BadConfig before between after is_of came only cut = absurd cut
+cuts-command command accepted BadScript before between after is_of came only cut = absurd cut
+cuts-command command accepted BadWave before between after is_of came only cut = absurd cut
+cuts-command command accepted CannotWrite before between after is_of came only cut =
+    InAccepted (record { accepted = accepted; is_of = is_of; came = came; cut = cut-later accepted before between after only cut })
+cuts-command command accepted NoMemory before between after is_of came only same = record {
   files = subst (λ (outside : Outside). OnlyReads before.files outside.files) (sym same) only.files;
   sink = ap (λ (outside : Outside). outside.sink) same ∙ only.sink;
 }
@@ -139,7 +139,7 @@ cut-words : (words : List (List ℕ)) (spells : Spells words) (before after : Ou
 cut-words words spells before after (InLine line) = InFaultLine (record { spells = spells; line = line })
 cut-words words spells before after (InAccepted cut) = InOutput (record {
   accepted = cut.accepted;
-  is_named = record { spells = spells; cause = verdict-of words spells cut.accepted before.files cut.came };
+  is_named = record { spells = spells; is_of = cut.is_of; cause = verdict-of words spells cut.accepted before.files cut.came };
   cut = cut.cut;
 })
 
@@ -161,10 +161,10 @@ pub record DoesSoak {B : Type 0} (kept : B → Kept) (n : ℕ) (engine : Option 
 
 -- the number says all
 soaks-of : (n : ℕ) (accepted : Accepted) → IsOf (SoakRun n) accepted → accepted ≡ Soaks n
+soaks-of n (Soaks number) is = ap (λ (m : ℕ). Soaks m) is
 soaks-of n (Runs name inputs) is = absurd is
 soaks-of n (Checks inputs) is = absurd is
 soaks-of n (Converts name conversion) is = absurd is
-soaks-of n (Soaks number) is = ap (λ (m : ℕ). Soaks m) is
 
 -- words spell one command
 spells-same : (words : List (List ℕ)) (spells : Spells words) (command : Command) → command_of words ≡ Some command → spells.command ≡ command

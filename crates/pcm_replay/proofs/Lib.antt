@@ -6,6 +6,7 @@ pub mod Loading
 pub mod Ordering
 pub mod Doing
 pub mod Plain
+pub mod Quiet
 pub mod Statuses
 pub mod Cuts
 pub mod Plays

@@ -1,5 +1,6 @@
 -- A run by one event more.
-use Rattle.std.proofs.Common.{◌≡◌, ℕ, zero, suc, ◌+◌, ◌*◌, max, List, [], ◌∷◌, ◌++◌, ◌<◌, ◌≤◌, All, fold, slice_index_or, length, take, refl, sym, ◌∙◌, ap, subst, vec_len, arith, append_assoc, append-nil, length-append, length-take-le}
+use Rattle.std.proofs.Common.{◌≡◌, ℕ, zero, suc, ◌+◌, ◌*◌, max, List, [], ◌∷◌, ◌++◌, ◌<◌, ◌≤◌, All, fold, slice_index_or, length, take, refl, sym, ◌∙◌, ap, subst, arith, append_assoc, append-nil, length-append, length-take-le}
+use Rattle.pcm_fixed.specs.Fixed.{fixed_len}
 use Rattle.std.proofs.Math.Nat.{mul-le-mul_right}
 use Rattle.std.proofs.lemmas.List.{take-append-le, take_all, take_more}
 use Rattle.pcm_oss.specs.declared.event.Event.{Event}
@@ -68,8 +69,8 @@ pub record Steps {B : Type 0} (kind : B → Kind) (kept : B → Kept) (old new :
       → device_text (device_of old.engine) pool (events ++ event ∷ []) ≡ device_text (device_of old.engine) pool events ++ piece
   pub replied : Stands kept old.engine pool events
       → reply ≡ reply_to (device_of old.engine) (story_of (device_of old.engine) pool events) event
-  pub room : vec_len new.block ≡ vec_len old.block
-  pub line_room : vec_len new.line ≡ vec_len old.line
+  pub room : fixed_len new.block ≡ fixed_len old.block
+  pub line_room : fixed_len new.line ≡ fixed_len old.line
 
 -- one event more was run
 pub played : {B : Type 0} (kind : B → Kind) (kept : B → Kept) (old new : ReplayOf B) (pool : Pool) (events : List Event) (at : ℕ) (other : Event) (piece : List ℕ) (reply : Reply) → at < length events

@@ -1,5 +1,6 @@
 -- A run of a number's script by one event more, and what it comes to.
-use Rattle.std.proofs.Common.{◌≡◌, ℕ, ◌+◌, ◌^◌, ◌<◌, ◌≤◌, All, slice_index_or, List, [], ◌∷◌, ◌++◌, length, sym, ◌∙◌, ap, refl, subst, vec_len, arith}
+use Rattle.std.proofs.Common.{◌≡◌, ℕ, ◌+◌, ◌^◌, ◌<◌, ◌≤◌, All, slice_index_or, List, [], ◌∷◌, ◌++◌, length, sym, ◌∙◌, ap, refl, subst, arith}
+use Rattle.pcm_fixed.specs.Fixed.{fixed_len}
 use Rattle.std.proofs.lemmas.List.Sums.{sum_by-append}
 use Rattle.pcm_oss.specs.declared.event.Event.{Event}
 use Rattle.pcm_oss.specs.Replies.{Reply}
@@ -89,8 +90,8 @@ pub record CountsStep {B : Type 0} (kind : B → Kind) (kept : B → Kept) (old 
   pub within : (n : ℕ) → IsWithin n old.tally → IsWithin (n + 1) counted
   pub heard : new.tally ≡ record counted { sum = counted.sum + total piece }
   pub few : total piece ≤ 2 ^ 33
-  pub room : vec_len new.block ≡ vec_len old.block
-  pub line_room : vec_len new.line ≡ vec_len old.line
+  pub room : fixed_len new.block ≡ fixed_len old.block
+  pub line_room : fixed_len new.line ≡ fixed_len old.line
 
 -- one event more was run
 pub soaked : {B : Type 0} (kind : B → Kind) (kept : B → Kept) (old new : SoakOf B) (pool : Pool) (events : List Event) (event : Event) (piece : List ℕ) (reply : Reply) (counted : Tally)

@@ -1,9 +1,10 @@
--- What a contract sees of a command, and which files a command may read.
+-- What a contract sees of a command, which files a command may read, and what is accepted of it.
 use Rattle.std.specs.Prelude.{◌≡◌, ◌⊎◌, ℕ, List, Option, Some, None, option_map}
 use Rattle.pcm_feeder.specs.Limits.{IsRate}
 use Rattle.pcm_wave.specs.Headers.{IsWaveFormat}
 use Rattle.pcm_verdict.specs.Commands as verdicts
 use Rattle.pcm_verdict.specs.Commands.{RunScript, CheckScript, ConvertWave, SoakRun}
+use Rattle.pcm_verdict.specs.Verdict.{Accepted, Runs, Checks, Converts, Soaks}
 use Rattle.pcm_replay.specs.declared.words.Command.{Command}
 use Rattle.pcm_replay.specs.declared.words.Command.TheVariants.{Run, Check, Convert, Soak}
 
@@ -25,6 +26,20 @@ MayRead (RunScript script out config) name = (name ≡ script) ⊎ MayNameFiles 
 MayRead (CheckScript script config) name = (name ≡ script) ⊎ MayNameFiles config
 MayRead (ConvertWave input out target) name = name ≡ input
 MayRead (SoakRun n) name = ⊥
+
+-- an accepted call is of a command: of its kind, with the names and the values of its words
+abbrev pub IsOf : verdicts.Command → Accepted → Type 0
+IsOf (RunScript script out config) (Runs name inputs) = name ≡ out
+IsOf (CheckScript script config) (Checks inputs) = Unit {0}
+IsOf (ConvertWave input out target) (Converts name conversion) = (name ≡ out) × (conversion.target ≡ target)
+IsOf (SoakRun n) (Soaks number) = number ≡ n
+IsOf command accepted = ⊥
+
+-- words that ask for no file to be written: those of no form, of a check, of a soak
+abbrev pub WriteNoFile : Option verdicts.Command → Type 0
+WriteNoFile (Some (RunScript script out config)) = ⊥
+WriteNoFile (Some (ConvertWave input out target)) = ⊥
+WriteNoFile command = Unit {0}
 
 -- a command asks for settings within the limits
 abbrev pub AreLimits : Command → Type 0

@@ -6,12 +6,13 @@ use Rattle.pcm_desk.specs.Usual.{usual_device}
 use Rattle.pcm_soak.specs.Soak.{soak_script}
 use Rattle.pcm_feeder.specs.Kept.{Kept}
 use Rattle.pcm_engine.specs.declared.engine.EngineOf.{EngineOf}
-use Rattle.pcm_verdict.specs.Commands.{Command, RunScript, CheckScript, ConvertWave, SoakRun}
+use Rattle.pcm_verdict.specs.Commands.{Command}
 use Rattle.pcm_verdict.specs.Outputs.{inputs_pool, output_of}
 use Rattle.pcm_verdict.specs.Soaks.{soak_pool}
 use Rattle.pcm_verdict.specs.Verdict.{Accepted, Runs, Checks, Converts, Soaks, Inputs}
 use Rattle.pcm_replay.specs.declared.ending.Ending.{Ending}
 use Rattle.pcm_replay.specs.declared.ending.Ending.TheVariants.{Usage, CannotRead, BadConfig, BadScript, BadWave, CannotWrite, NoMemory}
+use Rattle.pcm_replay.specs.Commands.{IsOf}
 use Rattle.pcm_replay.specs.Cuts.{CutsCall}
 use Rattle.pcm_replay.specs.Outside.{Outside}
 use Rattle.pcm_replay.specs.Outcomes.{CannotReadOne, IsCut, LacksMemory, RefusesFile, RefusesWords, Spells, command_part}
@@ -68,25 +69,6 @@ HasRun kept None (Checks inputs) = Unit {0}
 HasRun kept None (Converts out conversion) = Unit {0}
 HasRun kept None (Soaks n) = ⊥
 
--- an accepted call is of a command: of its kind, with the names and the values of its words
-abbrev pub IsOf : Command → Accepted → Type 0
-IsOf (RunScript script out config) (Runs name inputs) = name ≡ out
-IsOf (RunScript script out config) (Checks inputs) = ⊥
-IsOf (RunScript script out config) (Converts name conversion) = ⊥
-IsOf (RunScript script out config) (Soaks number) = ⊥
-IsOf (CheckScript script config) (Runs name inputs) = ⊥
-IsOf (CheckScript script config) (Checks inputs) = Unit {0}
-IsOf (CheckScript script config) (Converts name conversion) = ⊥
-IsOf (CheckScript script config) (Soaks number) = ⊥
-IsOf (ConvertWave input out target) (Runs name inputs) = ⊥
-IsOf (ConvertWave input out target) (Checks inputs) = ⊥
-IsOf (ConvertWave input out target) (Converts name conversion) = (name ≡ out) × (conversion.target ≡ target)
-IsOf (ConvertWave input out target) (Soaks number) = ⊥
-IsOf (SoakRun n) (Runs name inputs) = ⊥
-IsOf (SoakRun n) (Checks inputs) = ⊥
-IsOf (SoakRun n) (Converts name conversion) = ⊥
-IsOf (SoakRun n) (Soaks number) = number ≡ n
-
 -- a command was done to its end
 pub record DoesCommand {B : Type 0} (kept : B → Kept) (command : Command) (engine : Option (EngineOf B)) (before after : Outside) : Type 0 where
   pub accepted : Accepted
@@ -98,6 +80,7 @@ pub record DoesCommand {B : Type 0} (kept : B → Kept) (command : Command) (eng
 -- what a command that was accepted was to leave was cut short
 pub record CutsCommand (command : Command) (before after : Outside) : Type 0 where
   pub accepted : Accepted
+  pub is_of : IsOf command accepted
   pub came : Comes (command_part command) (Ok accepted) before.files
   pub cut : CutsCall accepted before after
 

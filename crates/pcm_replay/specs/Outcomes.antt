@@ -1,11 +1,12 @@
 -- What a call did outside, by how it ended: of its words, and of the outside before and after.
 use Rattle.std.specs.Prelude.{◌≡◌, ◌⊎◌, ℕ, List, Some, None, IsTrue, Result, Ok, Err}
-use Rattle.pcm_outside.specs.Files.{FilesSeen}
+use Rattle.pcm_outside.specs.Counts.{Rose}
+use Rattle.pcm_outside.specs.Files.{FilesSeen, OnlyReads}
 use Rattle.pcm_outside.specs.Sink.{FailsToPut, Puts}
 use Rattle.pcm_verdict.specs.Commands.{Command, command_of}
 use Rattle.pcm_verdict.specs.Faults.{Fault, Usage, Missing, BadConfig, BadWave, BadScript, usage_line}
 use Rattle.pcm_verdict.specs.Verdict.{Accepted, command_judged, verdict}
-use Rattle.pcm_replay.specs.Commands.{MayRead}
+use Rattle.pcm_replay.specs.Commands.{IsOf, MayRead}
 use Rattle.pcm_replay.specs.Outside.{Outside}
 use Rattle.pcm_replay.specs.Reads.{CutsLine, FailsToReadOne, Lacks, Part, RefusesPart}
 use Rattle.pcm_replay.specs.Cuts.{CutsCall}
@@ -33,9 +34,10 @@ pub record Spells (words : List (List ℕ)) : Type 0 where
 abbrev pub part_of : {words : List (List ℕ)} → Spells words → Part Accepted
 part_of spells = command_part spells.command
 
--- the words spell a command, and where the files tell, what it works on is accepted
+-- an accepted call is of the command that the words spell, and where the files tell, it is what they come to
 pub record IsNamed (words : List (List ℕ)) (files : FilesSeen) (accepted : Accepted) : Type 0 where
   pub spells : Spells words
+  pub is_of : IsOf spells.command accepted
   pub cause : IsTrue files.tells → verdict_on words files ≡ Ok accepted
 
 -- 2: the words match no form: nothing was read, and all forms were put
@@ -76,6 +78,11 @@ pub data IsCut (words : List (List ℕ)) (before after : Outside) : Type 0 where
   InForms : CutsForms words before after → IsCut words before after
   InFaultLine : CutsFaultLine words before after → IsCut words before after
   InOutput : CutsAccepted words before after → IsCut words before after
+
+-- 7: a put failed, and nothing but reads was done to the files
+pub record OnlyPutFails (before after : Outside) : Type 0 where
+  pub files : OnlyReads before.files after.files
+  pub put : Rose before.sink.faults after.sink.faults
 
 -- 8: memory ran out: nothing was written, and nothing was put
 pub record LacksMemory (words : List (List ℕ)) (before after : Outside) : Type 0 where

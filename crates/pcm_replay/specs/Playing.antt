@@ -1,5 +1,6 @@
 -- How far a run has come: what its engine stands for, and what it is to leave.
-use Rattle.std.specs.Prelude.{◌≡◌, ℕ, ◌*◌, ◌^◌, ◌≤◌, max, List, ◌++◌, length, take, fold, vec_len, Some}
+use Rattle.std.specs.Prelude.{◌≡◌, ℕ, ◌*◌, ◌^◌, ◌≤◌, max, List, ◌++◌, length, take, fold, Some}
+use Rattle.pcm_fixed.specs.Fixed.{fixed_len}
 use Rattle.pcm_oss.specs.declared.event.Event.{Event}
 use Rattle.pcm_wave.specs.declared.pool.Pool.{Pool}
 use Rattle.pcm_desk.specs.Device.{DeviceSeen, device_frame_bytes, ring_frames}
@@ -37,8 +38,8 @@ pub record HasSoaked {B : Type 0} (kind : B → Kind) (kept : B → Kept) (soak 
   pub tally : soak.tally ≡ tally_of usual_device pool events
   pub within : IsWithin (length events) soak.tally
   pub sum : soak.tally.sum ≤ 2 ^ 33 * length events
-  pub room : vec_len soak.block ≡ ring_room usual_device
-  pub line_room : vec_len soak.line ≡ TALLY_BYTES
+  pub room : fixed_len soak.block ≡ ring_room usual_device
+  pub line_room : fixed_len soak.line ≡ TALLY_BYTES
 
 -- the frames of the greatest interrupt among events
 abbrev pub greatest_taken : List Event → ℕ
@@ -48,8 +49,8 @@ greatest_taken events = fold (λ most event. max most (frames_taken event)) 0 ev
 pub record HasPlayed {B : Type 0} (kind : B → Kind) (kept : B → Kept) (replay : ReplayOf B) (pool : Pool) (events : List Event) (done : ℕ) : Type 0 where
   pub engine : RanThrough kept replay.engine (device_of replay.engine) pool (take done events)
   pub ready : AreReady kind kept replay.engine
-  pub room : vec_len replay.block ≡ greatest_taken events * device_frame_bytes (device_of replay.engine)
-  pub line_room : vec_len replay.line ≡ LINE_BYTES
+  pub room : fixed_len replay.block ≡ greatest_taken events * device_frame_bytes (device_of replay.engine)
+  pub line_room : fixed_len replay.line ≡ LINE_BYTES
 
 -- all that is left of a script that was played into a file
 abbrev pub output_played : List ℕ → List ℕ → Playback → Output

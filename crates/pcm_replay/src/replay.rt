@@ -1,6 +1,7 @@
 //! The engine of a run, with the room for what one event gives.
 
-ghost use Rattle.std.specs.Prelude.{◌≡◌, ◌+◌, ◌<◌, ◌≤◌, All, IfOk, IsTrue, OnErr, OnOk, length, take, vec_len};
+ghost use Rattle.std.specs.Prelude.{◌≡◌, ◌+◌, ◌<◌, ◌≤◌, All, IfOk, IsTrue, OnErr, OnOk, length, take};
+ghost use Rattle.pcm_fixed.specs.Fixed.{fixed_items, fixed_len};
 ghost use Rattle.pcm_wave.specs.declared.pool.Pool.{Pool};
 ghost use Rattle.pcm_wave.specs.Pools.{IsCaptureIn};
 ghost use Rattle.pcm_desk.specs.declared.limits.TheConstants.{EVENTS};
@@ -17,6 +18,7 @@ use crate::writing::write_turn;
 use pcm_desk::Device;
 use pcm_engine::EngineOf;
 use pcm_feeder::{Feeder, RacksOf, Tables};
+use pcm_fixed::Fixed;
 use pcm_oss::{Event, ReplyBuf};
 use pcm_outside::{Files, Sink, WriteFault};
 use pcm_report::{LINE_BYTES, write_line};
@@ -28,8 +30,8 @@ use std::alloc::{AllocError, Global};
 pub struct ReplayOf<B> {
     pub engine: EngineOf<B>,
     reply: ReplyBuf,
-    block: Vec<u8>,
-    line: Vec<u8>,
+    block: Fixed<u8>,
+    line: Fixed<u8>,
 }
 
 // How much the last event filled of the room for its bytes and of that for its line.
@@ -57,8 +59,8 @@ impl<B: Feeder> ReplayOf<B> {
         Ok(ReplayOf {
             engine: EngineOf::new(alloc, *device, tables, racks)?,
             reply: ReplyBuf::new(alloc)?,
-            block: vec![in alloc; 0; room]?,
-            line: vec![in alloc; 0; LINE_BYTES]?,
+            block: Fixed::new(vec![in alloc; 0; room]?),
+            line: Fixed::new(vec![in alloc; 0; LINE_BYTES]?),
         })
     }
 
@@ -100,9 +102,9 @@ impl<B: Feeder> ReplayOf<B> {
         ensures played { HasPlayed B.kind B.kept self.new pool.now events.now (at + 1) }
         ensures device { device_of self.new.engine ≡ device_of self.old.engine }
         ensures next { IsNext (playback (device_of self.old.engine) pool.now events.now) at
-            (take result.bytes self.new.block.items) (take result.line self.new.line.items) }
-        ensures bytes { result.bytes ≤ vec_len self.new.block }
-        ensures line { result.line ≤ vec_len self.new.line }
+            (take result.bytes (fixed_items self.new.block)) (take result.line (fixed_items self.new.line)) }
+        ensures bytes { result.bytes ≤ fixed_len self.new.block }
+        ensures line { result.line ≤ fixed_len self.new.line }
     {
         let bytes = self
             .engine

@@ -1,7 +1,7 @@
 //! The run of a script that a number makes: what it comes to is added up, and told in one line.
 
-ghost use Rattle.std.specs.Prelude.{◌+◌, ◌<◌, ◌≤◌, [], All, IfErr, IfOk, OnOk, length, take};
-ghost use Rattle.pcm_outside.specs.Sink.{Puts};
+ghost use Rattle.std.specs.Prelude.{◌+◌, ◌<◌, ◌≤◌, [], All, IfErr, IfOk, OnErr, OnOk, length, take};
+ghost use Rattle.pcm_outside.specs.Sink.{FailsToPut, Puts};
 ghost use Rattle.pcm_wave.specs.declared.pool.Pool.{Pool};
 ghost use Rattle.pcm_wave.specs.Pools.{IsCaptureIn};
 ghost use Rattle.pcm_desk.specs.Device.{device_settings};
@@ -9,7 +9,7 @@ ghost use Rattle.pcm_desk.specs.Events.{Fits};
 ghost use Rattle.pcm_desk.specs.Usual.{usual_device};
 ghost use Rattle.pcm_feeder.specs.Racks.{AreRacks, list_of};
 ghost use Rattle.pcm_soak.specs.declared.limits.TheConstants.{SOAK_EVENTS};
-ghost use Rattle.pcm_verdict.specs.Soaks.{soak_line};
+ghost use Rattle.pcm_verdict.specs.Soaks.{soak_line, tally_line, tally_of};
 ghost use Rattle.pcm_replay.specs.Endings.{CutsLines, RanSoak};
 ghost use Rattle.pcm_replay.specs.Playing.{HasSoaked};
 
@@ -18,6 +18,7 @@ use crate::tally_line::{TALLY_BYTES, write_tally};
 use pcm_config::default_config;
 use pcm_engine::EngineOf;
 use pcm_feeder::{Feeder, RacksOf};
+use pcm_fixed::Fixed;
 use pcm_oss::{Event, ReplyBuf};
 use pcm_outside::{Sink, WriteFault};
 use pcm_script::Script;
@@ -30,8 +31,8 @@ use std::alloc::{AllocError, Global};
 pub struct SoakOf<B> {
     engine: EngineOf<B>,
     reply: ReplyBuf,
-    block: Vec<u8>,
-    line: Vec<u8>,
+    block: Fixed<u8>,
+    line: Fixed<u8>,
     tally: Tally,
 }
 
@@ -48,8 +49,8 @@ impl<B: Feeder> SoakOf<B> {
         Ok(SoakOf {
             engine: EngineOf::new(alloc, device, config.tables, racks)?,
             reply: ReplyBuf::new(alloc)?,
-            block: vec![in alloc; 0; room]?,
-            line: vec![in alloc; 0; TALLY_BYTES]?,
+            block: Fixed::new(vec![in alloc; 0; room]?),
+            line: Fixed::new(vec![in alloc; 0; TALLY_BYTES]?),
             tally: Tally::none(),
         })
     }
@@ -87,6 +88,9 @@ pub fn soak<B: Feeder, K: Sink>(
     let Ok(script) = soak_script(alloc, seed) else {
         return Err(Ending::NoMemory);
     };
+    let Ok(mut soak) = SoakOf::new(alloc, racks) else {
+        return Err(Ending::NoMemory);
+    };
     let Script {
         events,
         inline_bytes,
@@ -97,21 +101,38 @@ pub fn soak<B: Feeder, K: Sink>(
         capture: None,
         inline_bytes,
     };
-    let Ok(mut soak) = SoakOf::new(alloc, racks) else {
-        return Err(Ending::NoMemory);
-    };
-    let events = events.as_slice();
-    soak_through(&mut soak, events, &pool);
-    let size = write_tally(
-        events.len() as u64,
-        u64::from(device_frames),
-        &soak.tally,
-        &mut soak.line,
-    );
-    match out.put(&soak.line[..size]) {
+    match tell_soak(&mut soak, events.as_slice(), &pool, device_frames, out) {
         Ok(()) => Ok(soak.engine),
         Err(WriteFault) => Err(Ending::CannotWrite),
     }
+}
+
+// Runs all events, and puts the line that tells what they came to. It takes no memory, so it fails at the put alone.
+fn tell_soak<B: Feeder, K: Sink>(
+    soak: &mut SoakOf<B>,
+    events: &[Event],
+    pool: &Pool,
+    frames: u32,
+    out: &mut K,
+) -> Result<(), WriteFault>
+    requires fits { All (Fits usual_device pool.now) events.now }
+    requires captures { IsCaptureIn (device_settings usual_device).layout pool.now }
+    requires count { length events.now ≤ SOAK_EVENTS }
+    requires soaked { HasSoaked B.kind B.kept soak.old pool.now [] }
+    ensures soaked { HasSoaked B.kind B.kept soak.new pool.now events.now }
+    ensures ok { OnOk result (Puts (K.seen out.old) (K.seen out.new)
+        (tally_line (length events.now) frames (tally_of usual_device pool.now events.now))) }
+    ensures err { OnErr result (FailsToPut (K.seen out.old) (K.seen out.new)
+        (tally_line (length events.now) frames (tally_of usual_device pool.now events.now))) }
+{
+    soak_through(soak, events, pool);
+    let size = write_tally(
+        events.len() as u64,
+        u64::from(frames),
+        &soak.tally,
+        &mut soak.line,
+    );
+    out.put(&soak.line[..size])
 }
 
 // Runs all events on the device of a run without a configuration.

@@ -9,9 +9,10 @@ ghost use Rattle.pcm_verdict.specs.Outputs.{output_of};
 ghost use Rattle.pcm_verdict.specs.Plain.{IsAcceptedRun, PlayAlike, plain_output, story_in};
 ghost use Rattle.pcm_verdict.specs.Verdict.{Conversion, Inputs, Checks, Converts, Runs, Soaks};
 ghost use Rattle.pcm_replay.specs.declared.ending.Ending.TheVariants.{BadConfig, BadScript, BadWave};
+ghost use Rattle.pcm_replay.specs.Commands.{WriteNoFile};
 ghost use Rattle.pcm_replay.specs.Endings.{DoesWords, EndsCall, Finishes, RanInputs, RanSoak};
 ghost use Rattle.pcm_replay.specs.Outcomes.{CannotReadOne, IsAccepted, IsAcceptedBy, IsCut, IsRefusedBy, IsStatus};
-ghost use Rattle.pcm_replay.specs.Outcomes.{LacksMemory, MayEnd, RefusesFile, RefusesWords, verdict_on};
+ghost use Rattle.pcm_replay.specs.Outcomes.{LacksMemory, MayEnd, OnlyPutFails, RefusesFile, RefusesWords, verdict_on};
 ghost use Rattle.pcm_replay.specs.Outside.{NoneRose, OneRose, WriteRose, both};
 ghost use Rattle.pcm_replay.specs.Written.{WritesAll, WritesLike};
 
@@ -110,6 +111,9 @@ pub fn dsp_main<B: Feeder, F: Files, K: Sink>(
     ensures line_cause { result ≡ 7 → IsTrue (F.seen files.old).tells
         → IsRefusedBy (verdict_on (map string_bytes words.now) (F.seen files.old))
         → Rose (K.seen out.old).faults (K.seen out.new).faults }
+    // Of words that ask for no file to be written, it is the sink that failed, whether contents are told or not.
+    ensures no_file { result ≡ 7 → WriteNoFile (command_of (map string_bytes words.now)) → OnlyPutFails
+        (both (F.seen files.old) (K.seen out.old)) (both (F.seen files.new) (K.seen out.new)) }
     ensures cut { result ≡ 7 → IsCut (map string_bytes words.now)
         (both (F.seen files.old) (K.seen out.old)) (both (F.seen files.new) (K.seen out.new)) }
 

@@ -22,7 +22,7 @@ returns-in_err-tell_script-clause-err g c =
     let read = c.in_ok-inputs.ensures.ok in
     let files = g.F.Files.seen c.read_inputs.new.files in
     err-as _ c.in_err-tell_script.field-0.0 c.from_residual-in_err-tell_script.result c.from_residual-in_err-tell_script.ensures.1
-    (cuts-command (CheckScript c.args.script.now config) (Checks inputs) _ _ _ _
+    (cuts-command (CheckScript c.args.script.now config) (Checks inputs) _ _ _ _ tt
     (comes-check c.args.script.now config inputs (g.F.Files.seen c.args.files.now) read.came) read.only
     (cuts-lines c.in_err-tell_script.field-0.0 (Checks inputs) (check_line inputs) files _ _ refl c.in_err-tell_script.ensures.err))
 

@@ -19,7 +19,7 @@ returns-in_err-convert_wave-clause-err g c =
     let conversion : Conversion = record { source = c.in_ok-source.source; target = c.args.target } in
     let read = c.in_ok-source.ensures.ok in
     err-as _ c.in_err-convert_wave.field-0.0 c.from_residual-in_err-convert_wave.result c.from_residual-in_err-convert_wave.ensures.1
-    (cuts-command (ConvertWave c.args.input.now c.args.name.now c.args.target) (Converts c.args.name.now conversion) _ _ _ _
+    (cuts-command (ConvertWave c.args.input.now c.args.name.now c.args.target) (Converts c.args.name.now conversion) _ _ _ _ (refl, refl)
     (comes-convert c.args.input.now c.args.name.now c.args.target conversion (g.F.Files.seen c.args.files.now) read.came) read.only c.in_err-convert_wave.ensures.err)
 
 -- it was converted

@@ -20,7 +20,7 @@ returns-in_err-engine-clause-err g c =
     let inputs = inputs_seen c.in_ok-inputs.inputs in
     let read = c.in_ok-inputs.ensures.ok in
     err-as _ c.in_err-engine.field-0.0 c.from_residual-in_err-engine.result c.from_residual-in_err-engine.ensures.1
-    (cuts-command (RunScript c.args.script.now c.args.name.now config) (Runs c.args.name.now inputs) _ _ _ _
+    (cuts-command (RunScript c.args.script.now c.args.name.now config) (Runs c.args.name.now inputs) _ _ _ _ refl
     (comes-run c.args.script.now c.args.name.now config inputs (g.F.Files.seen c.args.files.now) read.came) read.only c.in_err-engine.ensures.err)
 
 -- it ran

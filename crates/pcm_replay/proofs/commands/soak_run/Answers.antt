@@ -14,7 +14,7 @@ returns-in_err-engine-clause-err g c =
     let n = c.args.seed in
     let files = g.F.Files.seen c.args.files.now in
     err-as _ c.in_err-engine.field-0.0 c.from_residual.result c.from_residual.ensures.1
-    (cuts-command (SoakRun n) (Soaks n) _ _ _ _ (comes-soak n files) (nothing (both files (g.K.Sink.seen c.args.out.now)))
+    (cuts-command (SoakRun n) (Soaks n) _ _ _ _ refl (comes-soak n files) (nothing (both files (g.K.Sink.seen c.args.out.now)))
     (cuts-lines c.in_err-engine.field-0.0 (Soaks n) (soak_line n) files _ _ refl c.in_err-engine.ensures.err))
 
 -- it ran, and its line was put

@@ -6,6 +6,7 @@ use Rattle.pcm_replay.specs.Endings.{HasRun}
 use Rattle.pcm_replay.specs.Outcomes.{MayEnd, verdict_on}
 use Rattle.pcm_replay.proofs.Doing.{does-soak}
 use Rattle.pcm_replay.proofs.Plain.{alike-run, plain-run, writes-accepted}
+use Rattle.pcm_replay.proofs.Quiet.{only-put-fails}
 use Rattle.pcm_replay.proofs.Statuses.{ended-as, may-end, none-rose}
 use Rattle.pcm_replay.proofs.top.dsp_main.Goals as goal
 
@@ -37,6 +38,12 @@ returns-in-Err-clause-bad_wave g c = λ named. ended-as (map string_bytes c.args
 
 pub returns-in-Err-clause-cut : goal.returns-in-Err-clause-cut
 returns-in-Err-clause-cut g c = λ named. ended-as (map string_bytes c.args.words.now) _ _ c.in-Err.ending CannotWrite c.status.result c.status.ensures named c.in-Err.ensures.err
+
+-- words that ask for no file
+pub returns-in-Err-clause-no_file : goal.returns-in-Err-clause-no_file
+returns-in-Err-clause-no_file g c = λ named quiet.
+    let words : List (List ℕ) = map string_bytes c.args.words.now in
+    only-put-fails words _ _ quiet (ended-as words _ _ c.in-Err.ending CannotWrite c.status.result c.status.ensures named c.in-Err.ensures.err)
 
 pub returns-in-Err-clause-memory : goal.returns-in-Err-clause-memory
 returns-in-Err-clause-memory g c = λ named. ended-as (map string_bytes c.args.words.now) _ _ c.in-Err.ending NoMemory c.status.result c.status.ensures named c.in-Err.ensures.err

@@ -7,8 +7,8 @@ pub returns-clause-played : goal.returns-clause-played
 returns-clause-played g c = λ pool. record {
   engine = record { device_is = refl; stands = c.in_ok-new.ensures.stands pool; steps = c.in_ok-new.ensures.steps };
   ready = c.in_ok-new.ensures.ready;
-  line_room = c.in_ok-vec-2.ensures.len;
-  room = c.in_ok-vec.ensures.len
+  line_room = c.new-4.ensures.len ∙ c.in_ok-vec-2.ensures.len;
+  room = c.new-3.ensures.len ∙ c.in_ok-vec.ensures.len
       ∙ ap (λ (most : ℕ). most * c.frame_bytes.result) c.greatest_taken.ensures
       ∙ ap (λ (bytes : ℕ). greatest_taken c.args.events.now * bytes) c.frame_bytes.ensures
       ∙ ap (λ (device : DeviceSeen). greatest_taken c.args.events.now * device_frame_bytes device) (sym c.in_ok-new.ensures.device);

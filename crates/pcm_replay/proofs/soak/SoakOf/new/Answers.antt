@@ -20,8 +20,8 @@ returns g c =
         tally = c.none.ensures;
         within = IsWithin-none c.none.result c.none.ensures;
         sum = omega (arith, ap (λ (tally : Tally). tally.sum) c.none.ensures);
-        line_room = c.in_ok-vec-2.ensures.len;
-        room = c.in_ok-vec.ensures.len
+        line_room = c.new-4.ensures.len ∙ c.in_ok-vec-2.ensures.len;
+        room = c.new-3.ensures.len ∙ c.in_ok-vec.ensures.len
             ∙ ap (λ (bytes : ℕ). config.device.ring_frames * bytes) c.frame_bytes.ensures
             ∙ ap (λ (settled : Config). settled.device.ring_frames * frame_bytes settled.device.settings) c.default_config-config.ensures;
       };
