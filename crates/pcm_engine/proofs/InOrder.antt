@@ -24,6 +24,7 @@ use Rattle.pcm_record.specs.Channels.{IsRecordReady}
 use Rattle.pcm_record.proofs.Moving as recorders
 use Rattle.pcm_vchan.specs.Slots.{AreOf, RecordersAreOf, books_of, record_books_of}
 use Rattle.pcm_vchan.proofs.Channels.{some_channel}
+use Rattle.pcm_vchan.specs.Parents.{play_channels, rec_channels}
 use Rattle.pcm_engine.specs.declared.engine.EngineOf.{EngineOf}
 use Rattle.pcm_engine.specs.Engines.{AreReady, BooksAreSafe, RecordsAreSafe, RingsHold, desk_of}
 
@@ -88,19 +89,19 @@ records_safe {B} kind kept filters device desk recorders are own ready slot =
 -- what waits is what a book counts, which is no more than its ring holds
 pub rings-hold : {B : Type 0} (engine : EngineOf B) → RingsHold engine
 rings-hold engine = record {
-  playing = λ slot other there. (let channel = get_or engine.parent.channels.items slot other in let fill = channel.fill in let most = channel.safe.fill in omega arith);
-  recording = λ slot other there. (let channel = get_or engine.parent.recorders.items slot other in let fill = channel.fill in let most = channel.safe.fill in omega arith);
+  playing = λ slot other there. (let channel = get_or (play_channels engine.parent) slot other in let fill = channel.fill in let most = channel.safe.fill in omega arith);
+  recording = λ slot other there. (let channel = get_or (rec_channels engine.parent) slot other in let fill = channel.fill in let most = channel.safe.fill in omega arith);
   device = engine.parent.full;
 }
 
 -- ---- an engine whose channels are ready
 
-pub ready-all : {B : Type 0} (kind : B → Kind) (kept : B → Kept) (engine : EngineOf B) → All (IsReady kind kept engine.tables) engine.parent.channels.items → All (IsRecordReady kind kept engine.tables) engine.parent.recorders.items
+pub ready-all : {B : Type 0} (kind : B → Kind) (kept : B → Kept) (engine : EngineOf B) → All (IsReady kind kept engine.tables) (play_channels engine.parent) → All (IsRecordReady kind kept engine.tables) (rec_channels engine.parent)
     → AreReady kind kept engine
 ready-all kind kept engine playing recording = record {
   playing = playing;
   recording = recording;
-  books = books_safe kind kept engine.tables engine.parent.device (desk_of engine) engine.parent.channels.items refl engine.own playing;
-  records = records_safe kind kept engine.tables engine.parent.device (desk_of engine) engine.parent.recorders.items refl engine.recorders_own recording;
+  books = books_safe kind kept engine.tables engine.parent.device (desk_of engine) (play_channels engine.parent) refl engine.own playing;
+  records = records_safe kind kept engine.tables engine.parent.device (desk_of engine) (rec_channels engine.parent) refl engine.recorders_own recording;
   rings = rings-hold engine;
 }

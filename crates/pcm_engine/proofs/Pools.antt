@@ -16,6 +16,7 @@ use Rattle.pcm_record.specs.Channels.{RecordStands}
 use Rattle.pcm_engine.specs.declared.engine.EngineOf.{EngineOf}
 use Rattle.pcm_engine.specs.Engines.{Stands, desk_of, device_of}
 use Rattle.pcm_engine.specs.Stands.{PartsStand, RecordersStand, bytes_kept}
+use Rattle.pcm_vchan.specs.Parents.{play_channels, rec_channels}
 
 -- channels that record stand for a story with either pool
 recorders_alike : {B : Type 0} (kept : B → Kept) (device : DeviceSeen) (one other : Pool) (recorders : List (RecChannelOf B)) (story : Story) → capture_frames other ≡ capture_frames one
@@ -33,6 +34,6 @@ stands-alike kept engine one other events alike s =
     let device : DeviceSeen = device_of engine in
     let same : story_of device one events ≡ story_of device other events = sym (story-alike device one other events alike) in
     record {
-      playing = subst (PartsStand kept device (desk_of engine) engine.parent.channels.items engine.parent.ring.bytes) same s.playing;
-      recording = subst (RecordersStand kept device other engine.parent.recorders.items) same (recorders_alike kept device one other engine.parent.recorders.items (story_of device one events) alike.captured s.recording);
+      playing = subst (PartsStand kept device (desk_of engine) (play_channels engine.parent) engine.parent.ring.bytes) same s.playing;
+      recording = subst (RecordersStand kept device other (rec_channels engine.parent)) same (recorders_alike kept device one other (rec_channels engine.parent) (story_of device one events) alike.captured s.recording);
     }

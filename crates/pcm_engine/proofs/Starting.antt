@@ -33,7 +33,7 @@ use Rattle.pcm_vchan.specs.Slots.{books_of, record_books_of}
 use Rattle.pcm_play.specs.Channels.{ChannelStands, IsReady, IsUnopened}
 use Rattle.pcm_vchan.specs.Blocks.{silent_block, block_bytes}
 use Rattle.pcm_engine.specs.Desks.{desk_with}
-use Rattle.pcm_vchan.specs.Parents.{parent_books, record_books}
+use Rattle.pcm_vchan.specs.Parents.{parent_books, play_channels, record_books}
 use Rattle.pcm_engine.specs.Stands.{bytes_counted, PartsStand, RecordersStand}
 use Rattle.pcm_vchan.proofs.Channels.{some_channel}
 
@@ -88,12 +88,12 @@ stands-start kind kept filters device desk channels descriptors ring limits slot
 
 -- a parent that nobody has opened, and no descriptor, stand for the beginning
 pub parent-starts : {B : Type 0} (kind : B → Kind) (kept : B → Kept) (filters : Filters) (device : Device) (parent : ParentOf B) (descriptors : List (Option Held)) → IsDevice (seen filters device) → descriptors ≡ replicate DESCRIPTORS None → parent.device ≡ device
-    → length parent.channels.items ≡ device.play_slots → record_books parent ≡ replicate device.record_slots (record_unopened (seen filters device))
-    → All (IsUnopened kind kept filters device) parent.channels.items → parent.ring.bytes ≡ block_bytes (seen filters device) (silent_block (seen filters device) device.ring_frames) → parent.handed ≡ 0 → parent.mixed ≡ 0
-    → PartsStand kept (seen filters parent.device) (desk_with parent descriptors) parent.channels.items parent.ring.bytes (story_at_start (seen filters parent.device))
+    → length (play_channels parent) ≡ device.play_slots → record_books parent ≡ replicate device.record_slots (record_unopened (seen filters device))
+    → All (IsUnopened kind kept filters device) (play_channels parent) → parent.ring.bytes ≡ block_bytes (seen filters device) (silent_block (seen filters device) device.ring_frames) → parent.handed ≡ 0 → parent.mixed ≡ 0
+    → PartsStand kept (seen filters parent.device) (desk_with parent descriptors) (play_channels parent) parent.ring.bytes (story_at_start (seen filters parent.device))
 parent-starts kind kept filters device parent descriptors limits closed is slots recorded each silent handed mixed =
-    subst (λ (d : Device). PartsStand kept (seen filters d) (desk_with parent descriptors) parent.channels.items parent.ring.bytes (story_at_start (seen filters d))) (sym is)
-    (stands-start kind kept filters device (desk_with parent descriptors) parent.channels.items descriptors parent.ring.bytes limits slots each closed silent (record_books parent) recorded
+    subst (λ (d : Device). PartsStand kept (seen filters d) (desk_with parent descriptors) (play_channels parent) parent.ring.bytes (story_at_start (seen filters d))) (sym is)
+    (stands-start kind kept filters device (desk_with parent descriptors) (play_channels parent) descriptors parent.ring.bytes limits slots each closed silent (record_books parent) recorded
     (ap (λ (h : ℕ). record { play = parent_books parent; recording = record_books parent; descriptors = descriptors; handed = h; mixed = parent.mixed }) handed
     ∙ ap (λ (m : ℕ). record { play = parent_books parent; recording = record_books parent; descriptors = descriptors; handed = 0; mixed = m }) mixed))
 

@@ -19,7 +19,7 @@ use Rattle.pcm_play.specs.declared.channel.PlayChannelOf.{PlayChannelOf}
 use Rattle.pcm_record.specs.declared.channel.RecChannelOf.{RecChannelOf}
 use Rattle.pcm_vchan.specs.declared.parent.ParentOf.{ParentOf}
 use Rattle.pcm_vchan.specs.Slots.{AreOf, RecordersAreOf}
-use Rattle.pcm_vchan.specs.Parents.{parent_books, record_books}
+use Rattle.pcm_vchan.specs.Parents.{parent_books, play_channels, rec_channels, record_books}
 use Rattle.pcm_vchan.specs.Lending.{with_channel, with_recorder}
 use Rattle.pcm_vchan.proofs.Channels.{book_at-channel, books_of-set, record_at-channel, record_books_of-set}
 use Rattle.pcm_engine.specs.Desks.{desk_with}
@@ -37,16 +37,16 @@ slot_there : {B : Type 0} (way : Way) (parent : ParentOf B) (descriptors : List 
 slot_there way parent descriptors fd held h e is = subst (λ (w : Way). held.slot < slots_of (desk_with parent descriptors) w) is (h.within fd held e)
 
 pub play-there : {B : Type 0} (parent : ParentOf B) (descriptors : List (Option Held)) (fd : ℕ) (held : Held) → HoldApart (desk_with parent descriptors) → held_by (desk_with parent descriptors) fd ≡ Some held → held.way ≡ Play
-    → held.slot < length parent.channels.items
+    → held.slot < length (play_channels parent)
 play-there {B = B} parent descriptors fd held h e is =
     let there = slot_there Play parent descriptors fd held h e is in
-    omega (arith, length-map parent.channels.items (λ (c : PlayChannelOf B). c.book))
+    omega (arith, length-map (play_channels parent) (λ (c : PlayChannelOf B). c.book))
 
 pub record-there : {B : Type 0} (parent : ParentOf B) (descriptors : List (Option Held)) (fd : ℕ) (held : Held) → HoldApart (desk_with parent descriptors) → held_by (desk_with parent descriptors) fd ≡ Some held → held.way ≡ Rec
-    → held.slot < length parent.recorders.items
+    → held.slot < length (rec_channels parent)
 record-there {B = B} parent descriptors fd held h e is =
     let there = slot_there Rec parent descriptors fd held h e is in
-    omega (arith, length-map parent.recorders.items (λ (c : RecChannelOf B). c.book))
+    omega (arith, length-map (rec_channels parent) (λ (c : RecChannelOf B). c.book))
 
 -- ---- channels that play
 
@@ -55,13 +55,13 @@ pub own-lent : {B : Type 0} (device : Device) (channels : List (PlayChannelOf B)
 own-lent {B = B} device channels slot lent there is own = ap (λ (channel : PlayChannelOf B). channel.device) is ∙ own slot lent there
 
 -- the books of a parent, one of whose channels changed
-pub books-lent : {B : Type 0} (how : Book → Book) (parent : ParentOf B) (slot : ℕ) (lent new : PlayChannelOf B) (other : Book) → slot < length parent.channels.items → lent ≡ get_or parent.channels.items slot lent
+pub books-lent : {B : Type 0} (how : Book → Book) (parent : ParentOf B) (slot : ℕ) (lent new : PlayChannelOf B) (other : Book) → slot < length (play_channels parent) → lent ≡ get_or (play_channels parent) slot lent
     → new.book ≡ how lent.book → parent_books (with_channel parent slot new) ≡ set (parent_books parent) slot (how (get_or (parent_books parent) slot other))
-books-lent how parent slot lent new other there is changed = books_of-set how parent.channels.items slot lent new other there is changed
+books-lent how parent slot lent new other there is changed = books_of-set how (play_channels parent) slot lent new other there is changed
 
 -- the desk, where the book of the channel was turned
 pub desk-played : {B : Type 0} (device : DeviceSeen) (turn : Book → BookTurn) (parent : ParentOf B) (descriptors : List (Option Held)) (slot : ℕ) (lent new : PlayChannelOf B)
-    → slot < length parent.channels.items → lent ≡ get_or parent.channels.items slot lent → new.book ≡ (turn lent.book).book
+    → slot < length (play_channels parent) → lent ≡ get_or (play_channels parent) slot lent → new.book ≡ (turn lent.book).book
     → desk_with (with_channel parent slot new) descriptors ≡ (play_turn device turn (desk_with parent descriptors) slot).desk
 desk-played device turn parent descriptors slot lent new there is changed =
     ap (λ (play : List Book). record { play = play; recording = record_books parent; descriptors = descriptors; handed = parent.handed; mixed = parent.mixed })
@@ -69,10 +69,10 @@ desk-played device turn parent descriptors slot lent new there is changed =
 
 -- and the reply
 pub reply-played : {B : Type 0} (device : DeviceSeen) (turn : Book → BookTurn) (parent : ParentOf B) (descriptors : List (Option Held)) (slot : ℕ) (lent : PlayChannelOf B) (answer : Result Answer Errno)
-    → slot < length parent.channels.items → lent ≡ get_or parent.channels.items slot lent → answer ≡ (turn lent.book).reply
+    → slot < length (play_channels parent) → lent ≡ get_or (play_channels parent) slot lent → answer ≡ (turn lent.book).reply
     → answer ≡ (play_turn device turn (desk_with parent descriptors) slot).reply
 reply-played device turn parent descriptors slot lent answer there is answered =
-    answered ∙ ap (λ (book : Book). (turn book).reply) (book_at-channel parent.channels.items slot lent (unopened device) there is)
+    answered ∙ ap (λ (book : Book). (turn book).reply) (book_at-channel (play_channels parent) slot lent (unopened device) there is)
 
 -- ---- channels that record
 
@@ -80,17 +80,17 @@ pub own-lent_record : {B : Type 0} (device : Device) (channels : List (RecChanne
 own-lent_record {B = B} device channels slot lent there is own = ap (λ (channel : RecChannelOf B). channel.device) is ∙ own slot lent there
 
 pub desk-recorded : {B : Type 0} (device : DeviceSeen) (turn : RecordBook → RecordTurn) (parent : ParentOf B) (descriptors : List (Option Held)) (slot : ℕ) (lent new : RecChannelOf B)
-    → slot < length parent.recorders.items → lent ≡ get_or parent.recorders.items slot lent → new.book ≡ (turn lent.book).book
+    → slot < length (rec_channels parent) → lent ≡ get_or (rec_channels parent) slot lent → new.book ≡ (turn lent.book).book
     → desk_with (with_recorder parent slot new) descriptors ≡ (record_turn device turn (desk_with parent descriptors) slot).desk
 desk-recorded device turn parent descriptors slot lent new there is changed =
     ap (λ (recording : List RecordBook). record { play = parent_books parent; recording = recording; descriptors = descriptors; handed = parent.handed; mixed = parent.mixed })
-    (record_books_of-set (λ (book : RecordBook). (turn book).book) parent.recorders.items slot lent new (record_unopened device) there is changed)
+    (record_books_of-set (λ (book : RecordBook). (turn book).book) (rec_channels parent) slot lent new (record_unopened device) there is changed)
 
 pub reply-recorded : {B : Type 0} (device : DeviceSeen) (turn : RecordBook → RecordTurn) (parent : ParentOf B) (descriptors : List (Option Held)) (slot : ℕ) (lent : RecChannelOf B) (answer : Result Answer Errno)
-    → slot < length parent.recorders.items → lent ≡ get_or parent.recorders.items slot lent → answer ≡ (turn lent.book).reply
+    → slot < length (rec_channels parent) → lent ≡ get_or (rec_channels parent) slot lent → answer ≡ (turn lent.book).reply
     → answer ≡ (record_turn device turn (desk_with parent descriptors) slot).reply
 reply-recorded device turn parent descriptors slot lent answer there is answered =
-    answered ∙ ap (λ (book : RecordBook). (turn book).reply) (record_at-channel parent.recorders.items slot lent (record_unopened device) there is)
+    answered ∙ ap (λ (book : RecordBook). (turn book).reply) (record_at-channel (rec_channels parent) slot lent (record_unopened device) there is)
 
 -- what a read gets of a descriptor that holds a channel which records
 pub bytes_read-held : (device : DeviceSeen) (desk : Desk) (bytes : ℕ → List ℕ) (count : ℕ) (found : Option Held) (held : Held) (book : RecordBook) → found ≡ Some held → held.way ≡ Rec → book ≡ record_at device desk held.slot

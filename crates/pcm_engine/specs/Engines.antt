@@ -16,6 +16,7 @@ use Rattle.pcm_play.specs.Channels.{IsReady}
 use Rattle.pcm_engine.specs.Desks.{desk_with}
 use Rattle.pcm_record.specs.Channels.{IsRecordReady}
 use Rattle.pcm_engine.specs.Stands.{PartsStand, RecordersStand}
+use Rattle.pcm_vchan.specs.Parents.{play_channels, rec_channels}
 
 -- the engine's device, beside the filters of its run
 abbrev pub device_of : {B : Type 0} → EngineOf B → DeviceSeen
@@ -31,8 +32,8 @@ waiting_in engine = map (λ channel. channel.ring.bytes) engine.parent.recorders
 
 -- the engine stands for a list of events, whose bytes are found in a pool
 pub record Stands {B : Type 0} (kept : B → Kept) (engine : EngineOf B) (pool : Pool) (events : List Event) : Type 0 where
-  pub playing : PartsStand kept (device_of engine) (desk_of engine) engine.parent.channels.items engine.parent.ring.bytes (story_of (device_of engine) pool events)
-  pub recording : RecordersStand kept (device_of engine) pool engine.parent.recorders.items (story_of (device_of engine) pool events)
+  pub playing : PartsStand kept (device_of engine) (desk_of engine) (play_channels engine.parent) engine.parent.ring.bytes (story_of (device_of engine) pool events)
+  pub recording : RecordersStand kept (device_of engine) pool (rec_channels engine.parent) (story_of (device_of engine) pool events)
 
 -- the book of each slot that plays is in order
 abbrev pub BooksAreSafe : DeviceSeen → Desk → Type 0
@@ -44,15 +45,15 @@ RecordsAreSafe device desk = (slot : ℕ) → RecordIsSafe (record_rate_at devic
 
 -- No ring passes its size: that of a channel has room for the fragments of its book, and the device's is always full.
 pub record RingsHold {B : Type 0} (engine : EngineOf B) : Type 0 where
-  pub playing : All (λ channel. length channel.ring.bytes ≤ ring_bytes channel.book) engine.parent.channels.items
-  pub recording : All (λ channel. length channel.ring.bytes ≤ records.ring_bytes channel.book) engine.parent.recorders.items
+  pub playing : All (λ channel. length channel.ring.bytes ≤ ring_bytes channel.book) (play_channels engine.parent)
+  pub recording : All (λ channel. length channel.ring.bytes ≤ records.ring_bytes channel.book) (rec_channels engine.parent)
   pub device : length engine.parent.ring.bytes ≡ ring_frames (device_of engine) * device_frame_bytes (device_of engine)
 
 -- Each box of the engine is of its place's kind, each channel stands for its book, all books are in order, and no ring passes its
 -- size. Every engine is so, from its first moment on, with whatever pools it is stepped; no type can say it of boxes.
 pub record AreReady {B : Type 0} (kind : B → Kind) (kept : B → Kept) (engine : EngineOf B) : Type 0 where
-  pub playing : All (IsReady kind kept engine.tables) engine.parent.channels.items
-  pub recording : All (IsRecordReady kind kept engine.tables) engine.parent.recorders.items
+  pub playing : All (IsReady kind kept engine.tables) (play_channels engine.parent)
+  pub recording : All (IsRecordReady kind kept engine.tables) (rec_channels engine.parent)
   pub books : BooksAreSafe (device_of engine) (desk_of engine)
   pub records : RecordsAreSafe (device_of engine) (desk_of engine)
   pub rings : RingsHold engine

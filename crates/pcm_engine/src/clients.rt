@@ -1,6 +1,7 @@
 //! What clients ask by their descriptors.
 
-ghost use Rattle.std.specs.Prelude.{◌≡◌, ◌+◌, ◌^◌, ◌<◌, ◌≤◌, [], ℕ, List, length, vec_len, take, All, Option, IfErr, IfOk, OnErr, Err, Ok, None, slice_index_or};
+ghost use Rattle.std.specs.Prelude.{◌≡◌, ◌+◌, ◌^◌, ◌<◌, ◌≤◌, [], ℕ, List, length, take, All, Option, IfErr, IfOk, OnErr, Err, Ok, None, slice_index_or};
+ghost use Rattle.pcm_fixed.specs.Fixed.{fixed_len};
 ghost use Rattle.pcm_feeder.specs.Filters.{Filters};
 ghost use Rattle.pcm_feeder.specs.Limits.{IsRate};
 ghost use Rattle.pcm_feeder.specs.Racks.{HaveKinds};
@@ -17,7 +18,7 @@ ghost use Rattle.pcm_format.specs.Frames.{Frame};
 ghost use Rattle.pcm_vchan.specs.Slots.{AllRecord, AreOf, Each, RecordersAreOf};
 ghost use Rattle.pcm_play.specs.Channels.{IsReady, Moves};
 ghost use Rattle.pcm_record.specs.Channels.{IsRecordReady, RecordMoves};
-ghost use Rattle.pcm_vchan.specs.Parents.{KeepsOutput};
+ghost use Rattle.pcm_vchan.specs.Parents.{play_channels, rec_channels, KeepsOutput};
 ghost use Rattle.pcm_engine.specs.Desks.{desk_with};
 ghost use Rattle.pcm_engine.specs.Steps.{bytes_read};
 
@@ -38,15 +39,15 @@ pub fn open<B: Feeder>(
 ) -> Result<Answer, Errno>
     requires fd { fd < DESCRIPTORS }
     requires rate { IsRate settings.rate }
-    requires own { AreOf parent.old.device parent.old.channels.items }
-    requires recorders_own { RecordersAreOf parent.old.device parent.old.recorders.items }
+    requires own { AreOf parent.old.device (play_channels parent.old) }
+    requires recorders_own { RecordersAreOf parent.old.device (rec_channels parent.old) }
     requires size { length descriptors.old ≡ DESCRIPTORS }
-    requires ready { All (IsReady B.kind B.kept tables.now) parent.old.channels.items }
-    requires recorders_ready { All (IsRecordReady B.kind B.kept tables.now) parent.old.recorders.items }
+    requires ready { All (IsReady B.kind B.kept tables.now) (play_channels parent.old) }
+    requires recorders_ready { All (IsRecordReady B.kind B.kept tables.now) (rec_channels parent.old) }
     ensures size { length descriptors.new ≡ length descriptors.old }
     ensures silent { bytes_due result ≡ 0 }
-    ensures own { AreOf parent.new.device parent.new.channels.items }
-    ensures recorders_own { RecordersAreOf parent.new.device parent.new.recorders.items }
+    ensures own { AreOf parent.new.device (play_channels parent.new) }
+    ensures recorders_own { RecordersAreOf parent.new.device (rec_channels parent.new) }
     ensures output { KeepsOutput parent.old parent.new }
     ensures refused { OnErr result (parent.new ≡ parent.old) }
     ensures shut { OnErr result (descriptors.new ≡ descriptors.old) }
@@ -55,9 +56,9 @@ pub fn open<B: Feeder>(
     ensures reply { result
         ≡ (open_turn (desk_with parent.old descriptors.old) fd way settings).reply }
     ensures channels { Each (Moves B.kind B.kept tables.now [] 0)
-        parent.old.channels.items parent.new.channels.items }
+        (play_channels parent.old) (play_channels parent.new) }
     ensures recorders { Each (RecordMoves B.kind B.kept tables.now [] 0)
-        parent.old.recorders.items parent.new.recorders.items }
+        (rec_channels parent.old) (rec_channels parent.new) }
 {
     if held(descriptors, fd).is_some() {
         return Err(Errno::Exist);
@@ -77,11 +78,11 @@ pub fn write<B: Feeder>(
     requires fd { fd < DESCRIPTORS }
     requires size { length descriptors.now ≡ DESCRIPTORS }
     requires apart { HoldApart (desk_with parent.old descriptors.now) }
-    requires own { AreOf parent.old.device parent.old.channels.items }
+    requires own { AreOf parent.old.device (play_channels parent.old) }
     requires count { All (λ channel. channel.book.written + length bytes.now
-        < 2 ^ 64) parent.old.channels.items }
+        < 2 ^ 64) (play_channels parent.old) }
     ensures silent { bytes_due result ≡ 0 }
-    ensures own { AreOf parent.new.device parent.new.channels.items }
+    ensures own { AreOf parent.new.device (play_channels parent.new) }
     ensures recorders { parent.new.recorders ≡ parent.old.recorders }
     ensures output { KeepsOutput parent.old parent.new }
     ensures refused { OnErr result (parent.new ≡ parent.old) }
@@ -92,7 +93,7 @@ pub fn write<B: Feeder>(
         result
         ≡ (write_on (seen filters parent.old.device) (held_by desk fd) desk (length bytes.now)).reply }
     ensures channels { (filters : Filters) → Each (Moves B.kind B.kept filters bytes.now 0)
-        parent.old.channels.items parent.new.channels.items }
+        (play_channels parent.old) (play_channels parent.new) }
 {
     let Some(held) = held(descriptors, fd) else {
         return Err(Errno::BadF);
@@ -114,8 +115,8 @@ pub fn read<B: Feeder>(
     requires fd { fd < DESCRIPTORS }
     requires size { length descriptors.now ≡ DESCRIPTORS }
     requires apart { HoldApart (desk_with parent.old descriptors.now) }
-    requires recorders_own { RecordersAreOf parent.old.device parent.old.recorders.items }
-    ensures recorders_own { RecordersAreOf parent.new.device parent.new.recorders.items }
+    requires recorders_own { RecordersAreOf parent.old.device (rec_channels parent.old) }
+    ensures recorders_own { RecordersAreOf parent.new.device (rec_channels parent.new) }
     ensures channels { parent.new.channels ≡ parent.old.channels }
     ensures output { KeepsOutput parent.old parent.new }
     ensures refused { OnErr result (parent.new ≡ parent.old) }
@@ -131,16 +132,16 @@ pub fn read<B: Feeder>(
     ensures within { IfOk result (λ count. count ≤ length out.old) }
     ensures length { length out.new ≡ length out.old }
     ensures bytes { (filters : Filters) (bytes : ℕ → List ℕ) (frames : ℕ → List Frame)
-        → AllRecord B.kept filters parent.old.recorders.items bytes frames
+        → AllRecord B.kept filters (rec_channels parent.old) bytes frames
         → let desk = desk_with parent.old descriptors.now in
         IfOk result (λ count. take count out.new
         ≡ bytes_read (seen filters parent.old.device) desk bytes (length out.old) (held_by desk fd)) }
     ensures none_read { (filters : Filters) (bytes : ℕ → List ℕ) (frames : ℕ → List Frame)
-        → AllRecord B.kept filters parent.old.recorders.items bytes frames
+        → AllRecord B.kept filters (rec_channels parent.old) bytes frames
         → let desk = desk_with parent.old descriptors.now in
         OnErr result (bytes_read (seen filters parent.old.device) desk bytes (length out.old) (held_by desk fd) ≡ []) }
     ensures recorders { (filters : Filters) → Each (RecordMoves B.kind B.kept filters [] 0)
-        parent.old.recorders.items parent.new.recorders.items }
+        (rec_channels parent.old) (rec_channels parent.new) }
 {
     let Some(held) = held(descriptors, fd) else {
         return Err(Errno::BadF);
@@ -162,15 +163,15 @@ pub fn ioctl<B: Feeder>(
     requires fd { fd < DESCRIPTORS }
     requires size { length descriptors.now ≡ DESCRIPTORS }
     requires apart { HoldApart (desk_with parent.old descriptors.now) }
-    requires own { AreOf parent.old.device parent.old.channels.items }
-    requires recorders_own { RecordersAreOf parent.old.device parent.old.recorders.items }
-    requires ready { All (IsReady B.kind B.kept tables.now) parent.old.channels.items }
-    requires recorders_ready { All (IsRecordReady B.kind B.kept tables.now) parent.old.recorders.items }
+    requires own { AreOf parent.old.device (play_channels parent.old) }
+    requires recorders_own { RecordersAreOf parent.old.device (rec_channels parent.old) }
+    requires ready { All (IsReady B.kind B.kept tables.now) (play_channels parent.old) }
+    requires recorders_ready { All (IsRecordReady B.kind B.kept tables.now) (rec_channels parent.old) }
     requires count { All (λ channel. channel.book.done + channel.book.written
-        < 2 ^ 64) parent.old.channels.items }
+        < 2 ^ 64) (play_channels parent.old) }
     ensures silent { bytes_due result ≡ 0 }
-    ensures own { AreOf parent.new.device parent.new.channels.items }
-    ensures recorders_own { RecordersAreOf parent.new.device parent.new.recorders.items }
+    ensures own { AreOf parent.new.device (play_channels parent.new) }
+    ensures recorders_own { RecordersAreOf parent.new.device (rec_channels parent.new) }
     ensures output { KeepsOutput parent.old parent.new }
     ensures refused { OnErr result (parent.new ≡ parent.old) }
     ensures desk { let desk = desk_with parent.old descriptors.now in
@@ -179,9 +180,9 @@ pub fn ioctl<B: Feeder>(
     ensures reply { let desk = desk_with parent.old descriptors.now in
         result ≡ (ioctl_on (seen tables.now parent.old.device) (held_by desk fd) desk request).reply }
     ensures channels { Each (Moves B.kind B.kept tables.now [] 0)
-        parent.old.channels.items parent.new.channels.items }
+        (play_channels parent.old) (play_channels parent.new) }
     ensures recorders { Each (RecordMoves B.kind B.kept tables.now [] 0)
-        parent.old.recorders.items parent.new.recorders.items }
+        (rec_channels parent.old) (rec_channels parent.new) }
 {
     let Some(held) = held(descriptors, fd) else {
         return Err(Errno::BadF);
@@ -201,29 +202,29 @@ pub fn close<B: Feeder>(
     requires fd { fd < DESCRIPTORS }
     requires size { length descriptors.old ≡ DESCRIPTORS }
     requires apart { HoldApart (desk_with parent.old descriptors.old) }
-    requires own { AreOf parent.old.device parent.old.channels.items }
-    requires recorders_own { RecordersAreOf parent.old.device parent.old.recorders.items }
-    requires kinds { All (λ channel. HaveKinds B.kind (boxes_in channel.chain)) parent.old.channels.items }
-    requires recorders_kinds { All (λ channel. HaveKinds B.kind (boxes_in channel.chain)) parent.old.recorders.items }
+    requires own { AreOf parent.old.device (play_channels parent.old) }
+    requires recorders_own { RecordersAreOf parent.old.device (rec_channels parent.old) }
+    requires kinds { All (λ channel. HaveKinds B.kind (boxes_in channel.chain)) (play_channels parent.old) }
+    requires recorders_kinds { All (λ channel. HaveKinds B.kind (boxes_in channel.chain)) (rec_channels parent.old) }
     requires count { All (λ channel. channel.book.done + channel.book.written
-        < 2 ^ 64) parent.old.channels.items }
+        < 2 ^ 64) (play_channels parent.old) }
     ensures size { length descriptors.new ≡ length descriptors.old }
     ensures silent { bytes_due result ≡ 0 }
-    ensures own { AreOf parent.new.device parent.new.channels.items }
-    ensures recorders_own { RecordersAreOf parent.new.device parent.new.recorders.items }
+    ensures own { AreOf parent.new.device (play_channels parent.new) }
+    ensures recorders_own { RecordersAreOf parent.new.device (rec_channels parent.new) }
     ensures output { KeepsOutput parent.old parent.new }
     ensures refused { OnErr result (parent.new ≡ parent.old) }
     ensures shut { OnErr result (descriptors.new ≡ descriptors.old) }
     ensures desk { (filters : Filters)
-        → All (IsReady B.kind B.kept filters) parent.old.channels.items → let desk = desk_with parent.old descriptors.old in
+        → All (IsReady B.kind B.kept filters) (play_channels parent.old) → let desk = desk_with parent.old descriptors.old in
         desk_with parent.new descriptors.new
         ≡ (close_on (seen filters parent.old.device) (held_by desk fd) desk fd).desk }
     ensures reply { (filters : Filters) → let desk = desk_with parent.old descriptors.old in
         result ≡ (close_on (seen filters parent.old.device) (held_by desk fd) desk fd).reply }
     ensures channels { (filters : Filters) → Each (Moves B.kind B.kept filters [] 0)
-        parent.old.channels.items parent.new.channels.items }
+        (play_channels parent.old) (play_channels parent.new) }
     ensures recorders { (filters : Filters) → Each (RecordMoves B.kind B.kept filters [] 0)
-        parent.old.recorders.items parent.new.recorders.items }
+        (rec_channels parent.old) (rec_channels parent.new) }
 {
     let Some(held) = held(descriptors, fd) else {
         return Err(Errno::BadF);
@@ -235,28 +236,28 @@ pub fn close<B: Feeder>(
 
 // Closes a channel of either way.
 fn close_channel<B: Feeder>(parent: &mut ParentOf<B>, held: Held) -> Answer
-    requires play { held.way ≡ Play → held.slot < vec_len parent.old.channels }
-    requires recording { held.way ≡ Rec → held.slot < vec_len parent.old.recorders }
-    requires own { AreOf parent.old.device parent.old.channels.items }
-    requires recorders_own { RecordersAreOf parent.old.device parent.old.recorders.items }
-    requires kinds { All (λ channel. HaveKinds B.kind (boxes_in channel.chain)) parent.old.channels.items }
-    requires recorders_kinds { All (λ channel. HaveKinds B.kind (boxes_in channel.chain)) parent.old.recorders.items }
+    requires play { held.way ≡ Play → held.slot < fixed_len parent.old.channels }
+    requires recording { held.way ≡ Rec → held.slot < fixed_len parent.old.recorders }
+    requires own { AreOf parent.old.device (play_channels parent.old) }
+    requires recorders_own { RecordersAreOf parent.old.device (rec_channels parent.old) }
+    requires kinds { All (λ channel. HaveKinds B.kind (boxes_in channel.chain)) (play_channels parent.old) }
+    requires recorders_kinds { All (λ channel. HaveKinds B.kind (boxes_in channel.chain)) (rec_channels parent.old) }
     requires count { All (λ channel. channel.book.done + channel.book.written
-        < 2 ^ 64) parent.old.channels.items }
+        < 2 ^ 64) (play_channels parent.old) }
     ensures answer { result ≡ Answer.Done }
-    ensures own { AreOf parent.new.device parent.new.channels.items }
-    ensures recorders_own { RecordersAreOf parent.new.device parent.new.recorders.items }
+    ensures own { AreOf parent.new.device (play_channels parent.new) }
+    ensures recorders_own { RecordersAreOf parent.new.device (rec_channels parent.new) }
     ensures output { KeepsOutput parent.old parent.new }
     ensures desk { (filters : Filters) (descriptors : List (Option Held))
-        → All (IsReady B.kind B.kept filters) parent.old.channels.items
+        → All (IsReady B.kind B.kept filters) (play_channels parent.old)
         → let device = seen filters parent.old.device in let desk = desk_with parent.old descriptors in
         desk_with parent.new descriptors ≡ by_way held.way
         (with_book desk held.slot (closing device (book_at device desk held.slot)))
         (with_record desk held.slot (closed (record_at device desk held.slot))) }
     ensures channels { (filters : Filters) → Each (Moves B.kind B.kept filters [] 0)
-        parent.old.channels.items parent.new.channels.items }
+        (play_channels parent.old) (play_channels parent.new) }
     ensures recorders { (filters : Filters) → Each (RecordMoves B.kind B.kept filters [] 0)
-        parent.old.recorders.items parent.new.recorders.items }
+        (rec_channels parent.old) (rec_channels parent.new) }
 {
     match held.way {
         Way::Play => {

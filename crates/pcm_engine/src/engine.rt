@@ -1,11 +1,13 @@
 //! The engine and its events.
 
-ghost use Rattle.std.specs.Prelude.{◌≡◌, [], ◌∷◌, ◌++◌, ◌+◌, ◌*◌, ◌^◌, ◌<◌, ◌≤◌, length, vec_len, take, drop, All, List, ℕ, IfOk, IsErr};
+ghost use Rattle.std.specs.Prelude.{◌≡◌, [], ◌∷◌, ◌++◌, ◌+◌, ◌*◌, ◌^◌, ◌<◌, ◌≤◌, length, take, drop, All, List, ℕ, IfOk, IsErr};
+ghost use Rattle.pcm_fixed.specs.Fixed.{fixed_len};
 ghost use Rattle.pcm_desk.specs.declared.limits.TheConstants.{DESCRIPTORS, RING_FRAMES};
 ghost use Rattle.pcm_engine.specs.declared.limits.TheConstants.{STEPS};
 ghost use Rattle.pcm_desk.specs.Events.{Fits, bytes_handed};
 ghost use Rattle.pcm_desk.specs.Device.{seen};
 ghost use Rattle.pcm_desk.specs.Own.{HoldApart};
+ghost use Rattle.pcm_vchan.specs.Parents.{play_channels, rec_channels};
 ghost use Rattle.pcm_vchan.specs.Slots.{AreOf};
 ghost use Rattle.pcm_desk.proofs.Props.{hold_props};
 ghost use Rattle.pcm_engine.specs.Desks.{desk_with};
@@ -17,6 +19,7 @@ use crate::clients::{close, ioctl, open, write};
 use crate::recordings::{answer_read, interrupt};
 use pcm_desk::{DESCRIPTORS, Device, Held};
 use pcm_feeder::{Feeder, RacksOf, Tables};
+use pcm_fixed::Fixed;
 use pcm_oss::{Answer, Event, ReplyBuf};
 use pcm_vchan::ParentOf;
 use pcm_wave::Pool;
@@ -28,16 +31,16 @@ pub struct EngineOf<B> {
     parent: ParentOf<B>,
     tables: Tables,
     descriptors: [Option<Held>; DESCRIPTORS],
-    captured: Vec<i32>,
+    captured: Fixed<i32>,
     steps: u32,
-    ghost own: { AreOf parent.device parent.channels.items },
-    ghost recorders_own: { RecordersAreOf parent.device parent.recorders.items },
+    ghost own: { AreOf parent.device (play_channels parent) },
+    ghost recorders_own: { RecordersAreOf parent.device (rec_channels parent) },
     ghost apart: { HoldApart (desk_with parent descriptors) } by { Prim.hlevel hold_props },
-    ghost counted: { All (λ channel. channel.book.done + channel.book.written ≤ 2 ^ 32 * steps) parent.channels.items },
-    ghost given: { All (λ channel. channel.book.given ≤ RING_FRAMES * steps) parent.channels.items },
-    ghost kept: { All (λ channel. channel.book.kept ≤ RING_BYTES * steps) parent.recorders.items },
-    ghost captured_within: { All (λ channel. channel.book.captured ≤ RING_FRAMES * steps) parent.recorders.items },
-    ghost captured_size: { vec_len captured ≡ parent.device.ring_frames * channels_of parent.device.settings.layout },
+    ghost counted: { All (λ channel. channel.book.done + channel.book.written ≤ 2 ^ 32 * steps) (play_channels parent) },
+    ghost given: { All (λ channel. channel.book.given ≤ RING_FRAMES * steps) (play_channels parent) },
+    ghost kept: { All (λ channel. channel.book.kept ≤ RING_BYTES * steps) (rec_channels parent) },
+    ghost captured_within: { All (λ channel. channel.book.captured ≤ RING_FRAMES * steps) (rec_channels parent) },
+    ghost captured_size: { fixed_len captured ≡ parent.device.ring_frames * channels_of parent.device.settings.layout },
     ghost mixed_within: { parent.mixed ≤ RING_FRAMES * steps },
     ghost handed_within: { parent.handed ≤ RING_FRAMES * steps },
 }
@@ -83,7 +86,7 @@ impl<B: Feeder> EngineOf<B> {
             parent,
             tables,
             descriptors: [None; DESCRIPTORS],
-            captured,
+            captured: Fixed::new(captured),
             steps: 0,
         })
     }
@@ -139,7 +142,7 @@ impl<B: Feeder> EngineOf<B> {
         ensures isolated { IsIsolated (device_of self.old) event.now
             (desk_of self.old) (desk_of self.new) reply.new.result }
         ensures read { (bytes : ℕ → List ℕ) (frames : ℕ → List Frame)
-            → AllRecord B.kept self.old.tables self.old.parent.recorders.items bytes frames
+            → AllRecord B.kept self.old.tables (rec_channels self.old.parent) bytes frames
             → reply.new.bytes
             ≡ bytes_answered (device_of self.old) (desk_of self.old) bytes event.now }
         ensures taken { (fd count : ℕ) → event.now ≡ Read fd count
@@ -160,29 +163,29 @@ impl<B: Feeder> EngineOf<B> {
         requires ready { AreReady B.kind B.kept self.old }
         ensures device { self.new.parent.device ≡ self.old.parent.device }
         ensures tables { self.new.tables ≡ self.old.tables }
-        ensures slots { length self.new.parent.channels.items
-            ≡ length self.old.parent.channels.items }
-        ensures recorders_slots { length self.new.parent.recorders.items
-            ≡ length self.old.parent.recorders.items }
+        ensures slots { length (play_channels self.new.parent)
+            ≡ length (play_channels self.old.parent) }
+        ensures recorders_slots { length (rec_channels self.new.parent)
+            ≡ length (rec_channels self.old.parent) }
         ensures steps { self.new.steps ≡ self.old.steps + 1 }
         ensures desk { desk_of self.new
             ≡ (after (device_of self.old) (desk_of self.old) event.now).desk }
         ensures reply { reply.new.result
             ≡ (after (device_of self.old) (desk_of self.old) event.now).reply }
         ensures bytes { (bytes : ℕ → List ℕ) (frames : ℕ → List Frame)
-            → AllRecord B.kept self.old.tables self.old.parent.recorders.items bytes frames
+            → AllRecord B.kept self.old.tables (rec_channels self.old.parent) bytes frames
             → reply.new.bytes
             ≡ bytes_answered (device_of self.old) (desk_of self.old) bytes event.now }
         ensures refused { IsErr reply.new.result → IsUnchanged self.old self.new }
         ensures channels { ChannelsMove B.kind B.kept self.old.tables pool.now event.now
-            self.old.parent.channels.items self.new.parent.channels.items }
+            (play_channels self.old.parent) (play_channels self.new.parent) }
         ensures recorders { RecordersMove B.kind B.kept (device_of self.old) pool.now self.old.parent.handed event.now
-            self.old.parent.recorders.items self.new.parent.recorders.items }
+            (rec_channels self.old.parent) (rec_channels self.new.parent) }
         ensures ring { (streams : ℕ → List ℕ)
-            → AllStand B.kept self.old.tables self.old.parent.channels.items streams
+            → AllStand B.kept self.old.tables (play_channels self.old.parent) streams
             → self.new.parent.ring.bytes
             ≡ ring_after (device_of self.old) event.now (parent_books self.old.parent) streams
-            (length self.old.parent.channels.items) self.old.parent.ring.bytes }
+            (length (play_channels self.old.parent)) self.old.parent.ring.bytes }
         ensures count { result ≡ bytes_handed (device_of self.old) event.now }
         ensures out { take result out.new ≡ take result self.old.parent.ring.bytes }
         ensures rest { drop result out.new ≡ drop result out.old }

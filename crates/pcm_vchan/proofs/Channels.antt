@@ -1,7 +1,6 @@
 -- The channels of a device, one of them changed or all refilled.
 use Rattle.std.proofs.Common.{◌≡◌, ℕ, ◌*◌, ◌+◌, ◌<◌, ◌≤◌, Bool, cond, List, [], ◌∷◌, ◌++◌, length, map, set, get_or, take, Some, None, All, refl, sym, ap, ◌∙◌, subst, inl, inr, arith, get_or-set_same, get_or-set_other}
-use Rattle.std.specs.Prelude.{Vec, not, nat_lt, position}
-use Rattle.std.specs.Vec.{with_item}
+use Rattle.std.specs.Prelude.{not, nat_lt, position}
 use Rattle.std.proofs.Props.{props}
 use mathlib.Core.HLevel.{is_prop→PathP}
 use Rattle.pcm_fixed.specs.Fixed.{fixed_len}
@@ -9,7 +8,7 @@ use Rattle.pcm_format.specs.Frames.{Frame, frame_bytes}
 use Rattle.pcm_format.specs.Layouts.{channels_of}
 use Rattle.pcm_desk.specs.declared.limits.TheConstants.{RING_FRAMES, SLOTS}
 use Rattle.std.specs.List.{position_or_len, prefix_len}
-use Rattle.std.proofs.lemmas.List.{get_or-map, map-set, length-map, length-set, set-get_or, get_or_default, same_lists}
+use Rattle.std.proofs.lemmas.List.{get_or-map, map-set, length-map, length-set, get_or_default, same_lists}
 use Rattle.std.proofs.lemmas.Bool.{cases_eq}
 use Rattle.pcm_feeder.specs.declared.kind.Kind.{Kind}
 use Rattle.pcm_feeder.specs.Filters.{Filters}
@@ -145,20 +144,6 @@ record_books_of-captured {B = B} device n old new same each =
 
 -- ---- a parent
 
--- an element that is written back changes nothing of a vector
-pub vec_same : {X Z : Type 0} (v : Vec X Z) (at : ℕ) (x d : X) → x ≡ get_or v.items at d → with_item v at x ≡ v
-vec_same v at x d is =
-    let items : set v.items at x ≡ v.items = ap (set v.items at) is ∙ set-get_or v.items at d in
-    λ i. record {
-      ptr = v.ptr;
-      len = v.len;
-      cap = v.cap;
-      alloc = v.alloc;
-      items = items i;
-      ok = is_prop→PathP (λ j. (v.len ≡ length (items j)) × (v.len ≤ v.cap)) (λ j. hlevel props) (with_item v at x).ok v.ok i;
-      small = v.small;
-    }
-
 -- a parent with other channels that are the old ones is the old one
 pub parent_same : {B : Type 0} (new old : ParentOf B) (device : new.device ≡ old.device) (channels : new.channels ≡ old.channels) (recorders : new.recorders ≡ old.recorders) (ring : new.ring ≡ old.ring) → new.handed ≡ old.handed → new.mixed ≡ old.mixed
     → new.bytes ≡ old.bytes → new.frames ≡ old.frames → new.sum ≡ old.sum → new ≡ old
@@ -173,9 +158,9 @@ parent_same {B = B} new old device channels recorders ring handed mixed bytes fr
   frames = frames i;
   sum = sum i;
   within = is_prop→PathP (λ j. (device j).ring_frames ≤ RING_FRAMES) (λ j. hlevel props) new.within old.within i;
-  slots = is_prop→PathP (λ j. (channels j).len ≡ (device j).play_slots) (λ j. hlevel props) new.slots old.slots i;
+  slots = is_prop→PathP (λ j. fixed_len (channels j) ≡ (device j).play_slots) (λ j. hlevel props) new.slots old.slots i;
   slots_within = is_prop→PathP (λ j. (device j).play_slots ≤ SLOTS) (λ j. hlevel props) new.slots_within old.slots_within i;
-  recorders_count = is_prop→PathP (λ j. (recorders j).len ≡ (device j).record_slots) (λ j. hlevel props) new.recorders_count old.recorders_count i;
+  recorders_count = is_prop→PathP (λ j. fixed_len (recorders j) ≡ (device j).record_slots) (λ j. hlevel props) new.recorders_count old.recorders_count i;
   recorders_within = is_prop→PathP (λ j. (device j).record_slots ≤ SLOTS) (λ j. hlevel props) new.recorders_within old.recorders_within i;
   size = is_prop→PathP (λ j. (ring j).size ≡ (device j).ring_frames * frame_bytes (device j).settings) (λ j. hlevel props) new.size old.size i;
   full = is_prop→PathP (λ j. length (ring j).bytes ≡ (device j).ring_frames * frame_bytes (device j).settings) (λ j. hlevel props) new.full old.full i;

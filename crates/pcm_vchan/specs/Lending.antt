@@ -1,7 +1,7 @@
 -- What becomes of a parent whose channel was lent.
 use Rattle.std.specs.Prelude.{ℕ}
 use Rattle.std.specs.Borrow.{Lends, MutBor, Fml, RattleType}
-use Rattle.std.specs.Vec.{with_item}
+use Rattle.pcm_fixed.specs.Fixed.{with_fixed_item}
 use Rattle.pcm_play.specs.declared.channel.PlayChannelOf.{PlayChannelOf}
 use Rattle.pcm_play.specs.contracts.channel.PlayChannelOf.{the_row as channel_row}
 use Rattle.pcm_record.specs.declared.channel.RecChannelOf.{RecChannelOf}
@@ -11,7 +11,7 @@ use Rattle.pcm_vchan.specs.contracts.parent.ParentOf.{the_row}
 
 -- a parent with another channel in a slot
 abbrev pub with_channel : {B : Type 0} → ParentOf B → ℕ → PlayChannelOf B → ParentOf B
-with_channel parent slot channel = record parent { channels = with_item parent.channels slot channel }
+with_channel parent slot channel = record parent { channels = with_fixed_item parent.channels slot channel }
 
 -- the parent ends with the channel as its borrower left it
 abbrev pub LendsChannel : (R : RattleType) → MutBor (ParentOf R.Denot) → ℕ → MutBor (PlayChannelOf R.Denot) → Fml
@@ -19,7 +19,7 @@ LendsChannel R parent slot channel = Lends (the_row R) (channel_row R) parent ch
 
 -- a parent with another channel in a slot for recording
 abbrev pub with_recorder : {B : Type 0} → ParentOf B → ℕ → RecChannelOf B → ParentOf B
-with_recorder parent slot channel = record parent { recorders = with_item parent.recorders slot channel }
+with_recorder parent slot channel = record parent { recorders = with_fixed_item parent.recorders slot channel }
 
 -- the parent ends with the channel that records as its borrower left it
 abbrev pub LendsRecorder : (R : RattleType) → MutBor (ParentOf R.Denot) → ℕ → MutBor (RecChannelOf R.Denot) → Fml

@@ -1,5 +1,6 @@
 -- What a parent is to the rules.
 use Rattle.std.specs.Prelude.{◌≡◌, ℕ, ◌<◌, List, [], length, IfOk, Option, Some, None, Result, Ok, Err, slice_set}
+use Rattle.pcm_fixed.specs.Fixed.{fixed_items}
 use Rattle.pcm_format.specs.declared.settings.Settings.{Settings}
 use Rattle.pcm_oss.specs.declared.reply.Errno.{Errno}
 use Rattle.pcm_oss.specs.declared.reply.Errno.TheVariants.{Busy}
@@ -11,17 +12,27 @@ use Rattle.pcm_feeder.specs.Kept.{Kept}
 use Rattle.pcm_desk.specs.Books.{begun}
 use Rattle.pcm_desk.specs.RecordBooks as records
 use Rattle.pcm_desk.specs.Desk.{least_free, least_free_record}
+use Rattle.pcm_play.specs.declared.channel.PlayChannelOf.{PlayChannelOf}
 use Rattle.pcm_play.specs.Channels.{Moves}
+use Rattle.pcm_record.specs.declared.channel.RecChannelOf.{RecChannelOf}
 use Rattle.pcm_record.specs.Channels.{RecordMoves}
 use Rattle.pcm_vchan.specs.declared.parent.ParentOf.{ParentOf}
 use Rattle.pcm_vchan.specs.Slots.{AreOf, Each, RecordersAreOf, books_of, record_books_of}
 
+-- the channels of a parent, by slot: those that play
+abbrev pub play_channels : {B : Type 0} → ParentOf B → List (PlayChannelOf B)
+play_channels parent = fixed_items parent.channels
+
+-- and those that record
+abbrev pub rec_channels : {B : Type 0} → ParentOf B → List (RecChannelOf B)
+rec_channels parent = fixed_items parent.recorders
+
 -- the books of a parent, by slot
 abbrev pub parent_books : {B : Type 0} → ParentOf B → List Book
-parent_books parent = books_of parent.channels.items
+parent_books parent = books_of (play_channels parent)
 
 abbrev pub record_books : {B : Type 0} → ParentOf B → List RecordBook
-record_books parent = record_books_of parent.recorders.items
+record_books parent = record_books_of (rec_channels parent)
 
 -- the slot that an open takes, where one is free
 abbrev pub slot_or_busy : Option ℕ → Result ℕ Errno
@@ -43,23 +54,23 @@ pub record KeepsOutput {B : Type 0} (old new : ParentOf B) : Type 0 where
   pub ring_same : new.ring.bytes ≡ old.ring.bytes
   pub handed_same : new.handed ≡ old.handed
   pub mixed_same : new.mixed ≡ old.mixed
-  pub slots_same : length new.channels.items ≡ length old.channels.items
-  pub recorders_same : length new.recorders.items ≡ length old.recorders.items
+  pub slots_same : length (play_channels new) ≡ length (play_channels old)
+  pub recorders_same : length (rec_channels new) ≡ length (rec_channels old)
 
 -- an open of a channel that plays: the least free slot begins, if there is one
 pub record OpensPlay {B : Type 0} (kind : B → Kind) (kept : B → Kept) (filters : Filters) (settings : Settings) (old new : ParentOf B) (result : Result ℕ Errno) : Type 0 where
   pub found : result ≡ slot_or_busy (least_free (parent_books old))
   pub books : parent_books new ≡ books_begun (least_free (parent_books old)) settings (parent_books old)
-  pub there : IfOk result (λ slot. slot < length old.channels.items)
-  pub own : AreOf new.device new.channels.items
-  pub moves : Each (Moves kind kept filters [] 0) old.channels.items new.channels.items
+  pub there : IfOk result (λ slot. slot < length (play_channels old))
+  pub own : AreOf new.device (play_channels new)
+  pub moves : Each (Moves kind kept filters [] 0) (play_channels old) (play_channels new)
   pub others : new.recorders ≡ old.recorders
 
 -- an open of a channel that records
 pub record OpensRecord {B : Type 0} (kind : B → Kind) (kept : B → Kept) (filters : Filters) (settings : Settings) (old new : ParentOf B) (result : Result ℕ Errno) : Type 0 where
   pub found : result ≡ slot_or_busy (least_free_record (record_books old))
   pub books : record_books new ≡ record_books_begun (least_free_record (record_books old)) settings (record_books old)
-  pub there : IfOk result (λ slot. slot < length old.recorders.items)
-  pub own : RecordersAreOf new.device new.recorders.items
-  pub moves : Each (RecordMoves kind kept filters [] 0) old.recorders.items new.recorders.items
+  pub there : IfOk result (λ slot. slot < length (rec_channels old))
+  pub own : RecordersAreOf new.device (rec_channels new)
+  pub moves : Each (RecordMoves kind kept filters [] 0) (rec_channels old) (rec_channels new)
   pub others : new.channels ≡ old.channels

@@ -34,8 +34,8 @@ use std::alloc::{AllocError, Global};
 #[derive(Drop)]
 pub struct ParentOf<B> {
     pub device: Device,
-    pub channels: Vec<PlayChannelOf<B>>,
-    pub recorders: Vec<RecChannelOf<B>>,
+    pub channels: Fixed<PlayChannelOf<B>>,
+    pub recorders: Fixed<RecChannelOf<B>>,
     pub ring: ByteRing,
     pub handed: u64,
     pub mixed: u64,
@@ -43,9 +43,9 @@ pub struct ParentOf<B> {
     frames: Fixed<i32>,
     sum: Fixed<i32>,
     ghost within: { device.ring_frames ≤ RING_FRAMES },
-    ghost slots: { vec_len channels ≡ device.play_slots },
+    ghost slots: { fixed_len channels ≡ device.play_slots },
     ghost slots_within: { device.play_slots ≤ SLOTS },
-    ghost recorders_count: { vec_len recorders ≡ device.record_slots },
+    ghost recorders_count: { fixed_len recorders ≡ device.record_slots },
     ghost recorders_within: { device.record_slots ≤ SLOTS },
     ghost size: { ring.size ≡ device.ring_frames * frame_bytes device.settings },
     ghost full: { length ring.bytes ≡ device.ring_frames * frame_bytes device.settings },
@@ -57,7 +57,7 @@ pub struct ParentOf<B> {
 impl<B: Feeder> ParentOf<B> {
     ghost use Rattle.pcm_oss.specs.declared.event.Way.TheVariants.{Play, Rec};
     ghost use Rattle.pcm_vchan.specs.Captures.{Captures};
-    ghost use Rattle.pcm_vchan.specs.Parents.{parent_books, KeepsOutput, OpensPlay, OpensRecord};
+    ghost use Rattle.pcm_vchan.specs.Parents.{parent_books, play_channels, rec_channels, KeepsOutput, OpensPlay, OpensRecord};
     ghost use Rattle.pcm_vchan.specs.Lending.{LendsChannel, LendsRecorder};
 
     /// A device that nobody has opened, whose ring is full of silence. Each slot gets a rack: those that play the first
@@ -74,12 +74,12 @@ impl<B: Feeder> ParentOf<B> {
         requires recorders { device.record_slots ≤ SLOTS }
         requires kinds { AreRacks B.kind (list_of racks) }
         ensures device { IfOk result (λ made. made.device ≡ device) }
-        ensures slots { IfOk result (λ made. length made.channels.items ≡ device.play_slots) }
+        ensures slots { IfOk result (λ made. length (play_channels made) ≡ device.play_slots) }
         ensures channels { IfOk result
-            (λ made. All (IsUnopened B.kind B.kept tables.now device) made.channels.items) }
-        ensures recorders { IfOk result (λ made. length made.recorders.items ≡ device.record_slots) }
+            (λ made. All (IsUnopened B.kind B.kept tables.now device) (play_channels made)) }
+        ensures recorders { IfOk result (λ made. length (rec_channels made) ≡ device.record_slots) }
         ensures recording { IfOk result
-            (λ made. All (IsRecordUnopened B.kind B.kept tables.now device) made.recorders.items) }
+            (λ made. All (IsRecordUnopened B.kind B.kept tables.now device) (rec_channels made)) }
         ensures ring { IfOk result (λ made. made.ring.bytes
             ≡ block_bytes (seen tables.now device) (silent_block (seen tables.now device) device.ring_frames)) }
         ensures handed { IfOk result (λ made. made.handed ≡ 0) }
@@ -97,8 +97,8 @@ impl<B: Feeder> ParentOf<B> {
         let ring = silent_ring(alloc, device, &sum, &mut bytes)?;
         Ok(ParentOf {
             device,
-            channels,
-            recorders,
+            channels: Fixed::new(channels),
+            recorders: Fixed::new(recorders),
             ring,
             handed: 0,
             mixed: 0,
@@ -116,10 +116,10 @@ impl<B: Feeder> ParentOf<B> {
         settings: Settings,
     ) -> Result<usize, Errno>
         requires rate { IsRate settings.rate }
-        requires own { AreOf self.old.device self.old.channels.items }
-        requires recorders_own { RecordersAreOf self.old.device self.old.recorders.items }
-        requires ready { All (IsReady B.kind B.kept tables.now) self.old.channels.items }
-        requires recorders_ready { All (IsRecordReady B.kind B.kept tables.now) self.old.recorders.items }
+        requires own { AreOf self.old.device (play_channels self.old) }
+        requires recorders_own { RecordersAreOf self.old.device (rec_channels self.old) }
+        requires ready { All (IsReady B.kind B.kept tables.now) (play_channels self.old) }
+        requires recorders_ready { All (IsRecordReady B.kind B.kept tables.now) (rec_channels self.old) }
         ensures play { way ≡ Play → OpensPlay B.kind B.kept tables.now settings self.old self.new result }
         ensures recording { way ≡ Rec → OpensRecord B.kind B.kept tables.now settings self.old self.new result }
         ensures output { KeepsOutput self.old self.new }
@@ -134,8 +134,8 @@ impl<B: Feeder> ParentOf<B> {
     // An opening that plays begins in the least free slot.
     fn open_play(&mut self, tables: &Tables, settings: Settings) -> Result<usize, Errno>
         requires rate { IsRate settings.rate }
-        requires own { AreOf self.old.device self.old.channels.items }
-        requires ready { All (IsReady B.kind B.kept tables.now) self.old.channels.items }
+        requires own { AreOf self.old.device (play_channels self.old) }
+        requires ready { All (IsReady B.kind B.kept tables.now) (play_channels self.old) }
         ensures opens { OpensPlay B.kind B.kept tables.now settings self.old self.new result }
         ensures output { KeepsOutput self.old self.new }
         ensures refused { OnErr result (self.new ≡ self.old) }
@@ -150,8 +150,8 @@ impl<B: Feeder> ParentOf<B> {
     // An opening that records begins in the least free slot.
     fn open_record(&mut self, tables: &Tables, settings: Settings) -> Result<usize, Errno>
         requires rate { IsRate settings.rate }
-        requires own { RecordersAreOf self.old.device self.old.recorders.items }
-        requires ready { All (IsRecordReady B.kind B.kept tables.now) self.old.recorders.items }
+        requires own { RecordersAreOf self.old.device (rec_channels self.old) }
+        requires ready { All (IsRecordReady B.kind B.kept tables.now) (rec_channels self.old) }
         ensures opens { OpensRecord B.kind B.kept tables.now settings self.old self.new result }
         ensures output { KeepsOutput self.old self.new }
         ensures refused { OnErr result (self.new ≡ self.old) }
@@ -165,18 +165,18 @@ impl<B: Feeder> ParentOf<B> {
 
     /// Lends the channel of a slot.
     pub fn play(&mut self, slot: usize) -> &mut PlayChannelOf<B>
-        requires { slot < vec_len self.old.channels }
+        requires { slot < fixed_len self.old.channels }
         ensures* writes_back { sem 𝓛 (LendsChannel B.row self.entry slot result) }
-        ensures value { result.now ≡ slice_index_or self.old.channels.items slot result.now }
+        ensures value { result.now ≡ slice_index_or (play_channels self.old) slot result.now }
     {
         &mut self.channels[slot]
     }
 
     /// Lends the channel of a slot for recording.
     pub fn recorder(&mut self, slot: usize) -> &mut RecChannelOf<B>
-        requires { slot < vec_len self.old.recorders }
+        requires { slot < fixed_len self.old.recorders }
         ensures* writes_back { sem 𝓛 (LendsRecorder B.row self.entry slot result) }
-        ensures value { result.now ≡ slice_index_or self.old.recorders.items slot result.now }
+        ensures value { result.now ≡ slice_index_or (rec_channels self.old) slot result.now }
     {
         &mut self.recorders[slot]
     }
@@ -184,41 +184,41 @@ impl<B: Feeder> ParentOf<B> {
     /// The device's interrupt: hands the oldest `n` frames over, mixes as many from all channels that play, and gives as
     /// many captured ones to all that record.
     pub fn interrupt(&mut self, tables: &Tables, n: usize, captured: &[i32], out: &mut [u8])
-        requires own { AreOf self.old.device self.old.channels.items }
+        requires own { AreOf self.old.device (play_channels self.old) }
         requires some { 0 < n }
         requires within { n ≤ self.old.device.ring_frames }
         requires captured { length captured.now ≡ n * channels_of self.old.device.settings.layout }
         requires out { length out.old ≡ n * frame_bytes self.old.device.settings }
-        requires recorders_own { RecordersAreOf self.old.device self.old.recorders.items }
-        requires recorders_ready { All (IsRecordReady B.kind B.kept tables.now) self.old.recorders.items }
-        requires recorders_count { All (λ channel. channel.book.captured + n < 2 ^ 56) self.old.recorders.items }
-        requires recorders_kept { All (λ channel. channel.book.kept + RING_BYTES < 2 ^ 64) self.old.recorders.items }
-        requires ready { All (IsReady B.kind B.kept tables.now) self.old.channels.items }
-        requires count { All (λ channel. channel.book.given + n < 2 ^ 64) self.old.channels.items }
+        requires recorders_own { RecordersAreOf self.old.device (rec_channels self.old) }
+        requires recorders_ready { All (IsRecordReady B.kind B.kept tables.now) (rec_channels self.old) }
+        requires recorders_count { All (λ channel. channel.book.captured + n < 2 ^ 56) (rec_channels self.old) }
+        requires recorders_kept { All (λ channel. channel.book.kept + RING_BYTES < 2 ^ 64) (rec_channels self.old) }
+        requires ready { All (IsReady B.kind B.kept tables.now) (play_channels self.old) }
+        requires count { All (λ channel. channel.book.given + n < 2 ^ 64) (play_channels self.old) }
         requires counted { All (λ channel. channel.book.done + channel.book.written
-            < 2 ^ 64) self.old.channels.items }
+            < 2 ^ 64) (play_channels self.old) }
         requires handed { self.old.handed + n < 2 ^ 64 }
         requires mixed { self.old.mixed + n < 2 ^ 64 }
         ensures device { self.new.device ≡ self.old.device }
-        ensures own { AreOf self.new.device self.new.channels.items }
-        ensures slots { length self.new.channels.items ≡ length self.old.channels.items }
+        ensures own { AreOf self.new.device (play_channels self.new) }
+        ensures slots { length (play_channels self.new) ≡ length (play_channels self.old) }
         ensures channels { Each (Moves B.kind B.kept tables.now [] n)
-            self.old.channels.items self.new.channels.items }
+            (play_channels self.old) (play_channels self.new) }
         ensures books { Each (λ old new. new.book ≡ mixing (seen tables.now self.old.device) n old.book)
-            self.old.channels.items self.new.channels.items }
-        ensures recorders_own { RecordersAreOf self.new.device self.new.recorders.items }
-        ensures recorders_slots { length self.new.recorders.items ≡ length self.old.recorders.items }
+            (play_channels self.old) (play_channels self.new) }
+        ensures recorders_own { RecordersAreOf self.new.device (rec_channels self.new) }
+        ensures recorders_slots { length (rec_channels self.new) ≡ length (rec_channels self.old) }
         ensures recorders { Each (Captures B.kind B.kept (seen tables.now self.old.device) n captured.now)
-            self.old.recorders.items self.new.recorders.items }
+            (rec_channels self.old) (rec_channels self.new) }
         ensures handed { self.new.handed ≡ self.old.handed + n }
         ensures mixed { self.new.mixed ≡ self.old.mixed + n }
         ensures out { out.new
             ≡ take (n * frame_bytes self.old.device.settings) self.old.ring.bytes }
-        ensures ring { (streams : ℕ → List ℕ) → AllStand B.kept tables.now self.old.channels.items streams
+        ensures ring { (streams : ℕ → List ℕ) → AllStand B.kept tables.now (play_channels self.old) streams
             → self.new.ring.bytes
             ≡ drop (n * frame_bytes self.old.device.settings) self.old.ring.bytes
             ++ block_bytes (seen tables.now self.old.device) (block_of (seen tables.now self.old.device) n
-            (parent_books self.old) streams (length self.old.channels.items)) }
+            (parent_books self.old) streams (length (play_channels self.old))) }
     {
         turn_ring(
             self.device,
@@ -246,8 +246,8 @@ impl<B: Feeder> ParentOf<B> {
     // The least slot whose channel is free, if there is one.
     fn least_free(&self) -> Option<usize>
         ensures slot { result
-            ≡ position (λ channel. is_free channel.book.state) self.now.channels.items }
-        ensures within { IfSome result (λ slot. slot < vec_len self.now.channels) }
+            ≡ position (λ channel. is_free channel.book.state) (play_channels self.now) }
+        ensures within { IfSome result (λ slot. slot < fixed_len self.now.channels) }
     {
         self.channels.iter().position(|channel| channel.is_free())
     }
@@ -255,8 +255,8 @@ impl<B: Feeder> ParentOf<B> {
     // The least slot for recording whose channel is free, if there is one.
     fn least_free_record(&self) -> Option<usize>
         ensures slot { result
-            ≡ position (λ channel. records.is_free channel.book.state) self.now.recorders.items }
-        ensures within { IfSome result (λ slot. slot < vec_len self.now.recorders) }
+            ≡ position (λ channel. records.is_free channel.book.state) (rec_channels self.now) }
+        ensures within { IfSome result (λ slot. slot < fixed_len self.now.recorders) }
     {
         self.recorders.iter().position(|channel| channel.is_free())
     }

@@ -1,4 +1,5 @@
 use Rattle.std.proofs.Common.{ℕ, None, sym, ap, ◌∙◌, arith}
+use Rattle.pcm_fixed.proofs.Items.{items-count}
 use Rattle.pcm_desk.specs.Device.{seen}
 use Rattle.pcm_desk.specs.Desk.{Desk, with_descriptor, held_by}
 use Rattle.pcm_engine.specs.Desks.{desk_with}
@@ -8,12 +9,12 @@ use Rattle.pcm_engine.proofs.clients.close.Goals as goal
 pub close_channel-answer-requires-clause-play : goal.close_channel-answer-requires-clause-play
 close_channel-answer-requires-clause-play g c =
     let parent = c.args.parent.now in
-    λ is. (let there = play-there parent c.args.descriptors.now c.args.fd c.in-Some.held c.requires.apart (sym c.held.ensures ∙ c.in-Some.is) is in omega (arith, there, parent.channels.ok.0))
+    λ is. (let there = play-there parent c.args.descriptors.now c.args.fd c.in-Some.held c.requires.apart (sym c.held.ensures ∙ c.in-Some.is) is in omega (arith, there, items-count parent.channels))
 
 pub close_channel-answer-requires-clause-recording : goal.close_channel-answer-requires-clause-recording
 close_channel-answer-requires-clause-recording g c =
     let parent = c.args.parent.now in
-    λ is. (let there = record-there parent c.args.descriptors.now c.args.fd c.in-Some.held c.requires.apart (sym c.held.ensures ∙ c.in-Some.is) is in omega (arith, there, parent.recorders.ok.0))
+    λ is. (let there = record-there parent c.args.descriptors.now c.args.fd c.in-Some.held c.requires.apart (sym c.held.ensures ∙ c.in-Some.is) is in omega (arith, there, items-count parent.recorders))
 
 pub returns-clause-desk : goal.returns-clause-desk
 returns-clause-desk g c =

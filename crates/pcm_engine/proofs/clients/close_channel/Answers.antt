@@ -1,4 +1,5 @@
 use Rattle.std.proofs.Common.{◌<◌, [], length, get_or, Ok, sym, ap, ◌∙◌, subst, arith}
+use Rattle.pcm_fixed.proofs.Items.{items-count}
 use Rattle.pcm_feeder.specs.Racks.{HaveKinds}
 use Rattle.pcm_chain.specs.Chains.{boxes_in}
 use Rattle.pcm_desk.specs.declared.device.Device.{Device}
@@ -16,6 +17,7 @@ use Rattle.pcm_record.specs.declared.channel.RecChannelOf.{RecChannelOf}
 use Rattle.pcm_record.specs.Channels.{RecordMoves}
 use Rattle.pcm_record.proofs.Moving as recorders
 use Rattle.pcm_vchan.proofs.Channels.{each_set, own_set}
+use Rattle.pcm_vchan.specs.Parents.{play_channels, rec_channels}
 use Rattle.pcm_engine.specs.Desks.{desk_with}
 use Rattle.pcm_engine.proofs.Turning.{desk-played, desk-recorded, own-lent}
 use Rattle.pcm_engine.proofs.clients.close_channel.Goals as goal
@@ -25,7 +27,7 @@ close-requires-in-Rec g c =
     let parent = c.args.parent.now in
     let held = c.args.held in
     let below = c.requires.recording c.in-Rec.is in
-    let there : held.slot < length parent.recorders.items = omega (arith, below, parent.recorders.ok.0) in
+    let there : held.slot < length (rec_channels parent) = omega (arith, below, items-count parent.recorders) in
     record { kinds = subst (λ (channel : RecChannelOf _). HaveKinds g.B.Feeder.kind (boxes_in channel.chain)) (sym c.recorder.ensures.value) (c.requires.recorders_kinds held.slot c.recorder.result.now there) }
 
 pub returns-in-Play-clause-own : goal.returns-in-Play-clause-own
@@ -33,8 +35,8 @@ returns-in-Play-clause-own g c =
     let parent = c.args.parent.now in
     let held = c.args.held in
     let below = c.requires.play c.in-Play.is in
-    let there : held.slot < length parent.channels.items = omega (arith, below, parent.channels.ok.0) in
-    own_set (λ (channel : PlayChannelOf _). channel.device) parent.device parent.channels.items held.slot c.play.result.now c.close.new.self there c.play.ensures.value c.close.ensures.device c.requires.own
+    let there : held.slot < length (play_channels parent) = omega (arith, below, items-count parent.channels) in
+    own_set (λ (channel : PlayChannelOf _). channel.device) parent.device (play_channels parent) held.slot c.play.result.now c.close.new.self there c.play.ensures.value c.close.ensures.device c.requires.own
 
 pub returns-in-Play-clause-desk : goal.returns-in-Play-clause-desk
 returns-in-Play-clause-desk g c =
@@ -42,10 +44,10 @@ returns-in-Play-clause-desk g c =
     let parent = c.args.parent.now in
     let held = c.args.held in
     let below = c.requires.play c.in-Play.is in
-    let there : held.slot < length parent.channels.items = omega (arith, below, parent.channels.ok.0) in
+    let there : held.slot < length (play_channels parent) = omega (arith, below, items-count parent.channels) in
     let lent = c.play.result.now in
     let device = seen filters parent.device in
-    let own = own-lent parent.device parent.channels.items held.slot lent there c.play.ensures.value c.requires.own in
+    let own = own-lent parent.device (play_channels parent) held.slot lent there c.play.ensures.value c.requires.own in
     let desk : Desk = desk_with parent descriptors in
     desk-played device (λ (book : Book). record { book = closing device book; reply = Ok Done }) parent descriptors held.slot lent c.close.new.self there c.play.ensures.value
     (c.close.ensures.book filters (subst (IsPlanned filters) (sym c.play.ensures.value) (ready held.slot lent there).planned) ∙ ap (λ (d : Device). closing (seen filters d) lent.book) own)
@@ -56,20 +58,20 @@ returns-in-Play-clause-channels g c = λ filters.
     let parent = c.args.parent.now in
     let held = c.args.held in
     let below = c.requires.play c.in-Play.is in
-    let there : held.slot < length parent.channels.items = omega (arith, below, parent.channels.ok.0) in
-    each_set (Moves g.B.Feeder.kind g.B.Feeder.kept filters [] 0) parent.channels.items held.slot c.play.result.now c.close.new.self there c.play.ensures.value (c.close.ensures.moves filters)
+    let there : held.slot < length (play_channels parent) = omega (arith, below, items-count parent.channels) in
+    each_set (Moves g.B.Feeder.kind g.B.Feeder.kept filters [] 0) (play_channels parent) held.slot c.play.result.now c.close.new.self there c.play.ensures.value (c.close.ensures.moves filters)
     (moves-nothing g.B.Feeder.kind g.B.Feeder.kept filters [] 0)
 
 pub returns-in-Play-clause-recorders : goal.returns-in-Play-clause-recorders
-returns-in-Play-clause-recorders g c = λ filters slot other there. recorders.moves-nothing g.B.Feeder.kind g.B.Feeder.kept filters [] 0 (get_or c.args.parent.now.recorders.items slot other)
+returns-in-Play-clause-recorders g c = λ filters slot other there. recorders.moves-nothing g.B.Feeder.kind g.B.Feeder.kept filters [] 0 (get_or (rec_channels c.args.parent.now) slot other)
 
 pub returns-in-Rec-clause-recorders_own : goal.returns-in-Rec-clause-recorders_own
 returns-in-Rec-clause-recorders_own g c =
     let parent = c.args.parent.now in
     let held = c.args.held in
     let below = c.requires.recording c.in-Rec.is in
-    let there : held.slot < length parent.recorders.items = omega (arith, below, parent.recorders.ok.0) in
-    own_set (λ (channel : RecChannelOf _). channel.device) parent.device parent.recorders.items held.slot c.recorder.result.now c.close-in-Rec.new.self there c.recorder.ensures.value c.close-in-Rec.ensures.device c.requires.recorders_own
+    let there : held.slot < length (rec_channels parent) = omega (arith, below, items-count parent.recorders) in
+    own_set (λ (channel : RecChannelOf _). channel.device) parent.device (rec_channels parent) held.slot c.recorder.result.now c.close-in-Rec.new.self there c.recorder.ensures.value c.close-in-Rec.ensures.device c.requires.recorders_own
 
 pub returns-in-Rec-clause-desk : goal.returns-in-Rec-clause-desk
 returns-in-Rec-clause-desk g c =
@@ -77,20 +79,20 @@ returns-in-Rec-clause-desk g c =
     let parent = c.args.parent.now in
     let held = c.args.held in
     let below = c.requires.recording c.in-Rec.is in
-    let there : held.slot < length parent.recorders.items = omega (arith, below, parent.recorders.ok.0) in
+    let there : held.slot < length (rec_channels parent) = omega (arith, below, items-count parent.recorders) in
     let device = seen filters parent.device in
     let desk : Desk = desk_with parent descriptors in
     desk-recorded device (λ (book : RecordBook). record { book = closed book; reply = Ok Done }) parent descriptors held.slot c.recorder.result.now c.close-in-Rec.new.self there c.recorder.ensures.value c.close-in-Rec.ensures.book
     ∙ sym (ap (λ (w : Way). by_way w (with_book desk held.slot (closing device (book_at device desk held.slot))) (with_record desk held.slot (closed (record_at device desk held.slot)))) c.in-Rec.is)
 
 pub returns-in-Rec-clause-channels : goal.returns-in-Rec-clause-channels
-returns-in-Rec-clause-channels g c = λ filters slot other there. moves-nothing g.B.Feeder.kind g.B.Feeder.kept filters [] 0 (get_or c.args.parent.now.channels.items slot other)
+returns-in-Rec-clause-channels g c = λ filters slot other there. moves-nothing g.B.Feeder.kind g.B.Feeder.kept filters [] 0 (get_or (play_channels c.args.parent.now) slot other)
 
 pub returns-in-Rec-clause-recorders : goal.returns-in-Rec-clause-recorders
 returns-in-Rec-clause-recorders g c = λ filters.
     let parent = c.args.parent.now in
     let held = c.args.held in
     let below = c.requires.recording c.in-Rec.is in
-    let there : held.slot < length parent.recorders.items = omega (arith, below, parent.recorders.ok.0) in
-    each_set (RecordMoves g.B.Feeder.kind g.B.Feeder.kept filters [] 0) parent.recorders.items held.slot c.recorder.result.now c.close-in-Rec.new.self there c.recorder.ensures.value (c.close-in-Rec.ensures.moves filters)
+    let there : held.slot < length (rec_channels parent) = omega (arith, below, items-count parent.recorders) in
+    each_set (RecordMoves g.B.Feeder.kind g.B.Feeder.kept filters [] 0) (rec_channels parent) held.slot c.recorder.result.now c.close-in-Rec.new.self there c.recorder.ensures.value (c.close-in-Rec.ensures.moves filters)
     (recorders.moves-nothing g.B.Feeder.kind g.B.Feeder.kept filters [] 0)

@@ -1,5 +1,6 @@
 use Rattle.std.proofs.Common.{◌+◌, ◌<◌, [], get_or, refl, sym, ap, ◌∙◌, subst, arith}
 use Rattle.std.proofs.lemmas.Result.{on_err_weaker}
+use Rattle.pcm_fixed.proofs.Items.{item-kept, items-count}
 use Rattle.pcm_feeder.specs.Racks.{HaveKinds}
 use Rattle.pcm_chain.specs.Chains.{boxes_in}
 use Rattle.pcm_oss.specs.declared.event.Way.TheVariants.{Play, Rec}
@@ -14,17 +15,18 @@ use Rattle.pcm_play.proofs.Moving.{moves-nothing}
 use Rattle.pcm_record.specs.declared.channel.RecChannelOf.{RecChannelOf}
 use Rattle.pcm_record.specs.Channels.{IsRecordPlanned, RecordMoves}
 use Rattle.pcm_record.proofs.Moving as recorders
-use Rattle.pcm_vchan.proofs.Channels.{each_set, own_set, parent_same, vec_same}
+use Rattle.pcm_vchan.proofs.Channels.{each_set, own_set, parent_same}
+use Rattle.pcm_vchan.specs.Parents.{play_channels, rec_channels}
 use Rattle.pcm_oss.specs.Replies.{bytes_due}
 use Rattle.pcm_engine.specs.Desks.{desk_with}
 use Rattle.pcm_engine.proofs.Turning.{desk-played, desk-recorded, own-lent, play-there, record-there, reply-played, reply-recorded, turning-held}
 use Rattle.pcm_engine.proofs.clients.ioctl.Goals as goal
 
 pub returns-in_default-clause-channels : goal.returns-in_default-clause-channels
-returns-in_default-clause-channels g c = λ slot other there. moves-nothing g.B.Feeder.kind g.B.Feeder.kept c.args.tables.now [] 0 (get_or c.args.parent.now.channels.items slot other)
+returns-in_default-clause-channels g c = λ slot other there. moves-nothing g.B.Feeder.kind g.B.Feeder.kept c.args.tables.now [] 0 (get_or (play_channels c.args.parent.now) slot other)
 
 pub returns-in_default-clause-recorders : goal.returns-in_default-clause-recorders
-returns-in_default-clause-recorders g c = λ slot other there. recorders.moves-nothing g.B.Feeder.kind g.B.Feeder.kept c.args.tables.now [] 0 (get_or c.args.parent.now.recorders.items slot other)
+returns-in_default-clause-recorders g c = λ slot other there. recorders.moves-nothing g.B.Feeder.kind g.B.Feeder.kept c.args.tables.now [] 0 (get_or (rec_channels c.args.parent.now) slot other)
 
 pub play-requires : goal.play-requires
 play-requires g c =
@@ -32,7 +34,7 @@ play-requires g c =
     let held = c.in-Some.held in
     let e = sym c.held.ensures ∙ c.in-Some.is in
     let there = play-there parent c.args.descriptors.now c.args.fd held c.requires.apart e c.in-Play.is in
-    omega (arith, there, parent.channels.ok.0)
+    omega (arith, there, items-count parent.channels)
 
 pub ioctl-requires-clause-kinds : goal.ioctl-requires-clause-kinds
 ioctl-requires-clause-kinds g c =
@@ -64,7 +66,7 @@ recorder-requires g c =
     let held = c.in-Some.held in
     let e = sym c.held.ensures ∙ c.in-Some.is in
     let there = record-there parent c.args.descriptors.now c.args.fd held c.requires.apart e c.in-Rec.is in
-    omega (arith, there, parent.recorders.ok.0)
+    omega (arith, there, items-count parent.recorders)
 
 pub ioctl-requires-in-Rec-clause-kinds : goal.ioctl-requires-in-Rec-clause-kinds
 ioctl-requires-in-Rec-clause-kinds g c =
@@ -92,7 +94,7 @@ returns-in-Play-clause-own g c =
     let held = c.in-Some.held in
     let e = sym c.held.ensures ∙ c.in-Some.is in
     let there = play-there parent c.args.descriptors.now c.args.fd held c.requires.apart e c.in-Play.is in
-    own_set (λ (channel : PlayChannelOf _). channel.device) parent.device parent.channels.items held.slot c.play.result.now c.ioctl.new.self there c.play.ensures.value c.ioctl.ensures.device c.requires.own
+    own_set (λ (channel : PlayChannelOf _). channel.device) parent.device (play_channels parent) held.slot c.play.result.now c.ioctl.new.self there c.play.ensures.value c.ioctl.ensures.device c.requires.own
 
 pub returns-in-Play-clause-refused : goal.returns-in-Play-clause-refused
 returns-in-Play-clause-refused g c =
@@ -100,7 +102,7 @@ returns-in-Play-clause-refused g c =
     let held = c.in-Some.held in
     let e = sym c.held.ensures ∙ c.in-Some.is in
     on_err_weaker c.ioctl.result
-    (λ same. parent_same _ parent refl (vec_same parent.channels held.slot c.ioctl.new.self c.play.result.now (same ∙ c.play.ensures.value)) refl refl refl refl refl refl refl)
+    (λ same. parent_same _ parent refl (item-kept parent.channels held.slot c.ioctl.new.self c.play.result.now (same ∙ c.play.ensures.value)) refl refl refl refl refl refl refl)
     c.ioctl.ensures.refused
 
 pub returns-in-Play-clause-desk : goal.returns-in-Play-clause-desk
@@ -110,7 +112,7 @@ returns-in-Play-clause-desk g c =
     let e = sym c.held.ensures ∙ c.in-Some.is in
     let there = play-there parent c.args.descriptors.now c.args.fd held c.requires.apart e c.in-Play.is in
     let lent = c.play.result.now in
-    let own = own-lent parent.device parent.channels.items held.slot lent there c.play.ensures.value c.requires.own in
+    let own = own-lent parent.device (play_channels parent) held.slot lent there c.play.ensures.value c.requires.own in
     desk-played (seen c.args.tables.now parent.device) (asking (seen c.args.tables.now parent.device) c.args.request) parent c.args.descriptors.now held.slot lent c.ioctl.new.self there c.play.ensures.value
     (c.ioctl.ensures.book ∙ ap (λ (d : Device). (asking (seen c.args.tables.now d) c.args.request lent.book).book) own)
     ∙ sym (ap (λ (t : DeskTurn). t.desk) (turning-held Play (play_turn (seen c.args.tables.now parent.device) (asking (seen c.args.tables.now parent.device) c.args.request) (desk_with parent c.args.descriptors.now)) (record_turn (seen c.args.tables.now parent.device) (record_requests.ask_turn c.args.request) (desk_with parent c.args.descriptors.now)) (held_by (desk_with parent c.args.descriptors.now) c.args.fd) held (desk_with parent c.args.descriptors.now) e c.in-Play.is))
@@ -122,7 +124,7 @@ returns-in-Play-clause-reply g c =
     let e = sym c.held.ensures ∙ c.in-Some.is in
     let there = play-there parent c.args.descriptors.now c.args.fd held c.requires.apart e c.in-Play.is in
     let lent = c.play.result.now in
-    let own = own-lent parent.device parent.channels.items held.slot lent there c.play.ensures.value c.requires.own in
+    let own = own-lent parent.device (play_channels parent) held.slot lent there c.play.ensures.value c.requires.own in
     reply-played (seen c.args.tables.now parent.device) (asking (seen c.args.tables.now parent.device) c.args.request) parent c.args.descriptors.now held.slot lent c.ioctl.result there c.play.ensures.value
     (c.ioctl.ensures.reply ∙ ap (λ (d : Device). (asking (seen c.args.tables.now d) c.args.request lent.book).reply) own)
     ∙ sym (ap (λ (t : DeskTurn). t.reply) (turning-held Play (play_turn (seen c.args.tables.now parent.device) (asking (seen c.args.tables.now parent.device) c.args.request) (desk_with parent c.args.descriptors.now)) (record_turn (seen c.args.tables.now parent.device) (record_requests.ask_turn c.args.request) (desk_with parent c.args.descriptors.now)) (held_by (desk_with parent c.args.descriptors.now) c.args.fd) held (desk_with parent c.args.descriptors.now) e c.in-Play.is))
@@ -133,11 +135,11 @@ returns-in-Play-clause-channels g c =
     let held = c.in-Some.held in
     let e = sym c.held.ensures ∙ c.in-Some.is in
     let there = play-there parent c.args.descriptors.now c.args.fd held c.requires.apart e c.in-Play.is in
-    each_set (Moves g.B.Feeder.kind g.B.Feeder.kept c.args.tables.now [] 0) parent.channels.items held.slot c.play.result.now c.ioctl.new.self there c.play.ensures.value c.ioctl.ensures.moves
+    each_set (Moves g.B.Feeder.kind g.B.Feeder.kept c.args.tables.now [] 0) (play_channels parent) held.slot c.play.result.now c.ioctl.new.self there c.play.ensures.value c.ioctl.ensures.moves
     (moves-nothing g.B.Feeder.kind g.B.Feeder.kept c.args.tables.now [] 0)
 
 pub returns-in-Play-clause-recorders : goal.returns-in-Play-clause-recorders
-returns-in-Play-clause-recorders g c = λ slot other there. recorders.moves-nothing g.B.Feeder.kind g.B.Feeder.kept c.args.tables.now [] 0 (get_or c.args.parent.now.recorders.items slot other)
+returns-in-Play-clause-recorders g c = λ slot other there. recorders.moves-nothing g.B.Feeder.kind g.B.Feeder.kept c.args.tables.now [] 0 (get_or (rec_channels c.args.parent.now) slot other)
 
 pub returns-in-Rec-clause-silent : goal.returns-in-Rec-clause-silent
 returns-in-Rec-clause-silent g c =
@@ -149,7 +151,7 @@ returns-in-Rec-clause-recorders_own g c =
     let held = c.in-Some.held in
     let e = sym c.held.ensures ∙ c.in-Some.is in
     let there = record-there parent c.args.descriptors.now c.args.fd held c.requires.apart e c.in-Rec.is in
-    own_set (λ (channel : RecChannelOf _). channel.device) parent.device parent.recorders.items held.slot c.recorder.result.now c.ioctl-in-Rec.new.self there c.recorder.ensures.value c.ioctl-in-Rec.ensures.device c.requires.recorders_own
+    own_set (λ (channel : RecChannelOf _). channel.device) parent.device (rec_channels parent) held.slot c.recorder.result.now c.ioctl-in-Rec.new.self there c.recorder.ensures.value c.ioctl-in-Rec.ensures.device c.requires.recorders_own
 
 pub returns-in-Rec-clause-refused : goal.returns-in-Rec-clause-refused
 returns-in-Rec-clause-refused g c =
@@ -157,7 +159,7 @@ returns-in-Rec-clause-refused g c =
     let held = c.in-Some.held in
     let e = sym c.held.ensures ∙ c.in-Some.is in
     on_err_weaker c.ioctl-in-Rec.result
-    (λ same. parent_same _ parent refl refl (vec_same parent.recorders held.slot c.ioctl-in-Rec.new.self c.recorder.result.now (same ∙ c.recorder.ensures.value)) refl refl refl refl refl refl)
+    (λ same. parent_same _ parent refl refl (item-kept parent.recorders held.slot c.ioctl-in-Rec.new.self c.recorder.result.now (same ∙ c.recorder.ensures.value)) refl refl refl refl refl refl)
     c.ioctl-in-Rec.ensures.refused
 
 pub returns-in-Rec-clause-desk : goal.returns-in-Rec-clause-desk
@@ -179,7 +181,7 @@ returns-in-Rec-clause-reply g c =
     ∙ sym (ap (λ (t : DeskTurn). t.reply) (turning-held Rec (play_turn (seen c.args.tables.now parent.device) (asking (seen c.args.tables.now parent.device) c.args.request) (desk_with parent c.args.descriptors.now)) (record_turn (seen c.args.tables.now parent.device) (record_requests.ask_turn c.args.request) (desk_with parent c.args.descriptors.now)) (held_by (desk_with parent c.args.descriptors.now) c.args.fd) held (desk_with parent c.args.descriptors.now) e c.in-Rec.is))
 
 pub returns-in-Rec-clause-channels : goal.returns-in-Rec-clause-channels
-returns-in-Rec-clause-channels g c = λ slot other there. moves-nothing g.B.Feeder.kind g.B.Feeder.kept c.args.tables.now [] 0 (get_or c.args.parent.now.channels.items slot other)
+returns-in-Rec-clause-channels g c = λ slot other there. moves-nothing g.B.Feeder.kind g.B.Feeder.kept c.args.tables.now [] 0 (get_or (play_channels c.args.parent.now) slot other)
 
 pub returns-in-Rec-clause-recorders : goal.returns-in-Rec-clause-recorders
 returns-in-Rec-clause-recorders g c =
@@ -187,5 +189,5 @@ returns-in-Rec-clause-recorders g c =
     let held = c.in-Some.held in
     let e = sym c.held.ensures ∙ c.in-Some.is in
     let there = record-there parent c.args.descriptors.now c.args.fd held c.requires.apart e c.in-Rec.is in
-    each_set (RecordMoves g.B.Feeder.kind g.B.Feeder.kept c.args.tables.now [] 0) parent.recorders.items held.slot c.recorder.result.now c.ioctl-in-Rec.new.self there c.recorder.ensures.value c.ioctl-in-Rec.ensures.moves
+    each_set (RecordMoves g.B.Feeder.kind g.B.Feeder.kept c.args.tables.now [] 0) (rec_channels parent) held.slot c.recorder.result.now c.ioctl-in-Rec.new.self there c.recorder.ensures.value c.ioctl-in-Rec.ensures.moves
     (recorders.moves-nothing g.B.Feeder.kind g.B.Feeder.kept c.args.tables.now [] 0)

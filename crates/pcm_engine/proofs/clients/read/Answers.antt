@@ -1,5 +1,6 @@
 use Rattle.std.proofs.Common.{◌≡◌, ℕ, [], List, length, Ok, Err, min, take, drop, refl, sym, ap, ◌∙◌, subst, arith}
 use Rattle.std.proofs.lemmas.Result.{IfErr-weaker, IfOk-weaker, on_err_weaker}
+use Rattle.pcm_fixed.proofs.Items.{item-kept, items-count}
 use Rattle.pcm_oss.specs.declared.event.Way.TheVariants.{Rec}
 use Rattle.pcm_oss.specs.declared.reply.Errno.TheVariants.{Inval}
 use Rattle.pcm_desk.specs.Device.{seen}
@@ -9,7 +10,7 @@ use Rattle.pcm_desk.proofs.Silent.{read-due}
 use Rattle.pcm_record.specs.declared.channel.RecChannelOf.{RecChannelOf}
 use Rattle.pcm_record.specs.Channels.{RecordMoves, RecordStands}
 use Rattle.pcm_record.proofs.Moving as recorders
-use Rattle.pcm_vchan.proofs.Channels.{each_set, own_set, parent_same, vec_same}
+use Rattle.pcm_vchan.proofs.Channels.{each_set, own_set, parent_same}
 use Rattle.pcm_oss.specs.declared.reply.Answer.TheVariants.{Got}
 use Rattle.pcm_oss.specs.Replies.{bytes_due}
 use Rattle.pcm_format.specs.Frames.{Frame}
@@ -19,6 +20,7 @@ use Rattle.pcm_engine.proofs.Turning.{IfOk-both, bytes_read-held, desk-recorded,
 use Rattle.pcm_desk.specs.declared.record_book.RecordBook.{RecordBook}
 use Rattle.pcm_desk.specs.Desk.{record_unopened}
 use Rattle.pcm_vchan.proofs.Channels.{record_at-channel}
+use Rattle.pcm_vchan.specs.Parents.{rec_channels}
 use Rattle.pcm_engine.proofs.clients.read.Goals as goal
 
 pub recorder-requires : goal.recorder-requires
@@ -27,7 +29,7 @@ recorder-requires g c =
     let held = c.in-Some.held in
     let e = sym c.held.ensures ∙ c.in-Some.is in
     let there = record-there parent c.args.descriptors.now c.args.fd held c.requires.apart e c.in-Rec.is in
-    omega (arith, there, parent.recorders.ok.0)
+    omega (arith, there, items-count parent.recorders)
 
 pub returns-in-Rec-clause-recorders_own : goal.returns-in-Rec-clause-recorders_own
 returns-in-Rec-clause-recorders_own g c =
@@ -35,7 +37,7 @@ returns-in-Rec-clause-recorders_own g c =
     let held = c.in-Some.held in
     let e = sym c.held.ensures ∙ c.in-Some.is in
     let there = record-there parent c.args.descriptors.now c.args.fd held c.requires.apart e c.in-Rec.is in
-    own_set (λ (channel : RecChannelOf _). channel.device) parent.device parent.recorders.items held.slot c.recorder.result.now c.read.new.self there c.recorder.ensures.value c.read.ensures.device c.requires.recorders_own
+    own_set (λ (channel : RecChannelOf _). channel.device) parent.device (rec_channels parent) held.slot c.recorder.result.now c.read.new.self there c.recorder.ensures.value c.read.ensures.device c.requires.recorders_own
 
 pub returns-in-Rec-clause-refused : goal.returns-in-Rec-clause-refused
 returns-in-Rec-clause-refused g c =
@@ -43,7 +45,7 @@ returns-in-Rec-clause-refused g c =
     let held = c.in-Some.held in
     let e = sym c.held.ensures ∙ c.in-Some.is in
     on_err_weaker c.read.result
-    (λ same. parent_same _ parent refl refl (vec_same parent.recorders held.slot c.read.new.self c.recorder.result.now (same ∙ c.recorder.ensures.value)) refl refl refl refl refl refl)
+    (λ same. parent_same _ parent refl refl (item-kept parent.recorders held.slot c.read.new.self c.recorder.result.now (same ∙ c.recorder.ensures.value)) refl refl refl refl refl refl)
     c.read.ensures.refused
 
 pub returns-in-Rec-clause-desk : goal.returns-in-Rec-clause-desk
@@ -61,7 +63,7 @@ returns-in-Rec-clause-some g c = λ filters.
     let held = c.in-Some.held in
     let e = sym c.held.ensures ∙ c.in-Some.is in
     let there = record-there parent c.args.descriptors.now c.args.fd held c.requires.apart e c.in-Rec.is in
-    IfOk-weaker c.read.result (λ count. (read_turn (length c.args.out.now) c.recorder.result.now.book).reply ≡ Ok (Got count)) _ (λ count is. ap (λ (t : DeskTurn). t.reply) (turning-held Rec (λ slot. refusing (desk_with parent c.args.descriptors.now) Inval) (record_turn (seen filters parent.device) (read_turn (length c.args.out.now)) (desk_with parent c.args.descriptors.now)) (held_by (desk_with parent c.args.descriptors.now) c.args.fd) held (desk_with parent c.args.descriptors.now) e c.in-Rec.is) ∙ ap (λ (book : RecordBook). (read_turn (length c.args.out.now) book).reply) (sym (record_at-channel parent.recorders.items held.slot c.recorder.result.now (record_unopened (seen filters parent.device)) there c.recorder.ensures.value)) ∙ is) c.read.ensures.some
+    IfOk-weaker c.read.result (λ count. (read_turn (length c.args.out.now) c.recorder.result.now.book).reply ≡ Ok (Got count)) _ (λ count is. ap (λ (t : DeskTurn). t.reply) (turning-held Rec (λ slot. refusing (desk_with parent c.args.descriptors.now) Inval) (record_turn (seen filters parent.device) (read_turn (length c.args.out.now)) (desk_with parent c.args.descriptors.now)) (held_by (desk_with parent c.args.descriptors.now) c.args.fd) held (desk_with parent c.args.descriptors.now) e c.in-Rec.is) ∙ ap (λ (book : RecordBook). (read_turn (length c.args.out.now) book).reply) (sym (record_at-channel (rec_channels parent) held.slot c.recorder.result.now (record_unopened (seen filters parent.device)) there c.recorder.ensures.value)) ∙ is) c.read.ensures.some
 
 pub returns-in-Rec-clause-none : goal.returns-in-Rec-clause-none
 returns-in-Rec-clause-none g c = λ filters.
@@ -69,7 +71,7 @@ returns-in-Rec-clause-none g c = λ filters.
     let held = c.in-Some.held in
     let e = sym c.held.ensures ∙ c.in-Some.is in
     let there = record-there parent c.args.descriptors.now c.args.fd held c.requires.apart e c.in-Rec.is in
-    IfErr-weaker c.read.result (λ errno. (read_turn (length c.args.out.now) c.recorder.result.now.book).reply ≡ Err errno) _ (λ errno is. ap (λ (t : DeskTurn). t.reply) (turning-held Rec (λ slot. refusing (desk_with parent c.args.descriptors.now) Inval) (record_turn (seen filters parent.device) (read_turn (length c.args.out.now)) (desk_with parent c.args.descriptors.now)) (held_by (desk_with parent c.args.descriptors.now) c.args.fd) held (desk_with parent c.args.descriptors.now) e c.in-Rec.is) ∙ ap (λ (book : RecordBook). (read_turn (length c.args.out.now) book).reply) (sym (record_at-channel parent.recorders.items held.slot c.recorder.result.now (record_unopened (seen filters parent.device)) there c.recorder.ensures.value)) ∙ is) c.read.ensures.none
+    IfErr-weaker c.read.result (λ errno. (read_turn (length c.args.out.now) c.recorder.result.now.book).reply ≡ Err errno) _ (λ errno is. ap (λ (t : DeskTurn). t.reply) (turning-held Rec (λ slot. refusing (desk_with parent c.args.descriptors.now) Inval) (record_turn (seen filters parent.device) (read_turn (length c.args.out.now)) (desk_with parent c.args.descriptors.now)) (held_by (desk_with parent c.args.descriptors.now) c.args.fd) held (desk_with parent c.args.descriptors.now) e c.in-Rec.is) ∙ ap (λ (book : RecordBook). (read_turn (length c.args.out.now) book).reply) (sym (record_at-channel (rec_channels parent) held.slot c.recorder.result.now (record_unopened (seen filters parent.device)) there c.recorder.ensures.value)) ∙ is) c.read.ensures.none
 
 pub returns-in-Rec-clause-recorders : goal.returns-in-Rec-clause-recorders
 returns-in-Rec-clause-recorders g c = λ filters.
@@ -77,7 +79,7 @@ returns-in-Rec-clause-recorders g c = λ filters.
     let held = c.in-Some.held in
     let e = sym c.held.ensures ∙ c.in-Some.is in
     let there = record-there parent c.args.descriptors.now c.args.fd held c.requires.apart e c.in-Rec.is in
-    each_set (RecordMoves g.B.Feeder.kind g.B.Feeder.kept filters [] 0) parent.recorders.items held.slot c.recorder.result.now c.read.new.self there c.recorder.ensures.value (c.read.ensures.moves filters)
+    each_set (RecordMoves g.B.Feeder.kind g.B.Feeder.kept filters [] 0) (rec_channels parent) held.slot c.recorder.result.now c.read.new.self there c.recorder.ensures.value (c.read.ensures.moves filters)
     (recorders.moves-nothing g.B.Feeder.kind g.B.Feeder.kept filters [] 0)
 
 pub returns-in-Rec-clause-bytes : goal.returns-in-Rec-clause-bytes
@@ -87,7 +89,7 @@ returns-in-Rec-clause-bytes g c = λ filters bytes frames stand.
     let e = sym c.held.ensures ∙ c.in-Some.is in
     let there = record-there parent c.args.descriptors.now c.args.fd held c.requires.apart e c.in-Rec.is in
     let lent = c.recorder.result.now in
-    let book = record_at-channel parent.recorders.items held.slot lent (record_unopened (seen filters parent.device)) there c.recorder.ensures.value in
+    let book = record_at-channel (rec_channels parent) held.slot lent (record_unopened (seen filters parent.device)) there c.recorder.ensures.value in
     let n = length c.args.out.now in
     let got = bytes_read-held (seen filters parent.device) (desk_with parent c.args.descriptors.now) bytes n (held_by (desk_with parent c.args.descriptors.now) c.args.fd) held lent.book e c.in-Rec.is book in
     let stands = subst (λ (channel : RecChannelOf _). RecordStands g.B.Feeder.kept filters channel channel.book (bytes held.slot) (frames held.slot)) (sym c.recorder.ensures.value) (stand held.slot lent there) in
@@ -105,7 +107,7 @@ returns-in-Rec-clause-none_read g c = λ filters bytes frames stand.
     let e = sym c.held.ensures ∙ c.in-Some.is in
     let there = record-there parent c.args.descriptors.now c.args.fd held c.requires.apart e c.in-Rec.is in
     let lent = c.recorder.result.now in
-    let book = record_at-channel parent.recorders.items held.slot lent (record_unopened (seen filters parent.device)) there c.recorder.ensures.value in
+    let book = record_at-channel (rec_channels parent) held.slot lent (record_unopened (seen filters parent.device)) there c.recorder.ensures.value in
     let n = length c.args.out.now in
     let got = bytes_read-held (seen filters parent.device) (desk_with parent c.args.descriptors.now) bytes n (held_by (desk_with parent c.args.descriptors.now) c.args.fd) held lent.book e c.in-Rec.is book in
     IfErr-weaker c.read.result (λ errno. (read_turn n lent.book).reply ≡ Err errno) _

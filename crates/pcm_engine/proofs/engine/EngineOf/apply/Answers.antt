@@ -1,7 +1,8 @@
 use Rattle.std.proofs.Common.{ℕ, ◌+◌, ◌*◌, ◌^◌, List, [], get_or, length, sym, ap, ◌∙◌, subst, arith}
+use Rattle.pcm_fixed.specs.declared.fixed.Fixed.{Fixed}
+use Rattle.pcm_fixed.specs.Fixed.{fixed_items}
 use Rattle.pcm_oss.specs.declared.event.Event.{Event}
 use Rattle.pcm_oss.specs.declared.event.Event.TheVariants.{Open, Write, Read, Ioctl, Close, Intr}
-use Rattle.std.specs.Prelude.{Vec}
 use Rattle.pcm_format.specs.Layouts.{channels_of}
 use Rattle.pcm_oss.specs.declared.fragments.TheConstants.{RING_BYTES}
 use Rattle.pcm_desk.specs.declared.device.Device.{Device}
@@ -20,6 +21,7 @@ use Rattle.pcm_vchan.specs.Slots.{AreOf, Each, RecordersAreOf}
 use Rattle.pcm_engine.specs.Engines.{device_of, desk_of}
 use Rattle.pcm_engine.specs.Steps.{ChannelsMove, RecordersMove, bytes_answered}
 use Rattle.pcm_vchan.proofs.Channels.{books_of-mixed, record_books_of-captured}
+use Rattle.pcm_vchan.specs.Parents.{play_channels, rec_channels}
 use Rattle.pcm_engine.proofs.Desks.{count-stays, count-within, desk_with-mixed}
 use Rattle.pcm_engine.proofs.Recording.{length-captured}
 use Rattle.pcm_engine.proofs.engine.EngineOf.apply.Goals as goal
@@ -34,13 +36,13 @@ invariant_of-self-in-Write g c =
     record {
       apart = subst HoldApart (sym (c.write.ensures.desk old.tables)) (apart-after (device_of old) (desk_of old) (Write c.in-Write.fd c.in-Write.source c.in-Write.at (length c.bytes_at-bytes.result.now)) old.apart);
       own = c.write.ensures.own;
-      counted = count-within (λ (c : PlayChannelOf _). c.book.done + c.book.written) (2 ^ 32) old.steps old.parent.channels.items new.channels.items same
+      counted = count-within (λ (c : PlayChannelOf _). c.book.done + c.book.written) (2 ^ 32) old.steps (play_channels old.parent) (play_channels new) same
           (λ slot other there. let more = (c.write.ensures.channels old.tables slot other there).counted in omega (arith, more, c.bytes_at-bytes.ensures.length, fits.1)) old.counted;
-      given = count-within (λ (c : PlayChannelOf _). c.book.given) RING_FRAMES old.steps old.parent.channels.items new.channels.items same
+      given = count-within (λ (c : PlayChannelOf _). c.book.given) RING_FRAMES old.steps (play_channels old.parent) (play_channels new) same
           (λ slot other there. let more = (c.write.ensures.channels old.tables slot other there).given in omega (arith, more)) old.given;
-      recorders_own = subst (λ (v : Vec (RecChannelOf _) _). RecordersAreOf new.device v.items) (sym c.write.ensures.recorders) (subst (λ (d : Device). RecordersAreOf d old.parent.recorders.items) (sym output.device_same) old.recorders_own);
-      kept = count-stays (λ (c : RecChannelOf _). c.book.kept) RING_BYTES old.steps old.parent.recorders.items new.recorders.items (ap (λ (v : Vec (RecChannelOf _) _). v.items) c.write.ensures.recorders) old.kept;
-      captured_within = count-stays (λ (c : RecChannelOf _). c.book.captured) RING_FRAMES old.steps old.parent.recorders.items new.recorders.items (ap (λ (v : Vec (RecChannelOf _) _). v.items) c.write.ensures.recorders) old.captured_within;
+      recorders_own = subst (λ (v : Fixed (RecChannelOf _)). RecordersAreOf new.device (fixed_items v)) (sym c.write.ensures.recorders) (subst (λ (d : Device). RecordersAreOf d (rec_channels old.parent)) (sym output.device_same) old.recorders_own);
+      kept = count-stays (λ (c : RecChannelOf _). c.book.kept) RING_BYTES old.steps (rec_channels old.parent) (rec_channels new) (ap (λ (v : Fixed (RecChannelOf _)). fixed_items v) c.write.ensures.recorders) old.kept;
+      captured_within = count-stays (λ (c : RecChannelOf _). c.book.captured) RING_FRAMES old.steps (rec_channels old.parent) (rec_channels new) (ap (λ (v : Fixed (RecChannelOf _)). fixed_items v) c.write.ensures.recorders) old.captured_within;
       captured_size = old.captured_size ∙ ap (λ (d : Device). d.ring_frames * channels_of d.settings.layout) (sym output.device_same);
       mixed_within = omega (arith, output.mixed_same, old.mixed_within);
       handed_within = omega (arith, output.handed_same, old.handed_within);
@@ -55,14 +57,14 @@ invariant_of-self-in-Ioctl g c =
     record {
       apart = subst HoldApart (sym c.ioctl.ensures.desk) (apart-after (device_of old) (desk_of old) (Ioctl c.in-Ioctl.fd c.in-Ioctl.request) old.apart);
       own = c.ioctl.ensures.own;
-      counted = count-within (λ (c : PlayChannelOf _). c.book.done + c.book.written) (2 ^ 32) old.steps old.parent.channels.items new.channels.items same
+      counted = count-within (λ (c : PlayChannelOf _). c.book.done + c.book.written) (2 ^ 32) old.steps (play_channels old.parent) (play_channels new) same
           (λ slot other there. let more = (c.ioctl.ensures.channels slot other there).counted in omega (arith, more)) old.counted;
-      given = count-within (λ (c : PlayChannelOf _). c.book.given) RING_FRAMES old.steps old.parent.channels.items new.channels.items same
+      given = count-within (λ (c : PlayChannelOf _). c.book.given) RING_FRAMES old.steps (play_channels old.parent) (play_channels new) same
           (λ slot other there. let more = (c.ioctl.ensures.channels slot other there).given in omega (arith, more)) old.given;
       recorders_own = c.ioctl.ensures.recorders_own;
-      kept = count-within (λ (c : RecChannelOf _). c.book.kept) RING_BYTES old.steps old.parent.recorders.items new.recorders.items output.recorders_same
+      kept = count-within (λ (c : RecChannelOf _). c.book.kept) RING_BYTES old.steps (rec_channels old.parent) (rec_channels new) output.recorders_same
           (λ slot other there. (c.ioctl.ensures.recorders slot other there).kept) old.kept;
-      captured_within = count-within (λ (c : RecChannelOf _). c.book.captured) RING_FRAMES old.steps old.parent.recorders.items new.recorders.items output.recorders_same
+      captured_within = count-within (λ (c : RecChannelOf _). c.book.captured) RING_FRAMES old.steps (rec_channels old.parent) (rec_channels new) output.recorders_same
           (λ slot other there. let more = (c.ioctl.ensures.recorders slot other there).captured in omega (arith, more)) old.captured_within;
       captured_size = old.captured_size ∙ ap (λ (d : Device). d.ring_frames * channels_of d.settings.layout) (sym output.device_same);
       mixed_within = omega (arith, output.mixed_same, old.mixed_within);
@@ -76,21 +78,21 @@ invariant_of-self-in-Intr g c =
     let fits = rw c.in-Intr.is at c.requires.fits in
     let same = c.interrupt.ensures.slots in
     let within = old.parent.within in
-    let books = books_of-mixed (device_of old) c.in-Intr.frames old.parent.channels.items new.channels.items same c.interrupt.ensures.books in
-    let recorded = record_books_of-captured (device_of old) c.in-Intr.frames old.parent.recorders.items new.recorders.items c.interrupt.ensures.recorders_slots (λ slot other there. (c.interrupt.ensures.recorders slot other there).book) in
+    let books = books_of-mixed (device_of old) c.in-Intr.frames (play_channels old.parent) (play_channels new) same c.interrupt.ensures.books in
+    let recorded = record_books_of-captured (device_of old) c.in-Intr.frames (rec_channels old.parent) (rec_channels new) c.interrupt.ensures.recorders_slots (λ slot other there. (c.interrupt.ensures.recorders slot other there).book) in
     let desk = desk_with-mixed (device_of old) old.parent new old.descriptors c.in-Intr.frames books recorded c.interrupt.ensures.handed c.interrupt.ensures.mixed in
     let brought = length-captured old.parent.device.settings.layout c.args.pool.now old.parent.handed c.in-Intr.frames c.requires.captures in
     record {
       apart = subst HoldApart (sym desk) (apart-after (device_of old) (desk_of old) (Intr c.in-Intr.frames) old.apart);
       own = c.interrupt.ensures.own;
-      counted = count-within (λ (c : PlayChannelOf _). c.book.done + c.book.written) (2 ^ 32) old.steps old.parent.channels.items new.channels.items same
+      counted = count-within (λ (c : PlayChannelOf _). c.book.done + c.book.written) (2 ^ 32) old.steps (play_channels old.parent) (play_channels new) same
           (λ slot other there. let more = (c.interrupt.ensures.channels slot other there).counted in omega (arith, more)) old.counted;
-      given = count-within (λ (c : PlayChannelOf _). c.book.given) RING_FRAMES old.steps old.parent.channels.items new.channels.items same
+      given = count-within (λ (c : PlayChannelOf _). c.book.given) RING_FRAMES old.steps (play_channels old.parent) (play_channels new) same
           (λ slot other there. let more = (c.interrupt.ensures.channels slot other there).given in omega (arith, more, fits.1)) old.given;
       recorders_own = c.interrupt.ensures.recorders_own;
-      kept = count-within (λ (c : RecChannelOf _). c.book.kept) RING_BYTES old.steps old.parent.recorders.items new.recorders.items c.interrupt.ensures.recorders_slots
+      kept = count-within (λ (c : RecChannelOf _). c.book.kept) RING_BYTES old.steps (rec_channels old.parent) (rec_channels new) c.interrupt.ensures.recorders_slots
           (λ slot other there. (c.interrupt.ensures.recorders slot other there).moves.kept) old.kept;
-      captured_within = count-within (λ (c : RecChannelOf _). c.book.captured) RING_FRAMES old.steps old.parent.recorders.items new.recorders.items c.interrupt.ensures.recorders_slots
+      captured_within = count-within (λ (c : RecChannelOf _). c.book.captured) RING_FRAMES old.steps (rec_channels old.parent) (rec_channels new) c.interrupt.ensures.recorders_slots
           (λ slot other there. let more = (c.interrupt.ensures.recorders slot other there).moves.captured in omega (arith, more, brought, fits.1)) old.captured_within;
       captured_size = old.captured_size ∙ ap (λ (d : Device). d.ring_frames * channels_of d.settings.layout) (sym c.interrupt.ensures.device);
       mixed_within = omega (arith, c.interrupt.ensures.mixed, old.mixed_within, fits.1);
@@ -102,8 +104,8 @@ returns-in-Intr-clause-desk g c =
     let old = c.args.self.now in
     let new = c.interrupt.new.parent in
     let n : ℕ = c.in-Intr.frames in
-    let books = books_of-mixed (device_of old) n old.parent.channels.items new.channels.items c.interrupt.ensures.slots c.interrupt.ensures.books in
-    let recorded = record_books_of-captured (device_of old) n old.parent.recorders.items new.recorders.items c.interrupt.ensures.recorders_slots (λ slot other there. (c.interrupt.ensures.recorders slot other there).book) in
+    let books = books_of-mixed (device_of old) n (play_channels old.parent) (play_channels new) c.interrupt.ensures.slots c.interrupt.ensures.books in
+    let recorded = record_books_of-captured (device_of old) n (rec_channels old.parent) (rec_channels new) c.interrupt.ensures.recorders_slots (λ slot other there. (c.interrupt.ensures.recorders slot other there).book) in
     desk_with-mixed (device_of old) old.parent new old.descriptors n books recorded c.interrupt.ensures.handed c.interrupt.ensures.mixed
     ∙ sym (ap (λ (event : Event). (after (device_of old) (desk_of old) event).desk) c.in-Intr.is)
 
@@ -120,9 +122,9 @@ returns-in-Write-clause-reply g c =
 pub returns-in-Write-clause-recorders : goal.returns-in-Write-clause-recorders
 returns-in-Write-clause-recorders g c =
     let old = c.args.self.now in
-    subst (λ (event : Event). RecordersMove g.B.Feeder.kind g.B.Feeder.kept (device_of old) c.args.pool.now old.parent.handed event old.parent.recorders.items c.write.new.parent.recorders.items) (sym c.in-Write.is)
-    (subst (λ (v : Vec (RecChannelOf _) _). Each (RecordMoves g.B.Feeder.kind g.B.Feeder.kept old.tables [] 0) old.parent.recorders.items v.items) (sym c.write.ensures.recorders)
-    (λ slot other there. recorders.moves-nothing g.B.Feeder.kind g.B.Feeder.kept old.tables [] 0 (get_or old.parent.recorders.items slot other)))
+    subst (λ (event : Event). RecordersMove g.B.Feeder.kind g.B.Feeder.kept (device_of old) c.args.pool.now old.parent.handed event (rec_channels old.parent) (rec_channels c.write.new.parent)) (sym c.in-Write.is)
+    (subst (λ (v : Fixed (RecChannelOf _)). Each (RecordMoves g.B.Feeder.kind g.B.Feeder.kept old.tables [] 0) (rec_channels old.parent) (fixed_items v)) (sym c.write.ensures.recorders)
+    (λ slot other there. recorders.moves-nothing g.B.Feeder.kind g.B.Feeder.kept old.tables [] 0 (get_or (rec_channels old.parent) slot other)))
 
 pub returns-in-Read-clause-bytes : goal.returns-in-Read-clause-bytes
 returns-in-Read-clause-bytes g c = λ bytes frames stand.
@@ -132,20 +134,20 @@ returns-in-Read-clause-bytes g c = λ bytes frames stand.
 pub returns-in-Read-clause-channels : goal.returns-in-Read-clause-channels
 returns-in-Read-clause-channels g c =
     let old = c.args.self.now in
-    subst (λ (event : Event). ChannelsMove g.B.Feeder.kind g.B.Feeder.kept old.tables c.args.pool.now event old.parent.channels.items c.answer_read.new.parent.channels.items) (sym c.in-Read.is)
-    (subst (λ (v : Vec (PlayChannelOf _) _). Each (Moves g.B.Feeder.kind g.B.Feeder.kept old.tables [] 0) old.parent.channels.items v.items) (sym c.answer_read.ensures.channels)
-    (λ slot other there. moves-nothing g.B.Feeder.kind g.B.Feeder.kept old.tables [] 0 (get_or old.parent.channels.items slot other)))
+    subst (λ (event : Event). ChannelsMove g.B.Feeder.kind g.B.Feeder.kept old.tables c.args.pool.now event (play_channels old.parent) (play_channels c.answer_read.new.parent)) (sym c.in-Read.is)
+    (subst (λ (v : Fixed (PlayChannelOf _)). Each (Moves g.B.Feeder.kind g.B.Feeder.kept old.tables [] 0) (play_channels old.parent) (fixed_items v)) (sym c.answer_read.ensures.channels)
+    (λ slot other there. moves-nothing g.B.Feeder.kind g.B.Feeder.kept old.tables [] 0 (get_or (play_channels old.parent) slot other)))
 
 pub returns-in-Read-clause-recorders : goal.returns-in-Read-clause-recorders
 returns-in-Read-clause-recorders g c =
     let old = c.args.self.now in
-    subst (λ (event : Event). RecordersMove g.B.Feeder.kind g.B.Feeder.kept (device_of old) c.args.pool.now old.parent.handed event old.parent.recorders.items c.answer_read.new.parent.recorders.items) (sym c.in-Read.is)
+    subst (λ (event : Event). RecordersMove g.B.Feeder.kind g.B.Feeder.kept (device_of old) c.args.pool.now old.parent.handed event (rec_channels old.parent) (rec_channels c.answer_read.new.parent)) (sym c.in-Read.is)
     (c.answer_read.ensures.recorders old.tables)
 
 pub returns-in-Ioctl-clause-channels : goal.returns-in-Ioctl-clause-channels
 returns-in-Ioctl-clause-channels g c =
     let old = c.args.self.now in
-    subst (λ (event : Event). ChannelsMove g.B.Feeder.kind g.B.Feeder.kept old.tables c.args.pool.now event old.parent.channels.items c.ioctl.new.parent.channels.items) (sym c.in-Ioctl.is)
+    subst (λ (event : Event). ChannelsMove g.B.Feeder.kind g.B.Feeder.kept old.tables c.args.pool.now event (play_channels old.parent) (play_channels c.ioctl.new.parent)) (sym c.in-Ioctl.is)
     (c.ioctl.ensures.channels)
 
 pub returns-in-Close-clause-desk : goal.returns-in-Close-clause-desk
@@ -161,25 +163,25 @@ returns-in-Close-clause-reply g c =
 pub returns-in-Close-clause-channels : goal.returns-in-Close-clause-channels
 returns-in-Close-clause-channels g c =
     let old = c.args.self.now in
-    subst (λ (event : Event). ChannelsMove g.B.Feeder.kind g.B.Feeder.kept old.tables c.args.pool.now event old.parent.channels.items c.close.new.parent.channels.items) (sym c.in-Close.is)
+    subst (λ (event : Event). ChannelsMove g.B.Feeder.kind g.B.Feeder.kept old.tables c.args.pool.now event (play_channels old.parent) (play_channels c.close.new.parent)) (sym c.in-Close.is)
     (c.close.ensures.channels old.tables)
 
 pub returns-in-Close-clause-recorders : goal.returns-in-Close-clause-recorders
 returns-in-Close-clause-recorders g c =
     let old = c.args.self.now in
-    subst (λ (event : Event). RecordersMove g.B.Feeder.kind g.B.Feeder.kept (device_of old) c.args.pool.now old.parent.handed event old.parent.recorders.items c.close.new.parent.recorders.items) (sym c.in-Close.is)
+    subst (λ (event : Event). RecordersMove g.B.Feeder.kind g.B.Feeder.kept (device_of old) c.args.pool.now old.parent.handed event (rec_channels old.parent) (rec_channels c.close.new.parent)) (sym c.in-Close.is)
     (c.close.ensures.recorders old.tables)
 
 pub returns-in-Write-clause-channels : goal.returns-in-Write-clause-channels
 returns-in-Write-clause-channels g c =
-    let before = c.args.self.now.parent.channels.items in
-    let now = c.write.new.parent.channels.items in
+    let before = (play_channels c.args.self.now.parent) in
+    let now = (play_channels c.write.new.parent) in
     subst (λ (event : Event). ChannelsMove g.B.Feeder.kind g.B.Feeder.kept c.args.self.now.tables c.args.pool.now event before now) (sym c.in-Write.is)
     (subst (λ (bytes : List ℕ). Each (Moves g.B.Feeder.kind g.B.Feeder.kept c.args.self.now.tables bytes 0) before now) c.bytes_at-bytes.ensures.bytes (c.write.ensures.channels c.args.self.now.tables))
 
 pub returns-in-Intr-clause-channels : goal.returns-in-Intr-clause-channels
 returns-in-Intr-clause-channels g c =
-    subst (λ (event : Event). ChannelsMove g.B.Feeder.kind g.B.Feeder.kept c.args.self.now.tables c.args.pool.now event c.args.self.now.parent.channels.items c.interrupt.new.parent.channels.items) (sym c.in-Intr.is)
+    subst (λ (event : Event). ChannelsMove g.B.Feeder.kind g.B.Feeder.kept c.args.self.now.tables c.args.pool.now event (play_channels c.args.self.now.parent) (play_channels c.interrupt.new.parent)) (sym c.in-Intr.is)
     c.interrupt.ensures.channels
 
 pub invariant_of-self : goal.invariant_of-self
@@ -191,14 +193,14 @@ invariant_of-self g c =
     record {
       own = c.open-answer.ensures.own;
       apart = subst HoldApart (sym c.open-answer.ensures.desk) (apart-after (device_of old) (desk_of old) (Open c.in-Open.fd c.in-Open.way c.in-Open.settings) old.apart);
-      counted = count-within (λ (c : PlayChannelOf _). c.book.done + c.book.written) (2 ^ 32) old.steps old.parent.channels.items new.channels.items same
+      counted = count-within (λ (c : PlayChannelOf _). c.book.done + c.book.written) (2 ^ 32) old.steps (play_channels old.parent) (play_channels new) same
           (λ slot other there. let more = (c.open-answer.ensures.channels slot other there).counted in omega (arith, more)) old.counted;
-      given = count-within (λ (c : PlayChannelOf _). c.book.given) RING_FRAMES old.steps old.parent.channels.items new.channels.items same
+      given = count-within (λ (c : PlayChannelOf _). c.book.given) RING_FRAMES old.steps (play_channels old.parent) (play_channels new) same
           (λ slot other there. let more = (c.open-answer.ensures.channels slot other there).given in omega (arith, more)) old.given;
       recorders_own = c.open-answer.ensures.recorders_own;
-      kept = count-within (λ (c : RecChannelOf _). c.book.kept) RING_BYTES old.steps old.parent.recorders.items new.recorders.items output.recorders_same
+      kept = count-within (λ (c : RecChannelOf _). c.book.kept) RING_BYTES old.steps (rec_channels old.parent) (rec_channels new) output.recorders_same
           (λ slot other there. (c.open-answer.ensures.recorders slot other there).kept) old.kept;
-      captured_within = count-within (λ (c : RecChannelOf _). c.book.captured) RING_FRAMES old.steps old.parent.recorders.items new.recorders.items output.recorders_same
+      captured_within = count-within (λ (c : RecChannelOf _). c.book.captured) RING_FRAMES old.steps (rec_channels old.parent) (rec_channels new) output.recorders_same
           (λ slot other there. let more = (c.open-answer.ensures.recorders slot other there).captured in omega (arith, more)) old.captured_within;
       captured_size = old.captured_size ∙ ap (λ (d : Device). d.ring_frames * channels_of d.settings.layout) (sym output.device_same);
       mixed_within = omega (arith, output.mixed_same, old.mixed_within);
@@ -214,14 +216,14 @@ invariant_of-self-in-Close g c =
     record {
       own = c.close.ensures.own;
       apart = subst HoldApart (sym (c.close.ensures.desk old.tables c.requires.ready.playing)) (apart-after (device_of old) (desk_of old) (Close c.in-Close.fd) old.apart);
-      counted = count-within (λ (c : PlayChannelOf _). c.book.done + c.book.written) (2 ^ 32) old.steps old.parent.channels.items new.channels.items same
+      counted = count-within (λ (c : PlayChannelOf _). c.book.done + c.book.written) (2 ^ 32) old.steps (play_channels old.parent) (play_channels new) same
           (λ slot other there. let more = (c.close.ensures.channels old.tables slot other there).counted in omega (arith, more)) old.counted;
-      given = count-within (λ (c : PlayChannelOf _). c.book.given) RING_FRAMES old.steps old.parent.channels.items new.channels.items same
+      given = count-within (λ (c : PlayChannelOf _). c.book.given) RING_FRAMES old.steps (play_channels old.parent) (play_channels new) same
           (λ slot other there. let more = (c.close.ensures.channels old.tables slot other there).given in omega (arith, more)) old.given;
       recorders_own = c.close.ensures.recorders_own;
-      kept = count-within (λ (c : RecChannelOf _). c.book.kept) RING_BYTES old.steps old.parent.recorders.items new.recorders.items output.recorders_same
+      kept = count-within (λ (c : RecChannelOf _). c.book.kept) RING_BYTES old.steps (rec_channels old.parent) (rec_channels new) output.recorders_same
           (λ slot other there. (c.close.ensures.recorders old.tables slot other there).kept) old.kept;
-      captured_within = count-within (λ (c : RecChannelOf _). c.book.captured) RING_FRAMES old.steps old.parent.recorders.items new.recorders.items output.recorders_same
+      captured_within = count-within (λ (c : RecChannelOf _). c.book.captured) RING_FRAMES old.steps (rec_channels old.parent) (rec_channels new) output.recorders_same
           (λ slot other there. let more = (c.close.ensures.recorders old.tables slot other there).captured in omega (arith, more)) old.captured_within;
       captured_size = old.captured_size ∙ ap (λ (d : Device). d.ring_frames * channels_of d.settings.layout) (sym output.device_same);
       mixed_within = omega (arith, output.mixed_same, old.mixed_within);
@@ -233,16 +235,16 @@ invariant_of-self-in-Read g c =
     let old = c.args.self.now in
     let new = c.answer_read.new.parent in
     let output = c.answer_read.ensures.output in
-    let stays = ap (λ (v : Vec (PlayChannelOf _) _). v.items) c.answer_read.ensures.channels in
+    let stays = ap (λ (v : Fixed (PlayChannelOf _)). fixed_items v) c.answer_read.ensures.channels in
     record {
       apart = subst HoldApart (sym (c.answer_read.ensures.desk old.tables)) (apart-after (device_of old) (desk_of old) (Read c.in-Read.fd c.in-Read.len) old.apart);
-      own = subst (λ (v : Vec (PlayChannelOf _) _). AreOf new.device v.items) (sym c.answer_read.ensures.channels) (subst (λ (d : Device). AreOf d old.parent.channels.items) (sym output.device_same) old.own);
-      counted = count-stays (λ (c : PlayChannelOf _). c.book.done + c.book.written) (2 ^ 32) old.steps old.parent.channels.items new.channels.items stays old.counted;
-      given = count-stays (λ (c : PlayChannelOf _). c.book.given) RING_FRAMES old.steps old.parent.channels.items new.channels.items stays old.given;
+      own = subst (λ (v : Fixed (PlayChannelOf _)). AreOf new.device (fixed_items v)) (sym c.answer_read.ensures.channels) (subst (λ (d : Device). AreOf d (play_channels old.parent)) (sym output.device_same) old.own);
+      counted = count-stays (λ (c : PlayChannelOf _). c.book.done + c.book.written) (2 ^ 32) old.steps (play_channels old.parent) (play_channels new) stays old.counted;
+      given = count-stays (λ (c : PlayChannelOf _). c.book.given) RING_FRAMES old.steps (play_channels old.parent) (play_channels new) stays old.given;
       recorders_own = c.answer_read.ensures.recorders_own;
-      kept = count-within (λ (c : RecChannelOf _). c.book.kept) RING_BYTES old.steps old.parent.recorders.items new.recorders.items output.recorders_same
+      kept = count-within (λ (c : RecChannelOf _). c.book.kept) RING_BYTES old.steps (rec_channels old.parent) (rec_channels new) output.recorders_same
           (λ slot other there. (c.answer_read.ensures.recorders old.tables slot other there).kept) old.kept;
-      captured_within = count-within (λ (c : RecChannelOf _). c.book.captured) RING_FRAMES old.steps old.parent.recorders.items new.recorders.items output.recorders_same
+      captured_within = count-within (λ (c : RecChannelOf _). c.book.captured) RING_FRAMES old.steps (rec_channels old.parent) (rec_channels new) output.recorders_same
           (λ slot other there. let more = (c.answer_read.ensures.recorders old.tables slot other there).captured in omega (arith, more)) old.captured_within;
       captured_size = old.captured_size ∙ ap (λ (d : Device). d.ring_frames * channels_of d.settings.layout) (sym output.device_same);
       mixed_within = omega (arith, output.mixed_same, old.mixed_within);

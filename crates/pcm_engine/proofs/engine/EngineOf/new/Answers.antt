@@ -11,6 +11,7 @@ use Rattle.pcm_engine.specs.Stands.{RecordersStand}
 use Rattle.pcm_engine.proofs.InOrder.{ready-all}
 use Rattle.pcm_engine.proofs.Starting.{parent-starts, ready-unopened, record-ready-unopened, record_books_of-unopened, recorders-start}
 use Rattle.pcm_engine.proofs.engine.EngineOf.new.Goals as goal
+use Rattle.pcm_vchan.specs.Parents.{play_channels, rec_channels}
 
 pub invariant_of-result : goal.invariant_of-result
 invariant_of-result g c =
@@ -27,23 +28,23 @@ invariant_of-result g c =
       given = λ slot other there. let none = ap (λ (b : Book). b.given) (c.in_ok-parent.ensures.channels slot other there).book in omega arith;
       kept = λ slot other there. let none = ap (λ (b : RecordBook). b.kept) (c.in_ok-parent.ensures.recording slot other there).book in omega arith;
       captured_within = λ slot other there. let none = ap (λ (b : RecordBook). b.captured) (c.in_ok-parent.ensures.recording slot other there).book in omega arith;
-      captured_size = c.in_ok-captured.ensures.len ∙ ap (λ n. c.args.device.ring_frames * n) c.channels.ensures ∙ ap (λ (d : Device). d.ring_frames * channels_of d.settings.layout) (sym c.in_ok-parent.ensures.device);
+      captured_size = c.new-2.ensures.len ∙ c.in_ok-captured.ensures.len ∙ ap (λ n. c.args.device.ring_frames * n) c.channels.ensures ∙ ap (λ (d : Device). d.ring_frames * channels_of d.settings.layout) (sym c.in_ok-parent.ensures.device);
       mixed_within = omega (arith, c.in_ok-parent.ensures.mixed);
       handed_within = omega (arith, c.in_ok-parent.ensures.handed);
     }
 
 pub returns-clause-ready : goal.returns-clause-ready
 returns-clause-ready g c = ready-all g.B.Feeder.kind g.B.Feeder.kept _
-    (ready-unopened g.B.Feeder.kind g.B.Feeder.kept c.args.tables c.args.device c.in_ok-parent.parent.channels.items c.in_ok-parent.ensures.channels)
-    (record-ready-unopened g.B.Feeder.kind g.B.Feeder.kept c.args.tables c.args.device c.in_ok-parent.parent.recorders.items c.in_ok-parent.ensures.recording)
+    (ready-unopened g.B.Feeder.kind g.B.Feeder.kept c.args.tables c.args.device (play_channels c.in_ok-parent.parent) c.in_ok-parent.ensures.channels)
+    (record-ready-unopened g.B.Feeder.kind g.B.Feeder.kept c.args.tables c.args.device (rec_channels c.in_ok-parent.parent) c.in_ok-parent.ensures.recording)
 
 pub returns-clause-stands : goal.returns-clause-stands
 returns-clause-stands g c = λ pool.
     let e = c.in_ok-parent.ensures in
     let parent = c.in_ok-parent.parent in
-    let books = record_books_of-unopened g.B.Feeder.kind g.B.Feeder.kept c.args.tables c.args.device parent.recorders.items e.recorders e.recording in
-    let started = recorders-start g.B.Feeder.kind g.B.Feeder.kept c.args.tables c.args.device pool parent.recorders.items c.requires.limits.device_is e.recording in
+    let books = record_books_of-unopened g.B.Feeder.kind g.B.Feeder.kept c.args.tables c.args.device (rec_channels parent) e.recorders e.recording in
+    let started = recorders-start g.B.Feeder.kind g.B.Feeder.kept c.args.tables c.args.device pool (rec_channels parent) c.requires.limits.device_is e.recording in
     record {
       playing = parent-starts g.B.Feeder.kind g.B.Feeder.kept c.args.tables c.args.device parent _ c.requires.limits.device_is refl e.device e.slots books e.channels e.ring e.handed e.mixed;
-      recording = subst (λ (d : Device). RecordersStand g.B.Feeder.kept (seen c.args.tables d) pool parent.recorders.items (story_at_start (seen c.args.tables d))) (sym e.device) started;
+      recording = subst (λ (d : Device). RecordersStand g.B.Feeder.kept (seen c.args.tables d) pool (rec_channels parent) (story_at_start (seen c.args.tables d))) (sym e.device) started;
     }

@@ -1,4 +1,5 @@
 use Rattle.std.proofs.Common.{◌≡◌, All, ℕ, List, [], ◌∷◌, ◌++◌, take, refl, sym, ap, ◌∙◌, subst}
+use Rattle.pcm_fixed.proofs.Items.{items-count}
 use Rattle.pcm_desk.specs.declared.device.Device.{Device}
 use Rattle.pcm_desk.specs.Device.{DeviceSeen, seen}
 use Rattle.pcm_feeder.specs.Filters.{Filters}
@@ -18,6 +19,7 @@ use Rattle.pcm_engine.specs.Stands.{PartsStand, RecordersStand, bytes_kept, fram
 use Rattle.pcm_engine.specs.Steps.{bytes_answered, bytes_brought}
 use Rattle.pcm_engine.specs.Engines.{device_of, desk_of}
 use Rattle.pcm_vchan.proofs.Channels.{ready-after}
+use Rattle.pcm_vchan.specs.Parents.{play_channels, rec_channels}
 use Rattle.pcm_desk.proofs.Isolation.{isolated}
 use Rattle.pcm_engine.proofs.InOrder.{ready-all, rings-hold}
 use Rattle.pcm_engine.proofs.Recording.{all-record, answered-told, recorders-ready, recorders-told, reply-made}
@@ -29,10 +31,10 @@ pub returns-clause-ready : goal.returns-clause-ready
 returns-clause-ready g c =
     let old = c.args.self.now in
     let new = c.apply.new.self in
-    let playing = subst (λ (t : Filters). All (IsReady g.B.Feeder.kind g.B.Feeder.kept t) new.parent.channels.items) (sym c.apply.ensures.tables)
-    (ready-after g.B.Feeder.kind g.B.Feeder.kept old.tables (bytes_brought c.args.pool.now c.args.event.now) (frames_taken c.args.event.now) old.parent.channels.items new.parent.channels.items c.apply.ensures.slots c.apply.ensures.channels c.requires.ready.playing) in
-    let recording = subst (λ (t : Filters). All (IsRecordReady g.B.Feeder.kind g.B.Feeder.kept t) new.parent.recorders.items) (sym c.apply.ensures.tables)
-    (recorders-ready g.B.Feeder.kind g.B.Feeder.kept (device_of old) c.args.pool.now old.parent.handed c.args.event.now old.parent.recorders.items new.parent.recorders.items c.apply.ensures.recorders_slots c.apply.ensures.recorders c.requires.ready.recording) in
+    let playing = subst (λ (t : Filters). All (IsReady g.B.Feeder.kind g.B.Feeder.kept t) (play_channels new.parent)) (sym c.apply.ensures.tables)
+    (ready-after g.B.Feeder.kind g.B.Feeder.kept old.tables (bytes_brought c.args.pool.now c.args.event.now) (frames_taken c.args.event.now) (play_channels old.parent) (play_channels new.parent) c.apply.ensures.slots c.apply.ensures.channels c.requires.ready.playing) in
+    let recording = subst (λ (t : Filters). All (IsRecordReady g.B.Feeder.kind g.B.Feeder.kept t) (rec_channels new.parent)) (sym c.apply.ensures.tables)
+    (recorders-ready g.B.Feeder.kind g.B.Feeder.kept (device_of old) c.args.pool.now old.parent.handed c.args.event.now (rec_channels old.parent) (rec_channels new.parent) c.apply.ensures.recorders_slots c.apply.ensures.recorders c.requires.ready.recording) in
     ready-all g.B.Feeder.kind g.B.Feeder.kept new playing recording
 
 pub returns-clause-stands : goal.returns-clause-stands
@@ -44,26 +46,26 @@ returns-clause-stands g c = λ events s.
     let event = c.args.event.now in
     let story = story_of device pool events in
     let kept = g.B.Feeder.kept in
-    let step : Stepped g.B.Feeder.kind kept device pool event (desk_of old) (desk_of new) old.parent.channels.items new.parent.channels.items old.parent.ring.bytes new.parent.ring.bytes = record {
+    let step : Stepped g.B.Feeder.kind kept device pool event (desk_of old) (desk_of new) (play_channels old.parent) (play_channels new.parent) old.parent.ring.bytes new.parent.ring.bytes = record {
       desk = c.apply.ensures.desk;
       play_before = refl;
       play_now = refl;
       slots = c.apply.ensures.slots;
-      all_slots = sym old.parent.channels.ok.0 ∙ old.parent.slots;
+      all_slots = items-count old.parent.channels ∙ old.parent.slots;
       channels = c.apply.ensures.channels;
       ring = c.apply.ensures.ring;
     } in
-    let stood = stands-told g.B.Feeder.kind kept device pool story event (desk_of old) (desk_of new) old.parent.channels.items new.parent.channels.items old.parent.ring.bytes new.parent.ring.bytes c.requires.fits step s.playing in
-    let pushed : PartsStand kept device (desk_of new) new.parent.channels.items new.parent.ring.bytes (story_of device pool (events ++ event ∷ [])) =
-    subst (PartsStand kept device (desk_of new) new.parent.channels.items new.parent.ring.bytes) (sym (told_all-push device pool (story_at_start device) events event)) stood in
-    let recorded = recorders-told g.B.Feeder.kind kept device old.parent.device pool story event (desk_of old) (desk_of new) old.parent.recorders.items new.parent.recorders.items c.requires.captures c.requires.fits refl old.recorders_own
+    let stood = stands-told g.B.Feeder.kind kept device pool story event (desk_of old) (desk_of new) (play_channels old.parent) (play_channels new.parent) old.parent.ring.bytes new.parent.ring.bytes c.requires.fits step s.playing in
+    let pushed : PartsStand kept device (desk_of new) (play_channels new.parent) new.parent.ring.bytes (story_of device pool (events ++ event ∷ [])) =
+    subst (PartsStand kept device (desk_of new) (play_channels new.parent) new.parent.ring.bytes) (sym (told_all-push device pool (story_at_start device) events event)) stood in
+    let recorded = recorders-told g.B.Feeder.kind kept device old.parent.device pool story event (desk_of old) (desk_of new) (rec_channels old.parent) (rec_channels new.parent) c.requires.captures c.requires.fits refl old.recorders_own
     s.playing.desk_is c.apply.ensures.desk refl refl c.apply.ensures.recorders_slots c.apply.ensures.recorders s.playing.valid s.recording in
-    let recording : RecordersStand kept device pool new.parent.recorders.items (story_of device pool (events ++ event ∷ [])) =
-    subst (RecordersStand kept device pool new.parent.recorders.items) (sym (told_all-push device pool (story_at_start device) events event)) recorded in
+    let recording : RecordersStand kept device pool (rec_channels new.parent) (story_of device pool (events ++ event ∷ [])) =
+    subst (RecordersStand kept device pool (rec_channels new.parent)) (sym (told_all-push device pool (story_at_start device) events event)) recorded in
     let same : device_of new ≡ device = ap (λ (d : Device). seen new.tables d) c.apply.ensures.device ∙ ap (λ (t : Filters). seen t old.parent.device) c.apply.ensures.tables in
     record {
-      playing = subst (λ (d : DeviceSeen). PartsStand kept d (desk_of new) new.parent.channels.items new.parent.ring.bytes (story_of d pool (events ++ event ∷ []))) (sym same) pushed;
-      recording = subst (λ (d : DeviceSeen). RecordersStand kept d pool new.parent.recorders.items (story_of d pool (events ++ event ∷ []))) (sym same) recording;
+      playing = subst (λ (d : DeviceSeen). PartsStand kept d (desk_of new) (play_channels new.parent) new.parent.ring.bytes (story_of d pool (events ++ event ∷ []))) (sym same) pushed;
+      recording = subst (λ (d : DeviceSeen). RecordersStand kept d pool (rec_channels new.parent) (story_of d pool (events ++ event ∷ []))) (sym same) recording;
     }
 
 pub returns-clause-reply : goal.returns-clause-reply
@@ -74,7 +76,7 @@ returns-clause-reply g c = λ events s.
     let event = c.args.event.now in
     let story = story_of device pool events in
     let is = s.playing.desk_is in
-    let all = all-record g.B.Feeder.kept device pool story old.parent.recorders.items (ap (λ (d : Desk). d.recording) (sym is)) s.recording in
+    let all = all-record g.B.Feeder.kept device pool story (rec_channels old.parent) (ap (λ (d : Desk). d.recording) (sym is)) s.recording in
     reply-made c.apply.new.reply (after device story.desk event).reply (bytes_to device story event)
     (c.apply.ensures.reply ∙ ap (λ (d : Desk). (after device d event).reply) is)
     (c.apply.ensures.bytes (bytes_kept device story) (frames_captured device pool story) all
@@ -89,7 +91,7 @@ returns-clause-bytes g c = λ events s.
     let event = c.args.event.now in
     let story = story_of device pool events in
     ap (device_body device) (told_all-push device pool (story_at_start device) events event)
-    ∙ body-told g.B.Feeder.kept device pool story event (desk_of old) old.parent.channels.items old.parent.ring.bytes c.requires.fits s.playing
+    ∙ body-told g.B.Feeder.kept device pool story event (desk_of old) (play_channels old.parent) old.parent.ring.bytes c.requires.fits s.playing
     ∙ ap (λ (n : ℕ). device_body device story ++ take n old.parent.ring.bytes) (sym c.apply.ensures.count)
     ∙ ap (λ (bytes : List ℕ). device_body device story ++ bytes) (sym c.apply.ensures.out)
 

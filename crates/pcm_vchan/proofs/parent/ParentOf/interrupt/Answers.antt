@@ -1,6 +1,7 @@
 use Rattle.std.proofs.Common.{◌≡◌, ◌<◌, ◌+◌, ◌*◌, ◌++◌, ℕ, List, [], length, take, drop, All, sym, ap, ◌∙◌, subst, arith}
 use Rattle.std.proofs.Math.Nat.{mul-le-mul_right}
 use Rattle.std.proofs.lemmas.List.{take_at}
+use Rattle.pcm_fixed.specs.Fixed.{fixed_len}
 use Rattle.pcm_format.specs.Frames.{frame_bytes}
 use Rattle.pcm_format.specs.Layouts.{channels_of}
 use Rattle.pcm_desk.specs.Device.{seen}
@@ -11,6 +12,7 @@ use Rattle.pcm_vchan.specs.Captures.{Captures}
 use Rattle.pcm_vchan.specs.Slots.{AllStand, Each, books_of}
 use Rattle.pcm_play.specs.Channels.{Moves}
 use Rattle.pcm_vchan.specs.Blocks.{block_bytes, block_of}
+use Rattle.pcm_vchan.specs.Parents.{play_channels, rec_channels}
 use Rattle.pcm_vchan.proofs.parent.ParentOf.interrupt.Goals as goal
 
 -- what stands in a list whose front was written over by as many elements
@@ -55,13 +57,13 @@ turn_ring-requires-clause-counted g c =
 pub returns-clause-channels : goal.returns-clause-channels
 returns-clause-channels g c =
     let old = c.args.self.now in
-    let same = rewritten c.turn_ring.new.channels old.channels.items old.channels.len (c.turn_ring.auto.channels ∙ c.deref_mut.ensures.len) in
+    let same = rewritten c.turn_ring.new.channels (play_channels old) (fixed_len old.channels) (c.turn_ring.auto.channels ∙ c.deref_mut.ensures.len) in
     rw same (subst (λ (before : List (PlayChannelOf _)). Each (Moves g.B.Feeder.kind g.B.Feeder.kept c.args.tables.now [] c.args.n) before c.turn_ring.new.channels) c.deref_mut.ensures.value c.turn_ring.ensures.moves)
 
 pub returns-clause-books : goal.returns-clause-books
 returns-clause-books g c =
     let old = c.args.self.now in
-    let same = rewritten c.turn_ring.new.channels old.channels.items old.channels.len (c.turn_ring.auto.channels ∙ c.deref_mut.ensures.len) in
+    let same = rewritten c.turn_ring.new.channels (play_channels old) (fixed_len old.channels) (c.turn_ring.auto.channels ∙ c.deref_mut.ensures.len) in
     rw same (subst (λ (before : List (PlayChannelOf _)). Each (λ (was is : PlayChannelOf _). is.book ≡ mixing (seen c.args.tables.now old.device) c.args.n was.book) before c.turn_ring.new.channels) c.deref_mut.ensures.value c.turn_ring.ensures.books)
 
 pub returns-clause-ring : goal.returns-clause-ring
@@ -91,11 +93,11 @@ invariant_of-self g c =
 pub returns-clause-own : goal.returns-clause-own
 returns-clause-own g c =
     let old = c.args.self.now in
-    let same = rewritten c.turn_ring.new.channels old.channels.items old.channels.len (c.turn_ring.auto.channels ∙ c.deref_mut.ensures.len) in
+    let same = rewritten c.turn_ring.new.channels (play_channels old) (fixed_len old.channels) (c.turn_ring.auto.channels ∙ c.deref_mut.ensures.len) in
     rw same c.turn_ring.ensures.own
 
 pub returns-clause-recorders : goal.returns-clause-recorders
 returns-clause-recorders g c =
     let old = c.args.self.now in
-    let same = rewritten c.capture_all.new.channels old.recorders.items old.recorders.len (c.capture_all.auto.channels ∙ c.deref_mut-5.ensures.len) in
+    let same = rewritten c.capture_all.new.channels (rec_channels old) (fixed_len old.recorders) (c.capture_all.auto.channels ∙ c.deref_mut-5.ensures.len) in
     rw same (subst (λ (before : List (RecChannelOf _)). Each (Captures g.B.Feeder.kind g.B.Feeder.kept (seen c.args.tables.now old.device) c.args.n c.args.captured.now) before c.capture_all.new.channels) c.deref_mut-5.ensures.value c.capture_all.ensures.moves)

@@ -38,15 +38,15 @@ invariant_of-result g c =
     let room = c.deref_mut.ensures.len ∙ c.in_ok-bytes.ensures.len ∙ size in
     record {
       within = c.requires.ring;
-      slots = c.in_ok-channels.channels.ok.0 ∙ c.in_ok-channels.ensures.slots;
+      slots = c.new.ensures.len ∙ c.in_ok-channels.channels.ok.0 ∙ c.in_ok-channels.ensures.slots;
       slots_within = c.requires.slots;
-      recorders_count = c.in_ok-recorders.recorders.ok.0 ∙ c.in_ok-recorders.ensures.slots;
+      recorders_count = c.new-2.ensures.len ∙ c.in_ok-recorders.recorders.ok.0 ∙ c.in_ok-recorders.ensures.slots;
       recorders_within = c.requires.recorders;
       size = c.in_ok-ring.ensures.size ∙ room;
       full = c.in_ok-ring.ensures.full ∙ room;
-      bytes_size = c.new.ensures.len ∙ c.in_ok-bytes.ensures.len ∙ size;
-      frames_size = c.new-2.ensures.len ∙ c.in_ok-frames.ensures.len ∙ width;
-      sum_size = c.new-3.ensures.len ∙ c.in_ok-sum.ensures.len ∙ width;
+      bytes_size = c.new-3.ensures.len ∙ c.in_ok-bytes.ensures.len ∙ size;
+      frames_size = c.new-4.ensures.len ∙ c.in_ok-frames.ensures.len ∙ width;
+      sum_size = c.new-5.ensures.len ∙ c.in_ok-sum.ensures.len ∙ width;
     }
 
 pub overflow_mul-samples : goal.overflow_mul-samples

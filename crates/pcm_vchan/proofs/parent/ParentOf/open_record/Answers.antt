@@ -1,9 +1,10 @@
 use Rattle.std.proofs.Common.{ℕ, ◌<◌, [], length, Option, set, get_or, refl, sym, ap, ◌∙◌, arith}
 use Rattle.std.proofs.lemmas.List.{map-set}
+use Rattle.pcm_fixed.proofs.Items.{items-count}
 use Rattle.pcm_record.specs.declared.channel.RecChannelOf.{RecChannelOf}
 use Rattle.pcm_record.specs.Channels.{RecordMoves}
 use Rattle.pcm_vchan.specs.Slots.{record_books_of}
-use Rattle.pcm_vchan.specs.Parents.{slot_or_busy, record_books_begun}
+use Rattle.pcm_vchan.specs.Parents.{rec_channels, slot_or_busy, record_books_begun}
 use Rattle.pcm_vchan.proofs.Channels.{least_free-records, each_set, own_set}
 use Rattle.pcm_record.proofs.Moving.{moves-nothing}
 use Rattle.pcm_vchan.proofs.parent.ParentOf.open_record.Goals as goal
@@ -12,7 +13,7 @@ pub invariant_of-self : goal.invariant_of-self
 invariant_of-self g c =
     let old = c.args.self.now in
     let within = c.in-Some.ensures.within in
-    let there : c.in-Some.slot < length old.recorders.items = omega (arith, old.recorders.ok.0) in
+    let there : c.in-Some.slot < length (rec_channels old) = omega (arith, items-count old.recorders) in
     record {
       within = old.within;
       slots = old.slots;
@@ -29,30 +30,30 @@ invariant_of-self g c =
 pub returns-in_default-clause-opens : goal.returns-in_default-clause-opens
 returns-in_default-clause-opens g c =
     let old = c.args.self.now in
-    let none = least_free-records old.recorders.items ∙ sym c.least_free_record.ensures.slot ∙ c.in_default.is in
+    let none = least_free-records (rec_channels old) ∙ sym c.least_free_record.ensures.slot ∙ c.in_default.is in
     record {
       found = sym (ap slot_or_busy none);
-      books = sym (ap (λ (found : Option ℕ). record_books_begun found c.args.settings (record_books_of old.recorders.items)) none);
+      books = sym (ap (λ (found : Option ℕ). record_books_begun found c.args.settings (record_books_of (rec_channels old))) none);
       there = tt;
       own = c.requires.own;
-      moves = λ slot other there. moves-nothing g.B.Feeder.kind g.B.Feeder.kept c.args.tables.now [] 0 (get_or old.recorders.items slot other);
+      moves = λ slot other there. moves-nothing g.B.Feeder.kind g.B.Feeder.kept c.args.tables.now [] 0 (get_or (rec_channels old) slot other);
       others = refl;
     }
 
 pub returns-clause-opens : goal.returns-clause-opens
 returns-clause-opens g c =
     let old = c.args.self.now in
-    let found = least_free-records old.recorders.items ∙ sym c.least_free_record.ensures.slot ∙ c.in-Some.is in
+    let found = least_free-records (rec_channels old) ∙ sym c.least_free_record.ensures.slot ∙ c.in-Some.is in
     let within = c.in-Some.ensures.within in
-    let there : c.in-Some.slot < length old.recorders.items = omega (arith, old.recorders.ok.0) in
+    let there : c.in-Some.slot < length (rec_channels old) = omega (arith, items-count old.recorders) in
     record {
       found = sym (ap slot_or_busy found);
-      books = map-set (λ (channel : RecChannelOf _). channel.book) old.recorders.items c.in-Some.slot c.begin.new.self
-          ∙ ap (set (record_books_of old.recorders.items) c.in-Some.slot) c.begin.ensures.book
-          ∙ sym (ap (λ (found : Option ℕ). record_books_begun found c.args.settings (record_books_of old.recorders.items)) found);
+      books = map-set (λ (channel : RecChannelOf _). channel.book) (rec_channels old) c.in-Some.slot c.begin.new.self
+          ∙ ap (set (record_books_of (rec_channels old)) c.in-Some.slot) c.begin.ensures.book
+          ∙ sym (ap (λ (found : Option ℕ). record_books_begun found c.args.settings (record_books_of (rec_channels old))) found);
       there = there;
-      own = own_set (λ (channel : RecChannelOf _). channel.device) old.device old.recorders.items c.in-Some.slot c.index_mut.result.now c.begin.new.self there c.index_mut.ensures.value c.begin.ensures.device c.requires.own;
-      moves = each_set (RecordMoves g.B.Feeder.kind g.B.Feeder.kept c.args.tables.now [] 0) old.recorders.items c.in-Some.slot c.index_mut.result.now c.begin.new.self there c.index_mut.ensures.value c.begin.ensures.moves
+      own = own_set (λ (channel : RecChannelOf _). channel.device) old.device (rec_channels old) c.in-Some.slot c.index_mut.result.now c.begin.new.self there c.index_mut.ensures.value c.begin.ensures.device c.requires.own;
+      moves = each_set (RecordMoves g.B.Feeder.kind g.B.Feeder.kept c.args.tables.now [] 0) (rec_channels old) c.in-Some.slot c.index_mut.result.now c.begin.new.self there c.index_mut.ensures.value c.begin.ensures.moves
           (moves-nothing g.B.Feeder.kind g.B.Feeder.kept c.args.tables.now [] 0);
       others = refl;
     }
