@@ -1,5 +1,5 @@
-//! Tests of the stages and of what holds them: each feeder by itself and in a box, the racks, the tables, and a chain.
-//! They hold what no clause says: that what is generic runs at concrete types, with ample memory.
+//! Tests of the stages and of what holds them: the stages in boxes, the racks, chains and conversions.
+//! They hold what no clause says: that what is generic runs with boxes, and that there is memory where it is ample.
 #![tactic(auto)]
 
 #[cfg(test)]
@@ -7,18 +7,6 @@ mod chains;
 #[cfg(test)]
 mod conversions;
 #[cfg(test)]
-mod depth;
-#[cfg(test)]
-mod hold;
-#[cfg(test)]
-mod linear;
-#[cfg(test)]
-mod matrix;
-#[cfg(test)]
-mod poly;
-#[cfg(test)]
 mod racks;
 #[cfg(test)]
-mod tables;
-#[cfg(test)]
-mod volume;
+mod stages;

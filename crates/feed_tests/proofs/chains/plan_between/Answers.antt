@@ -6,4 +6,4 @@ use Rattle.feed_tests.proofs.chains.plan_between.Goals as goal
 
 pub returns-clause-tables : goal.returns-clause-tables
 returns-clause-tables c = subst (λ (p : PlanSeen). HaveTables p.stages c.args.tables.now) (sym c.plan_play.ensures.value)
-    (play-tables c.args.tables.now c.args.quality c.args.client.now c.args.device.now c.plan_play.ensures.limits c.requires.client c.requires.device)
+    (play-tables c.args.tables.now 1 c.args.client.now c.args.device.now c.plan_play.ensures.limits c.requires.client c.requires.device)
