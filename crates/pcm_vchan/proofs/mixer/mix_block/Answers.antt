@@ -15,6 +15,19 @@ mix_channels-requires-clause-fits g c =
     let P = FitsBits (bits_of c.args.device.settings.format) in
     subst (All P) (sym (c.fill.ensures.after (λ y same. same))) (All-replicate P (length (take (c.args.n * c.channels.result) c.args.sum.now)) (pos 0) (silence-fits (bits_of c.args.device.settings.format)))
 
+pub mix_channels-requires-clause-frames : goal.mix_channels-requires-clause-frames
+mix_channels-requires-clause-frames g c =
+    let width : c.args.n * c.channels.result ≡ c.args.n * channels_of c.args.device.settings.layout = ap (λ k. c.args.n * k) c.channels.ensures in
+    omega (arith, length-take (c.args.n * c.channels.result) c.args.frames.now, width, c.requires.frames)
+
+pub mix_channels-requires-clause-sum : goal.mix_channels-requires-clause-sum
+mix_channels-requires-clause-sum g c =
+    let width : c.args.n * c.channels.result ≡ c.args.n * channels_of c.args.device.settings.layout = ap (λ k. c.args.n * k) c.channels.ensures in
+    omega (arith, c.fill.ensures.len, length-take (c.args.n * c.channels.result) c.args.sum.now, width, c.requires.sum)
+
+pub spell_frames-requires-clause-range : goal.spell_frames-requires-clause-range
+spell_frames-requires-clause-range g c = c.mix_channels.ensures.fits
+
 pub spell_frames-requires-clause-lengths : goal.spell_frames-requires-clause-lengths
 spell_frames-requires-clause-lengths g c =
     let settings = c.args.device.settings in

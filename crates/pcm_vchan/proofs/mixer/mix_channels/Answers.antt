@@ -1,10 +1,12 @@
-use Rattle.std.proofs.Common.{◌≡◌, ℕ, ◌+◌, ◌<◌, [], length, get_or, refl, sym, ap, ◌∙◌, subst, inl, inr, arith}
+use Rattle.std.proofs.Common.{◌≡◌, ℕ, ℤ, ◌+◌, ◌<◌, List, [], length, get_or, refl, sym, ap, ◌∙◌, subst, inl, inr, arith}
 use Rattle.std.proofs.lemmas.Bool.{cases_lt, cases_eq}
 use Rattle.pcm_desk.specs.Device.{DeviceSeen, seen}
 use Rattle.pcm_desk.specs.Desk.{mixing}
 use Rattle.pcm_sound.specs.Blocks.{turned}
 use Rattle.pcm_play.specs.declared.channel.PlayChannelOf.{PlayChannelOf}
 use Rattle.pcm_play.specs.Channels.{ChannelStands, IsReady, Moves}
+use Rattle.pcm_vchan.specs.Slots.{books_of}
+use Rattle.pcm_vchan.specs.Blocks.{mixed_onto}
 use Rattle.pcm_vchan.proofs.Channels.{some_channel}
 use Rattle.pcm_vchan.proofs.Blocks.{mixed-more}
 use Rattle.pcm_vchan.proofs.mixer.mix_channels.Goals as goal
@@ -60,10 +62,13 @@ loop-slot-preserved g c =
             (c.mix_slot.ensures.book other ∙ ap (λ (channel : PlayChannelOf _). mixing device n channel.book) (c.loop-slot.invariant.rest i other (omega arith))))
       ];
       rest = λ at other h. c.mix_slot.ensures.others at other (omega arith) ∙ c.loop-slot.invariant.rest at other (omega arith);
-      sum = λ streams stand.
-          c.mix_slot.ensures.sum first (streams i) (subst (λ (channel : PlayChannelOf _). ChannelStands g.B.Feeder.kept c.args.tables.now channel channel.book (streams i)) (sym was) (stand i first there))
-          ∙ ap (turned device n (get_or c.loop-slot.channels i first).book (streams i)) (c.loop-slot.invariant.sum streams stand)
-          ∙ mixed-more device n before streams i (get_or c.loop-slot.channels i first) first there was c.args.sum.now;
+      sum = λ streams stand. (
+          let channel : PlayChannelOf _ = get_or c.loop-slot.channels i first in
+          let mixed : List ℤ = mixed_onto device n (books_of before) streams i c.args.sum.now in
+          let stood : ChannelStands g.B.Feeder.kept c.args.tables.now channel channel.book (streams i) = subst (λ (held : PlayChannelOf _). ChannelStands g.B.Feeder.kept c.args.tables.now held held.book (streams i)) (sym was) (stand i first there) in
+          let by_slot : c.mix_slot.new.sum ≡ turned device n channel.book (streams i) c.loop-slot.sum = c.mix_slot.ensures.sum first (streams i) stood in
+          let onto : c.mix_slot.new.sum ≡ turned device n channel.book (streams i) mixed = by_slot ∙ ap (turned device n channel.book (streams i)) (c.loop-slot.invariant.sum streams stand) in
+          onto ∙ mixed-more device n before streams i channel first there was c.args.sum.now);
       fits = c.mix_slot.ensures.fits;
     }
 

@@ -1,4 +1,4 @@
-use Rattle.std.proofs.Common.{◌*◌, All, get_or, sym, ap, ◌∙◌, subst, get_or-set_same}
+use Rattle.std.proofs.Common.{◌≡◌, ◌*◌, [], All, get_or, sym, ap, ◌∙◌, subst, get_or-set_same}
 use Rattle.std.proofs.lemmas.List.{get_or_default}
 use Rattle.pcm_num.specs.Limit.{FitsBits}
 use Rattle.pcm_format.specs.Formats.{bits_of}
@@ -8,7 +8,7 @@ use Rattle.pcm_desk.specs.Device.{seen}
 use Rattle.pcm_desk.specs.Desk.{mixing}
 use Rattle.pcm_sound.specs.Blocks.{turned}
 use Rattle.pcm_play.specs.declared.channel.PlayChannelOf.{PlayChannelOf}
-use Rattle.pcm_play.specs.Channels.{ChannelStands}
+use Rattle.pcm_play.specs.Channels.{ChannelStands, Moves}
 use Rattle.pcm_vchan.proofs.mixer.mix_slot.Goals as goal
 
 pub refill-requires-clause-kinds : goal.refill-requires-clause-kinds
@@ -44,14 +44,32 @@ returns-clause-book g c = λ other.
     ∙ ap (λ (d : Device). mixing (seen c.args.tables.now d) c.args.n (get_or old c.args.slot held).book) (c.requires.own held)
     ∙ ap (λ (n : PlayChannelOf _). mixing (seen c.args.tables.now c.args.device) c.args.n n.book) (get_or_default old c.args.slot held other c.requires.there)
 
+pub refill-requires-clause-count : goal.refill-requires-clause-count
+refill-requires-clause-count g c = c.requires.count c.index-channels-slot.result
+
+pub refill-requires-clause-counted : goal.refill-requires-clause-counted
+refill-requires-clause-counted g c = c.requires.counted c.index-channels-slot.result
+
+pub returns-clause-moves : goal.returns-clause-moves
+returns-clause-moves g c = λ other.
+    let held = c.index-channels-slot.result in
+    let old = c.args.channels.now in
+    let Moved : PlayChannelOf _ → PlayChannelOf _ → Type 0 = Moves g.B.Feeder.kind g.B.Feeder.kept c.args.tables.now [] c.args.n in
+    subst (Moved (get_or old c.args.slot other)) (sym (get_or-set_same old c.args.slot c.refill.new.self other c.requires.there))
+    (subst (λ (n : PlayChannelOf _). Moved n c.refill.new.self) (get_or_default old c.args.slot held other c.requires.there) c.refill.ensures.moves)
+
 pub returns-clause-sum : goal.returns-clause-sum
 returns-clause-sum g c = λ other bytes stands.
     let held = c.index-channels-slot.result in
     let old = c.args.channels.now in
-    let same = get_or_default old c.args.slot held other c.requires.there in
-    c.refill.ensures.sum bytes (subst (λ (n : PlayChannelOf _). ChannelStands g.B.Feeder.kept c.args.tables.now n n.book bytes) (sym same) stands)
-    ∙ ap (λ (d : Device). turned (seen c.args.tables.now d) c.args.n (get_or old c.args.slot held).book bytes c.args.sum.now) (c.requires.own held)
-    ∙ ap (λ (n : PlayChannelOf _). turned (seen c.args.tables.now c.args.device) c.args.n n.book bytes c.args.sum.now) same
+    let sum = c.args.sum.now in
+    let before : PlayChannelOf _ = get_or old c.args.slot held in
+    let same : before ≡ get_or old c.args.slot other = get_or_default old c.args.slot held other c.requires.there in
+    let stood : ChannelStands g.B.Feeder.kept c.args.tables.now before before.book bytes = subst (λ (n : PlayChannelOf _). ChannelStands g.B.Feeder.kept c.args.tables.now n n.book bytes) (sym same) stands in
+    let by_channel : c.refill.new.sum ≡ turned (seen c.args.tables.now before.device) c.args.n before.book bytes sum = c.refill.ensures.sum bytes stood in
+    let of_device : c.refill.new.sum ≡ turned (seen c.args.tables.now c.args.device) c.args.n before.book bytes sum =
+    by_channel ∙ ap (λ (d : Device). turned (seen c.args.tables.now d) c.args.n before.book bytes sum) (c.requires.own held) in
+    of_device ∙ ap (λ (n : PlayChannelOf _). turned (seen c.args.tables.now c.args.device) c.args.n n.book bytes sum) same
 
 pub returns-clause-fits : goal.returns-clause-fits
 returns-clause-fits g c = subst (λ (d : Device). All (FitsBits (bits_of d.settings.format)) c.refill.new.sum) (c.requires.own c.index-channels-slot.result) c.refill.ensures.fits

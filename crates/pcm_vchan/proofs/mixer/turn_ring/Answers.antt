@@ -1,21 +1,60 @@
-use Rattle.std.proofs.Common.{◌≡◌, ◌≤◌, ◌*◌, ◌++◌, ◌-◌, ℕ, List, length, take, drop, ap, ◌∙◌, arith, length-take, length-drop}
-use Rattle.std.proofs.lemmas.List.{take_all}
+use Rattle.std.proofs.Common.{◌≡◌, ◌≤◌, ◌*◌, ◌++◌, ◌-◌, min, ℕ, List, length, take, drop, ap, ◌∙◌, arith, length-take, length-drop, length-append}
+use Rattle.std.proofs.lemmas.List.{append-nil, drop_all, take_all}
 use Rattle.pcm_ring.specs.Ring.{Ring}
 use Rattle.pcm_format.specs.Frames.{frame_bytes}
 use Rattle.pcm_vchan.proofs.mixer.turn_ring.Goals as goal
+
+-- how many bytes leave a full ring
+taken : (took want there room size : ℕ) → took ≡ min want there → want ≡ size → there ≡ room → size ≤ room → took ≡ size
+taken took want there room size is all full within = omega arith
+
+-- and as many come in
+put-back : (put block free left there room size : ℕ) → put ≡ min block free → block ≡ size → free ≡ room - left → left ≡ there - size → there ≡ room → size ≤ room → put ≡ size
+put-back put block free left there room size is whole leaves after full within = omega arith
+
+pub mix_block-requires-clause-bytes : goal.mix_block-requires-clause-bytes
+mix_block-requires-clause-bytes g c =
+    let width : c.args.n * c.frame_bytes.result ≡ c.args.n * frame_bytes c.args.device.settings = ap (λ k. c.args.n * k) c.frame_bytes.ensures in
+    omega (arith, length-take (c.args.n * c.frame_bytes.result) c.args.bytes.now, width, c.requires.bytes)
+
+pub returns-clause-size : goal.returns-clause-size
+returns-clause-size g c = ap (λ (ring : Ring). ring.size) c.put.ensures.kept ∙ ap (λ (ring : Ring). ring.size) c.take.ensures.left
+
+pub returns-clause-out : goal.returns-clause-out
+returns-clause-out g c =
+    let old = c.args.ring.now in
+    let size : ℕ = c.args.n * frame_bytes c.args.device.settings in
+    let took = taken c.take.result (length c.args.out.now) (length old.bytes) old.size size c.take.ensures.count c.requires.out c.requires.full c.requires.within in
+    c.take.ensures.moved ∙ ap (λ k. take k old.bytes ++ drop k c.args.out.now) took
+    ∙ ap (λ (rest : List ℕ). take size old.bytes ++ rest) (drop_all size c.args.out.now (omega (arith, c.requires.out)))
+    ∙ append-nil (take size old.bytes)
+
+pub returns-clause-full : goal.returns-clause-full
+returns-clause-full g c =
+    let old = c.args.ring.now in
+    let size : ℕ = c.args.n * frame_bytes c.args.device.settings in
+    let block : List ℕ = c.mix_block.new.bytes in
+    let took = taken c.take.result (length c.args.out.now) (length old.bytes) old.size size c.take.ensures.count c.requires.out c.requires.full c.requires.within in
+    let left : length c.take.new.self.bytes ≡ length old.bytes - size = ap (λ (ring : Ring). length ring.bytes) c.take.ensures.left ∙ ap (λ k. length (drop k old.bytes)) took ∙ length-drop size old.bytes in
+    let free : c.take.new.self.size - length c.take.new.self.bytes ≡ old.size - length c.take.new.self.bytes = ap (λ (ring : Ring). ring.size - length c.take.new.self.bytes) c.take.ensures.left in
+    let width : c.args.n * c.frame_bytes.result ≡ size = ap (λ k. c.args.n * k) c.frame_bytes.ensures in
+    let whole : length block ≡ size = omega (arith, c.mix_block.auto.bytes, length-take (c.args.n * c.frame_bytes.result) c.args.bytes.now, width, c.requires.bytes) in
+    let put = put-back c.put.result (length block) (c.take.new.self.size - length c.take.new.self.bytes) (length c.take.new.self.bytes) (length old.bytes) old.size size c.put.ensures.count whole free left c.requires.full c.requires.within in
+    ap (λ (ring : Ring). length ring.bytes) c.put.ensures.kept
+    ∙ omega (arith, length-append c.take.new.self.bytes (take c.put.result block), length-take c.put.result block, put, whole, left, c.requires.full, c.requires.within)
 
 pub returns-clause-ring : goal.returns-clause-ring
 returns-clause-ring g c = λ streams stand.
     let old = c.args.ring.now in
     let size : ℕ = c.args.n * frame_bytes c.args.device.settings in
     let block : List ℕ = c.mix_block.new.bytes in
-    let took : c.take.result ≡ size = omega (arith, c.take.ensures.count, c.requires.out, c.requires.full, c.requires.within) in
-    let left : length c.take.new.self.bytes ≡ old.size - size = ap (λ (ring : Ring). length ring.bytes) c.take.ensures.left ∙ omega (arith, length-drop c.take.result old.bytes, took, c.requires.full) in
-    let wide : c.take.new.self.size ≡ old.size = ap (λ (ring : Ring). ring.size) c.take.ensures.left in
+    let took = taken c.take.result (length c.args.out.now) (length old.bytes) old.size size c.take.ensures.count c.requires.out c.requires.full c.requires.within in
+    let left : length c.take.new.self.bytes ≡ length old.bytes - size = ap (λ (ring : Ring). length ring.bytes) c.take.ensures.left ∙ ap (λ k. length (drop k old.bytes)) took ∙ length-drop size old.bytes in
+    let free : c.take.new.self.size - length c.take.new.self.bytes ≡ old.size - length c.take.new.self.bytes = ap (λ (ring : Ring). ring.size - length c.take.new.self.bytes) c.take.ensures.left in
     let width : c.args.n * c.frame_bytes.result ≡ size = ap (λ k. c.args.n * k) c.frame_bytes.ensures in
     let whole : length block ≡ size = omega (arith, c.mix_block.auto.bytes, length-take (c.args.n * c.frame_bytes.result) c.args.bytes.now, width, c.requires.bytes) in
-    let long : length block ≤ c.put.result = omega (arith, c.put.ensures.count, left, wide, whole, c.requires.within) in
+    let put = put-back c.put.result (length block) (c.take.new.self.size - length c.take.new.self.bytes) (length c.take.new.self.bytes) (length old.bytes) old.size size c.put.ensures.count whole free left c.requires.full c.requires.within in
     ap (λ (ring : Ring). ring.bytes) c.put.ensures.kept
     ∙ ap (λ (ring : Ring). ring.bytes ++ take c.put.result block) c.take.ensures.left
     ∙ ap (λ k. drop k old.bytes ++ take c.put.result block) took
-    ∙ ap (λ (bytes : List ℕ). drop size old.bytes ++ bytes) (take_all c.put.result block long ∙ c.mix_block.ensures.bytes streams stand)
+    ∙ ap (λ (bytes : List ℕ). drop size old.bytes ++ bytes) (take_all c.put.result block (omega (arith, put, whole)) ∙ c.mix_block.ensures.bytes streams stand)

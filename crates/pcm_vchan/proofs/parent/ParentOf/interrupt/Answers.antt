@@ -9,8 +9,9 @@ use Rattle.pcm_desk.specs.Desk.{mixing}
 use Rattle.pcm_play.specs.declared.channel.PlayChannelOf.{PlayChannelOf}
 use Rattle.pcm_record.specs.declared.channel.RecChannelOf.{RecChannelOf}
 use Rattle.pcm_vchan.specs.Captures.{Captures}
-use Rattle.pcm_vchan.specs.Slots.{AllStand, Each, books_of}
-use Rattle.pcm_play.specs.Channels.{Moves}
+use Rattle.pcm_vchan.specs.Slots.{AllStand, AreOf, Each, RecordersAreOf, books_of}
+use Rattle.pcm_play.specs.Channels.{IsReady, Moves}
+use Rattle.pcm_record.specs.Channels.{IsRecordReady}
 use Rattle.pcm_vchan.specs.Blocks.{block_bytes, block_of}
 use Rattle.pcm_vchan.specs.Parents.{play_channels, rec_channels}
 use Rattle.pcm_vchan.proofs.parent.ParentOf.interrupt.Goals as goal
@@ -18,6 +19,12 @@ use Rattle.pcm_vchan.proofs.parent.ParentOf.interrupt.Goals as goal
 -- what stands in a list whose front was written over by as many elements
 rewritten : {A : Type 0} (new old : List A) (n : ℕ) → length new ≡ n → take n (new ++ drop (length new) old) ≡ new
 rewritten new old n long = take_at new (drop (length new) old) n long
+
+pub turn_ring-requires-clause-own : goal.turn_ring-requires-clause-own
+turn_ring-requires-clause-own g c = subst (AreOf c.args.self.now.device) (sym c.deref_mut.ensures.value) c.requires.own
+
+pub turn_ring-requires-clause-ready : goal.turn_ring-requires-clause-ready
+turn_ring-requires-clause-ready g c = subst (All (IsReady g.B.Feeder.kind g.B.Feeder.kept c.args.tables.now)) (sym c.deref_mut.ensures.value) c.requires.ready
 
 pub turn_ring-requires-clause-full : goal.turn_ring-requires-clause-full
 turn_ring-requires-clause-full g c = c.args.self.now.full ∙ sym c.args.self.now.size
@@ -53,6 +60,20 @@ turn_ring-requires-clause-count g c =
 pub turn_ring-requires-clause-counted : goal.turn_ring-requires-clause-counted
 turn_ring-requires-clause-counted g c =
     subst (All (λ (channel : PlayChannelOf _). channel.book.done + channel.book.written < 18446744073709551616)) (sym c.deref_mut.ensures.value) c.requires.counted
+
+pub capture_all-requires-clause-own : goal.capture_all-requires-clause-own
+capture_all-requires-clause-own g c = subst (RecordersAreOf c.args.self.now.device) (sym c.deref_mut-5.ensures.value) c.requires.recorders_own
+
+pub capture_all-requires-clause-ready : goal.capture_all-requires-clause-ready
+capture_all-requires-clause-ready g c = subst (All (IsRecordReady g.B.Feeder.kind g.B.Feeder.kept c.args.tables.now)) (sym c.deref_mut-5.ensures.value) c.requires.recorders_ready
+
+pub capture_all-requires-clause-count : goal.capture_all-requires-clause-count
+capture_all-requires-clause-count g c =
+    subst (All (λ (channel : RecChannelOf _). channel.book.captured + c.args.n < 72057594037927936)) (sym c.deref_mut-5.ensures.value) c.requires.recorders_count
+
+pub capture_all-requires-clause-kept : goal.capture_all-requires-clause-kept
+capture_all-requires-clause-kept g c =
+    subst (All (λ (channel : RecChannelOf _). channel.book.kept + 131072 < 18446744073709551616)) (sym c.deref_mut-5.ensures.value) c.requires.recorders_kept
 
 pub returns-clause-channels : goal.returns-clause-channels
 returns-clause-channels g c =
@@ -101,3 +122,9 @@ returns-clause-recorders g c =
     let old = c.args.self.now in
     let same = rewritten c.capture_all.new.channels (rec_channels old) (fixed_len old.recorders) (c.capture_all.auto.channels ∙ c.deref_mut-5.ensures.len) in
     rw same (subst (λ (before : List (RecChannelOf _)). Each (Captures g.B.Feeder.kind g.B.Feeder.kept (seen c.args.tables.now old.device) c.args.n c.args.captured.now) before c.capture_all.new.channels) c.deref_mut-5.ensures.value c.capture_all.ensures.moves)
+
+pub returns-clause-recorders_own : goal.returns-clause-recorders_own
+returns-clause-recorders_own g c =
+    let old = c.args.self.now in
+    let same = rewritten c.capture_all.new.channels (rec_channels old) (fixed_len old.recorders) (c.capture_all.auto.channels ∙ c.deref_mut-5.ensures.len) in
+    rw same c.capture_all.ensures.own
