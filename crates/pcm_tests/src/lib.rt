@@ -5,25 +5,15 @@
 #[cfg(test)]
 mod books;
 #[cfg(test)]
-mod commands;
-#[cfg(test)]
 mod configs;
-#[cfg(test)]
-mod formats;
-#[cfg(test)]
-mod limits;
 #[cfg(test)]
 mod memory_forms;
 #[cfg(test)]
-mod mixes;
-#[cfg(test)]
-mod numbers;
-#[cfg(test)]
 mod real_forms;
 #[cfg(test)]
-mod requests;
-#[cfg(test)]
 mod rings;
+#[cfg(test)]
+mod scripts;
 #[cfg(test)]
 mod soaks;
 #[cfg(test)]

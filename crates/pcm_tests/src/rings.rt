@@ -1,51 +1,36 @@
-//! What a ring takes and gives.
+//! A ring, once there is memory for it.
 
 use pcm_ring::ByteRing;
-use std::alloc::{AllocError, Global};
 use std::test::Fail;
 
-// What is put into a ring of four bytes that holds "xy" already, how much of it is accepted, and what waits then.
-type Row = (&'static [u8], usize, &'static [u8]);
+// What is put into a ring of four bytes, how many bytes of it are accepted, and the bytes that are then taken, three at most.
+type Turn = (&'static [u8], usize, &'static [u8]);
 
-const ROWS: [Row; 4] = [
-    (b"", 0, b"xy"),
-    (b"a", 1, b"xya"),
-    (b"ab", 2, b"xyab"),
-    (b"abcdef", 2, b"xyab"),
+const TURNS: [Turn; 5] = [
+    (b"", 0, b""),
+    (b"ab", 2, b"ab"),
+    // Round the end of the ring, and more than there is room for.
+    (b"cdefg", 4, b"cde"),
+    (b"hijk", 3, b"fhi"),
+    (b"", 0, b"j"),
 ];
 
-// Whether a ring does what a row says.
-fn is_right(alloc: Global, row: &Row) -> Result<bool, AllocError> {
-    let (bytes, accepted, waits) = row;
-    let mut ring = ByteRing::new(alloc, 4)?;
-    ring.put(b"xy");
-    let is_accepted = ring.put(bytes) == *accepted && ring.fill() + ring.free() == 4;
-    let mut out = [0; 8];
-    let count = ring.take(&mut out);
-    Ok(is_accepted && &out[..count] == *waits)
+// The first turn that a new ring takes otherwise.
+fn first_wrong(ring: &mut ByteRing) -> Option<usize> {
+    for (at, (bytes, accepted, taken)) in TURNS.iter().enumerate() {
+        let mut out = [0; 3];
+        let is_accepted = ring.put(bytes) == *accepted;
+        let count = ring.take(&mut out);
+        if !is_accepted || out.get(..count) != Some(*taken) {
+            return Some(at);
+        }
+    }
+    None
 }
 
 #[test]
-fn a_ring_takes_what_fits(rt: HostRuntime) -> Result<(), Fail> {
-    for row in &ROWS {
-        assert!(rt; is_right(rt.alloc(), row)?, "{:?}", row.0);
-    }
-    Ok(())
-}
-
-#[test]
-fn bytes_go_round_the_end(rt: HostRuntime) -> Result<(), Fail> {
-    // In each row two bytes are put and two are taken, past the end of a ring of three.
-    let rows: [&[u8]; 4] = [b"ab", b"cd", b"ef", b"gh"];
-    let mut ring = ByteRing::new(rt.alloc(), 3)?;
-    for bytes in rows {
-        ring.put(bytes);
-        let mut out = [0; 2];
-        assert_eq!(rt; ring.take(&mut out), 2, "{bytes:?}");
-        assert_eq!(rt; &out[..], bytes, "{bytes:?}");
-    }
-    ring.put(b"z");
-    ring.clear();
-    assert_eq!(rt; ring.fill(), 0);
+fn a_ring_of_four_bytes(rt: HostRuntime) -> Result<(), Fail> {
+    let mut ring = ByteRing::new(rt.alloc(), 4)?;
+    assert_eq!(rt; first_wrong(&mut ring), None);
     Ok(())
 }

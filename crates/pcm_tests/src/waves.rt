@@ -1,9 +1,7 @@
-//! Waves: bytes that other programs write, and a pool of them.
+//! Waves as other programs write them, once there is memory for them.
 
-use pcm_format::{Bytes, Format, Layout, Settings};
-use pcm_wave::{
-    DataFile, DataFiles, HEADER_BYTES, Pool, Source, Wave, WaveFault, header, read_wave,
-};
+use pcm_wave::DataFile;
+use std::alloc::{AllocError, Global};
 use std::test::Fail;
 
 // Two frames of one channel of 8 bits at 8000 frames each second.
@@ -18,87 +16,35 @@ const SURROUND: &[u8] =
 const PIPED: &[u8] =
     b"RIFF\xff\xff\xff\xffWAVEfmt \x10\0\0\0\x01\0\x02\0\x44\xac\0\0\x10\xb1\x02\0\x04\0\x10\0data\xff\xff\xff\xff\x01\0\x02\0";
 
-// Samples of 32 bits as floating point numbers.
-const FLOAT: &[u8] =
-    b"RIFF\x28\0\0\0WAVEfmt \x10\0\0\0\x03\0\x01\0\x40\x1f\0\0\0\x7d\0\0\x04\0\x20\0data\x04\0\0\0\0\0\x80\x3f";
-
-// Bytes, and what they tell: format, layout, frames per second, and the place and the bytes of the body.
-type Row = (&'static [u8], Format, Layout, u32, usize, u32);
-
-const WAVES: [Row; 3] = [
-    (MONO, Format::U8, Layout::One, 8000, 44, 2),
-    (SURROUND, Format::S24Le, Layout::Six, 48000, 80, 18),
-    (PIPED, Format::S16Le, Layout::Two, 44100, 44, 4),
+// The bytes of a file, and of its body.
+const ROWS: [(&[u8], &[u8]); 3] = [
+    (MONO, b"\x80\xff"),
+    (SURROUND, b"abcdefghijklmnopqr"),
+    (PIPED, b"\x01\0\x02\0"),
 ];
 
-#[test]
-fn waves_are_read(rt: HostRuntime) {
-    for (bytes, format, layout, rate, at, len) in &WAVES {
-        let wave = Wave {
-            format: *format,
-            layout: *layout,
-            rate: *rate,
-            at: *at,
-            len: *len,
-        };
-        assert_eq!(rt; read_wave(bytes), Ok(wave), "{rate}");
+// Whether a file of these bytes lends that body.
+fn lends(alloc: Global, bytes: &[u8], body: &[u8]) -> Result<bool, AllocError> {
+    let name = String::from_str(alloc, "a.wav")?;
+    let bytes = Vec::from_slice(alloc, bytes)?;
+    match DataFile::read(name, bytes) {
+        Ok(file) => Ok(file.body() == body),
+        Err(_) => Ok(false),
     }
 }
 
-#[test]
-fn other_bytes_are_none(rt: HostRuntime) {
-    let rows: [(&[u8], WaveFault); 5] = [
-        (b"", WaveFault::NotRiff),
-        (&MONO[..12], WaveFault::NoFormat),
-        (&MONO[..40], WaveFault::NoData),
-        (&MONO[..45], WaveFault::Truncated),
-        (FLOAT, WaveFault::Unsupported),
-    ];
-    for (bytes, fault) in rows {
-        assert_eq!(rt; read_wave(bytes), Err(fault), "{}", bytes.len());
+// The first file that lends something else.
+fn first_wrong(alloc: Global) -> Result<Option<usize>, AllocError> {
+    for (at, (bytes, body)) in ROWS.iter().enumerate() {
+        if !lends(alloc, bytes, body)? {
+            return Ok(Some(at));
+        }
     }
-}
-
-#[test]
-fn headers_are_written(rt: HostRuntime) {
-    let settings = Settings {
-        format: Format::U8,
-        layout: Layout::One,
-        rate: 8000,
-    };
-    assert_eq!(rt; header(&settings, 2).as_slice(), &MONO[..HEADER_BYTES]);
-    // Three bytes have a byte of padding behind them.
-    let odd = header(&settings, 3);
-    assert_eq!(rt; &odd[4..8], b"\x28\0\0\0".as_slice());
-    assert_eq!(rt; &odd[40..], b"\x03\0\0\0".as_slice());
+    Ok(None)
 }
 
 #[test]
 fn files_lend_their_bodies(rt: HostRuntime) -> Result<(), Fail> {
-    let alloc = rt.alloc();
-    let name = String::from_str(alloc, "mono.wav")?;
-    let bytes = Vec::from_slice(alloc, MONO)?;
-    let file = DataFile::read(name, bytes).expect(&rt, "a wave");
-    let mut files = Vec::new(alloc);
-    files.push(file)?;
-    let files = DataFiles::new(files);
-    assert_eq!(rt; files.as_slice().len(), 1);
-    for file in files.as_slice() {
-        assert_eq!(rt; file.name(), "mono.wav");
-        assert_eq!(rt; file.body(), b"\x80\xff".as_slice());
-        assert_eq!(rt; file.wave().settings().rate, 8000);
-    }
-    Ok(())
-}
-
-#[test]
-fn a_pool_lends_bytes(rt: HostRuntime) -> Result<(), Fail> {
-    let alloc = rt.alloc();
-    let pool = Pool {
-        files: DataFiles::new(Vec::new(alloc)),
-        capture: None,
-        inline_bytes: Bytes::new(Vec::from_slice(alloc, b"abcd")?),
-    };
-    assert_eq!(rt; pool.bytes_at(Source::Inline, 1, 2), b"bc".as_slice());
+    assert_eq!(rt; first_wrong(rt.alloc())?, None);
     Ok(())
 }

@@ -1,0 +1,193 @@
+//! Texts to events, once there is memory for them: words, numbers, kinds of faults, and the limits.
+
+use pcm_desk::Device;
+use pcm_format::{Format, Layout, Settings};
+use pcm_oss::{Event, Request, Way};
+use pcm_script::{Script, ScriptFault, script_of};
+use pcm_wave::Source;
+use std::alloc::{AllocError, Global};
+use std::test::Fail;
+
+// How many events a text gives, or the line that is refused and why.
+type Outcome = Result<usize, (u32, &'static str)>;
+
+// What comes of a text.
+fn outcome(alloc: Global, text: &[u8]) -> Outcome {
+    match script_of(alloc, text, &Device::usual(), &[]) {
+        Ok(script) => Ok(script.events.as_slice().len()),
+        Err(ScriptFault::Refused(refusal)) => Err((refusal.line, refusal.kind.word())),
+        Err(ScriptFault::Memory) => Err((0, "memory")),
+    }
+}
+
+// A text, and what is to come of it.
+type Row = (&'static [u8], Outcome);
+
+const TEXTS: [Row; 24] = [
+    // Lines and their words.
+    (b" \t intr \t 7 \r\n", Ok(1)),
+    (b"\r\nintr\r\n\r", Ok(1)),
+    (b"intr\r\r\n", Err((1, "word"))),
+    (b"intr\x0b7", Err((1, "word"))),
+    (b"intr 7 # \xff\xfe and more", Ok(1)),
+    (b"#intr\n  # intr 0\nintr #0", Ok(1)),
+    (b"intr# 7", Err((1, "word"))),
+    (b"\n\nintr\n\nintr 0\nnosuch", Err((5, "range"))),
+    // Numbers of either base.
+    (b"close 0000000063", Ok(1)),
+    (b"close 00000000063", Err((1, "number"))),
+    (b"close 9999999999", Err((1, "range"))),
+    (b"close 0x0000003f", Ok(1)),
+    (b"close 0x00000003f", Err((1, "number"))),
+    (b"close 0x", Err((1, "number"))),
+    (b"close -1", Err((1, "number"))),
+    (b"ioctl 0 speed 4294967295", Ok(1)),
+    (b"ioctl 0 setfmt 00000000016", Err((1, "name"))),
+    // A wrong count of words comes before any other fault, and the words are judged from left to right.
+    (b"open x no s16le 2", Err((1, "count"))),
+    (b"open 64 no", Err((1, "range"))),
+    (b"open 0 rec u8 x x", Err((1, "number"))),
+    (b"write 0 -", Ok(1)),
+    (b"write 64 0", Err((1, "range"))),
+    (b"read 64 x", Err((1, "range"))),
+    (b"ioctl x nosuch 1 2", Err((1, "count"))),
+];
+
+// The first text that comes to something else.
+fn first_wrong(alloc: Global) -> Option<usize> {
+    for (at, (text, expected)) in TEXTS.iter().enumerate() {
+        if outcome(alloc, text) != *expected {
+            return Some(at);
+        }
+    }
+    None
+}
+
+#[test]
+fn texts(rt: HostRuntime) {
+    assert_eq!(rt; first_wrong(rt.alloc()), None);
+}
+
+// How a text begins, a part that follows so many times, how it ends, and what is to come of it.
+type LongRow = (&'static [u8], usize, &'static [u8], &'static [u8], Outcome);
+
+const LIMITS: [LongRow; 9] = [
+    // Each interrupt takes 1024 frames of four bytes.
+    (b"", 65536, b"intr 1024\n", b"", Ok(65536)),
+    (b"", 65537, b"intr 1024\n", b"", Err((65537, "long"))),
+    // A line behind as many events as a script may have.
+    (b"", 1048576, b"close 9\n", b"", Ok(1048576)),
+    (
+        b"",
+        1048576,
+        b"close 9\n",
+        b"close 9",
+        Err((1048577, "long")),
+    ),
+    (
+        b"",
+        1048576,
+        b"close 9\n",
+        b"close 64",
+        Err((1048577, "range")),
+    ),
+    // 64 mebibytes of text, and a byte more.
+    (
+        b"",
+        2097152,
+        b"# a comment of 32 bytes.........",
+        b"",
+        Ok(0),
+    ),
+    (
+        b"",
+        2097152,
+        b"# a comment of 32 bytes.........",
+        b".",
+        Err((0, "long")),
+    ),
+    // The bytes of a write.
+    (b"write 0 ", 4096, b"5a", b"", Ok(1)),
+    (b"write 0 ", 4097, b"5a", b"", Err((1, "hex"))),
+];
+
+// The text of a row.
+fn text_of(alloc: Global, row: &LongRow) -> Result<Vec<u8>, AllocError> {
+    let (first, times, part, last, _) = row;
+    let mut text = Vec::from_slice(alloc, first)?;
+    for _ in 0..*times {
+        text.extend_from_slice(part)?;
+    }
+    text.extend_from_slice(last)?;
+    Ok(text)
+}
+
+// The first long text that comes to something else.
+fn first_wrong_limit(alloc: Global) -> Result<Option<usize>, AllocError> {
+    for (at, row) in LIMITS.iter().enumerate() {
+        let text = text_of(alloc, row)?;
+        if outcome(alloc, &text) != row.4 {
+            return Ok(Some(at));
+        }
+    }
+    Ok(None)
+}
+
+#[test]
+fn limits(rt: HostRuntime) -> Result<(), Fail> {
+    assert_eq!(rt; first_wrong_limit(rt.alloc())?, None);
+    Ok(())
+}
+
+const TEXT: &[u8] = b"open 4 rec u24be 4 96000\n\
+    write 3 0102\n\
+    write 3 03\n\
+    ioctl 3 setplayvol 0x3264\n\
+    intr\n\
+    read 4 4096\n\
+    close 3\n";
+
+const EVENTS: [Event; 7] = [
+    Event::Open {
+        fd: 4,
+        way: Way::Rec,
+        settings: Settings {
+            format: Format::U24Be,
+            layout: Layout::Four,
+            rate: 96000,
+        },
+    },
+    Event::Write {
+        fd: 3,
+        source: Source::Inline,
+        at: 0,
+        len: 2,
+    },
+    Event::Write {
+        fd: 3,
+        source: Source::Inline,
+        at: 2,
+        len: 1,
+    },
+    Event::Ioctl {
+        fd: 3,
+        request: Request::SetPlayVol(12900),
+    },
+    Event::Intr { frames: 256 },
+    Event::Read { fd: 4, len: 4096 },
+    Event::Close { fd: 3 },
+];
+
+// Whether a script has these events, and the bytes and frames that they name.
+fn has_events(script: &Script) -> bool {
+    script.events.as_slice() == EVENTS.as_slice()
+        && script.inline_bytes.as_slice() == b"\x01\x02\x03".as_slice()
+        && script.device_frames == 256
+}
+
+#[test]
+fn a_script_has_its_events_in_order(rt: HostRuntime) -> Result<(), Fail> {
+    let script = script_of(rt.alloc(), TEXT, &Device::usual(), &[])?;
+    assert!(rt; has_events(&script));
+    Ok(())
+}
