@@ -1,6 +1,7 @@
 //! What each command asks for.
 
-ghost use Rattle.std.specs.Prelude.{◌≡◌, ◌∷◌, []};
+ghost use Rattle.std.specs.Prelude.{◌≡◌, ◌∷◌, [], codes, false};
+ghost use Rattle.std.specs.Str.{bytes_eq};
 ghost use Rattle.pcm_desk.specs.Device.{unfiltered};
 ghost use Rattle.pcm_script.specs.Answers.{Asks};
 ghost use Rattle.pcm_script.specs.Commands.{close_line, command_line, interrupt_line, ioctl_line, line_event, open_line, read_line, send_line, write_line};
@@ -51,18 +52,36 @@ fn command_line(
         Ok(open_line(arguments)?)
     } else if word == b"write".as_slice() {
         write_line(alloc, arguments)
-    } else if word == b"send".as_slice() {
-        Ok(send_line(files, arguments)?)
-    } else if word == b"read".as_slice() {
-        Ok(read_line(arguments)?)
-    } else if word == b"ioctl".as_slice() {
-        Ok(ioctl_line(arguments)?)
-    } else if word == b"close".as_slice() {
-        Ok(close_line(arguments)?)
-    } else if word == b"intr".as_slice() {
-        Ok(interrupt_line(device, arguments)?)
     } else {
-        Err(LineFault::Refused(ScriptKind::Word))
+        Ok(later_line(device, files, word, arguments)?)
+    }
+}
+
+// A line of any other command.
+#[tactic(auto, unfolding(crate::specs::Commands::command_line))]
+fn later_line(
+    device: &Device,
+    files: &[DataFile],
+    word: &[u8],
+    arguments: &[&[u8]],
+) -> Result<LineEvent, ScriptKind>
+    requires open { bytes_eq word.now (codes "open") ≡ false }
+    requires write { bytes_eq word.now (codes "write") ≡ false }
+    ensures { result
+        ≡ command_line (unfiltered device.now) files.now word.now (lent arguments.now) }
+{
+    if word == b"send".as_slice() {
+        send_line(files, arguments)
+    } else if word == b"read".as_slice() {
+        read_line(arguments)
+    } else if word == b"ioctl".as_slice() {
+        ioctl_line(arguments)
+    } else if word == b"close".as_slice() {
+        close_line(arguments)
+    } else if word == b"intr".as_slice() {
+        interrupt_line(device, arguments)
+    } else {
+        Err(ScriptKind::Word)
     }
 }
 
@@ -107,10 +126,10 @@ fn full_open(d: &[u8], w: &[u8], f: &[u8], c: &[u8], r: &[u8]) -> Result<LineEve
 fn write_line(alloc: Global, arguments: &[&[u8]]) -> Result<LineEvent, LineFault>
     ensures { Asks result (write_line (lent arguments.now)) }
 {
-    match arguments {
-        [d, h] => full_write(alloc, d, h),
-        _ => Err(LineFault::Refused(ScriptKind::Count)),
-    }
+    let [d, h] = arguments else {
+        return Err(LineFault::Refused(ScriptKind::Count));
+    };
+    full_write(alloc, d, h)
 }
 
 // A write that names a descriptor and bytes.
@@ -160,10 +179,10 @@ fn full_send(
 fn read_line(arguments: &[&[u8]]) -> Result<LineEvent, ScriptKind>
     ensures { result ≡ read_line (lent arguments.now) }
 {
-    match arguments {
-        [d, l] => full_read(d, l),
-        _ => Err(ScriptKind::Count),
-    }
+    let [d, l] = arguments else {
+        return Err(ScriptKind::Count);
+    };
+    full_read(d, l)
 }
 
 // A read that names a descriptor and a number of bytes.

@@ -1,10 +1,10 @@
 //! A script that grows line by line.
 
-ghost use Rattle.std.specs.Prelude.{◌≡◌, ◌≤◌, length};
-ghost use Rattle.pcm_desk.specs.declared.limits.TheConstants.{WRITE_BYTES};
+ghost use Rattle.std.specs.Prelude.{◌≡◌, ◌+◌, ◌^◌, ◌<◌, ◌≤◌, length, OnOk};
+ghost use Rattle.pcm_desk.specs.declared.limits.TheConstants.{EVENTS, WRITE_BYTES};
 ghost use Rattle.pcm_desk.specs.Device.{unfiltered};
 ghost use Rattle.pcm_script.specs.Answers.{Gives};
-ghost use Rattle.pcm_script.specs.Collecting.{has_room, own_bytes, with_event};
+ghost use Rattle.pcm_script.specs.Collecting.{frames_asked, has_room, own_bytes, script_with, with_event};
 ghost use Rattle.pcm_script.specs.Lines.{empty_script};
 
 use crate::fault::LineFault;
@@ -13,7 +13,7 @@ use crate::{Events, Script, ScriptKind};
 use pcm_desk::{DEVICE_BYTES, Device, EVENTS};
 use pcm_format::Bytes;
 use pcm_oss::Event;
-use std::alloc::Global;
+use std::alloc::{AllocError, Global};
 use std::marker::Model;
 
 // What the lines so far gave. In a clause it is a script.
@@ -69,6 +69,16 @@ impl Draft {
         if !self.has_room(device, line.frames()) {
             return Err(LineFault::Refused(ScriptKind::Long));
         }
+        Ok(self.push(line)?)
+    }
+
+    // Adds the event of a line.
+    fn push(&mut self, line: &LineEvent) -> Result<(), AllocError>
+        requires bytes { length (own_bytes line.now) ≤ WRITE_BYTES }
+        requires events { length self.old.events < EVENTS }
+        requires frames { self.old.device_frames + frames_asked line.now < 2 ^ 32 }
+        ensures { OnOk result (self.new ≡ script_with self.old line.now) }
+    {
         let place = self.inline_bytes.len() as u32;
         self.events.push(line.event_at(place))?;
         self.inline_bytes.extend_from_slice(line.bytes())?;

@@ -62,7 +62,7 @@ pub enum ScriptFault {
 }
 
 // Why a line isn't added to a script.
-#[derive(Debug, Drop)]
+#[derive(Drop)]
 pub(crate) enum LineFault {
     Refused(ScriptKind),
     Memory,
