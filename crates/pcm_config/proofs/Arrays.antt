@@ -1,5 +1,6 @@
 -- Arrays of TOML, value after value.
-use Rattle.std.proofs.Common.{◌≡◌, Bool, true, false, ◌&&◌, cond, List, [], ◌∷◌, ◌++◌, drop, ℕ, Option, Some, None, option_map, refl, sym, ap, ◌∙◌}
+use Rattle.std.proofs.Common.{◌≡◌, Bool, true, false, ◌&&◌, cond, List, [], ◌∷◌, ◌++◌, length, drop, get_or, ℕ, ◌+◌, ◌<◌, ◌≤◌, Option, Some, None, option_map, refl, sym, ap, ◌∙◌}
+use Rattle.std.proofs.lemmas.List.{append-nil, drop_all, drop_more}
 use Rattle.std.specs.Prelude.{is_some}
 use Rattle.std.specs.List.{list_all}
 use Rattle.toml.specs.Data.{Data, Members, as_array, as_table}
@@ -62,3 +63,28 @@ pub some-other : (value : Data) (values : List Value) → as_array value ≡ Som
     → false ≡ list_all (λ inner. is_some (as_table (view inner))) values → None ≡ as_array_of as_table value
 some-other value values found other =
     sym (array-is as_table value values found ∙ tables-are values ∙ ap (λ test. cond test (Some (tables_seen values)) None) (sym other))
+
+-- ---- values that are read one after another
+
+-- the values from an index on, the first of them by itself
+first-behind : {A B : Type 0} (as_kind : A → Option B) (values : List A) (index : ℕ) (done : List B) (value : A)
+    → index < length values → value ≡ get_or values index value → IsRead as_kind values index done
+    → joined done (with_first (as_kind value) (each_as as_kind (drop (index + 1) values))) ≡ each_as as_kind values
+first-behind as_kind values index done value within at before =
+    ap (λ v. joined done (with_first (as_kind v) (each_as as_kind (drop (index + 1) values)))) at
+    ∙ ap (λ rest. joined done (each_as as_kind rest)) (sym (drop_more values index value within))
+    ∙ before
+
+-- one of another kind
+pub value-other : {A B : Type 0} (as_kind : A → Option B) (values : List A) (index : ℕ) (done : List B) (value : A)
+    → index < length values → value ≡ get_or values index value → as_kind value ≡ None → IsRead as_kind values index done
+    → each_as as_kind values ≡ None
+value-other as_kind values index done value within at none before =
+    sym (first-behind as_kind values index done value within at before)
+    ∙ ap (λ first. joined done (with_first first (each_as as_kind (drop (index + 1) values)))) none
+
+-- the last one was read
+pub all-read : {A B : Type 0} (as_kind : A → Option B) (values : List A) (index : ℕ) (done : List B)
+    → length values ≤ index → IsRead as_kind values index done → each_as as_kind values ≡ Some done
+all-read as_kind values index done past before =
+    sym before ∙ ap (λ rest. joined done (each_as as_kind rest)) (drop_all index values past) ∙ ap Some (append-nil done)

@@ -74,15 +74,20 @@ whole_read config =
     else if not (has_capture config.files config.capture) then refused kinds.Capture places.DeviceCapture
     else Ok config
 
+-- the files and the filters, beside what is settled of the device and the channels, and then the whole
+abbrev pub lists_read : Hardware → Option (List ℕ) → Slots → Members → List Members → Result Config ConfigRefusal
+lists_read hardware capture slots table tables = do
+  files ← files_in table
+  filters ← filters_in tables
+  whole_read (config_with hardware capture slots files filters)
+
 -- the values of the tables, in their order, and then the whole
 unfoldable pub values_read : Members → Members → Members → List Members → Result Config ConfigRefusal
 values_read device vchans table tables = do
   hardware ← hardware_in device
   capture ← capture_in device
   slots ← slots_in vchans
-  files ← files_in table
-  filters ← filters_in tables
-  whole_read (config_with hardware capture slots files filters)
+  lists_read hardware capture slots table tables
 
 -- the keys of the tables, and then their values
 unfoldable pub tables_read : Members → Members → Members → List Members → Result Config ConfigRefusal

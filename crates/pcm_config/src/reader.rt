@@ -6,15 +6,16 @@ ghost use Rattle.toml.specs.View.{table_view};
 ghost use Rattle.pcm_config.specs.declared.fault.ConfigKind.TheVariants.{Toml};
 ghost use Rattle.pcm_config.specs.declared.place.ConfigPlace.TheVariants.{Top};
 ghost use Rattle.pcm_config.specs.Answers.{Reads};
-ghost use Rattle.pcm_config.specs.Configs.{AreInOrder, HasCapture, IsHeld, IsSettled, config_read, device_seen, document_of, document_read, tables_read, top_read, values_read};
+ghost use Rattle.pcm_config.specs.Configs.{AreInOrder, HasCapture, IsHeld, IsSettled, config_read, device_seen, document_of, document_read, lists_read, tables_read, top_read, values_read};
 ghost use Rattle.pcm_config.specs.Judgements.{as_seen, required};
 ghost use Rattle.pcm_config.specs.Lookups.{members_seen, tables_seen};
+ghost use Rattle.pcm_config.specs.Values.{AreSlots, IsHardware};
 
 use crate::fault::refused;
 use crate::files::files_in;
-use crate::hardware::hardware_in;
+use crate::hardware::{Hardware, hardware_in};
 use crate::lookup::{has_only, table_in, text_at};
-use crate::slots::slots_in;
+use crate::slots::{Slots, slots_in};
 use crate::tables::{filter_tables, filters_in, have_filter_keys};
 use crate::whole::{config_with, whole_read};
 use crate::{CONFIG_BYTES, Config, ConfigFault, ConfigKind, ConfigPlace, Name};
@@ -142,6 +143,23 @@ fn values_read(
     let hardware = hardware_in(device)?;
     let capture = text_at(device, ConfigPlace::DeviceCapture)?;
     let slots = slots_in(vchans)?;
+    lists_read(alloc, hardware, capture, slots, files, tables)
+}
+
+// The files and the filters, and the whole.
+fn lists_read(
+    alloc: Global,
+    hardware: Hardware,
+    capture: Option<&str>,
+    slots: Slots,
+    files: Option<&Table>,
+    tables: &[Value],
+) -> Result<Config, ConfigFault>
+    requires hardware { IsHardware hardware }
+    requires slots { AreSlots slots }
+    ensures read { Reads result (lists_read hardware (option_copied capture.entry) slots (members_seen files.entry) (tables_seen tables.now)) }
+    ensures settled { IfOk result IsSettled }
+{
     let files = files_in(alloc, files)?;
     let tables = filters_in(alloc, tables)?;
     let capture = name_of(alloc, capture)?;

@@ -78,7 +78,7 @@ fn have_names(table: &Table) -> bool
 fn is_filter_key(key: &str) -> bool
     ensures { result ≡ is_filter_key key.now }
 {
-    key == "src" || key == "dst" || key == "shift" || key == "rows"
+    matches!(key, "src" | "dst" | "shift" | "rows")
 }
 
 // The filters of tables, of which there are only so many.
