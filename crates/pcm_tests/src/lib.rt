@@ -9,6 +9,8 @@ mod configs;
 #[cfg(test)]
 mod memory_forms;
 #[cfg(test)]
+mod mixes;
+#[cfg(test)]
 mod real_forms;
 #[cfg(test)]
 mod rings;
