@@ -3,13 +3,13 @@ use Rattle.std.proofs.Common.{◌≡◌, ℕ, ◌++◌, List, [], Option, Some, 
 use Rattle.pcm_outside.specs.Counts.{Rose}
 use Rattle.pcm_outside.specs.Files.{FilesSeen, Appends, Creates, FailsToAppend, FailsToCreate, Grows, IsLeft, OnlyAppends, OnlyReads, OnlyWrites}
 use Rattle.pcm_outside.specs.Sink.{SinkSeen, FailsToPut, Puts, PutsMore}
-use Rattle.pcm_replay.specs.Outside.{Outside}
-use Rattle.pcm_replay.proofs.Parts.{reads-later}
+use Rattle.pcm_inputs.specs.Outside.{Outside}
+use Rattle.pcm_inputs.proofs.Parts.{reads-later}
 use Rattle.pcm_verdict.specs.Outputs.{Output, Written, header_in, output_of}
 use Rattle.pcm_verdict.specs.Verdict.{Accepted, Runs, Checks, Converts, Soaks}
 use Rattle.pcm_replay.specs.Cuts.{CutsCall, CutsRun, RunAtCreate, RunInBytes, RunInHeader, RunInLine}
 use Rattle.pcm_replay.specs.Playback.{Playback, bytes_until, lines_until, playback_of}
-use Rattle.pcm_replay.specs.Reads.{OnlyHasRead}
+use Rattle.pcm_inputs.specs.Reads.{OnlyHasRead}
 use Rattle.pcm_replay.specs.Written.{AtAppend, AtCreate, AtPut, CutAtAppend, CutAtCreate, CutsOutput, HasWritten, WritesAll, WritesFile}
 
 -- a file that was created, and that a piece was appended to

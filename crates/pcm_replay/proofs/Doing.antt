@@ -9,18 +9,18 @@ use Rattle.pcm_verdict.specs.Commands.{Command, command_of, RunScript, CheckScri
 use Rattle.pcm_verdict.specs.Judging.{given}
 use Rattle.pcm_verdict.specs.Outputs.{Output, Written, output_of}
 use Rattle.pcm_verdict.specs.Verdict.{Accepted, Runs, Checks, Converts, Soaks, Conversion, Inputs, if_command}
-use Rattle.pcm_replay.specs.declared.ending.Ending.{Ending}
-use Rattle.pcm_replay.specs.declared.ending.Ending.TheVariants.{Usage, CannotRead, BadConfig, BadScript, BadWave, CannotWrite, NoMemory}
-use Rattle.pcm_replay.specs.Commands.{IsOf, MayRead}
+use Rattle.pcm_inputs.specs.declared.ending.Ending.{Ending}
+use Rattle.pcm_inputs.specs.declared.ending.Ending.TheVariants.{Usage, CannotRead, BadConfig, BadScript, BadWave, CannotWrite, NoMemory}
+use Rattle.pcm_inputs.specs.Commands.{IsOf, MayRead}
 use Rattle.pcm_replay.specs.Endings.{CutsLines, CutsShort, DoesCommand, DoesWords, EndsCall, EndsCommand, HasRun, InAccepted, InLine, IsCommandCut}
 use Rattle.pcm_replay.specs.Outcomes.{InFaultLine, InOutput, IsCut, Spells, command_part, verdict_on}
 use Rattle.pcm_replay.specs.Cuts.{CutsCall}
-use Rattle.pcm_replay.specs.Outside.{Outside, both}
-use Rattle.pcm_replay.specs.Parts.{conversion_part, inputs_part}
-use Rattle.pcm_replay.specs.Reads.{Comes, Ends, OnlyHasRead, Part}
+use Rattle.pcm_inputs.specs.Outside.{Outside, both}
+use Rattle.pcm_inputs.specs.Parts.{conversion_part, inputs_part}
+use Rattle.pcm_inputs.specs.Reads.{Comes, Ends, OnlyHasRead, Part}
 use Rattle.pcm_replay.specs.Written.{AtPut, CutsOutput, WritesAll}
 use Rattle.pcm_replay.proofs.Cuts.{cut-later, written-later}
-use Rattle.pcm_replay.proofs.Parts.{LeadsTo, comes-next, ends-as, leads-first, reads-nothing}
+use Rattle.pcm_inputs.proofs.Parts.{LeadsTo, comes-next, ends-as, leads-first, reads-nothing}
 
 -- ---- what a command reads
 

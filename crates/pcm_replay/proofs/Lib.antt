@@ -1,9 +1,3 @@
-pub mod Parts
-pub mod Fronts
-pub mod Refusing
-pub mod Judgements
-pub mod Loading
-pub mod Ordering
 pub mod Doing
 pub mod Plain
 pub mod Quiet
@@ -12,6 +6,5 @@ pub mod Cuts
 pub mod Plays
 pub mod Turns
 pub mod Soaking
-pub mod Texts
 pub mod Blocks
 pub mod Waves

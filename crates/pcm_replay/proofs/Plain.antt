@@ -15,7 +15,7 @@ use Rattle.pcm_verdict.specs.Verdict.{Accepted, Inputs, Runs}
 use Rattle.pcm_verdict.proofs.Accepted.{IsPlayable, accepted-playable}
 use Rattle.pcm_replay.specs.Endings.{DoesWords}
 use Rattle.pcm_replay.specs.Outcomes.{IsAccepted}
-use Rattle.pcm_replay.specs.Outside.{Outside}
+use Rattle.pcm_inputs.specs.Outside.{Outside}
 use Rattle.pcm_replay.specs.Written.{WritesAll, WritesLike}
 use Rattle.pcm_replay.proofs.Doing.{verdict-of}
 

@@ -4,12 +4,12 @@ use Rattle.pcm_verdict.specs.Commands.{Command, command_of, RunScript, CheckScri
 use Rattle.pcm_verdict.specs.Outputs.{Output, Written, output_of}
 use Rattle.pcm_verdict.specs.Verdict.{Accepted, Runs, Checks, Converts, Soaks}
 use Rattle.pcm_outside.specs.Files.{FilesSeen, OnlyReads}
-use Rattle.pcm_replay.specs.Commands.{IsOf, WriteNoFile}
+use Rattle.pcm_inputs.specs.Commands.{IsOf, WriteNoFile}
 use Rattle.pcm_replay.specs.Cuts.{CutsCall}
 use Rattle.pcm_replay.specs.Outcomes.{InFaultLine, InForms, InOutput, IsCut, OnlyPutFails}
-use Rattle.pcm_replay.specs.Outside.{Outside}
+use Rattle.pcm_inputs.specs.Outside.{Outside}
 use Rattle.pcm_replay.specs.Written.{AtAppend, AtCreate, AtPut, CutsOutput, WritesFile}
-use Rattle.pcm_replay.proofs.Parts.{reads-nothing}
+use Rattle.pcm_inputs.proofs.Parts.{reads-nothing}
 
 -- what was to be left has no file
 no-file : (output : Output) (before after : Outside) → output.file ≡ None → CutsOutput output before after → OnlyPutFails before after

@@ -23,12 +23,12 @@ use Rattle.pcm_verdict.specs.Faults.{Fault}
 use Rattle.pcm_verdict.specs.Judging.{◌>>=◌, Contents, Judged, came_after, given, judge, or_missing}
 use Rattle.pcm_verdict.specs.Outputs.{Written}
 use Rattle.pcm_verdict.specs.Verdict.{Accepted, Runs, Checks, Converts, Conversion, Inputs, bytes_held, command_judged, config_judged, conversion_from, conversion_judged, conversion_of, conversion_within, file_behind, file_judged, file_of, files_behind, frames_converted, has_shape, if_command, inputs_judged, inputs_under, is_capture, or_bad_config, or_bad_script, script_judged}
-use Rattle.pcm_replay.specs.declared.ending.Ending.{Ending}
-use Rattle.pcm_replay.specs.declared.ending.Ending.TheVariants.{Usage, CannotRead, BadConfig, BadScript, BadWave, CannotWrite, NoMemory}
+use Rattle.pcm_inputs.specs.declared.ending.Ending.{Ending}
+use Rattle.pcm_inputs.specs.declared.ending.Ending.TheVariants.{Usage, CannotRead, BadConfig, BadScript, BadWave, CannotWrite, NoMemory}
 use Rattle.pcm_replay.specs.Endings.{EndsCall}
-use Rattle.pcm_replay.specs.Faults.{ending_of, ending_status}
+use Rattle.pcm_inputs.specs.Faults.{ending_of, ending_status}
 use Rattle.pcm_replay.specs.Outcomes.{MayEnd, MayRefuse, RefusesFile, Spells, verdict_on}
-use Rattle.pcm_replay.specs.Outside.{NoneRose, Outside}
+use Rattle.pcm_inputs.specs.Outside.{NoneRose, Outside}
 use Rattle.pcm_replay.specs.Written.{WritesFile}
 
 -- ---- one status for each ending

@@ -11,7 +11,7 @@ use Rattle.pcm_engine.specs.Engines.{device_of}
 use Rattle.pcm_outside.specs.Files.{FilesSeen, Appends, Creates, Grows, OnlyAppends, OnlyWrites}
 use Rattle.pcm_outside.specs.Sink.{SinkSeen, OnlyPuts, Puts, PutsMore}
 use Rattle.pcm_replay.specs.Cuts.{CutsRun, RunInBytes, RunInLine}
-use Rattle.pcm_replay.specs.Outside.{Outside, both}
+use Rattle.pcm_inputs.specs.Outside.{Outside, both}
 use Rattle.pcm_replay.specs.Playback.{Playback, bytes_until, lines_until, playback, playback_of}
 use Rattle.pcm_config.specs.Configs.{device_seen}
 use Rattle.pcm_verdict.specs.Outputs.{header_in, inputs_pool}

@@ -7,7 +7,7 @@ use Rattle.pcm_wave.specs.Waves.{settings_of}
 use Rattle.pcm_convert.specs.Conversions.{converted_frames}
 use Rattle.pcm_verdict.specs.Outputs.{Output, convert_line, converted_file, output_of}
 use Rattle.pcm_verdict.specs.Verdict.{Conversion, Converts, frames_converted}
-use Rattle.pcm_replay.specs.Outside.{Outside}
+use Rattle.pcm_inputs.specs.Outside.{Outside}
 use Rattle.pcm_replay.specs.Written.{CutsOutput, WritesAll, wave_body}
 use Rattle.pcm_replay.proofs.Cuts.{output-as}
 

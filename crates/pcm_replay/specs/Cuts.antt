@@ -5,7 +5,7 @@ use Rattle.pcm_outside.specs.Files.{IsPrefixOf}
 use Rattle.pcm_outside.specs.Sink.{Puts, PutsMore}
 use Rattle.pcm_verdict.specs.Outputs.{header_in, output_of}
 use Rattle.pcm_verdict.specs.Verdict.{Accepted, Runs, Checks, Converts, Soaks}
-use Rattle.pcm_replay.specs.Outside.{Outside}
+use Rattle.pcm_inputs.specs.Outside.{Outside}
 use Rattle.pcm_replay.specs.Playback.{Playback, bytes_until, lines_until, playback_of}
 use Rattle.pcm_replay.specs.Turns.{IsNext}
 use Rattle.pcm_replay.specs.Written.{CutAtAppend, CutAtCreate, CutsOutput, HasWritten, WritesWhole}

@@ -10,14 +10,14 @@ use Rattle.pcm_verdict.specs.Commands.{Command}
 use Rattle.pcm_verdict.specs.Outputs.{inputs_pool, output_of}
 use Rattle.pcm_verdict.specs.Soaks.{soak_pool}
 use Rattle.pcm_verdict.specs.Verdict.{Accepted, Runs, Checks, Converts, Soaks, Inputs}
-use Rattle.pcm_replay.specs.declared.ending.Ending.{Ending}
-use Rattle.pcm_replay.specs.declared.ending.Ending.TheVariants.{Usage, CannotRead, BadConfig, BadScript, BadWave, CannotWrite, NoMemory}
-use Rattle.pcm_replay.specs.Commands.{IsOf}
+use Rattle.pcm_inputs.specs.declared.ending.Ending.{Ending}
+use Rattle.pcm_inputs.specs.declared.ending.Ending.TheVariants.{Usage, CannotRead, BadConfig, BadScript, BadWave, CannotWrite, NoMemory}
+use Rattle.pcm_inputs.specs.Commands.{IsOf}
 use Rattle.pcm_replay.specs.Cuts.{CutsCall}
-use Rattle.pcm_replay.specs.Outside.{Outside}
+use Rattle.pcm_inputs.specs.Outside.{Outside}
 use Rattle.pcm_replay.specs.Outcomes.{CannotReadOne, IsCut, LacksMemory, RefusesFile, RefusesWords, Spells, command_part}
 use Rattle.pcm_replay.specs.Playing.{RanThrough}
-use Rattle.pcm_replay.specs.Reads.{Comes, CutsLine, FailsToReadOne, Lacks, RefusesPart}
+use Rattle.pcm_inputs.specs.Reads.{Comes, CutsLine, FailsToReadOne, Lacks, RefusesPart}
 use Rattle.pcm_replay.specs.Written.{WritesAll}
 
 -- what a call did that ended before its end

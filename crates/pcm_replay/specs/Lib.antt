@@ -1,8 +1,3 @@
-pub mod Commands
-pub mod Faults
-pub mod Outside
-pub mod Reads
-pub mod Parts
 pub mod Written
 pub mod Playback
 pub mod Turns

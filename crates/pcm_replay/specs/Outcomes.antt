@@ -6,11 +6,11 @@ use Rattle.pcm_outside.specs.Sink.{FailsToPut, Puts}
 use Rattle.pcm_verdict.specs.Commands.{Command, command_of}
 use Rattle.pcm_verdict.specs.Faults.{Fault, Usage, Missing, BadConfig, BadWave, BadScript, usage_line}
 use Rattle.pcm_verdict.specs.Verdict.{Accepted, command_judged, verdict}
-use Rattle.pcm_replay.specs.Commands.{IsOf, MayRead}
-use Rattle.pcm_replay.specs.Outside.{Outside}
-use Rattle.pcm_replay.specs.Reads.{CutsLine, FailsToReadOne, Lacks, Part, RefusesPart}
+use Rattle.pcm_inputs.specs.Commands.{IsOf, MayRead}
+use Rattle.pcm_inputs.specs.Outside.{Outside}
+use Rattle.pcm_inputs.specs.Reads.{CutsLine, FailsToReadOne, Lacks, Part, RefusesPart}
 use Rattle.pcm_replay.specs.Cuts.{CutsCall}
-use Rattle.pcm_replay.specs.declared.ending.Ending.{Ending}
+use Rattle.pcm_inputs.specs.declared.ending.Ending.{Ending}
 
 -- what the words come to, over the contents of the files
 abbrev pub verdict_on : List (List ℕ) → FilesSeen → Result Accepted Fault

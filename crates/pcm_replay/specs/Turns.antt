@@ -2,7 +2,7 @@
 use Rattle.std.specs.Prelude.{◌≡◌, ℕ, ◌+◌, ◌<◌, List, ◌++◌, length}
 use Rattle.pcm_outside.specs.Files.{Appends, FailsToAppend, OnlyAppends}
 use Rattle.pcm_outside.specs.Sink.{FailsToPut, OnlyPuts, Puts}
-use Rattle.pcm_replay.specs.Outside.{Outside}
+use Rattle.pcm_inputs.specs.Outside.{Outside}
 use Rattle.pcm_replay.specs.Playback.{Playback, bytes_until, lines_until}
 
 -- what one event gives behind so many: the bytes that it hands over, and its line

@@ -10,7 +10,7 @@ use Rattle.pcm_outside.specs.Sink.{FailsToPut, Puts}
 use Rattle.pcm_sound.specs.Plain.{AgreeInCommon}
 use Rattle.pcm_verdict.specs.Outputs.{Output, Written, device_bytes_in, header_in}
 use Rattle.pcm_verdict.specs.Verdict.{Inputs}
-use Rattle.pcm_replay.specs.Outside.{Outside}
+use Rattle.pcm_inputs.specs.Outside.{Outside}
 
 -- a file was created and has these bytes, and the other files keep theirs
 pub record HasWritten (name bytes : List ℕ) (old new : FilesSeen) : Type 0 where

@@ -4,10 +4,9 @@ ghost use Rattle.std.specs.Prelude.{IfErr, OnOk};
 ghost use Rattle.pcm_outside.specs.Sink.{Puts};
 ghost use Rattle.pcm_verdict.specs.Outputs.{check_line};
 ghost use Rattle.pcm_replay.specs.Endings.{CutsLines};
-ghost use Rattle.pcm_replay.specs.Parts.{inputs_seen};
+ghost use Rattle.pcm_inputs.specs.Parts.{inputs_seen};
 
-use crate::ending::Ending;
-use crate::inputs::Inputs;
+use pcm_inputs::{Ending, Inputs};
 use pcm_outside::{Sink, WriteFault};
 use std::alloc::Global;
 

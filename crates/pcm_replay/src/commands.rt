@@ -5,21 +5,18 @@ ghost use Rattle.pcm_feeder.specs.Limits.{IsRate};
 ghost use Rattle.pcm_feeder.specs.Racks.{AreRacks, list_of};
 ghost use Rattle.pcm_wave.specs.Headers.{IsWaveFormat};
 ghost use Rattle.pcm_verdict.specs.Commands.{CheckScript, ConvertWave, RunScript, SoakRun};
-ghost use Rattle.pcm_replay.specs.Commands.{AreLimits, command_seen};
+ghost use Rattle.pcm_inputs.specs.Commands.{AreLimits, command_seen};
 ghost use Rattle.pcm_replay.specs.Endings.{DoesCommand, EndsCommand};
-ghost use Rattle.pcm_replay.specs.Outside.{both};
+ghost use Rattle.pcm_inputs.specs.Outside.{both};
 
 use crate::check::tell_script;
 use crate::convert::convert_wave;
-use crate::ending::Ending;
-use crate::reading::read_inputs;
 use crate::running::run_script;
 use crate::soak::soak;
-use crate::source::read_source;
-use crate::words::Command;
 use pcm_engine::EngineOf;
 use pcm_feeder::{Feeder, RacksOf};
 use pcm_format::Settings;
+use pcm_inputs::{Command, Ending, read_inputs, read_source};
 use pcm_outside::{Files, Sink};
 use std::alloc::Global;
 

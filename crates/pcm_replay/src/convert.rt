@@ -13,13 +13,13 @@ ghost use Rattle.pcm_wave.specs.Headers.{IsWaveFormat, padding};
 ghost use Rattle.pcm_verdict.specs.Outputs.{output_of};
 ghost use Rattle.pcm_verdict.specs.Verdict.{Converts, frames_converted};
 ghost use Rattle.pcm_replay.specs.Endings.{CutsShort};
-ghost use Rattle.pcm_replay.specs.Outside.{both};
+ghost use Rattle.pcm_inputs.specs.Outside.{both};
 ghost use Rattle.pcm_replay.specs.Written.{WritesAll, wave_body};
 
-use crate::ending::Ending;
 use pcm_convert::{BLOCK, ConversionOf};
 use pcm_feeder::{Feeder, RacksOf};
 use pcm_format::Settings;
+use pcm_inputs::Ending;
 use pcm_outside::{Files, Sink, WriteFault};
 use pcm_wave::{DataFile, header};
 use std::alloc::{AllocError, Global};

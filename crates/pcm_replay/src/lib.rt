@@ -5,21 +5,13 @@
 mod check;
 mod commands;
 mod convert;
-mod data_files;
-mod ending;
-mod fault;
-mod inputs;
-mod loaded;
 mod playing;
-mod reading;
 mod refusals;
 mod replay;
 mod running;
 mod soak;
-mod source;
 mod tally_line;
 mod top;
-mod words;
 mod writing;
 
 pub use top::dsp_main;

@@ -7,7 +7,7 @@ ghost use Rattle.pcm_desk.specs.Events.{Fits};
 ghost use Rattle.pcm_desk.specs.Device.{device_settings};
 ghost use Rattle.pcm_engine.specs.Engines.{device_of};
 ghost use Rattle.pcm_replay.specs.Cuts.{CutsRun};
-ghost use Rattle.pcm_replay.specs.Outside.{both};
+ghost use Rattle.pcm_inputs.specs.Outside.{both};
 ghost use Rattle.pcm_replay.specs.Playback.{playback};
 ghost use Rattle.pcm_replay.specs.Playing.{HasPlayed, output_played};
 ghost use Rattle.pcm_replay.specs.Turns.{CutsEvents, WritesFirst};

@@ -11,7 +11,7 @@ ghost use Rattle.pcm_feeder.specs.Racks.{AreRacks, list_of};
 ghost use Rattle.pcm_engine.specs.Engines.{device_of};
 ghost use Rattle.pcm_replay.specs.Playback.{playback};
 ghost use Rattle.pcm_replay.specs.Playing.{HasPlayed, greatest_taken};
-ghost use Rattle.pcm_replay.specs.Outside.{both};
+ghost use Rattle.pcm_inputs.specs.Outside.{both};
 ghost use Rattle.pcm_replay.specs.Turns.{CutsNext, IsNext, OnlyAdds, WritesNext};
 
 use crate::writing::write_turn;

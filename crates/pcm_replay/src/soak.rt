@@ -13,12 +13,12 @@ ghost use Rattle.pcm_verdict.specs.Soaks.{soak_line, tally_line, tally_of};
 ghost use Rattle.pcm_replay.specs.Endings.{CutsLines, RanSoak};
 ghost use Rattle.pcm_replay.specs.Playing.{HasSoaked};
 
-use crate::ending::Ending;
 use crate::tally_line::{TALLY_BYTES, write_tally};
 use pcm_config::default_config;
 use pcm_engine::EngineOf;
 use pcm_feeder::{Feeder, RacksOf};
 use pcm_fixed::Fixed;
+use pcm_inputs::Ending;
 use pcm_oss::{Event, ReplyBuf};
 use pcm_outside::{Sink, WriteFault};
 use pcm_script::Script;

@@ -8,20 +8,19 @@ ghost use Rattle.pcm_verdict.specs.Commands.{SoakRun, command_of};
 ghost use Rattle.pcm_verdict.specs.Outputs.{output_of};
 ghost use Rattle.pcm_verdict.specs.Plain.{IsAcceptedRun, PlayAlike, plain_output, story_in};
 ghost use Rattle.pcm_verdict.specs.Verdict.{Conversion, Inputs, Checks, Converts, Runs, Soaks};
-ghost use Rattle.pcm_replay.specs.declared.ending.Ending.TheVariants.{BadConfig, BadScript, BadWave};
-ghost use Rattle.pcm_replay.specs.Commands.{WriteNoFile};
+ghost use Rattle.pcm_inputs.specs.declared.ending.Ending.TheVariants.{BadConfig, BadScript, BadWave};
+ghost use Rattle.pcm_inputs.specs.Commands.{WriteNoFile};
 ghost use Rattle.pcm_replay.specs.Endings.{DoesWords, EndsCall, Finishes, RanInputs, RanSoak};
 ghost use Rattle.pcm_replay.specs.Outcomes.{CannotReadOne, IsAccepted, IsAcceptedBy, IsCut, IsRefusedBy, IsStatus};
 ghost use Rattle.pcm_replay.specs.Outcomes.{LacksMemory, MayEnd, OnlyPutFails, RefusesFile, RefusesWords, verdict_on};
-ghost use Rattle.pcm_replay.specs.Outside.{NoneRose, OneRose, WriteRose, both};
+ghost use Rattle.pcm_inputs.specs.Outside.{NoneRose, OneRose, WriteRose, both};
 ghost use Rattle.pcm_replay.specs.Written.{WritesAll, WritesLike};
 
 use crate::commands::do_command;
-use crate::ending::Ending;
 use crate::refusals::refuse_words;
-use crate::words::command_in;
 use pcm_engine::EngineOf;
 use pcm_feeder::{Feeder, RacksOf};
+use pcm_inputs::{Ending, command_in};
 use pcm_outside::{Files, Sink};
 use std::alloc::Global;
 

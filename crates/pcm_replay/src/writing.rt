@@ -2,7 +2,7 @@
 
 ghost use Rattle.std.specs.Prelude.{IsTrue, OnErr, OnOk};
 ghost use Rattle.pcm_outside.specs.Files.{Appends, FailsToAppend, OnlyAppends};
-ghost use Rattle.pcm_replay.specs.Outside.{both};
+ghost use Rattle.pcm_inputs.specs.Outside.{both};
 ghost use Rattle.pcm_replay.specs.Turns.{CutsTurn, OnlyAdds, WritesTurn};
 
 use pcm_outside::{Files, Sink, WriteFault};

@@ -2,9 +2,9 @@ use Rattle.std.proofs.Common.{List, ℕ, Bor, None, option_map, refl}
 use Rattle.pcm_verdict.specs.Commands.{CheckScript}
 use Rattle.pcm_verdict.specs.Outputs.{check_line}
 use Rattle.pcm_verdict.specs.Verdict.{Checks}
-use Rattle.pcm_replay.specs.Parts.{inputs_part, inputs_seen}
+use Rattle.pcm_inputs.specs.Parts.{inputs_part, inputs_seen}
 use Rattle.pcm_replay.proofs.Doing.{comes-check, cuts-command, cuts-lines, does-command, ends-command, leads-check, writes-lines}
-use Rattle.pcm_replay.proofs.Refusing.{err-as}
+use Rattle.pcm_inputs.proofs.Refusing.{err-as}
 use Rattle.pcm_replay.proofs.commands.check.Goals as goal
 
 -- what it works on was not read

@@ -1,9 +1,9 @@
 use Rattle.std.proofs.Common.{None, refl}
 use Rattle.pcm_verdict.specs.Commands.{ConvertWave}
 use Rattle.pcm_verdict.specs.Verdict.{Conversion, Converts}
-use Rattle.pcm_replay.specs.Parts.{conversion_part}
+use Rattle.pcm_inputs.specs.Parts.{conversion_part}
 use Rattle.pcm_replay.proofs.Doing.{comes-convert, cuts-command, does-command, ends-command, leads-convert}
-use Rattle.pcm_replay.proofs.Refusing.{err-as}
+use Rattle.pcm_inputs.proofs.Refusing.{err-as}
 use Rattle.pcm_replay.proofs.commands.convert.Goals as goal
 
 -- the wave was not read

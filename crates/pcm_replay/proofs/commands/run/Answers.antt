@@ -1,9 +1,9 @@
 use Rattle.std.proofs.Common.{List, ℕ, Bor, Some, option_map, refl}
 use Rattle.pcm_verdict.specs.Commands.{RunScript}
 use Rattle.pcm_verdict.specs.Verdict.{Runs}
-use Rattle.pcm_replay.specs.Parts.{inputs_part, inputs_seen}
+use Rattle.pcm_inputs.specs.Parts.{inputs_part, inputs_seen}
 use Rattle.pcm_replay.proofs.Doing.{comes-run, cuts-command, does-command, ends-command, leads-run}
-use Rattle.pcm_replay.proofs.Refusing.{err-as}
+use Rattle.pcm_inputs.proofs.Refusing.{err-as}
 use Rattle.pcm_replay.proofs.commands.run.Goals as goal
 
 -- what it works on was not read

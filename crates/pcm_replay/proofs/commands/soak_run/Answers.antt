@@ -2,10 +2,10 @@ use Rattle.std.proofs.Common.{Some, refl}
 use Rattle.pcm_verdict.specs.Commands.{SoakRun}
 use Rattle.pcm_verdict.specs.Soaks.{soak_line}
 use Rattle.pcm_verdict.specs.Verdict.{Soaks}
-use Rattle.pcm_replay.specs.Outside.{both}
+use Rattle.pcm_inputs.specs.Outside.{both}
 use Rattle.pcm_replay.proofs.Doing.{comes-soak, cuts-command, cuts-lines, does-command, writes-lines}
-use Rattle.pcm_replay.proofs.Parts.{nothing}
-use Rattle.pcm_replay.proofs.Refusing.{err-as}
+use Rattle.pcm_inputs.proofs.Parts.{nothing}
+use Rattle.pcm_inputs.proofs.Refusing.{err-as}
 use Rattle.pcm_replay.proofs.commands.soak_run.Goals as goal
 
 -- its line was not put

@@ -3,7 +3,7 @@ use Rattle.pcm_wave.specs.Pools.{IsCaptureIn}
 use Rattle.pcm_desk.specs.Device.{DeviceSeen, device_settings}
 use Rattle.pcm_desk.specs.Events.{Fits}
 use Rattle.pcm_engine.specs.Engines.{device_of}
-use Rattle.pcm_replay.specs.Outside.{both}
+use Rattle.pcm_inputs.specs.Outside.{both}
 use Rattle.pcm_replay.specs.Playback.{playback}
 use Rattle.pcm_replay.specs.Playing.{HasPlayed}
 use Rattle.pcm_replay.specs.Turns.{CutsNext, WritesFirst, WritesNext}

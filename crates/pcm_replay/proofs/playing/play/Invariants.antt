@@ -1,5 +1,5 @@
 use Rattle.pcm_engine.specs.Engines.{device_of}
-use Rattle.pcm_replay.specs.Outside.{both}
+use Rattle.pcm_inputs.specs.Outside.{both}
 use Rattle.pcm_replay.proofs.Turns.{IsPlaying}
 use Rattle.pcm_replay.proofs.playing.play.Given as goal
 

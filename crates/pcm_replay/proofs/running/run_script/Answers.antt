@@ -9,8 +9,8 @@ use Rattle.pcm_verdict.specs.Captures.{capture_place}
 use Rattle.pcm_engine.specs.Engines.{device_of}
 use Rattle.pcm_verdict.specs.Outputs.{inputs_pool}
 use Rattle.pcm_replay.specs.Cuts.{CutsRun}
-use Rattle.pcm_replay.specs.Outside.{both}
-use Rattle.pcm_replay.specs.Parts.{inputs_seen}
+use Rattle.pcm_inputs.specs.Outside.{both}
+use Rattle.pcm_inputs.specs.Parts.{inputs_seen}
 use Rattle.pcm_replay.specs.Playback.{playback}
 use Rattle.pcm_replay.specs.Playing.{output_played}
 use Rattle.pcm_replay.specs.Written.{WritesAll}

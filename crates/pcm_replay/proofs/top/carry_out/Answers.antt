@@ -1,11 +1,11 @@
 use Rattle.std.proofs.Common.{List, ℕ, Result, Ok, Err, IfErr, IfOk, Option, map, string_bytes, sym}
 use Rattle.pcm_engine.specs.declared.engine.EngineOf.{EngineOf}
 use Rattle.pcm_feeder.specs.Kept.{Kept}
-use Rattle.pcm_replay.specs.Commands.{command_seen}
-use Rattle.pcm_replay.specs.declared.ending.Ending.{Ending}
+use Rattle.pcm_inputs.specs.Commands.{command_seen}
+use Rattle.pcm_inputs.specs.declared.ending.Ending.{Ending}
 use Rattle.pcm_replay.specs.Endings.{DoesCommand, DoesWords, EndsCall, EndsCommand}
 use Rattle.pcm_replay.specs.Outcomes.{Spells}
-use Rattle.pcm_replay.specs.Outside.{Outside}
+use Rattle.pcm_inputs.specs.Outside.{Outside}
 use Rattle.pcm_replay.proofs.Doing.{ends-call}
 use Rattle.pcm_replay.proofs.top.carry_out.Goals as goal
 

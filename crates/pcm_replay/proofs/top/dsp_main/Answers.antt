@@ -1,10 +1,10 @@
 use Rattle.std.proofs.Common.{ℕ, List, map, string_bytes, subst, sym}
 use Rattle.pcm_verdict.specs.Outputs.{output_of}
-use Rattle.pcm_replay.specs.declared.ending.Ending.TheVariants.{CannotRead, BadConfig, BadScript, BadWave, CannotWrite, NoMemory}
+use Rattle.pcm_inputs.specs.declared.ending.Ending.TheVariants.{CannotRead, BadConfig, BadScript, BadWave, CannotWrite, NoMemory}
 use Rattle.pcm_verdict.specs.Verdict.{Runs, Soaks}
 use Rattle.pcm_replay.specs.Endings.{HasRun}
 use Rattle.pcm_replay.specs.Outcomes.{MayEnd, verdict_on}
-use Rattle.pcm_replay.specs.Outside.{both}
+use Rattle.pcm_inputs.specs.Outside.{both}
 use Rattle.pcm_replay.proofs.Doing.{does-soak}
 use Rattle.pcm_replay.proofs.Plain.{alike-run, plain-run, writes-accepted}
 use Rattle.pcm_replay.proofs.Quiet.{only-put-fails}
