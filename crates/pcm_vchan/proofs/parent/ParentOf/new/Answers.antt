@@ -1,11 +1,13 @@
-use Rattle.std.proofs.Common.{◌≡◌, ◌*◌, ℕ, pos, length, replicate, sym, ap, ◌∙◌, arith}
+use Rattle.std.proofs.Common.{◌≡◌, ◌*◌, ℕ, pos, length, replicate, sym, ap, ◌∙◌, subst, arith}
 use Rattle.std.proofs.Math.Nat.{mul_assoc, mul-le-mul_right}
 use Rattle.std.specs.List.{flat_map}
+use Rattle.std.proofs.lemmas.List.Elements.{All-take, All-drop}
 use Rattle.pcm_format.specs.Formats.{bytes_of}
 use Rattle.pcm_format.specs.Frames.{frame_bytes}
 use Rattle.pcm_format.specs.Layouts.{channels_of}
 use Rattle.pcm_format.specs.Samples.{spelled}
 use Rattle.pcm_format.proofs.Streams.{channels_of-most, frame_bytes-most}
+use Rattle.pcm_feeder.specs.Racks.{AreRacks, IsRack}
 use Rattle.pcm_vchan.proofs.parent.ParentOf.new.Goals as goal
 
 pub overflow_mul-size : goal.overflow_mul-size
@@ -14,6 +16,20 @@ overflow_mul-size g c =
     let width = frame_bytes-most c.args.device.settings in
     let is = c.frame_bytes.ensures in
     record { fits = omega arith }
+
+pub free_channels-requires-clause-enough : goal.free_channels-requires-clause-enough
+free_channels-requires-clause-enough g c = omega (arith, c.in_ok-recording.ensures.len, c.requires.slots)
+
+pub free_channels-requires-clause-kinds : goal.free_channels-requires-clause-kinds
+free_channels-requires-clause-kinds g c =
+    subst (AreRacks g.B.Feeder.kind) (sym c.in_ok-recording.ensures.items) (All-take (IsRack g.B.Feeder.kind) 16 c.into_list-playing.result.items (c.into_list-playing.ensures.kinds c.requires.kinds))
+
+pub free_recorders-requires-clause-enough : goal.free_recorders-requires-clause-enough
+free_recorders-requires-clause-enough g c = omega (arith, c.in_ok-recording.ensures.tail_len, c.into_list-playing.ensures.count, c.requires.recorders)
+
+pub free_recorders-requires-clause-kinds : goal.free_recorders-requires-clause-kinds
+free_recorders-requires-clause-kinds g c =
+    subst (AreRacks g.B.Feeder.kind) (sym c.in_ok-recording.ensures.tail) (All-drop (IsRack g.B.Feeder.kind) 16 c.into_list-playing.result.items (c.into_list-playing.ensures.kinds c.requires.kinds))
 
 pub silent_ring-requires-clause-silent : goal.silent_ring-requires-clause-silent
 silent_ring-requires-clause-silent g c =
