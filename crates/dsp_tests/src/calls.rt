@@ -1,19 +1,12 @@
 //! One call over the forms in memory, and what it is to come to.
 
-ghost use Rattle.std.specs.Prelude.{◌≡◌, IfOk, None};
-
-use feed_format::DepthFeeder;
-use feed_hold::HoldFeeder;
-use feed_linear::LinearFeeder;
-use feed_matrix::MatrixFeeder;
-use feed_poly::PolyFeeder;
-use feed_volume::VolumeFeeder;
-use pcm_feeder::{RACKS, Racks, Six};
+use crate::boxes::boxes;
+use pcm_feeder::Racks;
 use pcm_outside::{MemFiles, MemSink};
 use pcm_replay::dsp_main;
 use std::alloc::{AllocError, Global};
 
-/// Bytes of room that are enough for each run here.
+/// Bytes of room that are enough for each call here.
 pub const ROOM: usize = 16384;
 
 /// A client that plays four frames.
@@ -27,68 +20,79 @@ pub const FOUR_FRAMES_PRINTED: &[u8] = b"1: ok 0\n2: ok 16\n3: ok\n4: ok 1024\n5
 pub const FOUR_FRAMES_HEARD: &[u8] = b"\x01\0\x02\0\x03\0\x04\0\x05\0\x06\0\x07\0\x08\0";
 
 /// What a call is to come to: the status, what is printed, and the device file, as bytes of silence and then others.
-pub type Expected<'a> = (u8, &'a [u8], Option<(usize, &'a [u8])>);
+pub type Expected = (u8, &'static [u8], Option<(usize, &'static [u8])>);
+
+/// Files by their names.
+pub type Held = &'static [(&'static str, &'static [u8])];
 
 /// The files that are there, the words, and what the call is to come to.
-pub type Row<'a> = (&'a [(&'a str, &'a [u8])], &'a [&'a str], Expected<'a>);
+pub type Row = (Held, &'static [&'static str], Expected);
 
-/// A folder with a script of the name `s`.
-pub fn folder(alloc: Global, room: usize, script: &[u8]) -> Result<MemFiles, AllocError>
-    ensures { IfOk result (λ files. files.created ≡ None) }
-{
-    let mut files = MemFiles::new(alloc, room)?;
-    files.add("s", script)?;
-    Ok(files)
-}
+/// The room of the files and of the sink, and the call of each that fails, where 0 is none.
+pub type Fault = (usize, usize, u32, u32);
 
-/// A folder with these files, by their names.
-pub fn folder_of(alloc: Global, room: usize, held: &[(&str, &[u8])]) -> Result<MemFiles, AllocError>
-    ensures { IfOk result (λ files. files.created ≡ None) }
-{
-    let mut files = MemFiles::new(alloc, room)?;
-    for (name, bytes) in held {
-        files.add(name, bytes)?;
-    }
-    Ok(files)
-}
-
-/// Whether a call with these words comes to that. A run or a soak that ends with 0, and only that, leaves an engine.
-pub fn comes_to(
-    alloc: Global,
-    words: &[&str],
-    files: &mut MemFiles,
-    out: &mut MemSink,
-    expected: Expected,
-) -> Result<bool, AllocError> {
-    let (status, printed, content) = expected;
-    let has_ended = ends_with(alloc, words, files, out, status)?;
-    Ok(has_ended && out.bytes() == printed && has_file(files, content))
-}
+// Room that is enough for each run here, and no call that fails.
+const NO_FAULT: Fault = (ROOM, ROOM, 0, 0);
 
 /// The first row whose call comes to something else.
 pub fn first_wrong(alloc: Global, rows: &[Row]) -> Result<Option<usize>, AllocError> {
     for (at, (held, words, expected)) in rows.iter().enumerate() {
-        if !call_comes_to(alloc, held, words, *expected)? {
+        if !comes_to(alloc, held, words, NO_FAULT, *expected)? {
             return Ok(Some(at));
         }
     }
     Ok(None)
 }
 
-// Whether a call over these files comes to that, with ample room.
-fn call_comes_to(
+/// The first fault by which a call comes to something else than is told beside it.
+pub fn first_wrong_fault(
     alloc: Global,
-    held: &[(&str, &[u8])],
+    held: Held,
     words: &[&str],
-    expected: Expected,
-) -> Result<bool, AllocError> {
-    let mut files = folder_of(alloc, ROOM, held)?;
-    let mut out = MemSink::new(alloc, ROOM)?;
-    comes_to(alloc, words, &mut files, &mut out, expected)
+    rows: &[(Fault, Expected)],
+) -> Result<Option<usize>, AllocError> {
+    for (at, (fault, expected)) in rows.iter().enumerate() {
+        if !comes_to(alloc, held, words, *fault, *expected)? {
+            return Ok(Some(at));
+        }
+    }
+    Ok(None)
 }
 
-// Whether a call with these words, over racks of boxes, ends with that status. A run or a soak that ends with 0, and only
-// that, leaves an engine.
+// Whether a call comes to that.
+fn comes_to(
+    alloc: Global,
+    held: Held,
+    words: &[&str],
+    fault: Fault,
+    expected: Expected,
+) -> Result<bool, AllocError> {
+    let (files_room, sink_room, call, put) = fault;
+    let (status, printed, content) = expected;
+    let mut files = folder(alloc, held, files_room, call)?;
+    let mut out = sink(alloc, sink_room, put)?;
+    let has_ended = ends_with(alloc, words, &mut files, &mut out, status)?;
+    Ok(has_ended && out.bytes() == printed && has_file(&files, content))
+}
+
+// A folder with these files, whose listed call fails.
+fn folder(alloc: Global, held: Held, room: usize, call: u32) -> Result<MemFiles, AllocError> {
+    let mut files = MemFiles::new(alloc, room)?;
+    for (name, bytes) in held {
+        files.add(name, bytes)?;
+    }
+    files.fail_at(call)?;
+    Ok(files)
+}
+
+// A sink whose listed put fails.
+fn sink(alloc: Global, room: usize, put: u32) -> Result<MemSink, AllocError> {
+    let mut out = MemSink::new(alloc, room)?;
+    out.fail_at(put)?;
+    Ok(out)
+}
+
+// Whether a call with these words ends with that status. A run or a soak that ends with 0, and only that, leaves an engine.
 fn ends_with(
     alloc: Global,
     words: &[&str],
@@ -96,18 +100,7 @@ fn ends_with(
     out: &mut MemSink,
     status: u8,
 ) -> Result<bool, AllocError> {
-    let mut boxes = Vec::new(alloc);
-    for _ in 0..RACKS {
-        boxes.push(Six {
-            matrix: Box::new(alloc, MatrixFeeder::new(alloc)?)?,
-            hold: Box::new(alloc, HoldFeeder::new(alloc)?)?,
-            linear: Box::new(alloc, LinearFeeder::new(alloc)?)?,
-            poly: Box::new(alloc, PolyFeeder::new(alloc)?)?,
-            volume: Box::new(alloc, VolumeFeeder::new(alloc)?)?,
-            depth: Box::new(alloc, DepthFeeder::new(alloc)?)?,
-        })?;
-    }
-    let Ok(racks) = Racks::of_boxes(alloc, boxes) else {
+    let Ok(racks) = Racks::of_boxes(alloc, boxes(alloc)?) else {
         return Ok(false);
     };
     let runs = words.first() == Some(&"run") || words.first() == Some(&"soak");

@@ -3,6 +3,8 @@
 #![tactic(auto)]
 
 #[cfg(test)]
+mod boxes;
+#[cfg(test)]
 mod calls;
 #[cfg(test)]
 mod faults;
@@ -10,6 +12,8 @@ mod faults;
 mod recordings;
 #[cfg(test)]
 mod scripts;
+#[cfg(test)]
+mod tables;
 #[cfg(test)]
 mod usage;
 #[cfg(test)]

@@ -1,11 +1,6 @@
 //! Scripts with their exact output.
 
-use crate::calls::{
-    Expected, FOUR_FRAMES, FOUR_FRAMES_HEARD, FOUR_FRAMES_PRINTED, ROOM, comes_to, folder,
-};
-use pcm_outside::MemSink;
-use std::alloc::{AllocError, Global};
-use std::test::Fail;
+use crate::calls::{FOUR_FRAMES, FOUR_FRAMES_HEARD, FOUR_FRAMES_PRINTED, Row};
 
 // Three clients with one frame each, and what is printed of them.
 const THREE: &[u8] =
@@ -22,34 +17,31 @@ const HALF_PRINTED: &[u8] = b"1: ok 0\n2: ok 8\n3: ok\n4: ok 1024\n5: ok 4\n";
 
 const HALF_HEARD: &[u8] = b"\0\0\0\0\x32\0\x32\0\x64\0\x64\0\x32\0\x32\0";
 
-#[test]
-fn scripts(rt: HostRuntime) -> Result<(), Fail> {
-    // The script, the status, what is printed, and the device file.
-    let rows: [(&[u8], Expected); 5] = [
-        (b"", (0, b"", Some((0, b"")))),
-        (
-            FOUR_FRAMES,
-            (0, FOUR_FRAMES_PRINTED, Some((4096, FOUR_FRAMES_HEARD))),
-        ),
-        // The limit acts after each addition: 30000 + 10000 - 10000 is 22767.
-        (THREE, (0, THREE_PRINTED, Some((4096, b"\xef\x58\xef\x58")))),
-        // Lines between 0, 100 and the silence after them.
-        (HALF, (0, HALF_PRINTED, Some((4096, HALF_HEARD)))),
-        // An interrupt above the ring.
-        (
-            b"intr 1025\n",
-            (5, b"dsp_replay: bad script: line 1: range\n", None),
-        ),
-    ];
-    for (row, (script, expected)) in rows.into_iter().enumerate() {
-        assert!(rt; run_comes_to(rt.alloc(), script, expected)?, "row {row}");
-    }
-    Ok(())
-}
+const RUN: &[&str] = &["run", "s", "o"];
 
-// Whether the run of a script comes to that, with ample room.
-fn run_comes_to(alloc: Global, script: &[u8], expected: Expected) -> Result<bool, AllocError> {
-    let mut files = folder(alloc, ROOM, script)?;
-    let mut out = MemSink::new(alloc, ROOM)?;
-    comes_to(alloc, &["run", "s", "o"], &mut files, &mut out, expected)
-}
+pub const ROWS: [Row; 5] = [
+    (&[("s", b"")], RUN, (0, b"", Some((0, b"")))),
+    (
+        &[("s", FOUR_FRAMES)],
+        RUN,
+        (0, FOUR_FRAMES_PRINTED, Some((4096, FOUR_FRAMES_HEARD))),
+    ),
+    // The limit acts after each addition: 30000 + 10000 - 10000 is 22767.
+    (
+        &[("s", THREE)],
+        RUN,
+        (0, THREE_PRINTED, Some((4096, b"\xef\x58\xef\x58"))),
+    ),
+    // Lines between 0, 100 and the silence after them.
+    (
+        &[("s", HALF)],
+        RUN,
+        (0, HALF_PRINTED, Some((4096, HALF_HEARD))),
+    ),
+    // An interrupt above the ring.
+    (
+        &[("s", b"intr 1025\n")],
+        RUN,
+        (5, b"dsp_replay: bad script: line 1: range\n", None),
+    ),
+];

@@ -1,7 +1,6 @@
 //! Configurations, data files and conversions, with their exact output.
 
-use crate::calls::{Row, first_wrong};
-use std::test::Fail;
+use crate::calls::Row;
 
 // One frame of two channels of 16 bits at 48000 frames each second, behind a header.
 const ONE_FRAME: &[u8] =
@@ -34,8 +33,8 @@ const SONG: &[u8] = b"[files]\nsong = \"w\"\n";
 
 const MICROPHONE: &[u8] = b"[device]\ncapture = \"song\"\n[files]\nsong = \"w\"\n";
 
-// Runs, and what each leaves.
-const RUNS: [Row<'static>; 4] = [
+/// Runs, and what each leaves.
+pub const RUNS: [Row; 4] = [
     // A converter of quality 0 holds each frame.
     (
         &[
@@ -89,14 +88,8 @@ const RUNS: [Row<'static>; 4] = [
     ),
 ];
 
-#[test]
-fn runs_with_a_configuration(rt: HostRuntime) -> Result<(), Fail> {
-    assert_eq!(rt; first_wrong(rt.alloc(), &RUNS)?, None);
-    Ok(())
-}
-
-// Scripts that are judged alone, and calls that are refused.
-const JUDGED: [Row<'static>; 8] = [
+/// Scripts that are judged alone, and calls that are refused.
+pub const JUDGED: [Row; 8] = [
     (
         &[("s", b""), ("c", SONG), ("w", ONE_FRAME)],
         CHECK,
@@ -148,14 +141,8 @@ const JUDGED: [Row<'static>; 8] = [
     ),
 ];
 
-#[test]
-fn checks_and_what_is_refused(rt: HostRuntime) -> Result<(), Fail> {
-    assert_eq!(rt; first_wrong(rt.alloc(), &JUDGED)?, None);
-    Ok(())
-}
-
-// Waves at other settings.
-const CONVERTED: [Row<'static>; 3] = [
+/// Waves at other settings.
+pub const CONVERTED: [Row; 3] = [
     (
         &[("w", STEP)],
         CONVERT,
@@ -173,9 +160,3 @@ const CONVERTED: [Row<'static>; 3] = [
         (6, b"dsp_replay: bad wave: w: notriff\n", None),
     ),
 ];
-
-#[test]
-fn conversions(rt: HostRuntime) -> Result<(), Fail> {
-    assert_eq!(rt; first_wrong(rt.alloc(), &CONVERTED)?, None);
-    Ok(())
-}

@@ -1,5 +1,5 @@
 use Rattle.std.proofs.Common.{◌≡◌, None}
-use Rattle.dsp_tests.proofs.calls.folder_of.Given as goal
+use Rattle.dsp_tests.proofs.calls.folder.Given as goal
 
 -- nothing was created yet
 abbrev pub invariant-loop-name : goal.invariant-loop-name
