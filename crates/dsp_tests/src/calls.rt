@@ -71,7 +71,8 @@ fn comes_to(
     let (status, printed, content) = expected;
     let mut files = folder(alloc, held, files_room, call)?;
     let mut out = sink(alloc, sink_room, put)?;
-    let has_ended = ends_with(alloc, words, &mut files, &mut out, status)?;
+    let steps = steps_of(words, printed, status);
+    let has_ended = ends_with(alloc, words, &mut files, &mut out, status, steps)?;
     Ok(has_ended && out.bytes() == printed && has_file(&files, content))
 }
 
@@ -92,22 +93,47 @@ fn sink(alloc: Global, room: usize, put: u32) -> Result<MemSink, AllocError> {
     Ok(out)
 }
 
-// Whether a call with these words ends with that status. A run or a soak that ends with 0, and only that, leaves an engine.
+// How many steps the engine has taken that a call leaves: one for each line of a run, and those of a soak's script. A call that
+// ends with another status than 0 leaves none, and so do the other commands.
+fn steps_of(words: &[&str], printed: &[u8], status: u8) -> Option<u32> {
+    if status != 0 {
+        None
+    } else if words.first() == Some(&"run") {
+        Some(lines_in(printed))
+    } else if words.first() == Some(&"soak") {
+        Some(20_000)
+    } else {
+        None
+    }
+}
+
+// How many lines are printed.
+fn lines_in(printed: &[u8]) -> u32 {
+    let mut lines = 0u32;
+    for byte in printed {
+        if *byte == b'\n' {
+            lines = lines.saturating_add(1);
+        }
+    }
+    lines
+}
+
+// Whether a call with these words ends with that status, and leaves an engine that has taken so many steps, or none.
 fn ends_with(
     alloc: Global,
     words: &[&str],
     files: &mut MemFiles,
     out: &mut MemSink,
     status: u8,
+    steps: Option<u32>,
 ) -> Result<bool, AllocError> {
     let Ok(racks) = Racks::of_boxes(alloc, boxes(alloc)?) else {
         return Ok(false);
     };
-    let runs = words.first() == Some(&"run") || words.first() == Some(&"soak");
     let words = owned(alloc, words)?;
     let mut ran = None;
     let found = dsp_main(alloc, &words, files, out, racks, &mut ran);
-    Ok(found == status && ran.is_some() == (runs && status == 0))
+    Ok(found == status && ran.map(|engine| engine.steps()) == steps)
 }
 
 fn owned(alloc: Global, words: &[&str]) -> Result<Vec<String>, AllocError> {

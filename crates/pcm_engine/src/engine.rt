@@ -154,6 +154,13 @@ impl<B: Feeder> EngineOf<B> {
         self.apply(event, pool, out, reply)
     }
 
+    /// How many steps it has taken.
+    pub fn steps(&self) -> u32
+        ensures { result ≡ self.now.steps }
+    {
+        self.steps
+    }
+
     // One event on the parts. The reply, and how many device bytes stand at the front of `out`.
     fn apply(&mut self, event: &Event, pool: &Pool, out: &mut [u8], reply: &mut ReplyBuf) -> usize
         requires fits { Fits (device_of self.old) pool.now event.now }
