@@ -1,4 +1,4 @@
-//! Tests of the stages and of what holds them: the stages in boxes, the racks, chains and conversions.
+//! Tests of the stages and of what holds them: the stages in boxes, a long stream in pieces, the racks, chains and conversions.
 //! They hold what no clause says: that what is generic runs with boxes, and that there is memory where it is ample.
 #![tactic(auto)]
 
@@ -6,6 +6,8 @@
 mod chains;
 #[cfg(test)]
 mod conversions;
+#[cfg(test)]
+mod cuts;
 #[cfg(test)]
 mod racks;
 #[cfg(test)]

@@ -366,8 +366,8 @@ fn is_spec(spec: Spec) -> bool
     }
 }
 
-// Whether the filter of a spec is there.
-fn has_table(spec: Spec, tables: &Tables) -> bool
+/// Whether the filter of a spec is there.
+pub fn has_table(spec: Spec, tables: &Tables) -> bool
     ensures { result ≡ true → HasTable spec tables.now }
 {
     match spec {
