@@ -28,7 +28,7 @@ desk_of engine = desk_with engine.parent engine.descriptors
 
 -- the bytes that wait in each ring of a channel that records, by slot
 abbrev pub waiting_in : {B : Type 0} → EngineOf B → List (List ℕ)
-waiting_in engine = map (λ channel. channel.ring.bytes) engine.parent.recorders.items
+waiting_in engine = map (λ channel. channel.ring.bytes) (rec_channels engine.parent)
 
 -- the engine stands for a list of events, whose bytes are found in a pool
 pub record Stands {B : Type 0} (kept : B → Kept) (engine : EngineOf B) (pool : Pool) (events : List Event) : Type 0 where

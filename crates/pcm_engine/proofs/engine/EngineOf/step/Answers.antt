@@ -127,6 +127,6 @@ returns-clause-isolated g c =
 pub returns-clause-taken : goal.returns-clause-taken
 returns-clause-taken g c = λ fd count is.
     let old = c.args.self.now in
-    read-waiting g.B.Feeder.kind g.B.Feeder.kept old.tables (device_of old) (desk_of old) old.parent.recorders.items count (held_by (desk_of old) fd) c.apply.new.reply.bytes refl c.requires.ready.recording
+    read-waiting g.B.Feeder.kind g.B.Feeder.kept old.tables (device_of old) (desk_of old) (rec_channels old.parent) count (held_by (desk_of old) fd) c.apply.new.reply.bytes refl c.requires.ready.recording
     (λ held e. old.apart.within fd held e)
     (λ bytes frames stand. c.apply.ensures.bytes bytes frames stand ∙ ap (λ (event : Event). bytes_answered (device_of old) (desk_of old) bytes event) is)
