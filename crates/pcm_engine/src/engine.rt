@@ -1,6 +1,6 @@
 //! The engine and its events.
 
-ghost use Rattle.std.specs.Prelude.{◌≡◌, [], ◌∷◌, ◌++◌, ◌+◌, ◌*◌, ◌^◌, ◌<◌, ◌≤◌, length, take, drop, All, List, ℕ, IfOk, IsErr};
+ghost use Rattle.std.specs.Prelude.{◌≡◌, [], ◌∷◌, ◌++◌, ◌+◌, ◌*◌, ◌<◌, ◌≤◌, length, take, drop, All, List, ℕ, IfOk, IsErr};
 ghost use Rattle.pcm_fixed.specs.Fixed.{fixed_len};
 ghost use Rattle.pcm_desk.specs.declared.limits.TheConstants.{DESCRIPTORS, RING_FRAMES};
 ghost use Rattle.pcm_engine.specs.declared.limits.TheConstants.{STEPS};
@@ -36,7 +36,7 @@ pub struct EngineOf<B> {
     ghost own: { AreOf parent.device (play_channels parent) },
     ghost recorders_own: { RecordersAreOf parent.device (rec_channels parent) },
     ghost apart: { HoldApart (desk_with parent descriptors) } by { Prim.hlevel hold_props },
-    ghost counted: { All (λ channel. channel.book.done + channel.book.written ≤ 2 ^ 32 * steps) (play_channels parent) },
+    ghost counted: { All (λ channel. channel.book.done + channel.book.written ≤ RING_BYTES * steps) (play_channels parent) },
     ghost given: { All (λ channel. channel.book.given ≤ RING_FRAMES * steps) (play_channels parent) },
     ghost kept: { All (λ channel. channel.book.kept ≤ RING_BYTES * steps) (rec_channels parent) },
     ghost captured_within: { All (λ channel. channel.book.captured ≤ RING_FRAMES * steps) (rec_channels parent) },

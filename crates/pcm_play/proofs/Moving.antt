@@ -8,6 +8,7 @@ use Rattle.pcm_feeder.specs.declared.kind.Kind.{Kind}
 use Rattle.pcm_feeder.specs.Filters.{Filters}
 use Rattle.pcm_feeder.specs.Kept.{Kept}
 use Rattle.pcm_feeder.specs.Racks.{HaveKinds}
+use Rattle.pcm_oss.specs.declared.fragments.TheConstants.{RING_BYTES}
 use Rattle.pcm_oss.specs.declared.reply.Errno.{Errno}
 use Rattle.pcm_oss.specs.declared.request.Request.{Request}
 use Rattle.pcm_rate.specs.declared.rate.Rate.{Rate}
@@ -50,6 +51,7 @@ moves-nothing kind kept filters more frames channel = record {
   stands = λ bytes s. subst (ChannelStands kept filters channel channel.book) (sym (take_at bytes more channel.book.written s.count)) s;
   written = omega arith;
   counted = omega arith;
+  grown = omega arith;
   given = omega arith;
 }
 
@@ -62,6 +64,7 @@ moves-ended kind kept filters more frames old new kinds planned written eaten gi
   stands = λ bytes s. subst (ChannelStands kept filters new new.book) (sym (ap (λ n. take n (bytes ++ more)) written)) (stands-empty kept filters new written eaten given ring begins);
   written = omega (arith, written);
   counted = omega (arith, written, done);
+  grown = omega (arith, written, done);
   given = omega (arith, given);
 }
 
@@ -82,6 +85,7 @@ moves-state {B = B} kind kept filters old new device chain ring st = record {
       (stands-state kept filters old new bytes chain ring st.settings st.eaten st.given st.written st.drains s);
   written = omega (arith, st.written);
   counted = omega (arith, st.written, st.done);
+  grown = omega (arith, st.written, st.done);
   given = omega (arith, st.given);
 }
 
@@ -159,8 +163,8 @@ within-accepting accepted book h =
 
 -- a channel that took so many bytes from the front of `more`
 pub moves-taking : {B : Type 0} (kind : B → Kind) (kept : B → Kept) (filters : Filters) (more : List ℕ) (accepted : ℕ) (old new : PlayChannelOf B) → new.device ≡ old.device → new.chain ≡ old.chain → new.ring.bytes ≡ old.ring.bytes ++ take accepted more → new.book ≡ accepting accepted old.book
-    → accepted ≤ length more → is_draining old.book.state ≡ false → old.book.eaten * frame_bytes old.book.settings ≤ old.book.written → Moves kind kept filters more 0 old new
-moves-taking {B = B} kind kept filters more accepted old new device chain ring is within busy there =
+    → accepted ≤ length more → accepted ≤ RING_BYTES → is_draining old.book.state ≡ false → old.book.eaten * frame_bytes old.book.settings ≤ old.book.written → Moves kind kept filters more 0 old new
+moves-taking {B = B} kind kept filters more accepted old new device chain ring is within room busy there =
     let a = accepts accepted old.book in
     let written : new.book.written ≡ old.book.written + accepted = ap (λ (b : Book). b.written) is ∙ a.written in
     let given : new.book.given ≡ old.book.given = ap (λ (b : Book). b.given) is ∙ (let e : (accepting accepted old.book).given ≡ old.book.given = omega (arith, a.given, a.given_same) in e) in
@@ -179,5 +183,6 @@ moves-taking {B = B} kind kept filters more accepted old new device chain ring i
           (frames-front old.book.settings bytes (take accepted more) old.book.eaten frames_within) s);
       written = omega arith;
       counted = omega (arith, (accepting-adds accepted old.book).done, ap (λ (b : Book). b.done) is);
+      grown = omega (arith, (accepting-adds accepted old.book).done, ap (λ (b : Book). b.done) is);
       given = omega arith;
     }

@@ -175,5 +175,6 @@ moves-pulled {B = B} kind kept filters old new n pulled gain out_old out_new pla
       (stands-pulled kept filters old new (rate_at (seen filters old.device) old.book) n pulled bytes (eaten-written (rate_at (seen filters old.device) old.book) old.book (safe-at filters old planned)) go p.counted ring p.behind s);
   written = omega (arith, go.written);
   counted = omega (arith, go.written, go.done);
+  grown = omega (arith, go.written, go.done);
   given = omega (arith, go.given);
 }

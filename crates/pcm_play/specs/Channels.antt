@@ -12,6 +12,7 @@ use Rattle.pcm_desk.specs.Device.{plan_between, seen}
 use Rattle.pcm_desk.specs.declared.device.Device.{Device}
 use Rattle.pcm_desk.specs.Books.{frames_written, is_draining}
 use Rattle.pcm_desk.specs.Desk.{unopened}
+use Rattle.pcm_oss.specs.declared.fragments.TheConstants.{RING_BYTES}
 use Rattle.pcm_play.specs.declared.channel.PlayChannelOf.{PlayChannelOf}
 
 -- the bytes of a run that were accepted and not yet eaten
@@ -61,4 +62,6 @@ pub record Moves {B : Type 0} (kind : B → Kind) (kept : B → Kept) (filters :
   pub written : new.book.written ≤ old.book.written + length more
   -- with the runs before this one
   pub counted : new.book.done + new.book.written ≤ old.book.done + old.book.written + length more
+  -- no more than a ring has room for
+  pub grown : new.book.done + new.book.written ≤ old.book.done + old.book.written + RING_BYTES
   pub given : new.book.given ≤ old.book.given + frames

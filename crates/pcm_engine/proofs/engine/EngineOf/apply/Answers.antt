@@ -1,4 +1,4 @@
-use Rattle.std.proofs.Common.{ℕ, ◌+◌, ◌*◌, ◌^◌, List, [], get_or, length, sym, ap, ◌∙◌, subst, arith}
+use Rattle.std.proofs.Common.{ℕ, ◌+◌, ◌*◌, List, [], get_or, length, sym, ap, ◌∙◌, subst, arith}
 use Rattle.pcm_fixed.specs.declared.fixed.Fixed.{Fixed}
 use Rattle.pcm_fixed.specs.Fixed.{fixed_items}
 use Rattle.pcm_oss.specs.declared.event.Event.{Event}
@@ -30,14 +30,13 @@ pub invariant_of-self-in-Write : goal.invariant_of-self-in-Write
 invariant_of-self-in-Write g c =
     let old = c.args.self.now in
     let new = c.write.new.parent in
-    let fits = rw c.in-Write.is at c.requires.fits in
     let same = c.write.ensures.output.slots_same in
     let output = c.write.ensures.output in
     record {
       apart = subst HoldApart (sym (c.write.ensures.desk old.tables)) (apart-after (device_of old) (desk_of old) (Write c.in-Write.fd c.in-Write.source c.in-Write.at (length c.bytes_at-bytes.result.now)) old.apart);
       own = c.write.ensures.own;
-      counted = count-within (λ (c : PlayChannelOf _). c.book.done + c.book.written) (2 ^ 32) old.steps (play_channels old.parent) (play_channels new) same
-          (λ slot other there. let more = (c.write.ensures.channels old.tables slot other there).counted in omega (arith, more, c.bytes_at-bytes.ensures.length, fits.1)) old.counted;
+      counted = count-within (λ (c : PlayChannelOf _). c.book.done + c.book.written) RING_BYTES old.steps (play_channels old.parent) (play_channels new) same
+          (λ slot other there. let more = (c.write.ensures.channels old.tables slot other there).grown in omega (arith, more)) old.counted;
       given = count-within (λ (c : PlayChannelOf _). c.book.given) RING_FRAMES old.steps (play_channels old.parent) (play_channels new) same
           (λ slot other there. let more = (c.write.ensures.channels old.tables slot other there).given in omega (arith, more)) old.given;
       recorders_own = subst (λ (v : Fixed (RecChannelOf _)). RecordersAreOf new.device (fixed_items v)) (sym c.write.ensures.recorders) (subst (λ (d : Device). RecordersAreOf d (rec_channels old.parent)) (sym output.device_same) old.recorders_own);
@@ -57,8 +56,8 @@ invariant_of-self-in-Ioctl g c =
     record {
       apart = subst HoldApart (sym c.ioctl.ensures.desk) (apart-after (device_of old) (desk_of old) (Ioctl c.in-Ioctl.fd c.in-Ioctl.request) old.apart);
       own = c.ioctl.ensures.own;
-      counted = count-within (λ (c : PlayChannelOf _). c.book.done + c.book.written) (2 ^ 32) old.steps (play_channels old.parent) (play_channels new) same
-          (λ slot other there. let more = (c.ioctl.ensures.channels slot other there).counted in omega (arith, more)) old.counted;
+      counted = count-within (λ (c : PlayChannelOf _). c.book.done + c.book.written) RING_BYTES old.steps (play_channels old.parent) (play_channels new) same
+          (λ slot other there. let more = (c.ioctl.ensures.channels slot other there).grown in omega (arith, more)) old.counted;
       given = count-within (λ (c : PlayChannelOf _). c.book.given) RING_FRAMES old.steps (play_channels old.parent) (play_channels new) same
           (λ slot other there. let more = (c.ioctl.ensures.channels slot other there).given in omega (arith, more)) old.given;
       recorders_own = c.ioctl.ensures.recorders_own;
@@ -85,8 +84,8 @@ invariant_of-self-in-Intr g c =
     record {
       apart = subst HoldApart (sym desk) (apart-after (device_of old) (desk_of old) (Intr c.in-Intr.frames) old.apart);
       own = c.interrupt.ensures.own;
-      counted = count-within (λ (c : PlayChannelOf _). c.book.done + c.book.written) (2 ^ 32) old.steps (play_channels old.parent) (play_channels new) same
-          (λ slot other there. let more = (c.interrupt.ensures.channels slot other there).counted in omega (arith, more)) old.counted;
+      counted = count-within (λ (c : PlayChannelOf _). c.book.done + c.book.written) RING_BYTES old.steps (play_channels old.parent) (play_channels new) same
+          (λ slot other there. let more = (c.interrupt.ensures.channels slot other there).grown in omega (arith, more)) old.counted;
       given = count-within (λ (c : PlayChannelOf _). c.book.given) RING_FRAMES old.steps (play_channels old.parent) (play_channels new) same
           (λ slot other there. let more = (c.interrupt.ensures.channels slot other there).given in omega (arith, more, fits.1)) old.given;
       recorders_own = c.interrupt.ensures.recorders_own;
@@ -193,8 +192,8 @@ invariant_of-self g c =
     record {
       own = c.open-answer.ensures.own;
       apart = subst HoldApart (sym c.open-answer.ensures.desk) (apart-after (device_of old) (desk_of old) (Open c.in-Open.fd c.in-Open.way c.in-Open.settings) old.apart);
-      counted = count-within (λ (c : PlayChannelOf _). c.book.done + c.book.written) (2 ^ 32) old.steps (play_channels old.parent) (play_channels new) same
-          (λ slot other there. let more = (c.open-answer.ensures.channels slot other there).counted in omega (arith, more)) old.counted;
+      counted = count-within (λ (c : PlayChannelOf _). c.book.done + c.book.written) RING_BYTES old.steps (play_channels old.parent) (play_channels new) same
+          (λ slot other there. let more = (c.open-answer.ensures.channels slot other there).grown in omega (arith, more)) old.counted;
       given = count-within (λ (c : PlayChannelOf _). c.book.given) RING_FRAMES old.steps (play_channels old.parent) (play_channels new) same
           (λ slot other there. let more = (c.open-answer.ensures.channels slot other there).given in omega (arith, more)) old.given;
       recorders_own = c.open-answer.ensures.recorders_own;
@@ -216,8 +215,8 @@ invariant_of-self-in-Close g c =
     record {
       own = c.close.ensures.own;
       apart = subst HoldApart (sym (c.close.ensures.desk old.tables c.requires.ready.playing)) (apart-after (device_of old) (desk_of old) (Close c.in-Close.fd) old.apart);
-      counted = count-within (λ (c : PlayChannelOf _). c.book.done + c.book.written) (2 ^ 32) old.steps (play_channels old.parent) (play_channels new) same
-          (λ slot other there. let more = (c.close.ensures.channels old.tables slot other there).counted in omega (arith, more)) old.counted;
+      counted = count-within (λ (c : PlayChannelOf _). c.book.done + c.book.written) RING_BYTES old.steps (play_channels old.parent) (play_channels new) same
+          (λ slot other there. let more = (c.close.ensures.channels old.tables slot other there).grown in omega (arith, more)) old.counted;
       given = count-within (λ (c : PlayChannelOf _). c.book.given) RING_FRAMES old.steps (play_channels old.parent) (play_channels new) same
           (λ slot other there. let more = (c.close.ensures.channels old.tables slot other there).given in omega (arith, more)) old.given;
       recorders_own = c.close.ensures.recorders_own;
@@ -239,7 +238,7 @@ invariant_of-self-in-Read g c =
     record {
       apart = subst HoldApart (sym (c.answer_read.ensures.desk old.tables)) (apart-after (device_of old) (desk_of old) (Read c.in-Read.fd c.in-Read.len) old.apart);
       own = subst (λ (v : Fixed (PlayChannelOf _)). AreOf new.device (fixed_items v)) (sym c.answer_read.ensures.channels) (subst (λ (d : Device). AreOf d (play_channels old.parent)) (sym output.device_same) old.own);
-      counted = count-stays (λ (c : PlayChannelOf _). c.book.done + c.book.written) (2 ^ 32) old.steps (play_channels old.parent) (play_channels new) stays old.counted;
+      counted = count-stays (λ (c : PlayChannelOf _). c.book.done + c.book.written) RING_BYTES old.steps (play_channels old.parent) (play_channels new) stays old.counted;
       given = count-stays (λ (c : PlayChannelOf _). c.book.given) RING_FRAMES old.steps (play_channels old.parent) (play_channels new) stays old.given;
       recorders_own = c.answer_read.ensures.recorders_own;
       kept = count-within (λ (c : RecChannelOf _). c.book.kept) RING_BYTES old.steps (rec_channels old.parent) (rec_channels new) output.recorders_same

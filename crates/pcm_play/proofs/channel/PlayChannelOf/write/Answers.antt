@@ -43,4 +43,4 @@ returns-clause-moves g c = λ filters.
     let old = c.args.self.now in
     let count = c.put-accepted.ensures.count in
     moves-taking g.B.Feeder.kind g.B.Feeder.kept filters c.args.bytes.now c.put-accepted.result old _ refl refl (ap (λ (ring : Ring). ring.bytes) c.put-accepted.ensures.kept) c.accepting-self.ensures
-    (omega (arith, count)) (sym c.is_draining.ensures ∙ c.if-is_draining.false) old.within
+    (omega (arith, count)) (let size = old.size in omega (arith, count, size, old.safe.fragments.fits)) (sym c.is_draining.ensures ∙ c.if-is_draining.false) old.within
