@@ -24,7 +24,16 @@ fn plain_sum(a: i32, b: i32, least: i32, greatest: i32) -> i32 {
 
 // Two blocks with pairs of the ends of a range, their neighbours and samples past it, another pair at each place.
 fn blocks(least: i32, greatest: i32, first: usize) -> ([i32; 40], [i32; 40]) {
-    let samples = [i32::MIN, least, least.saturating_add(1), -1, 1, greatest.saturating_sub(1), greatest, i32::MAX];
+    let samples = [
+        i32::MIN,
+        least,
+        least.saturating_add(1),
+        -1,
+        1,
+        greatest.saturating_sub(1),
+        greatest,
+        i32::MAX,
+    ];
     let mut acc = [0; 40];
     let mut add = [0; 40];
     for at in 0..40usize {
@@ -57,6 +66,10 @@ fn is_mixed(bits: u32, least: i32, greatest: i32, length: usize) -> bool {
 fn sums_are_the_plain_ones_at_each_length(rt: HostRuntime) {
     for row in 0..164usize {
         let (bits, least, greatest) = WIDTHS[row % 4];
-        assert!(rt; is_mixed(bits, least, greatest, row / 4), "{bits} bits, {} samples", row / 4);
+        assert!(rt;
+            is_mixed(bits, least, greatest, row / 4),
+            "{bits} bits, {} samples",
+            row / 4
+        );
     }
 }
