@@ -71,40 +71,18 @@ fn texts(rt: HostRuntime) {
 // How a text begins, a part that follows so many times, how it ends, and what is to come of it.
 type LongRow = (&'static [u8], usize, &'static [u8], &'static [u8], Outcome);
 
-const LIMITS: [LongRow; 9] = [
+// The greatest number of events and the longest text are cases of corpus/.
+const LIMITS: [LongRow; 5] = [
     // Each interrupt takes 1024 frames of four bytes.
     (b"", 65536, b"intr 1024\n", b"", Ok(65536)),
-    (b"", 65537, b"intr 1024\n", b"", Err((65537, "long"))),
-    // A line behind as many events as a script may have.
-    (b"", 1048576, b"close 9\n", b"", Ok(1048576)),
+    (b"", 65536, b"intr 1024\n", b"intr 1", Err((65537, "long"))),
+    // A line is judged by itself before it is found to be too much.
     (
         b"",
-        1048576,
-        b"close 9\n",
-        b"close 9",
-        Err((1048577, "long")),
-    ),
-    (
-        b"",
-        1048576,
-        b"close 9\n",
-        b"close 64",
-        Err((1048577, "range")),
-    ),
-    // 64 mebibytes of text, and a byte more.
-    (
-        b"",
-        2097152,
-        b"# a comment of 32 bytes.........",
-        b"",
-        Ok(0),
-    ),
-    (
-        b"",
-        2097152,
-        b"# a comment of 32 bytes.........",
-        b".",
-        Err((0, "long")),
+        65536,
+        b"intr 1024\n",
+        b"intr 1025",
+        Err((65537, "range")),
     ),
     // The bytes of a write.
     (b"write 0 ", 4096, b"5a", b"", Ok(1)),
