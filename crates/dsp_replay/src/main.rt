@@ -8,8 +8,11 @@ ghost use Rattle.pcm_verdict.specs.Commands.{command_of};
 ghost use Rattle.pcm_replay.specs.Outcomes.{IsStatus};
 
 mod boxed;
+mod explain;
 
 use boxed::run_boxed;
+use explain::explain;
+use pcm_causes::FirstPut;
 use pcm_outside::{RealFiles, RealSink};
 use std::env;
 use std::io::{self, ErrorKind};
@@ -19,7 +22,7 @@ fn main(rt: HostRuntime) -> ExitCode {
     let status = match words_after_name(&rt) {
         Ok(words) => run(&rt, &words),
         Err(fault) if fault.kind() == ErrorKind::OutOfMemory => {
-            explain(&rt, 8, &[], false);
+            explain(&rt, &[], 8, b"", false);
             8
         }
         // Words that aren't UTF-8 match no form, as an empty list matches none.
@@ -39,26 +42,9 @@ fn run(rt: &HostRuntime, words: &[String]) -> u8
     ensures only_usage { command_of (map string_bytes words.now) ≡ None → result ≢ 2 → (result ≡ 7) ⊎ (result ≡ 8) }
 {
     let mut files = RealFiles::new(rt);
-    let mut out = RealSink::new(rt);
+    let mut out = FirstPut::new(RealSink::new(rt));
     // The boxes that this program makes are of the right kinds, so what refuses them is memory.
     let status = run_boxed(rt.alloc(), words, &mut files, &mut out).unwrap_or(8);
-    explain(rt, status, words, files.write_faults() > 0);
+    explain(rt, words, status, out.first(), files.write_faults() > 0);
     status
-}
-
-// An ending that prints no line of its own gets one on the error output. Where that can't be written either, the status
-// alone tells.
-fn explain(rt: &HostRuntime, status: u8, words: &[String], is_file: bool) {
-    match (status, words) {
-        (7, [_, _, out, ..]) if is_file => {
-            let _ = eprintln!(rt; "dsp_replay: cannot write {out}");
-        }
-        (7, _) => {
-            let _ = rt.eprintln("dsp_replay: cannot write the output");
-        }
-        (8, _) => {
-            let _ = rt.eprintln("dsp_replay: out of memory");
-        }
-        _ => {}
-    }
 }

@@ -1,0 +1,56 @@
+//! Which definition of a configuration brings its fault.
+
+ghost use Rattle.std.specs.Prelude.{◌≢◌, Err, IfSome, IsTrue, take};
+ghost use Rattle.pcm_config.specs.Configs.{config_read};
+
+use crate::lines::line_before;
+use pcm_config::{ConfigFault, ConfigKind, ConfigPlace, ConfigRefusal, config_of};
+use std::alloc::Global;
+
+// The bytes that are read for a search at most. It reads the text again for each line behind the one that it finds.
+pub(crate) const WORK: usize = 33554432;
+
+/// Where the definition begins with which a configuration has a fault: the text before it is read, without that fault, and the
+/// text up to the end of any later line has it or isn't read. The definition of a filter has all of its keys.
+/// None where the search would take long, or memory runs out.
+pub fn definition_at(alloc: Global, text: &[u8], refusal: ConfigRefusal) -> Option<usize>
+    ensures without { IfSome result (λ place. config_read (take place text.now) ≢ Err refusal) }
+{
+    let mut left = WORK;
+    let mut place = text.len();
+    for _ in 0..text.len() {
+        place = line_before(text, place);
+        left = left.checked_sub(place)?;
+        if is_without(alloc, text.get(..place)?, refusal)? {
+            return Some(place);
+        }
+    }
+    None
+}
+
+// Whether a text is read, as far as the judgement goes that a refusal tells of, and doesn't have that fault.
+fn is_without(alloc: Global, text: &[u8], refusal: ConfigRefusal) -> Option<bool>
+    ensures { IfSome result (λ holds. IsTrue holds → config_read text.now ≢ Err refusal) }
+{
+    match config_of(alloc, text) {
+        Ok(_) => Some(true),
+        Err(ConfigFault::Refused(told)) => {
+            Some(told != refusal && told.kind != ConfigKind::Toml && !hides(told, refusal))
+        }
+        Err(ConfigFault::Memory) => None,
+    }
+}
+
+// Whether a refusal can be told in place of another that is there too, and be gone further down: a filter misses keys until all
+// of them were read, and is judged before what comes behind it.
+fn hides(told: ConfigRefusal, refusal: ConfigRefusal) -> bool {
+    told.kind == ConfigKind::Missing && is_judged_later(refusal)
+}
+
+fn is_judged_later(refusal: ConfigRefusal) -> bool {
+    match refusal.kind {
+        ConfigKind::Shape | ConfigKind::Coef | ConfigKind::Container | ConfigKind::Capture => true,
+        ConfigKind::Kind | ConfigKind::Range => refusal.place == ConfigPlace::Tables,
+        _ => false,
+    }
+}

@@ -1,0 +1,22 @@
+//! What stands behind the line of a fault, for whoever has to mend it. The files are read anew for that, so what is told is what
+//! they hold by then.
+#![tactic(auto)]
+
+mod again;
+mod causes;
+mod chunk;
+mod config_cause;
+mod definition;
+mod device;
+mod filter_key;
+mod first_put;
+mod lines;
+mod script_cause;
+mod shown;
+mod unread_cause;
+mod wave_cause;
+mod wave_format;
+
+pub use causes::cause_of;
+pub use definition::definition_at;
+pub use first_put::FirstPut;
