@@ -4,13 +4,7 @@ use pcm_causes::cause_of;
 
 /// Says what happened where no line of its own was printed, and what stands behind the line of a fault. Where that can't be written
 /// either, the status alone tells.
-pub(crate) fn explain(
-    rt: &HostRuntime,
-    words: &[String],
-    status: u8,
-    line: &[u8],
-    is_file: bool,
-) {
+pub(crate) fn explain(rt: &HostRuntime, words: &[String], status: u8, line: &[u8], is_file: bool) {
     match (status, words) {
         (3..=6, _) => {
             if let Some(cause) = cause_of(rt, rt.alloc(), words, status, line) {
