@@ -17,31 +17,20 @@ use Rattle.pcm_desk.specs.declared.book.State.TheVariants.{Free, Setup, Primed, 
 
 abbrev pub is_free : State → Bool
 is_free Free = true
-is_free Setup = false
-is_free Primed = false
-is_free Running = false
-is_free (Draining _) = false
+is_free state = false
 
 abbrev pub is_setup : State → Bool
-is_setup Free = false
 is_setup Setup = true
-is_setup Primed = false
-is_setup Running = false
-is_setup (Draining _) = false
+is_setup state = false
 
 abbrev pub is_draining : State → Bool
-is_draining Free = false
-is_draining Setup = false
-is_draining Primed = false
-is_draining Running = false
 is_draining (Draining _) = true
+is_draining state = false
 
 abbrev pub is_started : State → Bool
-is_started Free = false
-is_started Setup = false
-is_started Primed = false
 is_started Running = true
 is_started (Draining _) = true
+is_started state = false
 
 -- the whole frames accepted in this run
 abbrev pub frames_written : Book → ℕ
@@ -71,11 +60,9 @@ played_of book = book.done + book.eaten * frame_bytes book.settings
 
 -- how many frames of the mix the book has allowed so far
 abbrev pub allowed_in : Rate → State → Book → ℕ
-allowed_in rate Free book = 0
-allowed_in rate Setup book = 0
-allowed_in rate Primed book = 0
 allowed_in rate Running book = can rate (frames_written book)
 allowed_in rate (Draining _) book = len rate (frames_written book)
+allowed_in rate state book = 0
 
 -- how many of n frames the book gives to the mix
 abbrev pub giving : Rate → ℕ → Book → ℕ
@@ -116,11 +103,8 @@ dropped book = record (emptied Setup book) { done = 0; told = 0 }
 
 -- a book with bytes in it isn't in Setup
 abbrev pub primed_in : State → Book → Book
-primed_in Free book = book
 primed_in Setup book = if nat_lt 0 book.written then record book { state = Primed } else book
-primed_in Primed book = book
-primed_in Running book = book
-primed_in (Draining closed) book = book
+primed_in state book = book
 
 -- the trigger is on, and a full fragment waits
 abbrev pub may_start : Book → Bool
@@ -128,11 +112,8 @@ may_start book = book.trigger && nat_le (fragment_bytes book) (fill_of book)
 
 -- a primed book that may start does so
 abbrev pub started_in : State → Book → Book
-started_in Free book = book
-started_in Setup book = book
 started_in Primed book = if may_start book then record book { state = Running } else book
-started_in Running book = book
-started_in (Draining closed) book = book
+started_in state book = book
 
 -- `accepted` more bytes were written
 abbrev pub accepting : ℕ → Book → Book
@@ -150,29 +131,22 @@ write_turn length book =
 
 -- a draining book that has given its last frame is over
 abbrev pub settled_in : Rate → State → Book → Book
-settled_in rate Free book = book
-settled_in rate Setup book = book
-settled_in rate Primed book = book
-settled_in rate Running book = book
 settled_in rate (Draining closed) book =
     if book.given == len rate (frames_written book) then finished (if closed then Free else Setup) book else book
+settled_in rate state book = book
 
 -- No more comes: what was written plays to its end, and a part of a frame alone is dropped.
 abbrev pub drained_in : Rate → State → Book → Book
-drained_in rate Free book = book
-drained_in rate Setup book = book
 drained_in rate Primed book =
     if nat_lt 0 (frames_written book) then record book { state = Draining false } else emptied Setup book
 drained_in rate Running book = settled_in rate (Draining false) (record book { state = Draining false })
-drained_in rate (Draining closed) book = book
+drained_in rate state book = book
 
 -- no descriptor has the book any more
 abbrev pub closed_in : State → Book → Book
-closed_in Free book = book
 closed_in Setup book = record book { state = Free }
-closed_in Primed book = book
-closed_in Running book = book
 closed_in (Draining closed) book = record book { state = Draining true }
+closed_in state book = book
 
 -- a close: a drain, and then no descriptor
 abbrev pub close_turn : Rate → Book → Book
@@ -191,11 +165,9 @@ underruns_after rate n book = if nat_lt (giving rate n book) n then min (book.un
 
 -- an interrupt that mixes n frames
 abbrev pub refilled_in : Rate → State → ℕ → Book → Book
-refilled_in rate Free n book = book
-refilled_in rate Setup n book = book
-refilled_in rate Primed n book = book
 refilled_in rate Running n book = record (gives rate n book) { underruns = underruns_after rate n book }
 refilled_in rate (Draining closed) n book = settled_in rate (Draining closed) (gives rate n book)
+refilled_in rate state n book = book
 
 abbrev pub refilled : Rate → ℕ → Book → Book
 refilled rate n book = refilled_in rate book.state n book

@@ -28,12 +28,8 @@ Fits device pool (Intr frames) = (0 < frames) × (frames ≤ ring_frames device)
 
 -- the frames that an event takes out of the device's ring
 abbrev pub frames_taken : Event → ℕ
-frames_taken (Open fd way settings) = 0
-frames_taken (Write fd source at count) = 0
-frames_taken (Read fd count) = 0
-frames_taken (Ioctl fd request) = 0
-frames_taken (Close fd) = 0
 frames_taken (Intr frames) = frames
+frames_taken event = 0
 
 -- the bytes that an event hands over
 abbrev pub bytes_handed : DeviceSeen → Event → ℕ

@@ -11,7 +11,7 @@ use Rattle.pcm_oss.specs.declared.reply.Errno.{Errno}
 use Rattle.pcm_oss.specs.declared.reply.Errno.TheVariants.{Exist, Inval}
 use Rattle.pcm_desk.specs.declared.book.Book.{Book}
 use Rattle.pcm_desk.specs.declared.book.State.{State}
-use Rattle.pcm_desk.specs.declared.book.State.TheVariants.{Free, Setup, Primed, Running, Draining}
+use Rattle.pcm_desk.specs.declared.book.State.TheVariants.{Free, Draining}
 use Rattle.pcm_desk.specs.declared.device.Held.{Held}
 use Rattle.pcm_desk.specs.declared.record_book.RecordBook.{RecordBook}
 use Rattle.pcm_desk.specs.Device.{DeviceSeen}
@@ -87,10 +87,8 @@ own_turn device (Intr n) channel = record { channel = passing device n channel; 
 -- a channel that a descriptor may hold: it isn't free, and doesn't drain behind a close
 abbrev pub is_held : State → Bool
 is_held Free = false
-is_held Setup = true
-is_held Primed = true
-is_held Running = true
 is_held (Draining closed) = not closed
+is_held state = true
 
 -- how many slots a way has
 abbrev pub slots_of : Desk → Way → ℕ

@@ -16,8 +16,7 @@ use Rattle.pcm_desk.specs.declared.record_book.RecordState.TheVariants.{Free, Se
 
 abbrev pub is_free : RecordState → Bool
 is_free Free = true
-is_free Setup = false
-is_free Running = false
+is_free state = false
 
 abbrev pub is_setup : RecordState → Bool
 is_setup Free = false
@@ -25,9 +24,8 @@ is_setup Setup = true
 is_setup Running = false
 
 abbrev pub is_running : RecordState → Bool
-is_running Free = false
-is_running Setup = false
 is_running Running = true
+is_running state = false
 
 -- the bytes that wait in the ring
 abbrev pub fill_of : RecordBook → ℕ
@@ -108,9 +106,8 @@ captures rate n book = record book {
 
 -- an interrupt that captures n frames
 abbrev pub captured_in : Rate → RecordState → ℕ → RecordBook → RecordBook
-captured_in rate Free n book = book
-captured_in rate Setup n book = book
 captured_in rate Running n book = captures rate n book
+captured_in rate state n book = book
 
 abbrev pub captured : Rate → ℕ → RecordBook → RecordBook
 captured rate n book = captured_in rate book.state n book

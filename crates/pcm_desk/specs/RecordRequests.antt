@@ -93,9 +93,8 @@ posted book = if book.trigger then roused_in book.state book else book
 
 -- a running book drops its bytes
 abbrev pub stopped_in : RecordState → RecordBook → RecordBook
-stopped_in Free book = book
-stopped_in Setup book = book
 stopped_in Running book = dropped book
+stopped_in state book = book
 
 -- the book once its trigger was set: on, it starts; off, it stops
 abbrev pub triggered : Bool → RecordBook → RecordBook

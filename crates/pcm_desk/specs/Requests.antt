@@ -17,7 +17,7 @@ use Rattle.pcm_oss.specs.Volumes.{is_volume}
 use Rattle.pcm_rate.specs.declared.rate.Rate.{Rate}
 use Rattle.pcm_desk.specs.declared.book.Book.{Book}
 use Rattle.pcm_desk.specs.declared.book.State.{State}
-use Rattle.pcm_desk.specs.declared.book.State.TheVariants.{Free, Setup, Primed, Running, Draining}
+use Rattle.pcm_desk.specs.declared.book.State.TheVariants.{Setup, Primed, Running}
 use Rattle.pcm_desk.specs.declared.turn.Turn.{Turn}
 use Rattle.pcm_desk.specs.declared.turn.TheConstants.{ALL_FORMATS, CAPABILITIES, PLAY_BIT}
 use Rattle.pcm_desk.specs.Books.{BookTurn, drained_in, dropped, fill_of, fragment_bytes, frames_written, free_of, is_draining, is_setup, played_of, ring_bytes}
@@ -101,11 +101,8 @@ tell_errors book = telling (Errors book.underruns 0) (record book { underruns = 
 
 -- a primed book with a whole frame starts
 abbrev pub roused_in : State → Book → Book
-roused_in Free book = book
-roused_in Setup book = book
 roused_in Primed book = if nat_lt 0 (frames_written book) then record book { state = Running } else book
-roused_in Running book = book
-roused_in (Draining closed) book = book
+roused_in state book = book
 
 -- a post starts a book that may start
 abbrev pub posted : Book → Book
@@ -113,11 +110,9 @@ posted book = if book.trigger then roused_in book.state book else book
 
 -- a primed or running book drops its bytes
 abbrev pub stopped_in : State → Book → Book
-stopped_in Free book = book
-stopped_in Setup book = book
 stopped_in Primed book = dropped book
 stopped_in Running book = dropped book
-stopped_in (Draining closed) book = book
+stopped_in state book = book
 
 -- the book once its trigger was set: on, it starts if it can; off, it stops
 abbrev pub triggered : Bool → Book → Book

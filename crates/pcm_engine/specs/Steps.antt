@@ -1,7 +1,7 @@
 -- What one event leaves of an engine's parts.
 use Rattle.std.specs.Prelude.{ℕ, ◌*◌, min, List, [], ◌++◌, take, drop, Option, Some, None, slice_index_or}
 use Rattle.pcm_oss.specs.declared.event.Event.{Event}
-use Rattle.pcm_oss.specs.declared.event.Event.TheVariants.{Open, Write, Read, Ioctl, Close, Intr}
+use Rattle.pcm_oss.specs.declared.event.Event.TheVariants.{Write, Read, Intr}
 use Rattle.pcm_wave.specs.declared.pool.Pool.{Pool}
 use Rattle.pcm_wave.specs.Pools.{bytes_at, captured_frames}
 use Rattle.pcm_feeder.specs.declared.kind.Kind.{Kind}
@@ -25,12 +25,8 @@ use Rattle.pcm_vchan.specs.Captures.{Captures}
 
 -- the bytes that an event brings
 abbrev pub bytes_brought : Pool → Event → List ℕ
-bytes_brought pool (Open fd way settings) = []
 bytes_brought pool (Write fd source at count) = bytes_at pool source at count
-bytes_brought pool (Read fd count) = []
-bytes_brought pool (Ioctl fd request) = []
-bytes_brought pool (Close fd) = []
-bytes_brought pool (Intr n) = []
+bytes_brought pool event = []
 
 -- the channels after an event
 abbrev pub ChannelsMove : {B : Type 0} → (B → Kind) → (B → Kept) → Filters → Pool → Event → List (PlayChannelOf B) → List (PlayChannelOf B) → Type 0
@@ -38,22 +34,14 @@ ChannelsMove kind kept filters pool event old new = Each (Moves kind kept filter
 
 -- the bytes of the device's ring after an event, from the books of the slots and the bytes of their runs
 abbrev pub ring_after : DeviceSeen → Event → List Book → (ℕ → List ℕ) → ℕ → List ℕ → List ℕ
-ring_after device (Open fd way settings) books streams slots ring = ring
-ring_after device (Write fd source at count) books streams slots ring = ring
-ring_after device (Read fd count) books streams slots ring = ring
-ring_after device (Ioctl fd request) books streams slots ring = ring
-ring_after device (Close fd) books streams slots ring = ring
 ring_after device (Intr n) books streams slots ring = drop (n * device_frame_bytes device) ring ++ block_bytes device (block_of device n books streams slots)
+ring_after device event books streams slots ring = ring
 
 -- the channels that record after an event, once so many frames were handed over
 abbrev pub RecordersMove : {B : Type 0} → (B → Kind) → (B → Kept) → DeviceSeen → Pool → ℕ → Event → List (RecChannelOf B) → List (RecChannelOf B) → Type 0
-RecordersMove kind kept device pool handed (Open fd way settings) old new = Each (RecordMoves kind kept (filters_of device) [] 0) old new
-RecordersMove kind kept device pool handed (Write fd source at count) old new = Each (RecordMoves kind kept (filters_of device) [] 0) old new
-RecordersMove kind kept device pool handed (Read fd count) old new = Each (RecordMoves kind kept (filters_of device) [] 0) old new
-RecordersMove kind kept device pool handed (Ioctl fd request) old new = Each (RecordMoves kind kept (filters_of device) [] 0) old new
-RecordersMove kind kept device pool handed (Close fd) old new = Each (RecordMoves kind kept (filters_of device) [] 0) old new
 RecordersMove kind kept device pool handed (Intr n) old new =
     Each (Captures kind kept device n (interleaved (captured_frames (device_settings device).layout pool handed n))) old new
+RecordersMove kind kept device pool handed event old new = Each (RecordMoves kind kept (filters_of device) [] 0) old new
 
 -- the bytes that a read of so many gets of a channel, from those that were kept of its recording: the oldest that no read got
 abbrev pub channel_read : ℕ → Channel → List ℕ → List ℕ
@@ -72,9 +60,5 @@ front_taken rings count (Some held) = by_way held.way [] (take count (slice_inde
 
 -- the bytes that come with the reply to an event
 abbrev pub bytes_answered : DeviceSeen → Desk → (ℕ → List ℕ) → Event → List ℕ
-bytes_answered device desk bytes (Open fd way settings) = []
-bytes_answered device desk bytes (Write fd source at count) = []
 bytes_answered device desk bytes (Read fd count) = bytes_read device desk bytes count (held_by desk fd)
-bytes_answered device desk bytes (Ioctl fd request) = []
-bytes_answered device desk bytes (Close fd) = []
-bytes_answered device desk bytes (Intr n) = []
+bytes_answered device desk bytes event = []

@@ -9,7 +9,7 @@ use std::marker::Model;
 /// Why an event was refused. A refused event changes nothing.
 #[derive(Clone, Copy, Debug, PartialEq, Eq)]
 pub enum Errno {
-    /// The ring has no room now.
+    /// The ring has no room for a write now, or no byte for a read.
     Again,
     /// No slot is free, or the channel's state doesn't allow it.
     Busy,

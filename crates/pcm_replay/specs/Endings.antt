@@ -32,23 +32,15 @@ EndsCall NoMemory words before after = LacksMemory words before after
 
 -- what an accepted call did that ended before its end
 abbrev pub CutsShort : Ending → Accepted → Outside → Outside → Type 0
-CutsShort Usage accepted before after = ⊥
-CutsShort CannotRead accepted before after = ⊥
-CutsShort BadConfig accepted before after = ⊥
-CutsShort BadScript accepted before after = ⊥
-CutsShort BadWave accepted before after = ⊥
 CutsShort CannotWrite accepted before after = CutsCall accepted before after
 CutsShort NoMemory accepted before after = after ≡ before
+CutsShort ending accepted before after = ⊥
 
 -- what became of lines that were to be put, and nothing else was done
 abbrev pub CutsLines : Ending → List ℕ → SinkSeen → SinkSeen → Type 0
-CutsLines Usage lines old new = ⊥
-CutsLines CannotRead lines old new = ⊥
-CutsLines BadConfig lines old new = ⊥
-CutsLines BadScript lines old new = ⊥
-CutsLines BadWave lines old new = ⊥
 CutsLines CannotWrite lines old new = FailsToPut old new lines
 CutsLines NoMemory lines old new = new ≡ old
+CutsLines ending lines old new = ⊥
 
 -- an engine ran the script of these inputs
 abbrev pub RanInputs : {B : Type 0} → (B → Kept) → EngineOf B → Inputs → Type 0
@@ -61,13 +53,10 @@ RanSoak kept engine n = RanThrough kept engine usual_device (soak_pool n) (soak_
 -- an engine ran where a script was to be run, and there is none elsewhere
 abbrev pub HasRun : {B : Type 0} → (B → Kept) → Option (EngineOf B) → Accepted → Type 0
 HasRun kept (Some engine) (Runs out inputs) = RanInputs kept engine inputs
-HasRun kept (Some engine) (Checks inputs) = ⊥
-HasRun kept (Some engine) (Converts out conversion) = ⊥
 HasRun kept (Some engine) (Soaks n) = RanSoak kept engine n
-HasRun kept None (Runs out inputs) = ⊥
 HasRun kept None (Checks inputs) = Unit {0}
 HasRun kept None (Converts out conversion) = Unit {0}
-HasRun kept None (Soaks n) = ⊥
+HasRun kept ran accepted = ⊥
 
 -- a command was done to its end
 pub record DoesCommand {B : Type 0} (kept : B → Kept) (command : Command) (engine : Option (EngineOf B)) (before after : Outside) : Type 0 where

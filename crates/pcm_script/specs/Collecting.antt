@@ -14,13 +14,8 @@ use Rattle.pcm_script.specs.declared.script.Script.{Script}
 
 -- the bytes that a line names
 abbrev pub own_bytes : LineEvent → List ℕ
-own_bytes (Open fd way settings) = []
 own_bytes (Write fd bytes) = bytes
-own_bytes (Send fd file at count) = []
-own_bytes (Read fd count) = []
-own_bytes (Ioctl fd request) = []
-own_bytes (Close fd) = []
-own_bytes (Intr frames) = []
+own_bytes event = []
 
 -- the event of a line whose own bytes stand at a place; to send is to write what stands in a file
 abbrev pub event_at : ℕ → LineEvent → Event

@@ -21,7 +21,7 @@ use Rattle.pcm_script.specs.declared.fault.ScriptKind.TheVariants.{Word, Count, 
 use Rattle.pcm_script.specs.declared.line_event.LineEvent.{LineEvent}
 use Rattle.pcm_script.specs.declared.line_event.LineEvent.TheVariants.{Open, Write, Send, Read, Ioctl, Close, Intr}
 use Rattle.pcm_script.specs.declared.request.Setter.{Setter}
-use Rattle.pcm_script.specs.declared.request.Setter.TheVariants.{SetFmt, Speed, Channels, SetFragment, SetTrigger, SetPlayVol}
+use Rattle.pcm_script.specs.declared.request.Setter.TheVariants.{SetFmt}
 use Rattle.pcm_script.specs.Steps.{◌>>=◌}
 use Rattle.pcm_script.specs.Numbers.{number_in, number_within, within}
 use Rattle.pcm_script.specs.Requests.{as_full, as_plain, request_named, request_with}
@@ -82,11 +82,7 @@ code_in word = code_or_number (format_named word) word
 -- the argument of a request: any number, and for a format its name as well
 abbrev pub argument_in : Setter → List ℕ → Result ℕ ScriptKind
 argument_in SetFmt word = code_in word
-argument_in Speed word = number_within 0 most_argument word
-argument_in Channels word = number_within 0 most_argument word
-argument_in SetFragment word = number_within 0 most_argument word
-argument_in SetTrigger word = number_within 0 most_argument word
-argument_in SetPlayVol word = number_within 0 most_argument word
+argument_in setter word = number_within 0 most_argument word
 
 -- `open D WAY` and `open D WAY FORMAT CHANNELS RATE`
 unfoldable pub open_line : List (List ℕ) → Result LineEvent ScriptKind

@@ -2,9 +2,9 @@
 use Rattle.std.specs.Prelude.{ℕ, ◌+◌, ◌*◌, ◌^◌, ◌≤◌, List, [], ◌∷◌, Result, Ok, Err}
 use Rattle.std.specs.List.{sum_by}
 use Rattle.pcm_oss.specs.declared.event.Event.{Event}
-use Rattle.pcm_oss.specs.declared.event.Event.TheVariants.{Open, Write, Read, Ioctl, Close, Intr}
+use Rattle.pcm_oss.specs.declared.event.Event.TheVariants.{Write}
 use Rattle.pcm_oss.specs.declared.reply.Answer.{Answer}
-use Rattle.pcm_oss.specs.declared.reply.Answer.TheVariants.{Done, Number, Space, Pointer, Errors, Got}
+use Rattle.pcm_oss.specs.declared.reply.Answer.TheVariants.{Number, Errors, Got}
 use Rattle.pcm_oss.specs.declared.reply.Errno.{Errno}
 use Rattle.pcm_oss.specs.Replies.{Reply}
 use Rattle.pcm_soak.specs.declared.tally.Tally.{Tally}
@@ -15,32 +15,18 @@ no_tally = record { accepted = 0; read = 0; refused = 0; errors = 0; sum = 0 }
 
 -- the number that a result is
 abbrev pub number_told : Result Answer Errno → ℕ
-number_told (Ok Done) = 0
 number_told (Ok (Number number)) = number
-number_told (Ok (Space fragments fragstotal fragsize bytes)) = 0
-number_told (Ok (Pointer bytes blocks ptr)) = 0
-number_told (Ok (Errors underruns overruns)) = 0
-number_told (Ok (Got count)) = 0
-number_told (Err errno) = 0
+number_told told = 0
 
 -- the bytes that an event had accepted: those that a write is answered
 abbrev pub accepted_by : Event → Result Answer Errno → ℕ
-accepted_by (Open fd way settings) told = 0
 accepted_by (Write fd source at count) told = number_told told
-accepted_by (Read fd count) told = 0
-accepted_by (Ioctl fd request) told = 0
-accepted_by (Close fd) told = 0
-accepted_by (Intr frames) told = 0
+accepted_by event told = 0
 
 -- the bytes that a result got
 abbrev pub read_by : Result Answer Errno → ℕ
-read_by (Ok Done) = 0
-read_by (Ok (Number number)) = 0
-read_by (Ok (Space fragments fragstotal fragsize bytes)) = 0
-read_by (Ok (Pointer bytes blocks ptr)) = 0
-read_by (Ok (Errors underruns overruns)) = 0
 read_by (Ok (Got count)) = count
-read_by (Err errno) = 0
+read_by told = 0
 
 -- a refusal counts as one
 abbrev pub refused_by : Result Answer Errno → ℕ
@@ -49,13 +35,8 @@ refused_by (Err errno) = 1
 
 -- the shortages that a result tells, of playing and of recording
 abbrev pub errors_by : Result Answer Errno → ℕ
-errors_by (Ok Done) = 0
-errors_by (Ok (Number number)) = 0
-errors_by (Ok (Space fragments fragstotal fragsize bytes)) = 0
-errors_by (Ok (Pointer bytes blocks ptr)) = 0
 errors_by (Ok (Errors underruns overruns)) = underruns + overruns
-errors_by (Ok (Got count)) = 0
-errors_by (Err errno) = 0
+errors_by told = 0
 
 -- one event and its reply more
 abbrev pub tallied : Tally → Event → Reply → Tally

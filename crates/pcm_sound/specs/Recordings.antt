@@ -1,7 +1,7 @@
 -- A recording is what its channel kept of the captured frames, from its start on, and what reads got of it.
 use Rattle.std.specs.Prelude.{ℕ, ◌-◌, Bool, true, not, ◌&&◌, nat_lt, min, if◌then◌else◌, List, [], ◌++◌, take, drop}
 use Rattle.pcm_oss.specs.declared.event.Event.{Event}
-use Rattle.pcm_oss.specs.declared.event.Event.TheVariants.{Open, Write, Read, Ioctl, Close, Intr}
+use Rattle.pcm_oss.specs.declared.event.Event.TheVariants.{Read, Intr}
 use Rattle.pcm_wave.specs.declared.pool.Pool.{Pool}
 use Rattle.pcm_wave.specs.Pools.{capture_frames}
 use Rattle.pcm_format.specs.Frames.{Frame}
@@ -55,12 +55,9 @@ handing old new recording = record recording { got = recording.got ++ take (new.
 
 -- a slot's recording after an event that starts none, from its book before and after
 abbrev pub going_on : DeviceSeen → Pool → Event → RecordBook → RecordBook → Recording → Recording
-going_on device pool (Open fd way settings) old new recording = recording
-going_on device pool (Write fd source at count) old new recording = recording
 going_on device pool (Read fd count) old new recording = handing old new recording
-going_on device pool (Ioctl fd request) old new recording = recording
-going_on device pool (Close fd) old new recording = recording
 going_on device pool (Intr n) old new recording = hearing device pool n old recording
+going_on device pool event old new recording = recording
 
 -- a channel that hadn't started has
 abbrev pub starts_recording : RecordBook → RecordBook → Bool

@@ -1,7 +1,7 @@
 -- What the events of a script are answered.
 use Rattle.std.specs.Prelude.{ℕ, List, [], ◌∷◌, Option, Some, None}
 use Rattle.pcm_oss.specs.declared.event.Event.{Event}
-use Rattle.pcm_oss.specs.declared.event.Event.TheVariants.{Open, Write, Read, Ioctl, Close, Intr}
+use Rattle.pcm_oss.specs.declared.event.Event.TheVariants.{Read}
 use Rattle.pcm_wave.specs.declared.pool.Pool.{Pool}
 use Rattle.pcm_oss.specs.Replies.{Reply}
 use Rattle.pcm_desk.specs.declared.device.Held.{Held}
@@ -18,12 +18,8 @@ bytes_got device story count (Some held) =
 
 -- the bytes that an event gets: no event but a read does
 abbrev pub bytes_to : DeviceSeen → Story → Event → List ℕ
-bytes_to device story (Open fd way settings) = []
-bytes_to device story (Write fd source at count) = []
 bytes_to device story (Read fd count) = bytes_got device story count (held_by story.desk fd)
-bytes_to device story (Ioctl fd request) = []
-bytes_to device story (Close fd) = []
-bytes_to device story (Intr n) = []
+bytes_to device story event = []
 
 -- the reply to an event: what the desk answers, and the bytes that it gets
 abbrev pub reply_to : DeviceSeen → Story → Event → Reply

@@ -2,16 +2,16 @@
 use Rattle.std.specs.Prelude.{ℕ, ◌+◌, ◌-◌, Bool, true, false, not, ◌&&◌, ◌||◌, nat_lt, nat_le, ◌==◌, if◌then◌else◌, List, [], ◌∷◌, ◌++◌, Option, Some, None, find}
 use Rattle.pcm_format.specs.declared.settings.Settings.{Settings}
 use Rattle.pcm_oss.specs.declared.event.Event.{Event}
-use Rattle.pcm_oss.specs.declared.event.Event.TheVariants.{Open, Write, Read, Ioctl, Close, Intr}
+use Rattle.pcm_oss.specs.declared.event.Event.TheVariants.{Write, Ioctl, Intr}
 use Rattle.pcm_oss.specs.declared.request.Request.{Request}
-use Rattle.pcm_oss.specs.declared.request.Request.TheVariants.{SetFmt, Speed, Channels, GetFmts, GetCaps, GetBlkSize, SetFragment, GetOSpace, GetISpace, GetOPtr, GetIPtr, GetODelay, GetError, SetTrigger, GetTrigger, SetPlayVol, GetPlayVol, Post, Sync, Halt}
+use Rattle.pcm_oss.specs.declared.request.Request.TheVariants.{SetTrigger, Halt}
 use Rattle.pcm_wave.specs.declared.pool.Pool.{Pool}
 use Rattle.pcm_format.specs.Frames.{Frame, frames}
 use Rattle.pcm_wave.specs.Pools.{bytes_at}
 use Rattle.pcm_feeder.specs.declared.stage.Gain.{Gain}
 use Rattle.pcm_desk.specs.declared.book.Book.{Book}
 use Rattle.pcm_desk.specs.declared.book.State.{State}
-use Rattle.pcm_desk.specs.declared.book.State.TheVariants.{Free, Setup, Primed, Running, Draining}
+use Rattle.pcm_desk.specs.declared.book.State.TheVariants.{Running}
 use Rattle.pcm_desk.specs.Device.{DeviceSeen}
 use Rattle.pcm_desk.specs.Books.{giving, is_draining, is_started}
 use Rattle.pcm_desk.specs.Requests.{has_play_bit}
@@ -52,11 +52,8 @@ taking (byte ∷ bytes) book (run ∷ runs) =
 
 -- the frames that an interrupt wanted of a started run and didn't get; a drain is never short
 abbrev pub missing_in : DeviceSeen → State → ℕ → Book → ℕ
-missing_in device Free n book = 0
-missing_in device Setup n book = 0
-missing_in device Primed n book = 0
 missing_in device Running n book = n - giving (rate_at device book) n book
-missing_in device (Draining closed) n book = 0
+missing_in device state n book = 0
 
 -- the piece of an interrupt that mixes n frames
 abbrev pub piece_of : DeviceSeen → ℕ → ℕ → Book → Piece
@@ -84,35 +81,14 @@ ends old new = is_started old.state && not (is_started new.state)
 
 -- whether a request drops what it ends: a halt does, and a trigger that is set off
 abbrev pub asks_drop : Request → Bool
-asks_drop (SetFmt code) = false
-asks_drop (Speed rate) = false
-asks_drop (Channels channels) = false
-asks_drop GetFmts = false
-asks_drop GetCaps = false
-asks_drop GetBlkSize = false
-asks_drop (SetFragment arg) = false
-asks_drop GetOSpace = false
-asks_drop GetISpace = false
-asks_drop GetOPtr = false
-asks_drop GetIPtr = false
-asks_drop GetODelay = false
-asks_drop GetError = false
 asks_drop (SetTrigger bits) = not (has_play_bit bits)
-asks_drop GetTrigger = false
-asks_drop (SetPlayVol volume) = false
-asks_drop GetPlayVol = false
-asks_drop Post = false
-asks_drop Sync = false
 asks_drop Halt = true
+asks_drop request = false
 
 -- whether an event drops what it ends; what else ends a run is its drain
 abbrev pub drops : Event → Bool
-drops (Open fd way settings) = false
-drops (Write fd source at count) = false
-drops (Read fd count) = false
 drops (Ioctl fd request) = asks_drop request
-drops (Close fd) = false
-drops (Intr n) = false
+drops event = false
 
 -- what an event tells of a run: where it starts, whether no more comes, and where it is dropped
 abbrev pub marked : ℕ → Event → Book → Book → Run → Run
@@ -129,12 +105,9 @@ marking position event old new (run ∷ runs) = marked position event old new ru
 
 -- The bytes and the pieces of a slot's runs after an event: what was written is what the book grew by.
 abbrev pub carrying : DeviceSeen → Pool → Desk → Event → Book → Book → List Run → List Run
-carrying device pool desk (Open fd way settings) old new runs = runs
 carrying device pool desk (Write fd source at count) old new runs = taking (bytes_at pool source at (new.written - old.written)) old runs
-carrying device pool desk (Read fd count) old new runs = runs
-carrying device pool desk (Ioctl fd request) old new runs = runs
-carrying device pool desk (Close fd) old new runs = runs
 carrying device pool desk (Intr n) old new runs = playing device desk.mixed (mixed_by device desk n) old runs
+carrying device pool desk event old new runs = runs
 
 -- the runs of a slot after an event at a desk, from its book before and after
 abbrev pub runs_after : DeviceSeen → Pool → Desk → Event → Book → Book → List Run → List Run
