@@ -17,7 +17,7 @@ use Rattle.pcm_oss.specs.Volumes.{is_volume}
 use Rattle.pcm_rate.specs.declared.rate.Rate.{Rate}
 use Rattle.pcm_desk.specs.declared.book.Book.{Book}
 use Rattle.pcm_desk.specs.declared.book.State.{State}
-use Rattle.pcm_desk.specs.declared.book.State.TheVariants.{Setup, Primed, Running}
+use Rattle.pcm_desk.specs.declared.book.State.TheVariants.{Primed, Running}
 use Rattle.pcm_desk.specs.declared.turn.Turn.{Turn}
 use Rattle.pcm_desk.specs.declared.turn.TheConstants.{ALL_FORMATS, CAPABILITIES, PLAY_BIT}
 use Rattle.pcm_desk.specs.Books.{BookTurn, drained_in, dropped, fill_of, fragment_bytes, frames_written, free_of, is_draining, is_setup, played_of, ring_bytes}
