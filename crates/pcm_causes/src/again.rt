@@ -2,7 +2,6 @@
 
 use pcm_outside::read_front;
 use std::alloc::Global;
-use std::io::{Read, Seek, SeekFrom};
 use std::{fs, rt};
 
 /// Opens a file of the system, and tells how many bytes it has. What is no regular file could wait for bytes that never come, so
@@ -20,15 +19,4 @@ pub(crate) fn reopened<R: rt::Files>(rt: &R, name: &str) -> Option<(R::File, u64
 pub(crate) fn content<R: rt::Files>(rt: &R, alloc: Global, name: &str) -> Option<Vec<u8>> {
     let (mut file, size) = reopened(rt, name)?;
     read_front(alloc, &mut file, size as usize).ok()
-}
-
-/// So many bytes from a place of a file, or those that it has.
-pub(crate) fn bytes_at<F: Read + Seek>(
-    alloc: Global,
-    file: &mut F,
-    place: u64,
-    count: usize,
-) -> Option<Vec<u8>> {
-    file.seek(SeekFrom::Start(place)).ok()?;
-    read_front(alloc, file, count).ok()
 }

@@ -3,9 +3,9 @@
 use crate::again::{content, reopened};
 use crate::definition::definition_at;
 use crate::filter_key::wrong_key_at;
-use crate::lines::{column_behind, first_line, number_behind};
+use crate::lines::{column_behind, line_from, number_behind};
 use crate::shown::shown;
-use pcm_config::{CONFIG_BYTES, ConfigFault, ConfigKind, ConfigRefusal, config_of};
+use pcm_config::{ConfigFault, ConfigKind, ConfigPlace, ConfigRefusal, config_of};
 use std::alloc::Global;
 use std::rt;
 
@@ -20,9 +20,7 @@ pub(crate) fn config_cause<R: rt::Files>(
     let told = line.strip_prefix("bad configuration: ")?;
     if told == "long top" {
         let (_, size) = reopened(rt, name)?;
-        return format!(in alloc;
-            "configuration of {size} bytes, where {CONFIG_BYTES} are the most"
-        ).ok();
+        return format!(in alloc; "configuration of {size} bytes, which are too many").ok();
     }
     let text = content(rt, alloc, name)?;
     match config_of(alloc, &text) {
@@ -35,7 +33,7 @@ pub(crate) fn config_cause<R: rt::Files>(
 
 // Whether a refusal is told by these words.
 fn is_told(refusal: ConfigRefusal, told: &str) -> bool {
-    match told.split_once(' ') {
+    match told.split_once(" ") {
         Some((kind, place)) => kind == refusal.kind.word() && place == refusal.place.word(),
         None => false,
     }
@@ -60,9 +58,17 @@ fn syntax_fault(alloc: Global, text: &[u8]) -> Option<String> {
 
 // The first line of the definition that brings a fault.
 fn definition_fault(alloc: Global, text: &[u8], refusal: ConfigRefusal) -> Option<String> {
-    let place = definition_at(alloc, text, refusal)?;
-    let place = wrong_key_at(alloc, text, place, refusal).unwrap_or(place);
+    let place = place_of(alloc, text, refusal)?;
     let line = number_behind(text.get(..place)?);
-    let wrong = shown(alloc, first_line(text.get(place..)?)).ok()?;
+    let wrong = shown(alloc, line_from(text, place)?).ok()?;
     format!(in alloc; "configuration line {line}: {wrong}").ok()
+}
+
+// Where the definition begins that brings a fault: of a filter that of the wrong key, if there is one.
+fn place_of(alloc: Global, text: &[u8], refusal: ConfigRefusal) -> Option<usize> {
+    let begun = definition_at(alloc, text, refusal)?;
+    match refusal.place {
+        ConfigPlace::Tables => wrong_key_at(alloc, text, begun, refusal),
+        _ => Some(begun),
+    }
 }

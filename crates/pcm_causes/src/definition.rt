@@ -7,8 +7,9 @@ use crate::lines::line_before;
 use pcm_config::{ConfigFault, ConfigKind, ConfigPlace, ConfigRefusal, config_of};
 use std::alloc::Global;
 
-// The bytes that are read for a search at most. It reads the text again for each line behind the one that it finds.
-pub(crate) const WORK: usize = 33554432;
+// The bytes that are read for a search at most, less than a second. It reads the text again for each line behind the one
+// that it finds.
+pub(crate) const WORK: usize = 134217728;
 
 /// Where the definition begins with which a configuration has a fault: the text before it is read, without that fault, and the
 /// text up to the end of any later line has it or isn't read. The definition of a filter has all of its keys.
@@ -20,7 +21,10 @@ pub fn definition_at(alloc: Global, text: &[u8], refusal: ConfigRefusal) -> Opti
     let mut place = text.len();
     for _ in 0..text.len() {
         place = line_before(text, place);
-        left = left.checked_sub(place)?;
+        if left < place {
+            return None;
+        }
+        left -= place;
         if is_without(alloc, text.get(..place)?, refusal)? {
             return Some(place);
         }

@@ -3,30 +3,37 @@
 // Where the last line begins of the text before a place, which isn't the text's beginning.
 pub(crate) fn line_before(text: &[u8], place: usize) -> usize {
     match text.get(..place.saturating_sub(1)) {
-        Some(before) => behind_feed(before),
+        Some(before) => last_begun(before),
         None => 0,
     }
 }
 
-// The place behind the last line feed, or the beginning.
-fn behind_feed(text: &[u8]) -> usize {
-    match text.iter().rposition(|byte| *byte == b'\n') {
-        Some(feed) => feed.saturating_add(1),
-        None => 0,
+// Where the last line of a text begins.
+fn last_begun(text: &[u8]) -> usize {
+    let mut begun = 0usize;
+    let mut place = 0usize;
+    for byte in text {
+        place = place.saturating_add(1);
+        if *byte == b'\n' {
+            begun = place;
+        }
     }
+    begun
 }
 
-// Where the next line begins, or the text ends.
-pub(crate) fn line_behind(text: &[u8], place: usize) -> usize {
-    match next_feed(text, place) {
-        Some(feed) => place.saturating_add(feed).saturating_add(1),
-        None => text.len(),
+// Where the line ends that begins at a place, with its line feed.
+pub(crate) fn line_end(text: &[u8], begun: usize) -> usize {
+    let Some(rest) = text.get(begun..) else {
+        return begun;
+    };
+    let mut place = begun;
+    for byte in rest {
+        place = place.saturating_add(1);
+        if *byte == b'\n' {
+            return place;
+        }
     }
-}
-
-// How far the next line feed is behind a place.
-fn next_feed(text: &[u8], place: usize) -> Option<usize> {
-    text.get(place..)?.iter().position(|byte| *byte == b'\n')
+    place
 }
 
 // The number, from 1 on, of the line that comes behind a text.
@@ -53,25 +60,18 @@ pub(crate) fn column_behind(text: &[u8]) -> usize {
     column
 }
 
-// The text up to the next line feed, without a carriage return before it.
-pub(crate) fn first_line(text: &[u8]) -> &[u8] {
-    let line = before_feed(text);
-    line.strip_suffix(b"\r").unwrap_or(line)
-}
-
-fn before_feed(text: &[u8]) -> &[u8] {
-    match next_feed(text, 0) {
-        Some(feed) => text.get(..feed).unwrap_or(text),
-        None => text,
-    }
+// The line that begins at a place, without what ends it.
+pub(crate) fn line_from(text: &[u8], begun: usize) -> Option<&[u8]> {
+    let line = text.get(..line_end(text, begun))?.get(begun..)?;
+    let line = line.strip_suffix(b"\n").unwrap_or(line);
+    Some(line.strip_suffix(b"\r").unwrap_or(line))
 }
 
 // The line of a number, from 1 on.
 pub(crate) fn line_at(text: &[u8], number: usize) -> Option<&[u8]> {
-    let mut rest = text;
+    let mut place = 0;
     for _ in 1..number {
-        let feed = next_feed(rest, 0)?;
-        rest = rest.get(feed.saturating_add(1)..)?;
+        place = line_end(text, place);
     }
-    Some(first_line(rest))
+    line_from(text, place)
 }

@@ -3,7 +3,6 @@
 use crate::again::{content, reopened};
 use crate::lines::line_at;
 use crate::shown::shown;
-use pcm_script::TEXT_BYTES;
 use std::alloc::Global;
 use std::rt;
 
@@ -19,7 +18,7 @@ pub(crate) fn script_cause<R: rt::Files>(
     let number = number.parse::<usize>().ok()?;
     if number == 0 {
         let (_, size) = reopened(rt, script)?;
-        return format!(in alloc; "script of {size} bytes, where {TEXT_BYTES} are the most").ok();
+        return format!(in alloc; "script of {size} bytes, which are too many").ok();
     }
     let text = content(rt, alloc, script)?;
     let wrong = shown(alloc, line_at(&text, number)?).ok()?;

@@ -26,7 +26,10 @@ fn first_byte_fault<R: rt::Files>(rt: &R, name: &str) -> Option<Error> {
     match fs::open(rt, name) {
         Ok(mut file) => {
             let mut byte = [0; 1];
-            file.read(&mut byte).err()
+            match file.read(&mut byte) {
+                Ok(_) => None,
+                Err(fault) => Some(fault),
+            }
         }
         Err(fault) => Some(fault),
     }

@@ -1,114 +1,78 @@
 //! What of a wave is refused.
 
-use crate::again::{bytes_at, reopened};
-use crate::chunk::chunk_named;
-use crate::device::device_settings;
+use crate::again::reopened;
+use crate::chunk::{chunk_named, fills};
+use crate::said::{Said, said_of};
 use crate::shown::shown;
-use crate::wave_format::{WaveFormat, format_fault};
-use pcm_wave::{BODY_BYTES, DATA_BYTES};
+use crate::wave_format::{FORMAT_BYTES, format_fault, shape_told};
 use std::alloc::Global;
 use std::io::{Read, Seek};
 use std::rt;
 
 /// What is refused of the wave that a line names.
-pub(crate) fn wave_cause<R: rt::Files>(
-    rt: &R,
-    alloc: Global,
-    words: &[String],
-    line: &str,
-) -> Option<String> {
+pub(crate) fn wave_cause<R: rt::Files>(rt: &R, alloc: Global, line: &str) -> Option<String> {
     let (name, kind) = line.strip_prefix("bad wave: ")?.rsplit_once(": ")?;
     let (mut file, size) = reopened(rt, name)?;
-    let said = match kind {
-        "shape" => other_shape(rt, alloc, words, &mut file)?,
-        "long" => too_long(alloc, words, size)?,
-        _ => kind_told(alloc, kind, &mut file, size)?,
-    };
-    format!(in alloc; "{name}: {said}").ok()
-}
-
-// What the file itself tells of the kind of its fault.
-fn kind_told<F: Read + Seek>(alloc: Global, kind: &str, file: &mut F, size: u64) -> Option<String> {
-    match kind {
-        "notriff" => other_form(alloc, file),
-        "noformat" => String::from_str(alloc, "no \"fmt \" chunk stands before its sound").ok(),
-        "nodata" => String::from_str(alloc, "it has no \"data\" chunk").ok(),
-        "unsupported" => other_format(alloc, file),
-        "truncated" => cut_short(alloc, file, size),
-        _ => None,
+    if kind == "notriff" && size >= 12 {
+        other_form(alloc, name, &mut file)
+    } else {
+        said_of(alloc, name, kind_said(kind, &mut file, size)?)
     }
 }
 
 // How a file begins that is no RIFF file of the form WAVE.
-fn other_form<F: Read + Seek>(alloc: Global, file: &mut F) -> Option<String> {
-    let head = bytes_at(alloc, file, 0, 12)?;
-    if head.is_empty() {
-        return String::from_str(alloc, "it has no bytes").ok();
+fn other_form<F: Read + Seek>(alloc: Global, name: &str, file: &mut F) -> Option<String> {
+    let mut head = [0; 12];
+    if !fills(file, 0, &mut head) {
+        return None;
     }
-    let wanted = if head.starts_with(b"RIFF") {
-        "WAVE"
-    } else {
-        "RIFF"
-    };
-    let word = shown(alloc, wrong_word(&head)).ok()?;
-    format!(in alloc; "\"{word}\" stands where \"{wanted}\" is wanted").ok()
-}
-
-// The first word that is another, or what is there in its place.
-fn wrong_word(head: &[u8]) -> &[u8] {
     if head.starts_with(b"RIFF") {
-        head.get(8..).unwrap_or(&[])
+        let form = shown(alloc, &head[8..]).ok()?;
+        format!(in alloc; "{name}: \"{form}\" stands where \"WAVE\" is wanted").ok()
     } else {
-        head.get(..4).unwrap_or(head)
+        let word = shown(alloc, &head[..4]).ok()?;
+        format!(in alloc; "{name}: \"{word}\" stands where \"RIFF\" is wanted").ok()
     }
 }
 
-// The format of a file, as far as it isn't supported.
-fn other_format<F: Read + Seek>(alloc: Global, file: &mut F) -> Option<String> {
-    let chunk = chunk_named(alloc, file, b"fmt ")?;
-    let body = bytes_at(alloc, file, chunk.body, 40)?;
-    format_fault(alloc, &body, chunk.size)
+// What a file of so many bytes tells of the kind of its fault.
+fn kind_said<F: Read + Seek>(kind: &str, file: &mut F, size: u64) -> Option<Said> {
+    match kind {
+        "notriff" => Some(Said::One("", size, " bytes, and a wave has more")),
+        "noformat" => Some(Said::Words("no \"fmt \" chunk stands before its sound")),
+        "nodata" => Some(Said::Words("it has no \"data\" chunk")),
+        "truncated" => cut_short(file, size),
+        "unsupported" => format_said(file, true),
+        "shape" => format_said(file, false),
+        "long" => Some(Said::One("too long, with its ", size, " bytes")),
+        _ => None,
+    }
 }
 
-// Which body passes the end of a file.
-fn cut_short<F: Read + Seek>(alloc: Global, file: &mut F, size: u64) -> Option<String> {
-    let format = chunk_named(alloc, file, b"fmt ")?;
+// Which chunk passes the end of a file.
+fn cut_short<F: Read + Seek>(file: &mut F, size: u64) -> Option<Said> {
+    let format = chunk_named(file, *b"fmt ")?;
     let there = size.saturating_sub(format.body);
     if there < u64::from(format.size) {
-        let told = format.size;
-        return format!(in alloc; "{there} bytes of its \"fmt \" chunk are there, of {told}").ok();
+        let words = " bytes of its \"fmt \" chunk are there, of ";
+        return Some(Said::Two("", there, words, format.size.into(), ""));
     }
-    let sound = chunk_named(alloc, file, b"data")?;
+    let sound = chunk_named(file, *b"data")?;
     let there = size.saturating_sub(sound.body);
-    let told = sound.size;
-    format!(in alloc; "{there} bytes of its \"data\" chunk are there, of {told}").ok()
+    let words = " bytes of its \"data\" chunk are there, of ";
+    Some(Said::Two("", there, words, sound.size.into(), ""))
 }
 
-// What is too long: a file, or what it is converted to.
-fn too_long(alloc: Global, words: &[String], size: u64) -> Option<String> {
-    let is_conversion = words.first()?.as_str() == "convert";
-    if !is_conversion {
-        format!(in alloc; "{size} bytes, where all data files together may have {DATA_BYTES}").ok()
-    } else if size > DATA_BYTES as u64 {
-        format!(in alloc; "{size} bytes, where {DATA_BYTES} are the most").ok()
+// What of the format isn't supported, or what shape it tells.
+fn format_said<F: Read + Seek>(file: &mut F, is_unsupported: bool) -> Option<Said> {
+    let chunk = chunk_named(file, *b"fmt ")?;
+    let mut format = [0; FORMAT_BYTES];
+    let there = FORMAT_BYTES.min(chunk.size as usize);
+    if !fills(file, chunk.body, &mut format[..there]) {
+        None
+    } else if is_unsupported {
+        Some(format_fault(&format, chunk.size))
     } else {
-        format!(in alloc; "converted it would have more than {BODY_BYTES} bytes").ok()
+        Some(shape_told(&format))
     }
-}
-
-// The rate and the channels of a file, and those of the device.
-fn other_shape<R: rt::Files>(
-    rt: &R,
-    alloc: Global,
-    words: &[String],
-    file: &mut R::File,
-) -> Option<String> {
-    let chunk = chunk_named(alloc, file, b"fmt ")?;
-    let told = WaveFormat::told(&bytes_at(alloc, file, chunk.body, 16)?);
-    let device = device_settings(rt, alloc, words.last()?.as_str())?;
-    let (rate, channels) = (told.rate, told.channels);
-    let (device_rate, device_channels) = (device.rate, device.layout.channels());
-    format!(in alloc;
-        "rate {rate}, channels {channels}; the device has rate {device_rate}, channels {device_channels}"
-    ).ok()
 }

@@ -1,104 +1,94 @@
 //! What of a wave's format isn't supported.
 
-use crate::chunk::{four_at, two_at};
-use pcm_format::{Layout, RATE_LEAST, RATE_MOST};
-use std::alloc::Global;
+ghost use Rattle.std.specs.Prelude.{◌≡◌, length};
 
-// The tag of integer samples, and that of an extensible format, which has the name of its own tag behind it.
+use crate::numbers::{four_at, two_at};
+use crate::said::Said;
+use pcm_format::{RATE_LEAST, RATE_MOST};
+
+// The bytes of a format that are looked at.
+pub(crate) const FORMAT_BYTES: usize = 40;
+
+// The tag of integer samples, and that of an extensible format, which names a tag further down.
 const PCM_TAG: u32 = 1;
 
 const EXTENSIBLE_TAG: u32 = 0xFFFE;
 
-// What stands behind the tag in such a name.
-const NAME_END: [u8; 14] = [0, 0, 0, 0, 0x10, 0, 0x80, 0, 0, 0xAA, 0, 0x38, 0x9B, 0x71];
-
-// The numbers of a "fmt " chunk.
-#[derive(Clone, Copy)]
-pub(crate) struct WaveFormat {
-    pub(crate) tag: u32,
-    pub(crate) channels: u32,
-    pub(crate) rate: u32,
-    pub(crate) frame: u32,
-    pub(crate) bits: u32,
-}
-
-impl WaveFormat {
-    // The numbers that the body of a "fmt " chunk tells.
-    pub(crate) fn told(body: &[u8]) -> WaveFormat {
-        WaveFormat {
-            tag: two_at(body, 0),
-            channels: two_at(body, 2),
-            rate: four_at(body, 4),
-            frame: two_at(body, 12),
-            bits: two_at(body, 14),
-        }
-    }
-}
-
-// The first number of a format that isn't supported, by the order in which they are judged. The chunk's body has so many bytes, of
-// which up to 40 are these.
-pub(crate) fn format_fault(alloc: Global, body: &[u8], size: u32) -> Option<String> {
-    let told = WaveFormat::told(body);
+// The first number of a format that isn't supported, in the order in which they are judged. Its chunk tells so many bytes.
+pub(crate) fn format_fault(format: &[u8], size: u32) -> Said
+    requires { length format.now ≡ FORMAT_BYTES }
+{
+    let tag = two_at(format, 0);
     if size < 16 {
-        return format!(in alloc;
-            "its \"fmt \" chunk has {size} bytes, where 16 are the least"
-        ).ok();
-    }
-    if told.tag == EXTENSIBLE_TAG {
-        extensible_fault(alloc, body, size, told)
-    } else if told.tag != PCM_TAG {
-        tag_fault(alloc, told.tag)
+        Said::One("a \"fmt \" chunk of ", size.into(), " bytes")
+    } else if tag == EXTENSIBLE_TAG && size < 40 {
+        Said::One("an extensible \"fmt \" chunk of ", size.into(), " bytes")
+    } else if tag == EXTENSIBLE_TAG {
+        tag_fault(format, two_at(format, 24))
     } else {
-        number_fault(alloc, told)
+        tag_fault(format, tag)
     }
 }
 
-fn extensible_fault(alloc: Global, body: &[u8], size: u32, told: WaveFormat) -> Option<String> {
-    if size < 40 {
-        return format!(in alloc;
-            "its extensible \"fmt \" chunk has {size} bytes, where 40 are the least"
-        ).ok();
-    }
-    if body.get(26..)? != NAME_END.as_slice() {
-        return String::from_str(alloc, "an extensible format that names no format tag").ok();
-    }
-    match two_at(body, 24) {
-        PCM_TAG => number_fault(alloc, told),
-        tag => tag_fault(alloc, tag),
-    }
-}
-
-fn tag_fault(alloc: Global, tag: u32) -> Option<String> {
-    match coding(tag) {
-        Some(coding) => format!(in alloc; "format tag {tag} ({coding})").ok(),
-        None => format!(in alloc; "format tag {tag}").ok(),
+fn tag_fault(format: &[u8], tag: u32) -> Said
+    requires { length format.now ≡ FORMAT_BYTES }
+{
+    if tag == PCM_TAG {
+        number_fault(format)
+    } else {
+        Said::One("format tag ", tag.into(), coding(tag))
     }
 }
 
 // The names of codings that are often met.
-fn coding(tag: u32) -> Option<&'static str> {
+fn coding(tag: u32) -> &'static str {
     match tag {
-        2 => Some("Microsoft ADPCM"),
-        3 => Some("floating point"),
-        6 => Some("A-law"),
-        7 => Some("mu-law"),
-        17 => Some("IMA ADPCM"),
-        49 => Some("GSM"),
-        80 => Some("MPEG"),
-        85 => Some("MP3"),
-        _ => None,
+        2 => " (Microsoft ADPCM)",
+        3 => " (floating point)",
+        6 => " (A-law)",
+        7 => " (mu-law)",
+        17 => " (IMA ADPCM)",
+        85 => " (MP3)",
+        _ => "",
     }
 }
 
-fn number_fault(alloc: Global, told: WaveFormat) -> Option<String> {
-    let (bits, channels, rate, frame) = (told.bits, told.channels, told.rate, told.frame);
+fn number_fault(format: &[u8]) -> Said
+    requires { length format.now ≡ FORMAT_BYTES }
+{
+    let channels = two_at(format, 2);
+    let rate = four_at(format, 4);
+    let frame = two_at(format, 12);
+    let bits = two_at(format, 14);
     if !matches!(bits, 8 | 16 | 24 | 32) {
-        format!(in alloc; "{bits} bits").ok()
-    } else if Layout::of(channels).is_none() {
-        format!(in alloc; "{channels} channels").ok()
+        Said::One("", bits.into(), " bits")
+    } else if !matches!(channels, 1 | 2 | 4 | 6 | 8) {
+        Said::One("", channels.into(), " channels")
     } else if rate < RATE_LEAST || rate > RATE_MOST {
-        format!(in alloc; "rate {rate}").ok()
+        Said::One("rate ", rate.into(), "")
     } else {
-        format!(in alloc; "{bits} bits, channels {channels}, frames of {frame} bytes").ok()
+        Said::Two(
+            "",
+            bits.into(),
+            " bits in frames of ",
+            frame.into(),
+            " bytes",
+        )
     }
+}
+
+// The rate and the channels of a format.
+pub(crate) fn shape_told(format: &[u8]) -> Said
+    requires { length format.now ≡ FORMAT_BYTES }
+{
+    let rate = four_at(format, 4);
+    let channels = two_at(format, 2);
+    let other = ", which aren't those of the device";
+    Said::Two(
+        "rate ",
+        rate.into(),
+        " and channels ",
+        channels.into(),
+        other,
+    )
 }
