@@ -1,4 +1,2 @@
 pub mod Blends
 pub mod Sides
-pub mod Lines
-pub mod Outputs

@@ -2,4 +2,3 @@ pub mod Places
 pub mod Windows
 pub mod Sums
 pub mod Outputs
-pub mod Feeds

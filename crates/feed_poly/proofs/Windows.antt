@@ -61,9 +61,8 @@ eaten-more tail now new c from k input above order there before after =
     ∙ ap (moved_on tail) (part-more from k list [] order below)
 
 -- frames up to a place, and those up to one behind it
-pub eaten-on : (tail now new list : List Frame) (from to : ℕ) → from ≤ to → to ≤ length list → now ≡ moved_on tail (take from list) → new ≡ moved_on now (drop from (take to list))
-    → new ≡ moved_on tail (take to list)
-eaten-on tail now new list from to order there before after =
+pub eaten-on : (tail now new list : List Frame) (from to : ℕ) → from ≤ to → now ≡ moved_on tail (take from list) → new ≡ moved_on now (drop from (take to list)) → new ≡ moved_on tail (take to list)
+eaten-on tail now new list from to order before after =
     after
     ∙ ap (λ t. moved_on t (drop from (take to list))) before
     ∙ moved-more tail (take from list) (drop from (take to list))

@@ -2,7 +2,6 @@
 //! Each output is the sum of the frames around it, weighted by the row of the filter for its phase.
 #![tactic(auto)]
 
-mod fitted;
 mod poly;
 mod row;
 mod window;

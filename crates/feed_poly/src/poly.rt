@@ -1,46 +1,55 @@
 //! The polyphase stage.
 
-ghost use Rattle.std.specs.Prelude.{◌≡◌, IfOk, Some};
-ghost use Rattle.pcm_feeder.specs.Kept.{unfitted};
-ghost use Rattle.feed_poly.specs.declared.fitted.Fitted.{Fitted};
+ghost use Rattle.std.specs.Prelude.{◌≡◌, ◌<◌, ◌≤◌, ◌*◌, ◌/◌};
+ghost use Rattle.pcm_feeder.specs.declared.limits.TheConstants.{PHASES};
 
-use crate::fitted::Fitted;
+use crate::row::Row;
 use crate::window::Window;
-use pcm_feeder::{Feeder, Gain, Kind, Moved, Pace, Spec, Tables};
-use pcm_num::Reciprocal;
+use feed_rate::{Interpolator, Point, RateFeeder};
+use pcm_feeder::{Kind, Spec, Tables};
 use std::alloc::{AllocError, Global};
 
 /// Gives each output by the row of a filter for its phase, out of the frames around it.
+pub type PolyFeeder = RateFeeder<Polyphase>;
+
+/// The last frames, so many of a feed's among them already, and the place of the filter.
 #[derive(Drop)]
-pub struct PolyFeeder {
+pub struct Polyphase {
     window: Window,
-    fitted: Option<Fitted>,
-    ghost same: { (found : Fitted) → fitted ≡ Some found
-        → (window.channels ≡ found.channels) × (window.taps ≡ found.taps) },
+    passed: usize,
+    table: usize,
 }
 
-impl PolyFeeder {
-    ghost use Rattle.feed_poly.specs.Poly.{kept_of};
+impl Interpolator for Polyphase {
+    ghost use Rattle.std.specs.Prelude.{◌+◌, true};
+    ghost use Rattle.pcm_fixed.specs.Fixed.{fixed_items};
+    ghost use Rattle.pcm_feeder.specs.declared.kind.Kind.TheVariants as kinds;
+    ghost use Rattle.feed_rate.specs.Methods.Method.{ByFilter};
+    ghost use Rattle.feed_poly.specs.Window.{frames_in};
+    ghost use Rattle.feed_rate.proofs.Histories.{made-channels};
+    ghost use Rattle.feed_poly.specs.Places.{window_sample};
 
-    /// A feeder that nothing is fitted to yet. All its memory is taken here.
-    pub fn new(alloc: Global) -> Result<PolyFeeder, AllocError>
-        ensures unfitted { IfOk result (λ made. kept_of made ≡ unfitted) }
-    {
+    ghost kind = { kinds.Poly };
+
+    ghost takes_memory = { true };
+
+    ghost method = { λ poly. ByFilter poly.window.channels poly.table poly.window.taps };
+
+    ghost tail = { λ poly. frames_in poly.window };
+
+    ghost passed = { λ poly. poly.passed };
+
+    ghost frames = { λ poly. made-channels poly.window.channels poly.window.taps
+        (λ i channel. window_sample (fixed_items poly.window.samples) channel (poly.window.at + i)) };
+
+    fn new(alloc: Global) -> Result<Polyphase, AllocError> {
         let window = Window::new(alloc)?;
-        Ok(PolyFeeder {
+        Ok(Polyphase {
             window,
-            fitted: None,
+            passed: 0,
+            table: 0,
         })
     }
-}
-
-impl Feeder for PolyFeeder {
-    ghost use Rattle.pcm_feeder.specs.declared.kind.Kind.TheVariants as kinds;
-    ghost use Rattle.feed_poly.specs.Poly.{kept_of};
-
-    ghost kind = { λ _. kinds.Poly };
-
-    ghost kept = { kept_of };
 
     fn kind(&self) -> Kind {
         Kind::Poly
@@ -48,43 +57,50 @@ impl Feeder for PolyFeeder {
 
     fn fit(&mut self, spec: Spec) {
         if let Spec::Poly {
-            src,
-            dst,
             channels,
             table,
             taps,
+            ..
         } = spec
         {
-            let pace = Pace::new(src, dst, (taps / 2) as u32);
-            let whole = Reciprocal::of(dst);
             self.window.clear(channels, taps);
-            self.fitted = Some(Fitted {
-                channels,
-                table,
-                taps,
-                pace,
-                whole,
-            });
+            self.passed = 0;
+            self.table = table;
         }
     }
 
-    fn feed(
+    fn channels(&self) -> usize {
+        self.window.channels()
+    }
+
+    fn put_frame(
         &mut self,
         tables: &Tables,
-        gain: Gain,
         input: &[i32],
-        want: usize,
+        needed: usize,
+        point: Point,
         output: &mut [i32],
-    ) -> Moved {
-        let Some(fitted) = &mut self.fitted else {
-            return Moved { eaten: 0, given: 0 };
-        };
-        let filter = &tables.list()[fitted.table];
-        let offered = input.len() / fitted.channels;
-        let eaten = fitted.pace.eaten(offered, want);
-        let given = fitted.pace.given(offered, want);
-        let step = fitted.put_frames(filter, &mut self.window, input, eaten, given, output);
-        fitted.pace = fitted.pace.moved(eaten, step);
-        Moved { eaten, given }
+    ) {
+        let filter = &tables.list()[self.table];
+        let row = Row::of(filter, row_at(point, filter.phases));
+        // Then the frames of the window are those around the output.
+        self.window.eat(input, self.passed, needed);
+        self.passed = needed;
+        row.put_frame(&self.window, output);
     }
+
+    fn eat(&mut self, input: &[i32], eaten: usize) {
+        self.window.eat(input, self.passed, eaten);
+        self.passed = 0;
+    }
+}
+
+// Which of so many rows is that of a point.
+fn row_at(point: Point, phases: usize) -> usize
+    requires phases { phases ≤ PHASES }
+    requires some { 1 ≤ phases }
+    ensures value { result ≡ point.parts * phases / point.whole.divisor }
+    ensures there { result < phases }
+{
+    point.whole.quotient(u64::from(point.parts) * phases as u64) as usize
 }

@@ -75,9 +75,10 @@ impl Window {
         ensures channels { self.new.channels ≡ self.old.channels }
         ensures taps { self.new.taps ≡ self.old.taps }
     {
+        let channels = self.channels;
         for k in from..to {
-            let at = k * self.channels;
-            self.push(&input[at..at + self.channels]);
+            let at = k * channels;
+            self.push(&input[at..at + channels]);
         }
     }
 

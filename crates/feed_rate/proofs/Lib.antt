@@ -1,0 +1,4 @@
+pub mod Methods
+pub mod Walks
+pub mod Feeds
+pub mod Histories

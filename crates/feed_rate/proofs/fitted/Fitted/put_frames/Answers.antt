@@ -1,0 +1,88 @@
+-- Each output is the interpolator's, out of the frames kept before and those that come.
+use Rattle.std.proofs.Common.{rules, ◌≡◌, ◌<◌, ◌≤◌, ◌+◌, ◌*◌, ◌^◌, length, refl, sym, ap, ◌∙◌, arith}
+use Rattle.std.proofs.Math.Nat.{mul-le-mul_right}
+use Rattle.pcm_feeder.specs.Pace.{factor_of}
+use Rattle.pcm_feeder.proofs.Writing.{step-short, write-step}
+use Rattle.feed_rate.specs.Outputs.{tail_after, output_by, output_at}
+use Rattle.feed_rate.specs.Methods.{channels_by}
+use Rattle.feed_rate.proofs.Methods.{output-channels, all-channels}
+use Rattle.feed_rate.proofs.Walks.{needed-within, eaten-few, step-on, output-is}
+use Rattle.feed_rate.proofs.fitted.Fitted.put_frames.Goals as goal
+
+pub overflow_add-needed : goal.overflow_add-needed
+overflow_add-needed g c =
+    let fitted = c.args.self.now in
+    let within = needed-within fitted c.loop-j.j c.args.count c.place-start.result c.args.eaten c.loop-j.step c.loop-j.invariant.step c.loop-j-test.true c.requires.enough c.place-start.ensures in
+    let some : c.args.eaten < 2 ^ 64 = search rules in
+    omega (arith, within, some)
+
+pub slice_bounds-put_frame-end : goal.slice_bounds-put_frame-end
+slice_bounds-put_frame-end g c =
+    let channels = c.channels-channels.result in
+    let next : c.loop-j.j + 1 ≤ c.args.count = omega (arith, c.loop-j-test.true) in
+    let all : c.args.count * channels ≤ length c.args.output.now = rw c.channels-channels.ensures.value c.requires.room in
+    let fits : (c.loop-j.j + 1) * channels ≤ length c.loop-j.output = omega (arith, all, mul-le-mul_right channels next, c.loop-j.auto.output) in
+    search rules
+
+pub put_frame-requires-clause-there : goal.put_frame-requires-clause-there
+put_frame-requires-clause-there g c =
+    let fitted = c.args.self.now in
+    let channels = channels_by (g.I.Interpolator.method c.args.interpolator.now) in
+    let within = needed-within fitted c.loop-j.j c.args.count c.place-start.result c.args.eaten c.loop-j.step c.loop-j.invariant.step c.loop-j-test.true c.requires.enough c.place-start.ensures in
+    rw c.loop-j.invariant.method (omega (arith, mul-le-mul_right channels within, c.requires.there))
+
+pub after-step-requires-clause-short : goal.after-step-requires-clause-short
+after-step-requires-clause-short g c =
+    let fitted = c.args.self.now in
+    let short = step-short fitted.pace c.loop-j.j c.args.count c.args.eaten c.loop-j.step c.loop-j.invariant.step (omega (arith, c.loop-j-test.true)) c.requires.enough in
+    let some : length c.args.input.now < 2 ^ 61 = search rules in
+    let above : 0 < channels_by (g.I.Interpolator.method c.args.interpolator.now) = omega (arith, c.channels-channels.ensures.value, c.channels-channels.ensures.limits.least) in
+    omega (arith, short, some, eaten-few (channels_by (g.I.Interpolator.method c.args.interpolator.now)) c.args.eaten (length c.args.input.now) above c.requires.there)
+
+pub loop-j-preserved : goal.loop-j-preserved
+loop-j-preserved g c =
+    let by = g.I.Interpolator in
+    let fitted = c.args.self.now in
+    let method = by.method c.args.interpolator.now in
+    let tail = by.tail c.args.interpolator.now in
+    let tables = c.args.tables.now in
+    let input = c.args.input.now in
+    let now = c.loop-j.interpolator in
+    let step = c.loop-j.step in
+    let j = c.loop-j.j in
+    let point = c.at-point.result in
+    let within = needed-within fitted j c.args.count c.place-start.result c.args.eaten step c.loop-j.invariant.step c.loop-j-test.true c.requires.enough c.place-start.ensures in
+    let same = c.loop-j.invariant.method in
+    let was : by.tail now ≡ tail_after (by.method now) tail input (by.passed now) = c.loop-j.invariant.tail ∙ ap (λ m. tail_after m tail input (by.passed now)) (sym same) in
+    let parts : point.parts ≡ step.phase * factor_of fitted.pace = c.at-point.ensures.parts ∙ ap (λ n. step.phase * n) c.factor-factor.ensures in
+    let is : c.put_frame.new.output ≡ output_at method tables fitted.pace tail input j =
+    c.put_frame.ensures.frame tail was
+    ∙ ap (λ m. output_by m tables tail input (c.place-start.result + step.frames) point.whole.divisor point.parts) same
+    ∙ output-is method tables fitted tail input j c.place-start.result point.whole.divisor point.parts step c.requires.level c.loop-j.invariant.step c.place-start.ensures (ap (λ w. w.divisor) c.at-point.ensures.whole) parts in
+    let have = all-channels (channels_by method) tail input (g.met.I.Interpolator.frames c.args.interpolator.now) in
+    let next = c.after-step.ensures j c.loop-j.invariant.step in
+    let there : by.tail c.put_frame.new.self ≡ tail_after method tail input (by.passed c.put_frame.new.self) =
+    c.put_frame.ensures.tail tail was ∙ ap (λ m. tail_after m tail input (by.passed c.put_frame.new.self)) same in
+    let on = step-on fitted.pace step c.after-step.result j c.loop-j.invariant.step next in
+    rw c.channels-channels.ensures.value (record {
+      frames = write-step (channels_by method) (output_at method tables fitted.pace tail input) c.loop-j.output c.put_frame.new.output c.put_frame.new.output c.args.output.now j
+          (λ k. output-channels method tables _ _ tail input _ have) c.loop-j.invariant.frames refl is;
+      step = next;
+      method = c.put_frame.ensures.method ∙ same;
+      tail = there;
+      order = omega (arith, c.put_frame.ensures.passed, on);
+      within = omega (arith, c.put_frame.ensures.passed, within);
+    })
+
+pub returns-clause-frames : goal.returns-clause-frames
+returns-clause-frames g c =
+    let all : c.loop-j.j ≡ c.args.count = omega (arith, c.loop-j.auto.j-end, c.loop-j-test.false) in
+    rw (← all) c.loop-j.invariant.frames
+
+pub returns-clause-short : goal.returns-clause-short
+returns-clause-short g c =
+    let fitted = c.args.self.now in
+    let short = step-short fitted.pace c.loop-j.j c.args.count c.args.eaten c.loop-j.step c.loop-j.invariant.step c.loop-j.auto.j-end c.requires.enough in
+    let some : length c.args.input.now < 2 ^ 61 = search rules in
+    let above : 0 < channels_by (g.I.Interpolator.method c.args.interpolator.now) = omega (arith, c.channels-channels.ensures.value, c.channels-channels.ensures.limits.least) in
+    omega (arith, short, some, eaten-few (channels_by (g.I.Interpolator.method c.args.interpolator.now)) c.args.eaten (length c.args.input.now) above c.requires.there)

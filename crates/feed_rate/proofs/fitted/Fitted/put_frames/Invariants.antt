@@ -1,0 +1,19 @@
+use Rattle.std.proofs.Common.{◌≡◌, ◌+◌, ◌≤◌}
+use Rattle.pcm_feeder.specs.Pace.{IsStep}
+use Rattle.pcm_feeder.specs.Streams.{written}
+use Rattle.feed_rate.specs.Outputs.{next_frames, tail_after}
+use Rattle.feed_rate.proofs.fitted.Fitted.put_frames.Given as goal
+
+-- the first frames are written, the next one lies at the step, and no frame past those that it needs was taken in
+abbrev pub invariant-loop-j : goal.invariant-loop-j
+invariant-loop-j g l =
+    let by = g.I.Interpolator in
+    let entry = l.fn.interpolator in
+    record {
+      frames : l.output ≡ written (next_frames (by.method entry) l.tables l.self.pace (by.tail entry) l.input l.j) l.fn.output;
+      step : IsStep l.self.pace l.step l.j;
+      method : by.method l.interpolator ≡ by.method entry;
+      tail : by.tail l.interpolator ≡ tail_after (by.method entry) (by.tail entry) l.input (by.passed l.interpolator);
+      order : by.passed l.interpolator ≤ l.start + l.step.frames;
+      within : by.passed l.interpolator ≤ l.eaten;
+    }

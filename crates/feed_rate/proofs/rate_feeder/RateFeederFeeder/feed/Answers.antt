@@ -1,0 +1,56 @@
+-- A feed eats and gives by the counts, and gives what the interpolator makes of the frames around each output.
+use Rattle.std.proofs.Common.{◌≡◌, ◌/◌, ℕ, ℤ, List, length, refl, sym, ap, ◌∙◌}
+use Rattle.pcm_feeder.specs.Kept.{Kept}
+use Rattle.pcm_feeder.specs.Streams.{frames_of, written}
+use Rattle.pcm_feeder.specs.Turns.{Turn, fed}
+use Rattle.pcm_feeder.proofs.Writing.{moved-within}
+use Rattle.feed_rate.specs.Feeders.{kept_by, kept_of, kept_at}
+use Rattle.feed_rate.specs.Methods.{channels_by}
+use Rattle.feed_rate.proofs.Feeds.{fed-is, turned, kept-is}
+use Rattle.feed_rate.proofs.Walks.{given-eaten}
+use Rattle.feed_rate.proofs.rate_feeder.RateFeederFeeder.feed.Goals as goal
+
+pub put_frames-step-requires-clause-enough : goal.put_frames-step-requires-clause-enough
+put_frames-step-requires-clause-enough g c =
+    given-eaten c.in-Some.fitted.pace (length c.args.input.now / c.channels.result) c.args.want c.eaten-eaten.result c.given-given.result
+    c.eaten-eaten.ensures.value c.given-given.ensures.value
+
+pub moved-fitted-requires-clause-bounds : goal.moved-fitted-requires-clause-bounds
+moved-fitted-requires-clause-bounds g c =
+    moved-within c.in-Some.fitted.pace (length c.args.input.now / c.channels.result) c.args.want c.eaten-eaten.result c.given-given.result c.put_frames-step.result
+    c.eaten-eaten.ensures.value c.given-given.ensures.value c.put_frames-step.ensures.step
+
+pub returns : goal.returns
+returns g c =
+    let by = g.I.Interpolator in
+    let feeder = c.args.self.now in
+    let fitted = c.in-Some.fitted in
+    let method = by.method feeder.interpolator in
+    let tail = by.tail feeder.interpolator in
+    let tables = c.args.tables.now in
+    let eaten = c.eaten-eaten.result in
+    let given = c.given-given.result in
+    let step = c.put_frames-step.result in
+    let input = c.args.input.now in
+    let before : kept_of feeder ≡ kept_at fitted.pace method tail = ap (λ found. kept_by found method tail) c.in-Some.is in
+    let does : fed (kept_of feeder) tables c.args.gain input c.args.want ≡ turned method tables fitted.pace tail input eaten given =
+    ap (λ kept. fed kept tables c.args.gain input c.args.want) before
+    ∙ fed-is method fitted.pace tail tables c.args.gain input c.args.want c.channels.result eaten given (feeder.level fitted c.in-Some.is) c.channels.ensures.value
+    c.eaten-eaten.ensures.value c.given-given.ensures.value in
+    let eaten_of : Turn → ℕ = λ turn. turn.eaten in
+    let given_of : Turn → ℕ = λ turn. turn.given in
+    let output_of : Turn → List ℤ = λ turn. written turn.frames c.args.output.now in
+    let kept_in : Turn → Kept = λ turn. turn.kept in
+    let kept : kept_at c.moved-fitted.result (by.method c.put_frames-step.new.interpolator) (by.tail c.put_frames-step.new.interpolator) ≡ (turned method tables fitted.pace tail input eaten given).kept =
+    ap (λ s. kept_at c.moved-fitted.result s (by.tail c.put_frames-step.new.interpolator)) c.put_frames-step.ensures.method
+    ∙ kept-is method fitted.pace c.moved-fitted.result tail (by.tail c.put_frames-step.new.interpolator) tables (frames_of (channels_by method) input) eaten given step (feeder.level fitted c.in-Some.is) c.put_frames-step.ensures.step
+    c.moved-fitted.ensures.rate c.moved-fitted.ensures.phase c.moved-fitted.ensures.ahead c.put_frames-step.ensures.tail in
+    record {
+      eaten = sym (ap eaten_of does);
+      given = sym (ap given_of does);
+      most = c.given-given.ensures.within;
+      frames = c.put_frames-step.ensures.frames ∙ sym (ap output_of does);
+      kept = kept ∙ sym (ap kept_in does);
+      spec = ap (λ k. k.spec) kept ∙ sym (ap (λ k. k.spec) before);
+      kind = refl;
+    }

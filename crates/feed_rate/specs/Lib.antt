@@ -1,0 +1,3 @@
+pub mod Methods
+pub mod Outputs
+pub mod Feeders

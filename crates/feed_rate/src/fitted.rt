@@ -1,0 +1,94 @@
+//! The counts of a fitted converter, and its walk from output to output.
+
+ghost use Rattle.std.specs.Prelude.{◌≡◌, ◌<◌, ◌≤◌, ◌+◌, ◌*◌, ◌^◌, pos, ◌+ℤ◌, length};
+ghost use Rattle.pcm_format.specs.Samples.{natural};
+ghost use Rattle.pcm_feeder.specs.Limits.{IsRate};
+ghost use Rattle.pcm_feeder.specs.Pace.{rate_by, phase_by, ahead_by, factor_of, IsStep};
+ghost use Rattle.pcm_feeder.specs.Streams.{written};
+ghost use Rattle.pcm_feeder.specs.Turns.{reach};
+ghost use Rattle.feed_rate.specs.Methods.{channels_by, lookahead_by, HasFilter};
+ghost use Rattle.feed_rate.specs.Outputs.{next_frames, tail_after};
+
+use crate::{Interpolator, Point};
+use pcm_feeder::{Pace, Step, Tables};
+use pcm_num::Reciprocal;
+use pcm_rate::Rate;
+
+/// The counts, how many frames an output uses from the one under it on, and the whole that a phase
+/// is a part of.
+#[derive(Clone, Copy)]
+pub struct Fitted {
+    pub pace: Pace,
+    used: usize,
+    whole: Reciprocal,
+    ghost used_is: { used ≡ 1 + (rate_by pace).lookahead },
+    ghost whole_is: { whole.divisor ≡ (rate_by pace).dst },
+}
+
+impl Fitted {
+    /// The begin of a stream.
+    pub fn new(rate: Rate) -> Fitted
+        requires source { IsRate rate.src }
+        requires target { IsRate rate.dst }
+        requires lookahead { rate.lookahead ≤ 32 }
+        ensures rate { rate_by result.pace ≡ rate }
+        ensures phase { phase_by result.pace ≡ 0 }
+        ensures ahead { ahead_by result.pace ≡ pos 0 }
+    {
+        Fitted {
+            pace: Pace::new(rate.src, rate.dst, rate.lookahead),
+            used: 1 + rate.lookahead as usize,
+            whole: Reciprocal::of(rate.dst),
+        }
+    }
+
+    /// Puts the next frames at the front of the output, and takes the frames eaten in. Answers
+    /// where the output after them lies.
+    pub fn put_frames<I: Interpolator>(
+        &self,
+        interpolator: &mut I,
+        tables: &Tables,
+        input: &[i32],
+        eaten: usize,
+        count: usize,
+        output: &mut [i32],
+    ) -> Step
+        requires level { (rate_by self.now.pace).lookahead ≡ lookahead_by (I.method interpolator.old) }
+        requires rested { I.passed interpolator.old ≡ 0 }
+        requires filter { HasFilter (I.method interpolator.old) tables.now }
+        requires room { count * channels_by (I.method interpolator.old) ≤ length output.old }
+        requires there { eaten * channels_by (I.method interpolator.old) ≤ length input.now }
+        requires enough { reach (rate_by self.now.pace) (phase_by self.now.pace) count
+            ≤ natural (ahead_by self.now.pace +ℤ pos eaten) }
+        ensures frames { output.new ≡ written (next_frames (I.method interpolator.old) tables.now
+            self.now.pace (I.tail interpolator.old) input.now count) output.old }
+        ensures tail { I.tail interpolator.new
+            ≡ tail_after (I.method interpolator.old) (I.tail interpolator.old) input.now eaten }
+        ensures method { I.method interpolator.new ≡ I.method interpolator.old }
+        ensures rested_again { I.passed interpolator.new ≡ 0 }
+        ensures step { IsStep self.now.pace result count }
+        ensures short { result.frames < 2 ^ 62 }
+    {
+        let Fitted { pace, used, whole } = *self;
+        let channels = interpolator.channels();
+        let start = pace.place(used);
+        let factor = self.factor();
+        let mut step = pace.first();
+        for j in 0..count {
+            let at = j * channels;
+            let needed = start + step.frames;
+            let point = Point::at(whole, step.phase * factor);
+            interpolator.put_frame(tables, input, needed, point, &mut output[at..at + channels]);
+            step = pace.after(step);
+        }
+        interpolator.eat(input, eaten);
+        step
+    }
+
+    // How many parts of the whole are one part of a step's phase.
+    fn factor(&self) -> u32
+        ensures { result ≡ factor_of self.now.pace }
+    {
+        self.whole.divisor() / self.pace.dst()
+    }
+}

@@ -1,0 +1,101 @@
+//! The stage that changes the rate.
+
+ghost use Rattle.std.specs.Prelude.{◌≡◌, false, Some, IfOk, IsOk};
+ghost use Rattle.pcm_feeder.specs.Kept.{unfitted};
+ghost use Rattle.pcm_feeder.specs.Limits.{IsSpec};
+ghost use Rattle.pcm_feeder.specs.Pace.{rate_by};
+ghost use Rattle.pcm_feeder.specs.Stages.{rate_of};
+ghost use Rattle.feed_rate.specs.Methods.{lookahead_by};
+ghost use Rattle.feed_rate.specs.declared.fitted.Fitted.{Fitted};
+
+use crate::Interpolator;
+use crate::fitted::Fitted;
+use pcm_feeder::{Feeder, Gain, Kind, Moved, Spec, Tables};
+use pcm_rate::{Rate, UNCHANGED};
+use std::alloc::{AllocError, Global};
+
+/// Changes the rate of a stream by an interpolator.
+#[derive(Drop)]
+pub struct RateFeeder<I: Interpolator> {
+    interpolator: I,
+    fitted: Option<Fitted>,
+    ghost level: { (found : Fitted) → fitted ≡ Some found
+        → (rate_by found.pace).lookahead ≡ lookahead_by (I.method interpolator) },
+    ghost rested: { I.passed interpolator ≡ 0 },
+}
+
+impl<I: Interpolator> RateFeeder<I> {
+    ghost use Rattle.feed_rate.specs.Feeders.{kept_of};
+
+    /// A feeder that nothing is fitted to yet. All its memory, if it needs any, is taken here.
+    pub fn new(alloc: Global) -> Result<RateFeeder<I>, AllocError>
+        ensures ok { I.takes_memory ≡ false → IsOk result }
+        ensures unfitted { IfOk result (λ made. kept_of made ≡ unfitted) }
+    {
+        Ok(RateFeeder {
+            interpolator: I::new(alloc)?,
+            fitted: None,
+        })
+    }
+}
+
+impl<I: Interpolator> Feeder for RateFeeder<I> {
+    ghost use Rattle.feed_rate.specs.Feeders.{kept_of};
+
+    ghost kind = { λ _. I.kind };
+
+    ghost kept = { kept_of };
+
+    fn kind(&self) -> Kind {
+        self.interpolator.kind()
+    }
+
+    fn fit(&mut self, spec: Spec) {
+        self.interpolator.fit(spec);
+        self.fitted = Some(Fitted::new(rate_of(spec)));
+    }
+
+    fn feed(
+        &mut self,
+        tables: &Tables,
+        gain: Gain,
+        input: &[i32],
+        want: usize,
+        output: &mut [i32],
+    ) -> Moved {
+        let Some(fitted) = &mut self.fitted else {
+            return Moved { eaten: 0, given: 0 };
+        };
+        let offered = input.len() / self.interpolator.channels();
+        let eaten = fitted.pace.eaten(offered, want);
+        let given = fitted.pace.given(offered, want);
+        let step = fitted.put_frames(&mut self.interpolator, tables, input, eaten, given, output);
+        fitted.pace = fitted.pace.moved(eaten, step);
+        Moved { eaten, given }
+    }
+}
+
+// The rate of a stage.
+fn rate_of(spec: Spec) -> Rate
+    requires { IsSpec spec }
+    ensures { result ≡ rate_of spec }
+{
+    match spec {
+        Spec::Hold { src, dst, .. } => Rate {
+            src,
+            dst,
+            lookahead: 0,
+        },
+        Spec::Linear { src, dst, .. } => Rate {
+            src,
+            dst,
+            lookahead: 1,
+        },
+        Spec::Poly { src, dst, taps, .. } => Rate {
+            src,
+            dst,
+            lookahead: (taps / 2) as u32,
+        },
+        Spec::Matrix { .. } | Spec::Volume { .. } | Spec::Depth { .. } => UNCHANGED,
+    }
+}
