@@ -62,7 +62,7 @@ has_loaded-all config at loaded before now past sofar = record {
 
 -- one ended the call
 pub has_loaded-ends : (config : Config) (at : ℕ) (loaded : List DataFileSeen) (file : FilePath) (ending : Ending) (before now after : Outside) → at < length config.files → slice_get config.files at ≡ Some file
-    → HasLoaded config at loaded before now → Ends (data_part config loaded file) ending now after → Ends (data_behind config [] config.files) ending before after
+    → HasLoaded config at loaded before now → Ends (data_part config loaded file) now after ending → Ends (data_behind config [] config.files) before after ending
 has_loaded-ends config at loaded file ending before now after within there sofar ends =
     let rest : List FilePath = drop (at + 1) config.files in
     ends-later (data_behind config [] config.files) (data_part config loaded file) ending before now after sofar.only

@@ -87,7 +87,7 @@ line-later whole part before between after line only leads (OfRead name read fai
 
 -- an end of a part, behind others, is an end of the whole
 pub ends-later : {A B : Type 0} (whole : Part A) (part : Part B) (ending : Ending) (before between after : Outside) → OnlyHasRead before between → LeadsTo whole part before.files
-    → Ends part ending between after → Ends whole ending before after
+    → Ends part between after ending → Ends whole before after ending
 ends-later whole part Usage before between after only leads ends = ends
 ends-later whole part CannotRead before between after only leads ends = record {
   name = ends.name;
@@ -118,7 +118,7 @@ pub nothing : (outside : Outside) → OnlyHasRead outside outside
 nothing outside = record { files = reads-nothing outside.files; kept = record { read_faults = refl; failed = refl }; sink = refl }
 
 -- an end of a part is an end of the whole that begins with it
-pub ends-as : {A B : Type 0} (whole : Part A) (part : Part B) (ending : Ending) (before after : Outside) → LeadsTo whole part before.files → Ends part ending before after → Ends whole ending before after
+pub ends-as : {A B : Type 0} (whole : Part A) (part : Part B) (ending : Ending) (before after : Outside) → LeadsTo whole part before.files → Ends part before after ending → Ends whole before after ending
 ends-as whole part ending before after leads ends = ends-later whole part ending before before after (nothing before) leads ends
 
 -- ---- judgements one after another

@@ -12,36 +12,36 @@ use Rattle.pcm_inputs.specs.Parts.{file_part}
 use Rattle.pcm_inputs.specs.Reads.{Comes, CutsLine, Ends, Lacks, OfFault, OfRead, OnlyHasRead, Part, RefusesPart}
 
 -- a fault of a part, of which the line was put, or cut, or not made
-told : {A : Type 0} (part : Part A) (fault : Fault) (ending : Ending) (before after : Outside) → (RefusesPart part (ending_of fault) before after → Ends part (ending_of fault) before after)
-    → Comes part (Err fault) before.files → OnlyReads before.files after.files → TellsFault fault ending before.sink after.sink → Ends part ending before after
-told part fault ending before after refuses came files (Told same line) = subst (λ (e : Ending). Ends part e before after) (sym same)
+told : {A : Type 0} (part : Part A) (fault : Fault) (ending : Ending) (before after : Outside) → (RefusesPart part (ending_of fault) before after → Ends part before after (ending_of fault))
+    → Comes part (Err fault) before.files → OnlyReads before.files after.files → TellsFault fault ending before.sink after.sink → Ends part before after ending
+told part fault ending before after refuses came files (Told same line) = subst (λ (e : Ending). Ends part before after e) (sym same)
     (refuses (record { fault = fault; ended = refl; came = came; files = files; line = line }))
-told part fault ending before after refuses came files (Cut same put) = subst (λ (e : Ending). Ends part e before after) (sym same)
+told part fault ending before after refuses came files (Cut same put) = subst (λ (e : Ending). Ends part before after e) (sym same)
     (let cut : CutsLine part before after = record { line = fault_line fault; is = OfFault fault came refl; files = files; put = put } in cut)
-told part fault ending before after refuses came files (Lost same stays) = subst (λ (e : Ending). Ends part e before after) (sym same)
+told part fault ending before after refuses came files (Lost same stays) = subst (λ (e : Ending). Ends part before after e) (sym same)
     (let lacks : Lacks before after = record { files = files; sink = stays } in lacks)
 
 pub config-refused : {A : Type 0} (part : Part A) (refusal : ConfigRefusal) (ending : Ending) (before after : Outside) → Comes part (Err (BadConfig refusal)) before.files → OnlyReads before.files after.files
-    → TellsFault (BadConfig refusal) ending before.sink after.sink → Ends part ending before after
+    → TellsFault (BadConfig refusal) ending before.sink after.sink → Ends part before after ending
 config-refused part refusal ending before after came files tells = told part (BadConfig refusal) ending before after (λ refuses. refuses) came files tells
 
 pub script-refused : {A : Type 0} (part : Part A) (refusal : Refusal) (ending : Ending) (before after : Outside) → Comes part (Err (BadScript refusal)) before.files → OnlyReads before.files after.files
-    → TellsFault (BadScript refusal) ending before.sink after.sink → Ends part ending before after
+    → TellsFault (BadScript refusal) ending before.sink after.sink → Ends part before after ending
 script-refused part refusal ending before after came files tells = told part (BadScript refusal) ending before after (λ refuses. refuses) came files tells
 
 pub wave-refused : {A : Type 0} (part : Part A) (name : List ℕ) (kind : FileKind) (ending : Ending) (before after : Outside) → Comes part (Err (BadWave name kind)) before.files → OnlyReads before.files after.files
-    → TellsFault (BadWave name kind) ending before.sink after.sink → Ends part ending before after
+    → TellsFault (BadWave name kind) ending before.sink after.sink → Ends part before after ending
 wave-refused part name kind ending before after came files tells = told part (BadWave name kind) ending before after (λ refuses. refuses) came files tells
 
 -- a file that could not be read
 pub unread : (name : List ℕ) (ending : Ending) (before after : Outside) → FailsToRead before.files after.files name → OnlyReads before.files after.files
-    → TellsFault (Missing name) ending before.sink after.sink → Ends (file_part name) ending before after
-unread name ending before after fails files (Told same line) = subst (λ (e : Ending). Ends (file_part name) e before after) (sym same)
+    → TellsFault (Missing name) ending before.sink after.sink → Ends (file_part name) before after ending
+unread name ending before after fails files (Told same line) = subst (λ (e : Ending). Ends (file_part name) before after e) (sym same)
     (record { name = name; is_read = record { may = refl; among = λ told. record { place = 0; is = refl } }; read = fails; files = files; line = line })
-unread name ending before after fails files (Cut same put) = subst (λ (e : Ending). Ends (file_part name) e before after) (sym same)
+unread name ending before after fails files (Cut same put) = subst (λ (e : Ending). Ends (file_part name) before after e) (sym same)
     (let cut : CutsLine (file_part name) before after =
     record { line = fault_line (Missing name); is = OfRead name (record { may = refl; among = λ told. record { place = 0; is = refl } }) fails refl; files = files; put = put } in cut)
-unread name ending before after fails files (Lost same stays) = subst (λ (e : Ending). Ends (file_part name) e before after) (sym same)
+unread name ending before after fails files (Lost same stays) = subst (λ (e : Ending). Ends (file_part name) before after e) (sym same)
     (let lacks : Lacks before after = record { files = files; sink = stays } in lacks)
 
 -- what holds of an ending holds of the result that it is

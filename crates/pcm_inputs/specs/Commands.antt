@@ -1,5 +1,6 @@
 -- What a contract sees of a command, which files a command may read, and what is accepted of it.
 use Rattle.std.specs.Prelude.{◌≡◌, ◌⊎◌, ℕ, List, Option, Some, None, option_map}
+use Rattle.std.specs.Borrow.{Bor}
 use Rattle.pcm_feeder.specs.Limits.{IsRate}
 use Rattle.pcm_wave.specs.Headers.{IsWaveFormat}
 use Rattle.pcm_verdict.specs.Commands as verdicts
@@ -8,10 +9,14 @@ use Rattle.pcm_verdict.specs.Verdict.{Accepted, Runs, Checks, Converts, Soaks}
 use Rattle.pcm_inputs.specs.declared.words.Command.{Command}
 use Rattle.pcm_inputs.specs.declared.words.Command.TheVariants.{Run, Check, Convert, Soak}
 
+-- a name, where there is one
+abbrev pub named : Option (Bor (List ℕ)) → Option (List ℕ)
+named name = option_map (λ shown. shown.now) name
+
 -- the names and the settings that a command has
 abbrev pub command_seen : Command → verdicts.Command
-command_seen (Run script out config) = RunScript script.now out.now (option_map (λ name. name.now) config)
-command_seen (Check script config) = CheckScript script.now (option_map (λ name. name.now) config)
+command_seen (Run script out config) = RunScript script.now out.now (named config)
+command_seen (Check script config) = CheckScript script.now (named config)
 command_seen (Convert input out target) = ConvertWave input.now out.now target
 command_seen (Soak seed) = SoakRun seed
 

@@ -1,5 +1,7 @@
 -- The outside of a call: its files and its sink.
+use denote.Triple.Both.{Both}
 use Rattle.std.specs.Prelude.{◌≡◌, ◌⊎◌}
+use Rattle.std.specs.Borrow.{MutBor}
 use Rattle.pcm_outside.specs.Counts.{Rose}
 use Rattle.pcm_outside.specs.Files.{FilesSeen}
 use Rattle.pcm_outside.specs.Sink.{SinkSeen}
@@ -9,8 +11,29 @@ pub record Outside : Type 0 where
   pub files : FilesSeen
   pub sink : SinkSeen
 
-abbrev pub both : FilesSeen → SinkSeen → Outside
-both files sink = record { files = files; sink = sink }
+abbrev pub outside : FilesSeen → SinkSeen → Outside
+outside files sink = record { files = files; sink = sink }
+
+-- what is seen of both before a call and behind it
+pub record Change : Type 0 where
+  pub before : Outside
+  pub after : Outside
+
+-- a parameter that is lent to a call, as a clause names it: as the call begins, and as it ends
+abbrev pub Lent : Type 0 → Type 0
+Lent T = Both (MutBor T) (MutBor T)
+
+-- what a call did to the files and the sink that were lent to it
+abbrev pub both : {F K : Type 0} → (F → FilesSeen) → (K → SinkSeen) → Lent F → Lent K → Change
+both seen heard files out = record {
+  before = outside (seen files.entry.now) (heard out.entry.now);
+  after = outside (seen files.exit.now) (heard out.exit.now);
+}
+
+-- a relation of what was before and what is after, over a change
+infixl 5 ◌over◌
+abbrev pub ◌over◌ : {R : Type 1} → (Outside → Outside → R) → Change → R
+relation over change = relation change.before change.after
 
 -- no read, no write and no put failed
 pub record NoneRose (before after : Outside) : Type 0 where

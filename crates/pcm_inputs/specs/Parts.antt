@@ -1,9 +1,11 @@
 -- The parts of a call that read and judge files.
-use Rattle.std.specs.Prelude.{◌≡◌, ◌⊎◌, ℕ, List, [], ◌∷◌, ◌++◌, Option, None, Some, Result, Ok, Err, slice_get}
+use Rattle.std.specs.Prelude.{◌≡◌, ◌⊎◌, ◌*◌, ◌≤◌, ℕ, List, [], ◌∷◌, ◌++◌, Option, None, Some, Result, Ok, Err, slice_get}
 use Rattle.pcm_format.specs.declared.settings.Settings.{Settings}
+use Rattle.pcm_format.specs.Frames.{frame_bytes}
 use Rattle.pcm_wave.specs.declared.data_file.DataFile.{DataFile}
 use Rattle.pcm_wave.specs.DataFiles.{DataFileSeen}
 use Rattle.pcm_wave.specs.Waves.{wave_of}
+use Rattle.pcm_wave.specs.declared.written.TheConstants.{BODY_BYTES}
 use Rattle.pcm_config.specs.declared.config.Config.{Config}
 use Rattle.pcm_config.specs.declared.config.FilePath.{FilePath}
 use Rattle.pcm_script.specs.declared.script.Script.{Script}
@@ -11,7 +13,7 @@ use Rattle.pcm_verdict.specs.Captures.{IsShaped}
 use Rattle.pcm_verdict.specs.Judging.{read_file}
 use Rattle.pcm_verdict.specs.Faults.{BadWave}
 use Rattle.pcm_verdict.specs.Verdict as verdicts
-use Rattle.pcm_verdict.specs.Verdict.{Conversion, config_judged, conversion_from, conversion_judged, file_judged, file_of, files_behind, inputs_judged, script_judged}
+use Rattle.pcm_verdict.specs.Verdict.{Conversion, config_judged, conversion_from, conversion_judged, file_judged, file_of, files_behind, frames_converted, inputs_judged, script_judged}
 use Rattle.pcm_inputs.specs.declared.inputs.Inputs.{Inputs}
 use Rattle.pcm_inputs.specs.declared.loaded.Loaded.{Loaded}
 use Rattle.pcm_inputs.specs.declared.fault.FileKind.{FileKind}
@@ -48,6 +50,10 @@ pub record IsPath (config : Config) (name : List ℕ) : Type 0 where
 abbrev pub data_behind : Config → List DataFileSeen → List FilePath → Part (List DataFileSeen)
 data_behind config before files = record { judged = λ content. files_behind content config before files; may = IsPath config }
 
+-- all data files of a configuration
+abbrev pub files_part : Config → Part (List DataFileSeen)
+files_part config = data_behind config [] config.files
+
 -- the script
 abbrev pub script_part : Config → List DataFileSeen → List ℕ → Part Script
 script_part config files name = record { judged = λ content. script_judged content config files name; may = λ other. other ≡ name }
@@ -59,6 +65,14 @@ inputs_part script config = record { judged = λ content. inputs_judged content 
 -- the wave that is to be converted
 abbrev pub conversion_part : List ℕ → Settings → Part Conversion
 conversion_part name target = record { judged = λ content. conversion_judged content name target; may = λ other. other ≡ name }
+
+-- the conversion of a wave to settings
+abbrev pub conversion_to : DataFileSeen → Settings → Conversion
+conversion_to source target = record { source = source; target = target }
+
+-- what it gives has room in the body of a wave
+abbrev pub HasRoom : Conversion → Type 0
+HasRoom conversion = frames_converted conversion * frame_bytes conversion.target ≤ BODY_BYTES
 
 -- what a script is run on, as the definitions have it
 abbrev pub inputs_seen : Inputs → verdicts.Inputs

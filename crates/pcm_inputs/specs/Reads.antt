@@ -73,16 +73,16 @@ pub record Lacks (before after : Outside) : Type 0 where
   pub sink : after.sink ≡ before.sink
 
 -- what a part did that ended a call
-abbrev pub Ends : {A : Type 0} → Part A → Ending → Outside → Outside → Type 0
-Ends part Usage before after = ⊥
-Ends part CannotRead before after = FailsToReadOne part before after
-Ends part BadConfig before after = RefusesPart part BadConfig before after
-Ends part BadScript before after = RefusesPart part BadScript before after
-Ends part BadWave before after = RefusesPart part BadWave before after
-Ends part CannotWrite before after = CutsLine part before after
-Ends part NoMemory before after = Lacks before after
+abbrev pub Ends : {A : Type 0} → Part A → Outside → Outside → Ending → Type 0
+Ends part before after Usage = ⊥
+Ends part before after CannotRead = FailsToReadOne part before after
+Ends part before after BadConfig = RefusesPart part BadConfig before after
+Ends part before after BadScript = RefusesPart part BadScript before after
+Ends part before after BadWave = RefusesPart part BadWave before after
+Ends part before after CannotWrite = CutsLine part before after
+Ends part before after NoMemory = Lacks before after
 
 -- what a part came to
 abbrev pub ComesTo : {A : Type 0} → Part A → Result A Ending → Outside → Outside → Type 0
 ComesTo part (Ok value) before after = GivesValue part value before after
-ComesTo part (Err ending) before after = Ends part ending before after
+ComesTo part (Err ending) before after = Ends part before after ending

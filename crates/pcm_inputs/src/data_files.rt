@@ -1,10 +1,10 @@
 //! The data files of a configuration: each is judged before the next is read.
 
-ghost use Rattle.std.specs.Prelude.{◌≡◌, [], All, IfErr, IfOk, OnOk, string_bytes};
+ghost use Rattle.std.specs.Prelude.{◌≡◌, All, IfErr, IfOk, OnOk, string_bytes};
 ghost use Rattle.pcm_verdict.specs.Captures.{IsShaped};
 ghost use Rattle.pcm_verdict.specs.Verdict.{has_shape, is_capture};
-ghost use Rattle.pcm_inputs.specs.Parts.{AddsFile, FileJudged, data_behind, data_part};
-ghost use Rattle.pcm_inputs.specs.Outside.{both};
+ghost use Rattle.pcm_inputs.specs.Parts.{AddsFile, FileJudged, data_part, files_part};
+ghost use Rattle.pcm_inputs.specs.Outside.{both, ◌over◌};
 ghost use Rattle.pcm_inputs.specs.Reads.{Ends, GivesValue};
 
 use crate::ending::Ending;
@@ -25,11 +25,9 @@ pub fn read_data_files<F: Files, K: Sink>(
     files: &mut F,
     out: &mut K,
 ) -> Result<DataFiles, Ending>
-    ensures ok { IfOk result (λ read. GivesValue (data_behind config.now [] config.now.files) read
-        (both (F.seen files.old) (K.seen out.old)) (both (F.seen files.new) (K.seen out.new))) }
+    ensures ok { IfOk result (λ read. GivesValue (files_part config.now) read over both F.seen K.seen files out) }
     ensures shaped { IfOk result (λ read. All (IsShaped config.now) read) }
-    ensures err { IfErr result (λ ending. Ends (data_behind config.now [] config.now.files) ending
-        (both (F.seen files.old) (K.seen out.old)) (both (F.seen files.new) (K.seen out.new))) }
+    ensures err { IfErr result (Ends (files_part config.now) over both F.seen K.seen files out) }
 {
     let paths = config.files.as_slice();
     let mut loaded = Loaded::new(alloc);
@@ -48,10 +46,8 @@ fn read_next<F: Files, K: Sink>(
     files: &mut F,
     out: &mut K,
 ) -> Result<(), Ending>
-    ensures ok { OnOk result (AddsFile config.now file.now loaded.old loaded.new
-        (both (F.seen files.old) (K.seen out.old)) (both (F.seen files.new) (K.seen out.new))) }
-    ensures err { IfErr result (λ ending. Ends (data_part config.now loaded.old.files file.now) ending
-        (both (F.seen files.old) (K.seen out.old)) (both (F.seen files.new) (K.seen out.new))) }
+    ensures ok { OnOk result (AddsFile config.now file.now loaded.old loaded.new over both F.seen K.seen files out) }
+    ensures err { IfErr result (Ends (data_part config.now loaded.old.files file.now) over both F.seen K.seen files out) }
 {
     let path = file.path.as_str();
     let bytes = read_file(alloc, path, loaded.left(), files, out)?;

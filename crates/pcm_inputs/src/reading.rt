@@ -1,6 +1,6 @@
 //! Files that are read and then judged. Where one stops a call, a line says so.
 
-ghost use Rattle.std.specs.Prelude.{◌+◌, ◌^◌, ◌<◌, ◌≤◌, IfErr, IfOk, List, OnOk, length, option_map, ℕ};
+ghost use Rattle.std.specs.Prelude.{◌+◌, ◌^◌, ◌<◌, ◌≤◌, IfErr, IfOk, List, OnOk, length, ℕ};
 ghost use Rattle.pcm_outside.specs.Files.{ReadsFile};
 ghost use Rattle.pcm_desk.specs.declared.limits.TheConstants.{DEVICE_BYTES, EVENTS};
 ghost use Rattle.pcm_desk.specs.Device.{IsInLimits};
@@ -8,8 +8,8 @@ ghost use Rattle.pcm_config.specs.Configs.{IsHeld, device_seen};
 ghost use Rattle.pcm_wave.specs.Pools.{IsCaptureIn};
 ghost use Rattle.pcm_script.specs.Lines.{AllFit, bytes_taken};
 ghost use Rattle.pcm_verdict.specs.Outputs.{inputs_pool};
-ghost use Rattle.pcm_inputs.specs.Commands.{MayNameFiles};
-ghost use Rattle.pcm_inputs.specs.Outside.{both};
+ghost use Rattle.pcm_inputs.specs.Commands.{MayNameFiles, named};
+ghost use Rattle.pcm_inputs.specs.Outside.{both, ◌over◌};
 ghost use Rattle.pcm_inputs.specs.Parts.{IsPath, config_part, file_part, inputs_part, inputs_seen, script_part};
 ghost use Rattle.pcm_inputs.specs.Reads.{Ends, GivesValue, OnlyHasRead};
 
@@ -35,10 +35,8 @@ pub fn read_file<F: Files, K: Sink>(
     requires { most + 1 < 2 ^ 64 }
     ensures ok { IfOk result
         (λ bytes. ReadsFile (F.seen files.old) name.now (most + 1) bytes.items) }
-    ensures only { OnOk result (OnlyHasRead
-        (both (F.seen files.old) (K.seen out.old)) (both (F.seen files.new) (K.seen out.new))) }
-    ensures err { IfErr result (λ ending. Ends (file_part name.now) ending
-        (both (F.seen files.old) (K.seen out.old)) (both (F.seen files.new) (K.seen out.new))) }
+    ensures only { OnOk result (OnlyHasRead over both F.seen K.seen files out) }
+    ensures err { IfErr result (Ends (file_part name.now) over both F.seen K.seen files out) }
 {
     match files.read(alloc, name, most + 1) {
         Ok(bytes) => Ok(bytes),
@@ -54,14 +52,12 @@ pub fn read_config<F: Files, K: Sink>(
     files: &mut F,
     out: &mut K,
 ) -> Result<Config, Ending>
-    ensures ok { IfOk result (λ config. GivesValue (config_part (option_map (λ n. n.now) name.entry)) config
-        (both (F.seen files.old) (K.seen out.old)) (both (F.seen files.new) (K.seen out.new))) }
+    ensures ok { IfOk result (λ config. GivesValue (config_part (named name.entry)) config over both F.seen K.seen files out) }
     ensures limits { IfOk result (λ config. IsInLimits (device_seen config)) }
     ensures container { IfOk result IsHeld }
     ensures paths { IfOk result (λ config. (path : List ℕ) → IsPath config path
-        → MayNameFiles (option_map (λ n. n.now) name.entry)) }
-    ensures err { IfErr result (λ ending. Ends (config_part (option_map (λ n. n.now) name.entry)) ending
-        (both (F.seen files.old) (K.seen out.old)) (both (F.seen files.new) (K.seen out.new))) }
+        → MayNameFiles (named name.entry)) }
+    ensures err { IfErr result (Ends (config_part (named name.entry)) over both F.seen K.seen files out) }
 {
     let Some(name) = name else {
         return Ok(default_config(alloc));
@@ -84,14 +80,12 @@ pub fn read_script<F: Files, K: Sink>(
     out: &mut K,
 ) -> Result<Script, Ending>
     requires limits { IsInLimits (device_seen config.now) }
-    ensures ok { IfOk result (λ script. GivesValue (script_part config.now waves.now name.now) script
-        (both (F.seen files.old) (K.seen out.old)) (both (F.seen files.new) (K.seen out.new))) }
+    ensures ok { IfOk result (λ script. GivesValue (script_part config.now waves.now name.now) script over both F.seen K.seen files out) }
     ensures fits { IfOk result (λ script. AllFit (device_seen config.now) waves.now script) }
     ensures count { IfOk result (λ script. length script.events ≤ EVENTS) }
     ensures frames { IfOk result
         (λ script. bytes_taken (device_seen config.now) script ≤ DEVICE_BYTES) }
-    ensures err { IfErr result (λ ending. Ends (script_part config.now waves.now name.now) ending
-        (both (F.seen files.old) (K.seen out.old)) (both (F.seen files.new) (K.seen out.new))) }
+    ensures err { IfErr result (Ends (script_part config.now waves.now name.now) over both F.seen K.seen files out) }
 {
     let text = read_file(alloc, name, TEXT_BYTES, files, out)?;
     match script_of(alloc, &text, &config.device, waves) {
@@ -110,8 +104,7 @@ pub fn read_inputs<F: Files, K: Sink>(
     out: &mut K,
 ) -> Result<Inputs, Ending>
     ensures ok { IfOk result (λ inputs. GivesValue
-        (inputs_part script.now (option_map (λ n. n.now) config.entry)) (inputs_seen inputs)
-        (both (F.seen files.old) (K.seen out.old)) (both (F.seen files.new) (K.seen out.new))) }
+        (inputs_part script.now (named config.entry)) (inputs_seen inputs) over both F.seen K.seen files out) }
     ensures limits { IfOk result (λ inputs. IsInLimits (device_seen inputs.config)) }
     ensures fits { IfOk result
         (λ inputs. AllFit (device_seen inputs.config) inputs.files inputs.script) }
@@ -121,9 +114,8 @@ pub fn read_inputs<F: Files, K: Sink>(
     ensures container { IfOk result (λ inputs. IsHeld inputs.config) }
     ensures frames { IfOk result (λ inputs.
         bytes_taken (device_seen inputs.config) inputs.script ≤ DEVICE_BYTES) }
-    ensures err { IfErr result (λ ending. Ends
-        (inputs_part script.now (option_map (λ n. n.now) config.entry)) ending
-        (both (F.seen files.old) (K.seen out.old)) (both (F.seen files.new) (K.seen out.new))) }
+    ensures err { IfErr result (Ends
+        (inputs_part script.now (named config.entry)) over both F.seen K.seen files out) }
 {
     let config = read_config(alloc, config, files, out)?;
     let waves = read_data_files(alloc, &config, files, out)?;

@@ -1,12 +1,11 @@
 //! A wave that is to be converted: it is read, and judged for the settings that are asked for.
 
-ghost use Rattle.std.specs.Prelude.{◌≡◌, ◌*◌, ◌≤◌, IfErr, IfOk, nat_lt, string_bytes};
+ghost use Rattle.std.specs.Prelude.{◌≡◌, ◌*◌, IfErr, IfOk, nat_lt, string_bytes};
 ghost use Rattle.pcm_format.specs.Frames.{frame_bytes};
 ghost use Rattle.pcm_feeder.specs.Limits.{IsRate};
 ghost use Rattle.pcm_wave.specs.declared.written.TheConstants.{BODY_BYTES};
-ghost use Rattle.pcm_verdict.specs.Verdict.{frames_converted};
-ghost use Rattle.pcm_inputs.specs.Outside.{both};
-ghost use Rattle.pcm_inputs.specs.Parts.{SourceJudged, conversion_part};
+ghost use Rattle.pcm_inputs.specs.Outside.{both, ◌over◌};
+ghost use Rattle.pcm_inputs.specs.Parts.{HasRoom, SourceJudged, conversion_part, conversion_to};
 ghost use Rattle.pcm_inputs.specs.Reads.{Ends, GivesValue};
 
 use crate::ending::Ending;
@@ -29,12 +28,9 @@ pub fn read_source<F: Files, K: Sink>(
 ) -> Result<DataFile, Ending>
     requires rate { IsRate target.rate }
     ensures ok { IfOk result (λ source. GivesValue (conversion_part name.now target)
-        (record { source = source; target = target })
-        (both (F.seen files.old) (K.seen out.old)) (both (F.seen files.new) (K.seen out.new))) }
-    ensures size { IfOk result (λ source. frames_converted (record { source = source; target = target })
-        * frame_bytes target ≤ BODY_BYTES) }
-    ensures err { IfErr result (λ ending. Ends (conversion_part name.now target) ending
-        (both (F.seen files.old) (K.seen out.old)) (both (F.seen files.new) (K.seen out.new))) }
+        (conversion_to source target) over both F.seen K.seen files out) }
+    ensures size { IfOk result (λ source. HasRoom (conversion_to source target)) }
+    ensures err { IfErr result (Ends (conversion_part name.now target) over both F.seen K.seen files out) }
 {
     let bytes = read_file(alloc, name, DATA_BYTES, files, out)?;
     if bytes.len() > DATA_BYTES {
@@ -58,8 +54,7 @@ fn source_of(
 ) -> Result<DataFile, FileKind>
     requires rate { IsRate target.rate }
     ensures judged { SourceJudged (string_bytes name) target bytes.items result }
-    ensures size { IfOk result (λ source. frames_converted (record { source = source; target = target })
-        * frame_bytes target ≤ BODY_BYTES) }
+    ensures size { IfOk result (λ source. HasRoom (conversion_to source target)) }
 {
     let source = match DataFile::read(name, bytes) {
         Ok(source) => source,

@@ -12,10 +12,11 @@ use Rattle.pcm_verdict.specs.Verdict.{Accepted, Runs, Checks, Converts, Soaks, C
 use Rattle.pcm_inputs.specs.declared.ending.Ending.{Ending}
 use Rattle.pcm_inputs.specs.declared.ending.Ending.TheVariants.{Usage, CannotRead, BadConfig, BadScript, BadWave, CannotWrite, NoMemory}
 use Rattle.pcm_inputs.specs.Commands.{IsOf, MayRead}
-use Rattle.pcm_replay.specs.Endings.{CutsLines, CutsShort, DoesCommand, DoesWords, EndsCall, EndsCommand, HasRun, InAccepted, InLine, IsCommandCut}
-use Rattle.pcm_replay.specs.Outcomes.{InFaultLine, InOutput, IsCut, Spells, command_part, verdict_on}
+use Rattle.pcm_replay.specs.Endings.{Cuts, CutsLines, DoesCommand, EndsCall, EndsCommand, HasRun, InAccepted, InLine, IsCommandCut, TellsForms}
+use Rattle.pcm_replay.specs.Calls.{Call}
+use Rattle.pcm_replay.specs.Outcomes.{InFaultLine, InForms, InOutput, IsCut, Spells, command_part, verdict_on}
 use Rattle.pcm_replay.specs.Cuts.{CutsCall}
-use Rattle.pcm_inputs.specs.Outside.{Outside, both}
+use Rattle.pcm_inputs.specs.Outside.{Outside, outside}
 use Rattle.pcm_inputs.specs.Parts.{conversion_part, inputs_part}
 use Rattle.pcm_inputs.specs.Reads.{Comes, Ends, OnlyHasRead, Part}
 use Rattle.pcm_replay.specs.Written.{AtPut, CutsOutput, WritesAll}
@@ -55,7 +56,7 @@ comes-soak n files = λ told. refl
 -- ---- how it ends
 
 -- an end of all that a command reads
-of-part : (command : Command) (ending : Ending) (before after : Outside) → Ends (command_part command) ending before after → EndsCommand command ending before after
+of-part : (command : Command) (ending : Ending) (before after : Outside) → Ends (command_part command) before after ending → EndsCommand command before after ending
 of-part command Usage before after ends = ends
 of-part command CannotRead before after ends = ends
 of-part command BadConfig before after ends = ends
@@ -64,13 +65,13 @@ of-part command BadWave before after ends = ends
 of-part command CannotWrite before after ends = InLine ends
 of-part command NoMemory before after ends = ends
 
-pub ends-command : {A : Type 0} (command : Command) (part : Part A) (ending : Ending) (before after : Outside) → LeadsTo (command_part command) part before.files → Ends part ending before after
-    → EndsCommand command ending before after
+pub ends-command : {A : Type 0} (command : Command) (part : Part A) (ending : Ending) (before after : Outside) → LeadsTo (command_part command) part before.files → Ends part before after ending
+    → EndsCommand command before after ending
 ends-command command part ending before after leads ends = of-part command ending before after (ends-as (command_part command) part ending before after leads ends)
 
 -- what it was to leave was cut short, once all was read
 pub cuts-command : (command : Command) (accepted : Accepted) (ending : Ending) (before between after : Outside) → IsOf command accepted → Comes (command_part command) (Ok accepted) before.files → OnlyHasRead before between
-    → CutsShort ending accepted between after → EndsCommand command ending before after
+    → Cuts accepted between after ending → EndsCommand command before after ending
 cuts-command command accepted Usage before between after is_of came only cut = absurd cut
 cuts-command command accepted CannotRead before between after is_of came only cut = absurd cut
 cuts-command command accepted BadConfig before between after is_of came only cut = absurd cut
@@ -85,7 +86,7 @@ cuts-command command accepted NoMemory before between after is_of came only same
 
 -- it was done to its end
 pub does-command : {B : Type 0} (kept : B → Kept) (command : Command) (accepted : Accepted) (engine : Option (EngineOf B)) (before between after : Outside) → IsOf command accepted
-    → Comes (command_part command) (Ok accepted) before.files → OnlyHasRead before between → HasRun kept engine accepted → WritesAll (output_of accepted) between after → DoesCommand kept command engine before after
+    → Comes (command_part command) (Ok accepted) before.files → OnlyHasRead before between → HasRun kept engine accepted → WritesAll (output_of accepted) between after → DoesCommand kept command before after engine
 does-command kept command accepted engine before between after is_of came only ran writes = record {
   accepted = accepted;
   is_of = is_of;
@@ -98,12 +99,12 @@ does-command kept command accepted engine before between after is_of came only r
 
 -- lines that were put are all that a call was to leave which writes no file
 pub writes-lines : (accepted : Accepted) (lines : List ℕ) (files : FilesSeen) (old new : SinkSeen) → output_of accepted ≡ record { file = None; lines = lines } → Puts old new lines
-    → WritesAll (output_of accepted) (both files old) (both files new)
-writes-lines accepted lines files old new is puts = subst (λ (output : Output). WritesAll output (both files old) (both files new)) (sym is)
+    → WritesAll (output_of accepted) (outside files old) (outside files new)
+writes-lines accepted lines files old new is puts = subst (λ (output : Output). WritesAll output (outside files old) (outside files new)) (sym is)
     (record { written = record { only = reads-nothing files; kept = record { read_faults = refl; failed = refl } }; put = puts })
 
 -- lines of which the put failed
-cuts-put : (lines : List ℕ) (files : FilesSeen) (old new : SinkSeen) → FailsToPut old new lines → CutsOutput (record { file = None; lines = lines }) (both files old) (both files new)
+cuts-put : (lines : List ℕ) (files : FilesSeen) (old new : SinkSeen) → FailsToPut old new lines → CutsOutput (record { file = None; lines = lines }) (outside files old) (outside files new)
 cuts-put lines files old new cut = AtPut (record { written = record { only = reads-nothing files; kept = record { read_faults = refl; failed = refl } }; put = cut })
 
 -- a file is to be left
@@ -112,21 +113,21 @@ HasFile None = ⊥
 HasFile (Some written) = Unit {0}
 
 cuts-call : (accepted : Accepted) (lines : List ℕ) (files : FilesSeen) (old new : SinkSeen) → output_of accepted ≡ record { file = None; lines = lines } → FailsToPut old new lines
-    → CutsCall accepted (both files old) (both files new)
+    → CutsCall accepted (outside files old) (outside files new)
 cuts-call (Runs out inputs) lines files old new is cut = absurd (subst (λ (output : Output). HasFile output.file) is tt)
-cuts-call (Checks inputs) lines files old new is cut = subst (λ (output : Output). CutsOutput output (both files old) (both files new)) (sym is) (cuts-put lines files old new cut)
+cuts-call (Checks inputs) lines files old new is cut = subst (λ (output : Output). CutsOutput output (outside files old) (outside files new)) (sym is) (cuts-put lines files old new cut)
 cuts-call (Converts out conversion) lines files old new is cut = absurd (subst (λ (output : Output). HasFile output.file) is tt)
-cuts-call (Soaks n) lines files old new is cut = subst (λ (output : Output). CutsOutput output (both files old) (both files new)) (sym is) (cuts-put lines files old new cut)
+cuts-call (Soaks n) lines files old new is cut = subst (λ (output : Output). CutsOutput output (outside files old) (outside files new)) (sym is) (cuts-put lines files old new cut)
 
-pub cuts-lines : (ending : Ending) (accepted : Accepted) (lines : List ℕ) (files : FilesSeen) (old new : SinkSeen) → output_of accepted ≡ record { file = None; lines = lines } → CutsLines ending lines old new
-    → CutsShort ending accepted (both files old) (both files new)
+pub cuts-lines : (ending : Ending) (accepted : Accepted) (lines : List ℕ) (files : FilesSeen) (old new : SinkSeen) → output_of accepted ≡ record { file = None; lines = lines } → CutsLines lines old new ending
+    → Cuts accepted (outside files old) (outside files new) ending
 cuts-lines Usage accepted lines files old new is cut = cut
 cuts-lines CannotRead accepted lines files old new is cut = cut
 cuts-lines BadConfig accepted lines files old new is cut = cut
 cuts-lines BadScript accepted lines files old new is cut = cut
 cuts-lines BadWave accepted lines files old new is cut = cut
 cuts-lines CannotWrite accepted lines files old new is cut = cuts-call accepted lines files old new is cut
-cuts-lines NoMemory accepted lines files old new is same = ap (both files) same
+cuts-lines NoMemory accepted lines files old new is same = ap (outside files) same
 
 -- ---- the words that spell it
 
@@ -135,48 +136,30 @@ pub verdict-of : (words : List (List ℕ)) (spells : Spells words) (accepted : A
     → verdict_on words files ≡ Ok accepted
 verdict-of words spells accepted files came told = ap (λ (command : Option Command). (if_command files.content command).came) spells.is ∙ came told
 
-cut-words : (words : List (List ℕ)) (spells : Spells words) (before after : Outside) → IsCommandCut spells.command before after → IsCut words before after
-cut-words words spells before after (InLine line) = InFaultLine (record { spells = spells; line = line })
-cut-words words spells before after (InAccepted cut) = InOutput (record {
+cut-words : (call : Call) (spells : Spells call.words) → IsCommandCut spells.command call.before call.after → IsCut call
+cut-words call spells (InLine line) = InFaultLine (record { spells = spells; line = line })
+cut-words call spells (InAccepted cut) = InOutput (record {
   accepted = cut.accepted;
-  is_named = record { spells = spells; is_of = cut.is_of; cause = verdict-of words spells cut.accepted before.files cut.came };
+  is_named = record { spells = spells; is_of = cut.is_of; cause = verdict-of call.words spells cut.accepted call.before.files cut.came };
   cut = cut.cut;
 })
 
-pub ends-call : (words : List (List ℕ)) (spells : Spells words) (ending : Ending) (before after : Outside) → EndsCommand spells.command ending before after → EndsCall ending words before after
-ends-call words spells Usage before after ends = absurd ends
-ends-call words spells CannotRead before after ends = record { spells = spells; read = ends }
-ends-call words spells BadConfig before after ends = record { spells = spells; refuses = ends }
-ends-call words spells BadScript before after ends = record { spells = spells; refuses = ends }
-ends-call words spells BadWave before after ends = record { spells = spells; refuses = ends }
-ends-call words spells CannotWrite before after ends = cut-words words spells before after ends
-ends-call words spells NoMemory before after ends = record { spells = spells; lacks = ends }
+pub ends-call : (call : Call) (spells : Spells call.words) (ending : Ending) → EndsCommand spells.command call.before call.after ending → EndsCall call ending
+ends-call call spells Usage ends = absurd ends
+ends-call call spells CannotRead ends = record { spells = spells; read = ends }
+ends-call call spells BadConfig ends = record { spells = spells; refuses = ends }
+ends-call call spells BadScript ends = record { spells = spells; refuses = ends }
+ends-call call spells BadWave ends = record { spells = spells; refuses = ends }
+ends-call call spells CannotWrite ends = cut-words call spells ends
+ends-call call spells NoMemory ends = record { spells = spells; lacks = ends }
 
--- ---- the words of a soak
-
--- what a call did whose words ask for the script of a number
-pub record DoesSoak {B : Type 0} (kept : B → Kept) (n : ℕ) (engine : Option (EngineOf B)) (before after : Outside) : Type 0 where
-  pub ran : HasRun kept engine (Soaks n)
-  pub writes : WritesAll (output_of (Soaks n)) before after
-
--- the number says all
-soaks-of : (n : ℕ) (accepted : Accepted) → IsOf (SoakRun n) accepted → accepted ≡ Soaks n
-soaks-of n (Soaks number) is = ap (λ (m : ℕ). Soaks m) is
-soaks-of n (Runs name inputs) is = absurd is
-soaks-of n (Checks inputs) is = absurd is
-soaks-of n (Converts name conversion) is = absurd is
-
--- words spell one command
-spells-same : (words : List (List ℕ)) (spells : Spells words) (command : Command) → command_of words ≡ Some command → spells.command ≡ command
-spells-same words spells command asked = let e : Some spells.command ≡ Some command = sym spells.is ∙ asked in cc
-
-pub does-soak : {B : Type 0} (kept : B → Kept) (words : List (List ℕ)) (n : ℕ) (engine : Option (EngineOf B)) (before after : Outside) → command_of words ≡ Some (SoakRun n) → DoesWords kept words engine before after
-    → DoesSoak kept n engine before after
-does-soak kept words n engine before after asked does =
-    let is_of : IsOf (SoakRun n) does.does.accepted =
-    subst (λ (command : Command). IsOf command does.does.accepted) (spells-same words does.spells (SoakRun n) asked) does.does.is_of in
-    let is : does.does.accepted ≡ Soaks n = soaks-of n does.does.accepted is_of in
-    record {
-      ran = subst (λ (accepted : Accepted). HasRun kept engine accepted) is does.does.ran;
-      writes = subst (λ (accepted : Accepted). WritesAll (output_of accepted) before after) is does.does.writes;
-    }
+-- words that match no form
+pub ends-formless : (words : List (List ℕ)) (files : FilesSeen) (old new : SinkSeen) (ending : Ending) → command_of words ≡ None → TellsForms ending old new
+    → EndsCall (record { words = words; before = outside files old; after = outside files new }) ending
+ends-formless words files old new Usage formless told = record { cause = formless; files = refl; line = told }
+ends-formless words files old new CannotRead formless told = absurd told
+ends-formless words files old new BadConfig formless told = absurd told
+ends-formless words files old new BadScript formless told = absurd told
+ends-formless words files old new BadWave formless told = absurd told
+ends-formless words files old new CannotWrite formless cut = InForms (record { cause = formless; files = refl; put = cut })
+ends-formless words files old new NoMemory formless told = absurd told

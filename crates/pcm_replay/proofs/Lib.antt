@@ -1,4 +1,5 @@
 pub mod Doing
+pub mod Accepted
 pub mod Plain
 pub mod Quiet
 pub mod Statuses

@@ -1,12 +1,13 @@
 -- A call that is to write no file fails at its sink alone.
-use Rattle.std.proofs.Common.{◌≡◌, ◌∙◌, ℕ, List, Option, None, Some, refl, sym, subst}
-use Rattle.pcm_verdict.specs.Commands.{Command, command_of, RunScript, CheckScript, ConvertWave, SoakRun}
+use Rattle.std.proofs.Common.{◌≡◌, ◌∙◌, Option, None, Some, refl, sym, subst}
+use Rattle.pcm_verdict.specs.Commands.{Command, RunScript, CheckScript, ConvertWave, SoakRun}
 use Rattle.pcm_verdict.specs.Outputs.{Output, Written, output_of}
 use Rattle.pcm_verdict.specs.Verdict.{Accepted, Runs, Checks, Converts, Soaks}
 use Rattle.pcm_outside.specs.Files.{FilesSeen, OnlyReads}
 use Rattle.pcm_inputs.specs.Commands.{IsOf, WriteNoFile}
 use Rattle.pcm_replay.specs.Cuts.{CutsCall}
-use Rattle.pcm_replay.specs.Outcomes.{InFaultLine, InForms, InOutput, IsCut, OnlyPutFails}
+use Rattle.pcm_replay.specs.Calls.{Call}
+use Rattle.pcm_replay.specs.Outcomes.{FailsAtSink, InFaultLine, InForms, InOutput, IsCut, OnlyPutFails}
 use Rattle.pcm_inputs.specs.Outside.{Outside}
 use Rattle.pcm_replay.specs.Written.{AtAppend, AtCreate, AtPut, CutsOutput, WritesFile}
 use Rattle.pcm_inputs.proofs.Parts.{reads-nothing}
@@ -32,12 +33,12 @@ no-file-call (SoakRun n) (Checks inputs) before after quiet is cut = absurd is
 no-file-call (SoakRun n) (Converts name conversion) before after quiet is cut = absurd is
 
 -- and so it is of all words that ask for no file
-pub only-put-fails : (words : List (List ℕ)) (before after : Outside) → WriteNoFile (command_of words) → IsCut words before after → OnlyPutFails before after
-only-put-fails words before after quiet (InForms cut) = record {
-  files = subst (λ (files : FilesSeen). OnlyReads before.files files) (sym cut.files) (reads-nothing before.files);
+pub only-put-fails : (call : Call) → IsCut call → FailsAtSink call
+only-put-fails call (InForms cut) quiet = record {
+  files = subst (λ (files : FilesSeen). OnlyReads call.before.files files) (sym cut.files) (reads-nothing call.before.files);
   put = cut.put.rose;
 }
-only-put-fails words before after quiet (InFaultLine cut) = record { files = cut.line.files; put = cut.line.put.rose }
-only-put-fails words before after quiet (InOutput cut) =
+only-put-fails call (InFaultLine cut) quiet = record { files = cut.line.files; put = cut.line.put.rose }
+only-put-fails call (InOutput cut) quiet =
     let spells = cut.is_named.spells in
-    no-file-call spells.command cut.accepted before after (subst WriteNoFile spells.is quiet) cut.is_named.is_of cut.cut
+    no-file-call spells.command cut.accepted call.before call.after (subst WriteNoFile spells.is quiet) cut.is_named.is_of cut.cut

@@ -27,7 +27,8 @@ use Rattle.pcm_inputs.specs.declared.ending.Ending.{Ending}
 use Rattle.pcm_inputs.specs.declared.ending.Ending.TheVariants.{Usage, CannotRead, BadConfig, BadScript, BadWave, CannotWrite, NoMemory}
 use Rattle.pcm_replay.specs.Endings.{EndsCall}
 use Rattle.pcm_inputs.specs.Faults.{ending_of, ending_status}
-use Rattle.pcm_replay.specs.Outcomes.{MayEnd, MayRefuse, RefusesFile, Spells, verdict_on}
+use Rattle.pcm_replay.specs.Calls.{Call}
+use Rattle.pcm_replay.specs.Outcomes.{MayEnd, MayRefuse, RefusesFile, Spells, verdict_of, verdict_on}
 use Rattle.pcm_inputs.specs.Outside.{NoneRose, Outside}
 use Rattle.pcm_replay.specs.Written.{WritesFile}
 
@@ -53,9 +54,10 @@ from-status CannotWrite = refl
 from-status NoMemory = refl
 
 -- an ending is the one that its status names
-pub ended-as : (words : List (List ℕ)) (before after : Outside) (ending one : Ending) (status : ℕ) → status ≡ ending_status ending → status ≡ ending_status one → EndsCall ending words before after → EndsCall one words before after
-ended-as words before after ending one status is named ends =
-    subst (λ (e : Ending). EndsCall e words before after) (sym (from-status ending) ∙ ap from_status (sym is ∙ named) ∙ from-status one) ends
+pub ended-as : (call : Call) (ending one : Ending) (status : ℕ) → status ≡ ending_status ending → status ≡ ending_status one
+    → EndsCall call ending → EndsCall call one
+ended-as call ending one status is named ends =
+    subst (λ (e : Ending). EndsCall call e) (sym (from-status ending) ∙ ap from_status (sym is ∙ named) ∙ from-status one) ends
 
 -- ---- where all was written, no failure was counted
 
@@ -193,21 +195,21 @@ may-refuse (faults.BadScript refusal) = inl refl
 verdict-spelled : (words : List (List ℕ)) (files : FilesSeen) (spells : Spells words) → verdict_on words files ≡ (command_judged files.content spells.command).came
 verdict-spelled words files spells = ap (λ (command : Option Command). (if_command files.content command).came) spells.is
 
-may-refuse_file : (words : List (List ℕ)) (ending : Ending) (before after : Outside) → RefusesFile words ending before after → IsTrue before.files.tells → MayEnd (verdict_on words before.files) (ending_status ending)
-may-refuse_file words ending before after refuses told =
+may-refuse_file : (ending : Ending) (call : Call) → RefusesFile ending call → IsTrue call.before.files.tells → MayEnd (verdict_of call) (ending_status ending)
+may-refuse_file ending call refuses told =
     let fault : Fault = refuses.refuses.fault in
-    let verdict : verdict_on words before.files ≡ Err fault = verdict-spelled words before.files refuses.spells ∙ refuses.refuses.came told in
+    let verdict : verdict_of call ≡ Err fault = verdict-spelled call.words call.before.files refuses.spells ∙ refuses.refuses.came told in
     subst (λ (v : Result Accepted Fault). MayEnd v (ending_status ending)) (sym verdict)
     (subst (λ (e : Ending). MayRefuse fault (ending_status e)) (sym refuses.refuses.ended) (may-refuse fault))
 
-pub may-end : (words : List (List ℕ)) (ending : Ending) (before after : Outside) → EndsCall ending words before after → IsTrue before.files.tells → MayEnd (verdict_on words before.files) (ending_status ending)
-may-end words Usage before after ends told =
-    let verdict : verdict_on words before.files ≡ Err faults.Usage = ap (λ (command : Option Command). (if_command before.files.content command).came) ends.cause in
+pub may-end : (call : Call) (ending : Ending) → EndsCall call ending → IsTrue call.before.files.tells → MayEnd (verdict_of call) (ending_status ending)
+may-end call Usage ends told =
+    let verdict : verdict_of call ≡ Err faults.Usage = ap (λ (command : Option Command). (if_command call.before.files.content command).came) ends.cause in
     subst (λ (v : Result Accepted Fault). MayEnd v 2) (sym verdict) (inl refl)
-may-end words CannotRead before after ends told = may-not_read (verdict_on words before.files)
-    (subst (λ (v : Result Accepted Fault). ComesOfFiles v) (sym (verdict-spelled words before.files ends.spells)) (of-command before.files.content ends.spells.command))
-may-end words BadConfig before after ends told = may-refuse_file words BadConfig before after ends told
-may-end words BadScript before after ends told = may-refuse_file words BadScript before after ends told
-may-end words BadWave before after ends told = may-refuse_file words BadWave before after ends told
-may-end words CannotWrite before after ends told = may-not_write (verdict_on words before.files)
-may-end words NoMemory before after ends told = may-lack (verdict_on words before.files)
+may-end call CannotRead ends told = may-not_read (verdict_of call)
+    (subst (λ (v : Result Accepted Fault). ComesOfFiles v) (sym (verdict-spelled call.words call.before.files ends.spells)) (of-command call.before.files.content ends.spells.command))
+may-end call BadConfig ends told = may-refuse_file BadConfig call ends told
+may-end call BadScript ends told = may-refuse_file BadScript call ends told
+may-end call BadWave ends told = may-refuse_file BadWave call ends told
+may-end call CannotWrite ends told = may-not_write (verdict_of call)
+may-end call NoMemory ends told = may-lack (verdict_of call)

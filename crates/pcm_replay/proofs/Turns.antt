@@ -11,7 +11,7 @@ use Rattle.pcm_engine.specs.Engines.{device_of}
 use Rattle.pcm_outside.specs.Files.{FilesSeen, Appends, Creates, Grows, OnlyAppends, OnlyWrites}
 use Rattle.pcm_outside.specs.Sink.{SinkSeen, OnlyPuts, Puts, PutsMore}
 use Rattle.pcm_replay.specs.Cuts.{CutsRun, RunInBytes, RunInLine}
-use Rattle.pcm_inputs.specs.Outside.{Outside, both}
+use Rattle.pcm_inputs.specs.Outside.{Outside, outside}
 use Rattle.pcm_replay.specs.Playback.{Playback, bytes_until, lines_until, playback, playback_of}
 use Rattle.pcm_config.specs.Configs.{device_seen}
 use Rattle.pcm_verdict.specs.Outputs.{header_in, inputs_pool}
@@ -87,7 +87,7 @@ behind-header name head piece before created headed new h grows =
     has_written name (head ++ piece) before.files created new h.only h.creates (grows-on created headed new head piece h.head_only h.head_appended.grows grows)
 
 cut-turn : (name head : List ℕ) (playback : Playback) (before between after : Outside) (created headed : FilesSeen) (done : ℕ) (bytes line : List ℕ) → HasHeader name head before created headed
-    → WritesFirst playback done (both headed before.sink) between → OnlyAdds between after → IsNext playback done bytes line → CutsTurn bytes line between after → CutsRun name head playback before after
+    → WritesFirst playback done (outside headed before.sink) between → OnlyAdds between after → IsNext playback done bytes line → CutsTurn bytes line between after → CutsRun name head playback before after
 cut-turn name head playback before between after created headed done bytes line h first only next (TurnInBytes failed same) = RunInBytes (record {
   rose = rose_later _ _ _ (first.appended.write_faults ∙ header-faults name head before created headed h) failed.rose;
   done = done;
@@ -119,7 +119,7 @@ cut-turn name head playback before between after created headed done bytes line 
     })
 
 -- an event of a run was cut short, behind the header and the events before it
-pub cut-events : (name head : List ℕ) (playback : Playback) (before after : Outside) (created headed : FilesSeen) → HasHeader name head before created headed → CutsEvents playback (both headed before.sink) after
+pub cut-events : (name head : List ℕ) (playback : Playback) (before after : Outside) (created headed : FilesSeen) → HasHeader name head before created headed → CutsEvents playback (outside headed before.sink) after
     → CutsRun name head playback before after
 cut-events name head playback before after created headed h cut =
     cut-turn name head playback before cut.between after created headed cut.done cut.next.bytes cut.next.line h cut.first cut.only cut.next.next cut.next.cuts
@@ -139,7 +139,7 @@ run-same P head one inputs head_is is holds =
 
 -- all events of a run left what they were to leave
 pub written-events : (name head : List ℕ) (playback : Playback) (before after : Outside) (created headed : FilesSeen) → HasHeader name head before created headed
-    → WritesFirst playback (length playback.events) (both headed before.sink) after → WritesAll (output_played name head playback) before after
+    → WritesFirst playback (length playback.events) (outside headed before.sink) after → WritesAll (output_played name head playback) before after
 written-events name head playback before after created headed h first =
     let all : take (length playback.events) playback.events ≡ playback.events = take_all (length playback.events) playback.events (omega arith) in
     record {

@@ -1,46 +1,58 @@
 -- What a call did, by its ending.
 use Rattle.std.specs.Prelude.{◌≡◌, ℕ, List, Option, Some, None, Ok}
-use Rattle.pcm_outside.specs.Sink.{SinkSeen, FailsToPut}
+use Rattle.pcm_outside.specs.Sink.{SinkSeen, FailsToPut, Puts}
 use Rattle.pcm_config.specs.Configs.{device_seen}
 use Rattle.pcm_desk.specs.Usual.{usual_device}
 use Rattle.pcm_soak.specs.Soak.{soak_script}
 use Rattle.pcm_feeder.specs.Kept.{Kept}
 use Rattle.pcm_engine.specs.declared.engine.EngineOf.{EngineOf}
 use Rattle.pcm_verdict.specs.Commands.{Command}
+use Rattle.pcm_verdict.specs.Faults.{usage_line}
 use Rattle.pcm_verdict.specs.Outputs.{inputs_pool, output_of}
 use Rattle.pcm_verdict.specs.Soaks.{soak_pool}
 use Rattle.pcm_verdict.specs.Verdict.{Accepted, Runs, Checks, Converts, Soaks, Inputs}
 use Rattle.pcm_inputs.specs.declared.ending.Ending.{Ending}
 use Rattle.pcm_inputs.specs.declared.ending.Ending.TheVariants.{Usage, CannotRead, BadConfig, BadScript, BadWave, CannotWrite, NoMemory}
 use Rattle.pcm_inputs.specs.Commands.{IsOf}
+use Rattle.pcm_inputs.specs.Outside.{Lent, Outside}
+use Rattle.pcm_replay.specs.Calls.{Call}
 use Rattle.pcm_replay.specs.Cuts.{CutsCall}
-use Rattle.pcm_inputs.specs.Outside.{Outside}
-use Rattle.pcm_replay.specs.Outcomes.{CannotReadOne, IsCut, LacksMemory, RefusesFile, RefusesWords, Spells, command_part}
+use Rattle.pcm_replay.specs.Outcomes.{CannotReadOne, IsCut, LacksMemory, RefusesConfig, RefusesScript, RefusesWave, RefusesWords, Spells, command_part}
 use Rattle.pcm_replay.specs.Playing.{RanThrough}
 use Rattle.pcm_inputs.specs.Reads.{Comes, CutsLine, FailsToReadOne, Lacks, RefusesPart}
 use Rattle.pcm_replay.specs.Written.{WritesAll}
 
 -- what a call did that ended before its end
-abbrev pub EndsCall : Ending → List (List ℕ) → Outside → Outside → Type 0
-EndsCall Usage words before after = RefusesWords words before after
-EndsCall CannotRead words before after = CannotReadOne words before after
-EndsCall BadConfig words before after = RefusesFile words BadConfig before after
-EndsCall BadScript words before after = RefusesFile words BadScript before after
-EndsCall BadWave words before after = RefusesFile words BadWave before after
-EndsCall CannotWrite words before after = IsCut words before after
-EndsCall NoMemory words before after = LacksMemory words before after
+abbrev pub EndsCall : Call → Ending → Type 0
+EndsCall call Usage = RefusesWords call
+EndsCall call CannotRead = CannotReadOne call
+EndsCall call BadConfig = RefusesConfig call
+EndsCall call BadScript = RefusesScript call
+EndsCall call BadWave = RefusesWave call
+EndsCall call CannotWrite = IsCut call
+EndsCall call NoMemory = LacksMemory call
 
--- what an accepted call did that ended before its end
-abbrev pub CutsShort : Ending → Accepted → Outside → Outside → Type 0
-CutsShort CannotWrite accepted before after = CutsCall accepted before after
-CutsShort NoMemory accepted before after = after ≡ before
-CutsShort ending accepted before after = ⊥
+-- what was accepted was done: all that it is to leave is there
+abbrev pub Does : Accepted → Outside → Outside → Type 0
+Does accepted before after = WritesAll (output_of accepted) before after
+
+-- how what was accepted ended before its end
+abbrev pub Cuts : Accepted → Outside → Outside → Ending → Type 0
+Cuts accepted before after CannotWrite = CutsCall accepted before after
+Cuts accepted before after NoMemory = after ≡ before
+Cuts accepted before after ending = ⊥
+
+-- what became of the forms, as a call ends whose words match none
+abbrev pub TellsForms : Ending → SinkSeen → SinkSeen → Type 0
+TellsForms Usage old new = Puts old new usage_line
+TellsForms CannotWrite old new = FailsToPut old new usage_line
+TellsForms ending old new = ⊥
 
 -- what became of lines that were to be put, and nothing else was done
-abbrev pub CutsLines : Ending → List ℕ → SinkSeen → SinkSeen → Type 0
-CutsLines CannotWrite lines old new = FailsToPut old new lines
-CutsLines NoMemory lines old new = new ≡ old
-CutsLines ending lines old new = ⊥
+abbrev pub CutsLines : List ℕ → SinkSeen → SinkSeen → Ending → Type 0
+CutsLines lines old new CannotWrite = FailsToPut old new lines
+CutsLines lines old new NoMemory = new ≡ old
+CutsLines lines old new ending = ⊥
 
 -- an engine ran the script of these inputs
 abbrev pub RanInputs : {B : Type 0} → (B → Kept) → EngineOf B → Inputs → Type 0
@@ -59,12 +71,12 @@ HasRun kept None (Converts out conversion) = Unit {0}
 HasRun kept ran accepted = ⊥
 
 -- a command was done to its end
-pub record DoesCommand {B : Type 0} (kept : B → Kept) (command : Command) (engine : Option (EngineOf B)) (before after : Outside) : Type 0 where
+pub record DoesCommand {B : Type 0} (kept : B → Kept) (command : Command) (before after : Outside) (engine : Option (EngineOf B)) : Type 0 where
   pub accepted : Accepted
   pub is_of : IsOf command accepted
   pub came : Comes (command_part command) (Ok accepted) before.files
   pub ran : HasRun kept engine accepted
-  pub writes : WritesAll (output_of accepted) before after
+  pub writes : Does accepted before after
 
 -- what a command that was accepted was to leave was cut short
 pub record CutsCommand (command : Command) (before after : Outside) : Type 0 where
@@ -79,19 +91,19 @@ pub data IsCommandCut (command : Command) (before after : Outside) : Type 0 wher
   InAccepted : CutsCommand command before after → IsCommandCut command before after
 
 -- what a command did that ended before its end
-abbrev pub EndsCommand : Command → Ending → Outside → Outside → Type 0
-EndsCommand command Usage before after = ⊥
-EndsCommand command CannotRead before after = FailsToReadOne (command_part command) before after
-EndsCommand command BadConfig before after = RefusesPart (command_part command) BadConfig before after
-EndsCommand command BadScript before after = RefusesPart (command_part command) BadScript before after
-EndsCommand command BadWave before after = RefusesPart (command_part command) BadWave before after
-EndsCommand command CannotWrite before after = IsCommandCut command before after
-EndsCommand command NoMemory before after = Lacks before after
+abbrev pub EndsCommand : Command → Outside → Outside → Ending → Type 0
+EndsCommand command before after Usage = ⊥
+EndsCommand command before after CannotRead = FailsToReadOne (command_part command) before after
+EndsCommand command before after BadConfig = RefusesPart (command_part command) BadConfig before after
+EndsCommand command before after BadScript = RefusesPart (command_part command) BadScript before after
+EndsCommand command before after BadWave = RefusesPart (command_part command) BadWave before after
+EndsCommand command before after CannotWrite = IsCommandCut command before after
+EndsCommand command before after NoMemory = Lacks before after
 
 -- words that spell a command, which was done to its end
-pub record DoesWords {B : Type 0} (kept : B → Kept) (words : List (List ℕ)) (engine : Option (EngineOf B)) (before after : Outside) : Type 0 where
-  pub spells : Spells words
-  pub does : DoesCommand kept spells.command engine before after
+pub record DoesWords {B : Type 0} (kept : B → Kept) (call : Call) (engine : Option (EngineOf B)) : Type 0 where
+  pub spells : Spells call.words
+  pub does : DoesCommand kept spells.command call.before call.after engine
 
 -- the engine of a run is left, and without a run what was there stays
 abbrev pub LeavesEngine : {B : Type 0} → Option (EngineOf B) → Option (EngineOf B) → Option (EngineOf B) → Type 0
@@ -99,7 +111,7 @@ LeavesEngine None old new = new ≡ old
 LeavesEngine (Some engine) old new = new ≡ Some engine
 
 -- what a call did that came to its end
-pub record Finishes {B : Type 0} (kept : B → Kept) (old new : Option (EngineOf B)) (words : List (List ℕ)) (before after : Outside) : Type 0 where
+pub record Finishes {B : Type 0} (kept : B → Kept) (ran : Lent (Option (EngineOf B))) (call : Call) : Type 0 where
   pub engine : Option (EngineOf B)
-  pub does : DoesWords kept words engine before after
-  pub leaves : LeavesEngine engine old new
+  pub does : DoesWords kept call engine
+  pub leaves : LeavesEngine engine ran.entry.now ran.exit.now

@@ -1,7 +1,9 @@
+pub mod Calls
 pub mod Written
 pub mod Playback
 pub mod Turns
 pub mod Cuts
 pub mod Outcomes
 pub mod Endings
+pub mod Accepted
 pub mod Playing

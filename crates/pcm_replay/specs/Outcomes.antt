@@ -1,20 +1,26 @@
--- What a call did outside, by how it ended: of its words, and of the outside before and after.
-use Rattle.std.specs.Prelude.{◌≡◌, ◌⊎◌, ℕ, List, Some, None, IsTrue, Result, Ok, Err}
+-- What a call did outside, by how it ended.
+use Rattle.std.specs.Prelude.{◌≡◌, ◌≢◌, ◌⊎◌, ℕ, List, Some, None, IsTrue, Result, Ok, Err}
 use Rattle.pcm_outside.specs.Counts.{Rose}
 use Rattle.pcm_outside.specs.Files.{FilesSeen, OnlyReads}
 use Rattle.pcm_outside.specs.Sink.{FailsToPut, Puts}
 use Rattle.pcm_verdict.specs.Commands.{Command, command_of}
 use Rattle.pcm_verdict.specs.Faults.{Fault, Usage, Missing, BadConfig, BadWave, BadScript, usage_line}
 use Rattle.pcm_verdict.specs.Verdict.{Accepted, command_judged, verdict}
-use Rattle.pcm_inputs.specs.Commands.{IsOf, MayRead}
-use Rattle.pcm_inputs.specs.Outside.{Outside}
+use Rattle.pcm_inputs.specs.Commands.{IsOf, MayRead, WriteNoFile}
+use Rattle.pcm_inputs.specs.Outside.{OneRose, Outside}
 use Rattle.pcm_inputs.specs.Reads.{CutsLine, FailsToReadOne, Lacks, Part, RefusesPart}
+use Rattle.pcm_replay.specs.Calls.{Call}
 use Rattle.pcm_replay.specs.Cuts.{CutsCall}
 use Rattle.pcm_inputs.specs.declared.ending.Ending.{Ending}
+use Rattle.pcm_inputs.specs.declared.ending.Ending.TheVariants as endings
 
 -- what the words come to, over the contents of the files
 abbrev pub verdict_on : List (List ℕ) → FilesSeen → Result Accepted Fault
 verdict_on words files = verdict words files.content
+
+-- what a call comes to by its words, over what the files held before it
+abbrev pub verdict_of : Call → Result Accepted Fault
+verdict_of call = verdict_on call.words call.before.files
 
 -- the files tell that the words, and all that they name, are accepted
 pub record IsAccepted (words : List (List ℕ)) (files : FilesSeen) (accepted : Accepted) : Type 0 where
@@ -41,53 +47,66 @@ pub record IsNamed (words : List (List ℕ)) (files : FilesSeen) (accepted : Acc
   pub cause : IsTrue files.tells → verdict_on words files ≡ Ok accepted
 
 -- 2: the words match no form: nothing was read, and all forms were put
-pub record RefusesWords (words : List (List ℕ)) (before after : Outside) : Type 0 where
-  pub cause : command_of words ≡ None
-  pub files : after.files ≡ before.files
-  pub line : Puts before.sink after.sink usage_line
+pub record RefusesWords (call : Call) : Type 0 where
+  pub cause : command_of call.words ≡ None
+  pub files : call.after.files ≡ call.before.files
+  pub line : Puts call.before.sink call.after.sink usage_line
 
 -- 3: a file that the command may read could not be read
-pub record CannotReadOne (words : List (List ℕ)) (before after : Outside) : Type 0 where
-  pub spells : Spells words
-  pub read : FailsToReadOne (part_of spells) before after
+pub record CannotReadOne (call : Call) : Type 0 where
+  pub spells : Spells call.words
+  pub read : FailsToReadOne (part_of spells) call.before call.after
 
 -- 4, 5, 6: a file that the command reads is refused
-pub record RefusesFile (words : List (List ℕ)) (ending : Ending) (before after : Outside) : Type 0 where
-  pub spells : Spells words
-  pub refuses : RefusesPart (part_of spells) ending before after
+pub record RefusesFile (ending : Ending) (call : Call) : Type 0 where
+  pub spells : Spells call.words
+  pub refuses : RefusesPart (part_of spells) ending call.before call.after
+
+abbrev pub RefusesConfig : Call → Type 0
+RefusesConfig call = RefusesFile endings.BadConfig call
+
+abbrev pub RefusesScript : Call → Type 0
+RefusesScript call = RefusesFile endings.BadScript call
+
+abbrev pub RefusesWave : Call → Type 0
+RefusesWave call = RefusesFile endings.BadWave call
 
 -- 7: the put of the forms failed
-pub record CutsForms (words : List (List ℕ)) (before after : Outside) : Type 0 where
-  pub cause : command_of words ≡ None
-  pub files : after.files ≡ before.files
-  pub put : FailsToPut before.sink after.sink usage_line
+pub record CutsForms (call : Call) : Type 0 where
+  pub cause : command_of call.words ≡ None
+  pub files : call.after.files ≡ call.before.files
+  pub put : FailsToPut call.before.sink call.after.sink usage_line
 
 -- 7: the put of another fault's line failed
-pub record CutsFaultLine (words : List (List ℕ)) (before after : Outside) : Type 0 where
-  pub spells : Spells words
-  pub line : CutsLine (part_of spells) before after
+pub record CutsFaultLine (call : Call) : Type 0 where
+  pub spells : Spells call.words
+  pub line : CutsLine (part_of spells) call.before call.after
 
 -- 7: what an accepted call was to leave was cut short
-pub record CutsAccepted (words : List (List ℕ)) (before after : Outside) : Type 0 where
+pub record CutsAccepted (call : Call) : Type 0 where
   pub accepted : Accepted
-  pub is_named : IsNamed words before.files accepted
-  pub cut : CutsCall accepted before after
+  pub is_named : IsNamed call.words call.before.files accepted
+  pub cut : CutsCall accepted call.before call.after
 
 -- 7: a write failed, in the forms, in a fault's line, or in what was to be left
-pub data IsCut (words : List (List ℕ)) (before after : Outside) : Type 0 where
-  InForms : CutsForms words before after → IsCut words before after
-  InFaultLine : CutsFaultLine words before after → IsCut words before after
-  InOutput : CutsAccepted words before after → IsCut words before after
+pub data IsCut (call : Call) : Type 0 where
+  InForms : CutsForms call → IsCut call
+  InFaultLine : CutsFaultLine call → IsCut call
+  InOutput : CutsAccepted call → IsCut call
 
 -- 7: a put failed, and nothing but reads was done to the files
 pub record OnlyPutFails (before after : Outside) : Type 0 where
   pub files : OnlyReads before.files after.files
   pub put : Rose before.sink.faults after.sink.faults
 
+-- 7: of words that ask for no file to be written, it is the sink that failed, whether contents are told or not
+abbrev pub FailsAtSink : Call → Type 0
+FailsAtSink call = WriteNoFile (command_of call.words) → OnlyPutFails call.before call.after
+
 -- 8: memory ran out: nothing was written, and nothing was put
-pub record LacksMemory (words : List (List ℕ)) (before after : Outside) : Type 0 where
-  pub spells : Spells words
-  pub lacks : Lacks before after
+pub record LacksMemory (call : Call) : Type 0 where
+  pub spells : Spells call.words
+  pub lacks : Lacks call.before call.after
 
 -- what was judged is accepted, or refused
 abbrev pub IsAcceptedBy : Result Accepted Fault → Type 0
@@ -114,3 +133,26 @@ MayRefuse (BadWave name kind) status = (status ≡ 6) ⊎ ((status ≡ 3) ⊎ ((
 abbrev pub MayEnd : Result Accepted Fault → ℕ → Type 0
 MayEnd (Ok accepted) status = (status ≡ 0) ⊎ ((status ≡ 3) ⊎ ((status ≡ 7) ⊎ (status ≡ 8)))
 MayEnd (Err fault) status = MayRefuse fault status
+
+-- where the files tell, the status is one that the verdict may come to
+abbrev pub MayEndAs : Call → ℕ → Type 0
+MayEndAs call status = IsTrue call.before.files.tells → MayEnd (verdict_of call) status
+
+-- where the files tell that it is accepted, and no read, write or put failed, a call comes to its end, or lacks memory
+abbrev pub EndsUnfailing : Call → ℕ → Type 0
+EndsUnfailing call status = IsTrue call.before.files.tells → IsAcceptedBy (verdict_of call)
+    → (OneRose call.before call.after → ⊥) → (status ≡ 0) ⊎ (status ≡ 8)
+
+-- words of no form end as such, or with a put that failed
+abbrev pub EndsFormless : Call → ℕ → Type 0
+EndsFormless call status = command_of call.words ≡ None → status ≢ 2
+    → (status ≡ 7) × Rose call.before.sink.faults call.after.sink.faults
+
+-- 0: where the files tell, the words and all that they name are accepted
+abbrev pub WasAccepted : Call → Type 0
+WasAccepted call = IsTrue call.before.files.tells → IsAcceptedBy (verdict_of call)
+
+-- 7: where the files tell that it is refused, the put of the fault's line failed
+abbrev pub FailsAtLine : Call → Type 0
+FailsAtLine call = IsTrue call.before.files.tells → IsRefusedBy (verdict_of call)
+    → Rose call.before.sink.faults call.after.sink.faults

@@ -14,7 +14,7 @@ use Rattle.pcm_engine.specs.Engines.{AreReady, Stands, device_of}
 use Rattle.pcm_report.specs.declared.line.TheConstants.{LINE_BYTES}
 use Rattle.pcm_soak.specs.Tallies.{IsWithin}
 use Rattle.pcm_verdict.specs.Outputs.{Output}
-use Rattle.pcm_verdict.specs.Soaks.{tally_of}
+use Rattle.pcm_verdict.specs.Soaks.{tally_line, tally_of}
 use Rattle.pcm_verdict.specs.Transcript.{transcript}
 use Rattle.pcm_replay.specs.Playback.{Playback}
 use Rattle.pcm_replay.specs.declared.replay.ReplayOf.{ReplayOf}
@@ -40,6 +40,10 @@ pub record HasSoaked {B : Type 0} (kind : B → Kind) (kept : B → Kept) (soak 
   pub sum : soak.tally.sum ≤ 2 ^ 33 * length events
   pub room : fixed_len soak.block ≡ ring_room usual_device
   pub line_room : fixed_len soak.line ≡ TALLY_BYTES
+
+-- the line that tells what these events came to, and how many frames their interrupts take
+abbrev pub line_of : ℕ → Pool → List Event → List ℕ
+line_of frames pool events = tally_line (length events) frames (tally_of usual_device pool events)
 
 -- the frames of the greatest interrupt among events
 abbrev pub greatest_taken : List Event → ℕ

@@ -13,7 +13,7 @@ use std::alloc::Global;
 /// Tells how many events a script has, and how many frames its interrupts take.
 pub fn tell_script<K: Sink>(alloc: Global, inputs: &Inputs, out: &mut K) -> Result<(), Ending>
     ensures ok { OnOk result (Puts (K.seen out.old) (K.seen out.new) (check_line (inputs_seen inputs.now))) }
-    ensures err { IfErr result (λ ending. CutsLines ending (check_line (inputs_seen inputs.now)) (K.seen out.old) (K.seen out.new)) }
+    ensures err { IfErr result (CutsLines (check_line (inputs_seen inputs.now)) (K.seen out.old) (K.seen out.new)) }
 {
     let events = inputs.script.events.as_slice().len();
     let frames = inputs.script.device_frames;

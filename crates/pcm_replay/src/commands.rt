@@ -1,13 +1,13 @@
 //! What the words ask for is done: what it works on is read and judged, and then it is written.
 
-ghost use Rattle.std.specs.Prelude.{IfErr, IfOk, option_map};
+ghost use Rattle.std.specs.Prelude.{IfErr, IfOk};
 ghost use Rattle.pcm_feeder.specs.Limits.{IsRate};
 ghost use Rattle.pcm_feeder.specs.Racks.{AreRacks, list_of};
 ghost use Rattle.pcm_wave.specs.Headers.{IsWaveFormat};
 ghost use Rattle.pcm_verdict.specs.Commands.{CheckScript, ConvertWave, RunScript, SoakRun};
-ghost use Rattle.pcm_inputs.specs.Commands.{AreLimits, command_seen};
+ghost use Rattle.pcm_inputs.specs.Commands.{AreLimits, command_seen, named};
 ghost use Rattle.pcm_replay.specs.Endings.{DoesCommand, EndsCommand};
-ghost use Rattle.pcm_inputs.specs.Outside.{both};
+ghost use Rattle.pcm_inputs.specs.Outside.{both, ◌over◌};
 
 use crate::check::tell_script;
 use crate::convert::convert_wave;
@@ -30,10 +30,8 @@ pub fn do_command<B: Feeder, F: Files, K: Sink>(
 ) -> Result<Option<EngineOf<B>>, Ending>
     requires kinds { AreRacks B.kind (list_of racks) }
     requires limits { AreLimits command }
-    ensures ok { IfOk result (λ engine. DoesCommand B.kept (command_seen command.entry) engine
-        (both (F.seen files.old) (K.seen out.old)) (both (F.seen files.new) (K.seen out.new))) }
-    ensures err { IfErr result (λ ending. EndsCommand (command_seen command.entry) ending
-        (both (F.seen files.old) (K.seen out.old)) (both (F.seen files.new) (K.seen out.new))) }
+    ensures ok { IfOk result (DoesCommand B.kept (command_seen command.entry) over both F.seen K.seen files out) }
+    ensures err { IfErr result (EndsCommand (command_seen command.entry) over both F.seen K.seen files out) }
 {
     match command {
         Command::Run {
@@ -62,12 +60,10 @@ fn run<B: Feeder, F: Files, K: Sink>(
     name: &str,
 ) -> Result<Option<EngineOf<B>>, Ending>
     requires kinds { AreRacks B.kind (list_of racks) }
-    ensures ok { IfOk result (λ engine. DoesCommand B.kept
-        (RunScript script.now name.now (option_map (λ n. n.now) config.entry)) engine
-        (both (F.seen files.old) (K.seen out.old)) (both (F.seen files.new) (K.seen out.new))) }
-    ensures err { IfErr result (λ ending. EndsCommand
-        (RunScript script.now name.now (option_map (λ n. n.now) config.entry)) ending
-        (both (F.seen files.old) (K.seen out.old)) (both (F.seen files.new) (K.seen out.new))) }
+    ensures ok { IfOk result (DoesCommand B.kept
+        (RunScript script.now name.now (named config.entry)) over both F.seen K.seen files out) }
+    ensures err { IfErr result (EndsCommand
+        (RunScript script.now name.now (named config.entry)) over both F.seen K.seen files out) }
 {
     let inputs = read_inputs(alloc, script, config, files, out)?;
     let engine = run_script(alloc, racks, inputs, files, out, name)?;
@@ -82,12 +78,10 @@ fn check<B: Feeder, F: Files, K: Sink>(
     files: &mut F,
     out: &mut K,
 ) -> Result<Option<EngineOf<B>>, Ending>
-    ensures ok { IfOk result (λ engine. DoesCommand B.kept
-        (CheckScript script.now (option_map (λ n. n.now) config.entry)) engine
-        (both (F.seen files.old) (K.seen out.old)) (both (F.seen files.new) (K.seen out.new))) }
-    ensures err { IfErr result (λ ending. EndsCommand
-        (CheckScript script.now (option_map (λ n. n.now) config.entry)) ending
-        (both (F.seen files.old) (K.seen out.old)) (both (F.seen files.new) (K.seen out.new))) }
+    ensures ok { IfOk result (DoesCommand B.kept
+        (CheckScript script.now (named config.entry)) over both F.seen K.seen files out) }
+    ensures err { IfErr result (EndsCommand
+        (CheckScript script.now (named config.entry)) over both F.seen K.seen files out) }
 {
     let inputs = read_inputs(alloc, script, config, files, out)?;
     tell_script(alloc, &inputs, out)?;
@@ -107,11 +101,9 @@ fn convert<B: Feeder, F: Files, K: Sink>(
     requires kinds { AreRacks B.kind (list_of racks) }
     requires rate { IsRate target.rate }
     requires format { IsWaveFormat target.format }
-    ensures ok { IfOk result (λ engine. DoesCommand B.kept
-        (ConvertWave input.now name.now target) engine
-        (both (F.seen files.old) (K.seen out.old)) (both (F.seen files.new) (K.seen out.new))) }
-    ensures err { IfErr result (λ ending. EndsCommand (ConvertWave input.now name.now target) ending
-        (both (F.seen files.old) (K.seen out.old)) (both (F.seen files.new) (K.seen out.new))) }
+    ensures ok { IfOk result (DoesCommand B.kept
+        (ConvertWave input.now name.now target) over both F.seen K.seen files out) }
+    ensures err { IfErr result (EndsCommand (ConvertWave input.now name.now target) over both F.seen K.seen files out) }
 {
     let source = read_source(alloc, input, target, files, out)?;
     convert_wave(alloc, racks, &source, target, files, out, name)?;
@@ -127,10 +119,8 @@ fn soak_run<B: Feeder, F: Files, K: Sink>(
     racks: RacksOf<B>,
 ) -> Result<Option<EngineOf<B>>, Ending>
     requires kinds { AreRacks B.kind (list_of racks) }
-    ensures ok { IfOk result (λ engine. DoesCommand B.kept (SoakRun seed) engine
-        (both (F.seen files.old) (K.seen out.old)) (both (F.seen files.new) (K.seen out.new))) }
-    ensures err { IfErr result (λ ending. EndsCommand (SoakRun seed) ending
-        (both (F.seen files.old) (K.seen out.old)) (both (F.seen files.new) (K.seen out.new))) }
+    ensures ok { IfOk result (DoesCommand B.kept (SoakRun seed) over both F.seen K.seen files out) }
+    ensures err { IfErr result (EndsCommand (SoakRun seed) over both F.seen K.seen files out) }
 {
     let engine = soak(alloc, racks, seed, out)?;
     Ok(Some(engine))

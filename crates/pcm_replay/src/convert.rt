@@ -1,6 +1,6 @@
 //! The conversion of a wave into another file.
 
-ghost use Rattle.std.specs.Prelude.{◌≡◌, ◌++◌, ◌*◌, ◌≤◌, ℕ, List, IfErr, IfOk, IsTrue, OnErr, OnOk, length, replicate};
+ghost use Rattle.std.specs.Prelude.{◌≡◌, ◌++◌, ◌*◌, ℕ, List, IfErr, IfOk, IsTrue, OnErr, OnOk, length, replicate};
 ghost use Rattle.pcm_outside.specs.Files.{Appends, FailsToAppend, OnlyAppends};
 ghost use Rattle.pcm_convert.specs.declared.conversion.TheConstants.{BLOCK};
 ghost use Rattle.pcm_convert.specs.Conversions.{converted_body, converted_frames};
@@ -8,13 +8,12 @@ ghost use Rattle.pcm_convert.specs.Stands.{ConversionStands, source_in, target_i
 ghost use Rattle.pcm_format.specs.Frames.{frame_bytes};
 ghost use Rattle.pcm_feeder.specs.Limits.{IsRate};
 ghost use Rattle.pcm_feeder.specs.Racks.{AreRacks, list_of};
-ghost use Rattle.pcm_wave.specs.declared.written.TheConstants.{BODY_BYTES};
 ghost use Rattle.pcm_wave.specs.Headers.{IsWaveFormat, padding};
-ghost use Rattle.pcm_verdict.specs.Outputs.{output_of};
-ghost use Rattle.pcm_verdict.specs.Verdict.{Converts, frames_converted};
-ghost use Rattle.pcm_replay.specs.Endings.{CutsShort};
-ghost use Rattle.pcm_inputs.specs.Outside.{both};
-ghost use Rattle.pcm_replay.specs.Written.{WritesAll, wave_body};
+ghost use Rattle.pcm_verdict.specs.Verdict.{Converts};
+ghost use Rattle.pcm_replay.specs.Endings.{Cuts, Does};
+ghost use Rattle.pcm_inputs.specs.Outside.{both, ◌over◌};
+ghost use Rattle.pcm_inputs.specs.Parts.{HasRoom, conversion_to};
+ghost use Rattle.pcm_replay.specs.Written.{wave_body};
 
 use pcm_convert::{BLOCK, ConversionOf};
 use pcm_feeder::{Feeder, RacksOf};
@@ -38,14 +37,9 @@ pub fn convert_wave<B: Feeder, F: Files, K: Sink>(
     requires kinds { AreRacks B.kind (list_of racks) }
     requires rate { IsRate target.rate }
     requires format { IsWaveFormat target.format }
-    requires size { frames_converted (record { source = source.now; target = target })
-        * frame_bytes target ≤ BODY_BYTES }
-    ensures ok { OnOk result (WritesAll
-        (output_of (Converts name.now (record { source = source.now; target = target })))
-        (both (F.seen files.old) (K.seen out.old)) (both (F.seen files.new) (K.seen out.new))) }
-    ensures err { IfErr result (λ ending. CutsShort ending
-        (Converts name.now (record { source = source.now; target = target }))
-        (both (F.seen files.old) (K.seen out.old)) (both (F.seen files.new) (K.seen out.new))) }
+    requires size { HasRoom (conversion_to source.now target) }
+    ensures ok { OnOk result (Does (Converts name.now (conversion_to source.now target)) over both F.seen K.seen files out) }
+    ensures err { IfErr result (Cuts (Converts name.now (conversion_to source.now target)) over both F.seen K.seen files out) }
 {
     let Ok(mut conversion) = conversion_of(alloc, racks, source.wave().settings(), target) else {
         return Err(Ending::NoMemory);

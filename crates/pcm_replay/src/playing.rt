@@ -7,7 +7,7 @@ ghost use Rattle.pcm_desk.specs.Events.{Fits};
 ghost use Rattle.pcm_desk.specs.Device.{device_settings};
 ghost use Rattle.pcm_engine.specs.Engines.{device_of};
 ghost use Rattle.pcm_replay.specs.Cuts.{CutsRun};
-ghost use Rattle.pcm_inputs.specs.Outside.{both};
+ghost use Rattle.pcm_inputs.specs.Outside.{both, ◌over◌};
 ghost use Rattle.pcm_replay.specs.Playback.{playback};
 ghost use Rattle.pcm_replay.specs.Playing.{HasPlayed, output_played};
 ghost use Rattle.pcm_replay.specs.Turns.{CutsEvents, WritesFirst};
@@ -37,11 +37,9 @@ pub fn play_into<B: Feeder, F: Files, K: Sink>(
     ensures played { OnOk result (HasPlayed B.kind B.kept replay.new pool.now events.now (length events.now)) }
     ensures device { OnOk result (device_of replay.new.engine ≡ device_of replay.old.engine) }
     ensures ok { OnOk result (WritesAll
-        (output_played name.now head.now (playback (device_of replay.old.engine) pool.now events.now))
-        (both (F.seen files.old) (K.seen out.old)) (both (F.seen files.new) (K.seen out.new))) }
+        (output_played name.now head.now (playback (device_of replay.old.engine) pool.now events.now)) over both F.seen K.seen files out) }
     ensures err { OnErr result (CutsRun name.now head.now
-        (playback (device_of replay.old.engine) pool.now events.now)
-        (both (F.seen files.old) (K.seen out.old)) (both (F.seen files.new) (K.seen out.new))) }
+        (playback (device_of replay.old.engine) pool.now events.now) over both F.seen K.seen files out) }
 {
     let Ok(()) = files.create(name) else {
         return Err(WriteFault);
@@ -68,11 +66,9 @@ fn play<B: Feeder, F: Files, K: Sink>(
     ensures played { OnOk result (HasPlayed B.kind B.kept replay.new pool.now events.now (length events.now)) }
     ensures device { OnOk result (device_of replay.new.engine ≡ device_of replay.old.engine) }
     ensures ok { OnOk result (WritesFirst
-        (playback (device_of replay.old.engine) pool.now events.now) (length events.now)
-        (both (F.seen files.old) (K.seen out.old)) (both (F.seen files.new) (K.seen out.new))) }
+        (playback (device_of replay.old.engine) pool.now events.now) (length events.now) over both F.seen K.seen files out) }
     ensures err { OnErr result (CutsEvents
-        (playback (device_of replay.old.engine) pool.now events.now)
-        (both (F.seen files.old) (K.seen out.old)) (both (F.seen files.new) (K.seen out.new))) }
+        (playback (device_of replay.old.engine) pool.now events.now) over both F.seen K.seen files out) }
 {
     for at in 0..events.len() {
         let Ok(()) = replay.play_at(events, pool, at, files, out) else {

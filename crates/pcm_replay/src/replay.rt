@@ -11,7 +11,7 @@ ghost use Rattle.pcm_feeder.specs.Racks.{AreRacks, list_of};
 ghost use Rattle.pcm_engine.specs.Engines.{device_of};
 ghost use Rattle.pcm_replay.specs.Playback.{playback};
 ghost use Rattle.pcm_replay.specs.Playing.{HasPlayed, greatest_taken};
-ghost use Rattle.pcm_inputs.specs.Outside.{both};
+ghost use Rattle.pcm_inputs.specs.Outside.{both, ◌over◌};
 ghost use Rattle.pcm_replay.specs.Turns.{CutsNext, IsNext, OnlyAdds, WritesNext};
 
 use crate::writing::write_turn;
@@ -81,12 +81,9 @@ impl<B: Feeder> ReplayOf<B> {
         requires played { HasPlayed B.kind B.kept self.old pool.now events.now at }
         ensures played { HasPlayed B.kind B.kept self.new pool.now events.now (at + 1) }
         ensures device { device_of self.new.engine ≡ device_of self.old.engine }
-        ensures only { OnlyAdds
-            (both (F.seen files.old) (K.seen out.old)) (both (F.seen files.new) (K.seen out.new)) }
-        ensures ok { OnOk result (WritesNext (playback (device_of self.old.engine) pool.now events.now) at
-            (both (F.seen files.old) (K.seen out.old)) (both (F.seen files.new) (K.seen out.new))) }
-        ensures err { OnErr result (CutsNext (playback (device_of self.old.engine) pool.now events.now) at
-            (both (F.seen files.old) (K.seen out.old)) (both (F.seen files.new) (K.seen out.new))) }
+        ensures only { OnlyAdds over both F.seen K.seen files out }
+        ensures ok { OnOk result (WritesNext (playback (device_of self.old.engine) pool.now events.now) at over both F.seen K.seen files out) }
+        ensures err { OnErr result (CutsNext (playback (device_of self.old.engine) pool.now events.now) at over both F.seen K.seen files out) }
     {
         let Filled { bytes, line } = self.step_at(events, pool, at);
         write_turn(files, out, &self.block[..bytes], &self.line[..line])

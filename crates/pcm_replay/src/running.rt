@@ -9,13 +9,12 @@ ghost use Rattle.pcm_feeder.specs.Limits.{IsRate};
 ghost use Rattle.pcm_feeder.specs.Racks.{AreRacks, list_of};
 ghost use Rattle.pcm_config.specs.Configs.{IsHeld, can_hold, device_seen};
 ghost use Rattle.pcm_script.specs.Lines.{AllFit, bytes_taken};
-ghost use Rattle.pcm_verdict.specs.Outputs.{file_header, inputs_pool, output_of};
+ghost use Rattle.pcm_verdict.specs.Outputs.{file_header, inputs_pool};
 ghost use Rattle.pcm_verdict.specs.Verdict.{Runs};
 ghost use Rattle.pcm_inputs.specs.declared.ending.Ending.TheVariants.{NoMemory};
-ghost use Rattle.pcm_replay.specs.Endings.{CutsShort, RanInputs};
-ghost use Rattle.pcm_inputs.specs.Outside.{both};
+ghost use Rattle.pcm_replay.specs.Endings.{Cuts, Does, RanInputs};
+ghost use Rattle.pcm_inputs.specs.Outside.{both, ◌over◌};
 ghost use Rattle.pcm_inputs.specs.Parts.{inputs_seen};
-ghost use Rattle.pcm_replay.specs.Written.{WritesAll};
 
 use crate::playing::play_into;
 use crate::replay::ReplayOf;
@@ -46,10 +45,8 @@ pub fn run_script<B: Feeder, F: Files, K: Sink>(
     requires count { length inputs.script.events ≤ EVENTS }
     requires frames { bytes_taken (device_seen inputs.config) inputs.script ≤ DEVICE_BYTES }
     ensures ran { IfOk result (λ engine. RanInputs B.kept engine (inputs_seen inputs)) }
-    ensures ok { OnOk result (WritesAll (output_of (Runs name.now (inputs_seen inputs)))
-        (both (F.seen files.old) (K.seen out.old)) (both (F.seen files.new) (K.seen out.new))) }
-    ensures err { IfErr result (λ ending. CutsShort ending (Runs name.now (inputs_seen inputs))
-        (both (F.seen files.old) (K.seen out.old)) (both (F.seen files.new) (K.seen out.new))) }
+    ensures ok { OnOk result (Does (Runs name.now (inputs_seen inputs)) over both F.seen K.seen files out) }
+    ensures err { IfErr result (Cuts (Runs name.now (inputs_seen inputs)) over both F.seen K.seen files out) }
 {
     let Inputs {
         config,

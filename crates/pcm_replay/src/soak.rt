@@ -9,9 +9,9 @@ ghost use Rattle.pcm_desk.specs.Events.{Fits};
 ghost use Rattle.pcm_desk.specs.Usual.{usual_device};
 ghost use Rattle.pcm_feeder.specs.Racks.{AreRacks, list_of};
 ghost use Rattle.pcm_soak.specs.declared.limits.TheConstants.{SOAK_EVENTS};
-ghost use Rattle.pcm_verdict.specs.Soaks.{soak_line, tally_line, tally_of};
+ghost use Rattle.pcm_verdict.specs.Soaks.{soak_line};
 ghost use Rattle.pcm_replay.specs.Endings.{CutsLines, RanSoak};
-ghost use Rattle.pcm_replay.specs.Playing.{HasSoaked};
+ghost use Rattle.pcm_replay.specs.Playing.{HasSoaked, line_of};
 
 use crate::tally_line::{TALLY_BYTES, write_tally};
 use pcm_config::default_config;
@@ -83,7 +83,7 @@ pub fn soak<B: Feeder, K: Sink>(
     requires kinds { AreRacks B.kind (list_of racks) }
     ensures ran { IfOk result (λ engine. RanSoak B.kept engine seed) }
     ensures ok { OnOk result (Puts (K.seen out.old) (K.seen out.new) (soak_line seed)) }
-    ensures err { IfErr result (λ ending. CutsLines ending (soak_line seed) (K.seen out.old) (K.seen out.new)) }
+    ensures err { IfErr result (CutsLines (soak_line seed) (K.seen out.old) (K.seen out.new)) }
 {
     let Ok(script) = soak_script(alloc, seed) else {
         return Err(Ending::NoMemory);
@@ -120,10 +120,8 @@ fn tell_soak<B: Feeder, K: Sink>(
     requires count { length events.now ≤ SOAK_EVENTS }
     requires soaked { HasSoaked B.kind B.kept soak.old pool.now [] }
     ensures soaked { HasSoaked B.kind B.kept soak.new pool.now events.now }
-    ensures ok { OnOk result (Puts (K.seen out.old) (K.seen out.new)
-        (tally_line (length events.now) frames (tally_of usual_device pool.now events.now))) }
-    ensures err { OnErr result (FailsToPut (K.seen out.old) (K.seen out.new)
-        (tally_line (length events.now) frames (tally_of usual_device pool.now events.now))) }
+    ensures ok { OnOk result (Puts (K.seen out.old) (K.seen out.new) (line_of frames pool.now events.now)) }
+    ensures err { OnErr result (FailsToPut (K.seen out.old) (K.seen out.new) (line_of frames pool.now events.now)) }
 {
     soak_through(soak, events, pool);
     let size = write_tally(

@@ -2,7 +2,7 @@
 
 ghost use Rattle.std.specs.Prelude.{IsTrue, OnErr, OnOk};
 ghost use Rattle.pcm_outside.specs.Files.{Appends, FailsToAppend, OnlyAppends};
-ghost use Rattle.pcm_inputs.specs.Outside.{both};
+ghost use Rattle.pcm_inputs.specs.Outside.{both, ◌over◌};
 ghost use Rattle.pcm_replay.specs.Turns.{CutsTurn, OnlyAdds, WritesTurn};
 
 use pcm_outside::{Files, Sink, WriteFault};
@@ -15,12 +15,9 @@ pub fn write_turn<F: Files, K: Sink>(
     line: &[u8],
 ) -> Result<(), WriteFault>
     requires created { IsTrue (F.seen files.old).stands }
-    ensures only { OnlyAdds
-        (both (F.seen files.old) (K.seen out.old)) (both (F.seen files.new) (K.seen out.new)) }
-    ensures ok { OnOk result (WritesTurn bytes.now line.now
-        (both (F.seen files.old) (K.seen out.old)) (both (F.seen files.new) (K.seen out.new))) }
-    ensures err { OnErr result (CutsTurn bytes.now line.now
-        (both (F.seen files.old) (K.seen out.old)) (both (F.seen files.new) (K.seen out.new))) }
+    ensures only { OnlyAdds over both F.seen K.seen files out }
+    ensures ok { OnOk result (WritesTurn bytes.now line.now over both F.seen K.seen files out) }
+    ensures err { OnErr result (CutsTurn bytes.now line.now over both F.seen K.seen files out) }
 {
     let Ok(()) = append_some(files, bytes) else {
         return Err(WriteFault);

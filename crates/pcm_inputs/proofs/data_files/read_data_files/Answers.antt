@@ -4,7 +4,7 @@ use Rattle.pcm_config.specs.declared.config.FilePath.{FilePath}
 use Rattle.std.proofs.lemmas.List.Elements.{All-append, All-cons, All-nil}
 use Rattle.pcm_wave.specs.DataFiles.{DataFileSeen}
 use Rattle.pcm_verdict.specs.Captures.{IsShaped}
-use Rattle.pcm_inputs.specs.Outside.{both}
+use Rattle.pcm_inputs.specs.Outside.{outside}
 use Rattle.pcm_inputs.specs.Parts.{data_behind}
 use Rattle.pcm_inputs.specs.Reads.{GivesValue}
 use Rattle.pcm_inputs.proofs.Loading.{HasLoaded, has_loaded-all, has_loaded-ends, has_loaded-next}
@@ -36,7 +36,7 @@ loop-at-preserved g c =
     (slice_get_read c.as_slice-paths.result.now (length c.as_slice-paths.result.now) c.loop-at.at file refl (omega arith) c.index-paths-at.is) in
     record {
       loaded = subst (λ (loaded : List DataFileSeen). HasLoaded c.args.config.now (c.loop-at.at + 1) loaded
-          (both (g.F.Files.seen c.args.files.now) (g.K.Sink.seen c.args.out.now)) (both (g.F.Files.seen c.read_next.new.files) (g.K.Sink.seen c.read_next.new.out)))
+          (outside (g.F.Files.seen c.args.files.now) (g.K.Sink.seen c.args.out.now)) (outside (g.F.Files.seen c.read_next.new.files) (g.K.Sink.seen c.read_next.new.out)))
           (sym adds.files)
           (has_loaded-next c.args.config.now c.loop-at.at c.loop-at.loaded.files file adds.next _ _ _ (slice_get_within files c.loop-at.at file there) there c.loop-at.invariant.loaded adds.gives);
       shaped = subst (All (IsShaped c.args.config.now)) (sym adds.files)
@@ -49,7 +49,7 @@ pub returns-clause-ok : goal.returns-clause-ok
 returns-clause-ok g c =
     let past : length c.args.config.now.files ≤ c.loop-at.at = omega (arith, ap length c.as_slice-paths.ensures) in
     subst (λ (read : List DataFileSeen). GivesValue (data_behind c.args.config.now [] c.args.config.now.files) read
-    (both (g.F.Files.seen c.args.files.now) (g.K.Sink.seen c.args.out.now)) (both (g.F.Files.seen c.loop-at.files) (g.K.Sink.seen c.loop-at.out)))
+    (outside (g.F.Files.seen c.args.files.now) (g.K.Sink.seen c.args.out.now)) (outside (g.F.Files.seen c.loop-at.files) (g.K.Sink.seen c.loop-at.out)))
     (sym c.into_files.ensures)
     (has_loaded-all c.args.config.now c.loop-at.at c.loop-at.loaded.files _ _ past c.loop-at.invariant.loaded)
 

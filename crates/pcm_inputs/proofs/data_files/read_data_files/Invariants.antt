@@ -1,6 +1,6 @@
 use Rattle.std.proofs.Common.{All}
 use Rattle.pcm_verdict.specs.Captures.{IsShaped}
-use Rattle.pcm_inputs.specs.Outside.{both}
+use Rattle.pcm_inputs.specs.Outside.{outside}
 use Rattle.pcm_inputs.proofs.Loading.{HasLoaded}
 use Rattle.pcm_inputs.proofs.data_files.read_data_files.Given as goal
 
@@ -8,6 +8,6 @@ use Rattle.pcm_inputs.proofs.data_files.read_data_files.Given as goal
 abbrev pub invariant-loop-at : goal.invariant-loop-at
 invariant-loop-at g l = record {
   loaded : HasLoaded l.config l.at l.loaded.files
-      (both (g.F.Files.seen l.fn.files) (g.K.Sink.seen l.fn.out)) (both (g.F.Files.seen l.files) (g.K.Sink.seen l.out));
+      (outside (g.F.Files.seen l.fn.files) (g.K.Sink.seen l.fn.out)) (outside (g.F.Files.seen l.files) (g.K.Sink.seen l.out));
   shaped : All (IsShaped l.config) l.loaded.files;
 }

@@ -3,7 +3,7 @@ use Rattle.pcm_wave.specs.Pools.{IsCaptureIn}
 use Rattle.pcm_desk.specs.Device.{DeviceSeen, device_settings}
 use Rattle.pcm_desk.specs.Events.{Fits}
 use Rattle.pcm_engine.specs.Engines.{device_of}
-use Rattle.pcm_inputs.specs.Outside.{both}
+use Rattle.pcm_inputs.specs.Outside.{outside}
 use Rattle.pcm_replay.specs.Playback.{playback}
 use Rattle.pcm_replay.specs.Playing.{HasPlayed}
 use Rattle.pcm_replay.specs.Turns.{CutsNext, WritesFirst, WritesNext}
@@ -36,11 +36,11 @@ play_at-requires-clause-played g c = c.loop-at.invariant.played
 pub returns-in_default-clause-err : goal.returns-in_default-clause-err
 returns-in_default-clause-err g c = record {
   done = c.loop-at.at;
-  between = both (g.F.Files.seen c.loop-at.files) (g.K.Sink.seen c.loop-at.out);
+  between = outside (g.F.Files.seen c.loop-at.files) (g.K.Sink.seen c.loop-at.out);
   first = c.loop-at.invariant.first;
   only = c.in_default.ensures.only;
   next = subst (λ (device : DeviceSeen). CutsNext (playback device c.args.pool.now c.args.events.now) c.loop-at.at
-      (both (g.F.Files.seen c.loop-at.files) (g.K.Sink.seen c.loop-at.out)) (both (g.F.Files.seen c.play_at.new.files) (g.K.Sink.seen c.play_at.new.out)))
+      (outside (g.F.Files.seen c.loop-at.files) (g.K.Sink.seen c.loop-at.out)) (outside (g.F.Files.seen c.play_at.new.files) (g.K.Sink.seen c.play_at.new.out)))
       c.loop-at.invariant.device_is c.in_default.ensures.err;
 }
 
@@ -51,7 +51,7 @@ loop-at-preserved g c = record {
   device_is = c.in-Ok.ensures.device ∙ c.loop-at.invariant.device_is;
   first = first-more (playback (device_of c.args.replay.now.engine) c.args.pool.now c.args.events.now) c.loop-at.at _ _ _ c.loop-at.invariant.first c.in-Ok.ensures.only
       (subst (λ (device : DeviceSeen). WritesNext (playback device c.args.pool.now c.args.events.now) c.loop-at.at
-      (both (g.F.Files.seen c.loop-at.files) (g.K.Sink.seen c.loop-at.out)) (both (g.F.Files.seen c.play_at.new.files) (g.K.Sink.seen c.play_at.new.out)))
+      (outside (g.F.Files.seen c.loop-at.files) (g.K.Sink.seen c.loop-at.out)) (outside (g.F.Files.seen c.play_at.new.files) (g.K.Sink.seen c.play_at.new.out)))
       c.loop-at.invariant.device_is c.in-Ok.ensures.ok);
 }
 
@@ -68,5 +68,5 @@ pub returns-clause-ok : goal.returns-clause-ok
 returns-clause-ok g c =
     let all : c.loop-at.at ≡ length c.args.events.now = omega arith in
     subst (λ (done : ℕ). WritesFirst (playback (device_of c.args.replay.now.engine) c.args.pool.now c.args.events.now) done
-    (both (g.F.Files.seen c.args.files.now) (g.K.Sink.seen c.args.out.now)) (both (g.F.Files.seen c.loop-at.files) (g.K.Sink.seen c.loop-at.out)))
+    (outside (g.F.Files.seen c.args.files.now) (g.K.Sink.seen c.args.out.now)) (outside (g.F.Files.seen c.loop-at.files) (g.K.Sink.seen c.loop-at.out)))
     all c.loop-at.invariant.first

@@ -1,5 +1,5 @@
 use Rattle.pcm_engine.specs.Engines.{device_of}
-use Rattle.pcm_inputs.specs.Outside.{both}
+use Rattle.pcm_inputs.specs.Outside.{outside}
 use Rattle.pcm_replay.proofs.Turns.{IsPlaying}
 use Rattle.pcm_replay.proofs.playing.play.Given as goal
 
@@ -7,4 +7,4 @@ use Rattle.pcm_replay.proofs.playing.play.Given as goal
 abbrev pub invariant-loop-at : goal.invariant-loop-at
 invariant-loop-at g l =
     IsPlaying g.B.Feeder.kind g.B.Feeder.kept l.replay (device_of l.fn.replay.engine) l.pool l.events l.at
-    (both (g.F.Files.seen l.fn.files) (g.K.Sink.seen l.fn.out)) (both (g.F.Files.seen l.files) (g.K.Sink.seen l.out))
+    (outside (g.F.Files.seen l.fn.files) (g.K.Sink.seen l.fn.out)) (outside (g.F.Files.seen l.files) (g.K.Sink.seen l.out))

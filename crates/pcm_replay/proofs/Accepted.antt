@@ -1,0 +1,49 @@
+-- What a call that came to its end leaves of what its words ask for.
+use Rattle.std.proofs.Common.{◌≡◌, ℕ, List, Option, Some, Ok, sym, ap, ◌∙◌, subst}
+use Rattle.pcm_feeder.specs.Kept.{Kept}
+use Rattle.pcm_engine.specs.declared.engine.EngineOf.{EngineOf}
+use Rattle.pcm_verdict.specs.Commands.{Command, command_of, SoakRun}
+use Rattle.pcm_verdict.specs.Outputs.{output_of}
+use Rattle.pcm_verdict.specs.Verdict.{Accepted, Checks, Converts, Runs, Soaks}
+use Rattle.pcm_inputs.specs.Commands.{IsOf}
+use Rattle.pcm_replay.specs.Accepted.{AsksFor, LeavesAll}
+use Rattle.pcm_replay.specs.Calls.{Call}
+use Rattle.pcm_replay.specs.Endings.{DoesWords, HasRun}
+use Rattle.pcm_replay.specs.Outcomes.{IsAccepted, Spells}
+use Rattle.pcm_replay.specs.Written.{WritesAll}
+use Rattle.pcm_replay.proofs.Doing.{verdict-of}
+
+-- the number of a soak says all
+soaks-of : (n : ℕ) (accepted : Accepted) → IsOf (SoakRun n) accepted → accepted ≡ Soaks n
+soaks-of n (Soaks number) is = ap (λ (m : ℕ). Soaks m) is
+soaks-of n (Runs name inputs) is = absurd is
+soaks-of n (Checks inputs) is = absurd is
+soaks-of n (Converts name conversion) is = absurd is
+
+-- words spell one command
+spells-same : (words : List (List ℕ)) (spells : Spells words) (command : Command) → command_of words ≡ Some command → spells.command ≡ command
+spells-same words spells command asked = let e : Some spells.command ≡ Some command = sym spells.is ∙ asked in cc
+
+-- where the files tell, the verdict says all
+told-as : {B : Type 0} (kept : B → Kept) (call : Call) (engine : Option (EngineOf B)) (does : DoesWords kept call engine) (accepted : Accepted)
+    → IsAccepted call.words call.before.files accepted → does.does.accepted ≡ accepted
+told-as kept call engine does accepted is =
+    let same : Ok does.does.accepted ≡ Ok accepted = sym (verdict-of call.words does.spells does.does.accepted call.before.files does.does.came is.tells) ∙ is.accepts in
+    cc
+
+-- what was asked for is what was done
+done-as : {B : Type 0} (kept : B → Kept) (call : Call) (engine : Option (EngineOf B)) (does : DoesWords kept call engine) (accepted : Accepted)
+    → AsksFor call accepted → does.does.accepted ≡ accepted
+done-as kept call engine does (Runs name inputs) asked = told-as kept call engine does (Runs name inputs) asked
+done-as kept call engine does (Checks inputs) asked = told-as kept call engine does (Checks inputs) asked
+done-as kept call engine does (Converts name conversion) asked = told-as kept call engine does (Converts name conversion) asked
+done-as kept call engine does (Soaks n) asked = soaks-of n does.does.accepted
+    (subst (λ (command : Command). IsOf command does.does.accepted) (spells-same call.words does.spells (SoakRun n) asked) does.does.is_of)
+
+pub leaves-all : {B : Type 0} (kept : B → Kept) (call : Call) (engine : Option (EngineOf B)) → DoesWords kept call engine → (accepted : Accepted) → LeavesAll call accepted
+leaves-all kept call engine does accepted asked =
+    subst (λ (a : Accepted). WritesAll (output_of a) call.before call.after) (done-as kept call engine does accepted asked) does.does.writes
+
+pub ran-as : {B : Type 0} (kept : B → Kept) (call : Call) (engine : Option (EngineOf B)) → DoesWords kept call engine → (accepted : Accepted) → AsksFor call accepted → HasRun kept engine accepted
+ran-as kept call engine does accepted asked =
+    subst (λ (a : Accepted). HasRun kept engine a) (done-as kept call engine does accepted asked) does.does.ran
