@@ -1,7 +1,8 @@
 //! A run with stages out of boxes that this program makes.
 
-ghost use Rattle.std.specs.Prelude.{◌≡◌, ◌≢◌, IfOk, None, map, string_bytes};
+ghost use Rattle.std.specs.Prelude.{◌≡◌, ◌≢◌, IfOk, None};
 ghost use Rattle.pcm_verdict.specs.Commands.{command_of};
+ghost use Rattle.pcm_replay.specs.Calls.{texts};
 ghost use Rattle.pcm_replay.specs.Outcomes.{IsStatus};
 
 use feed_format::DepthFeeder;
@@ -24,8 +25,8 @@ pub fn run_boxed<F: Files, K: Sink>(
     out: &mut K,
 ) -> Result<u8, RackFault>
     ensures statuses { IfOk result IsStatus }
-    ensures usage { IfOk result (λ status. status ≡ 2 → command_of (map string_bytes words.now) ≡ None) }
-    ensures only_usage { command_of (map string_bytes words.now) ≡ None
+    ensures usage { IfOk result (λ status. status ≡ 2 → command_of (texts words) ≡ None) }
+    ensures only_usage { command_of (texts words) ≡ None
         → IfOk result (λ status. status ≢ 2 → status ≡ 7) }
 {
     let mut boxes = Vec::new(alloc);

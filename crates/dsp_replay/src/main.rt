@@ -3,8 +3,9 @@
 //! It hands `dsp_main` of `pcm_replay` its words, the real files, standard output, and 32 racks of boxed feeders.
 #![tactic(auto)]
 
-ghost use Rattle.std.specs.Prelude.{◌≡◌, ◌≢◌, ◌⊎◌, None, map, string_bytes};
+ghost use Rattle.std.specs.Prelude.{◌≡◌, ◌≢◌, ◌⊎◌, None};
 ghost use Rattle.pcm_verdict.specs.Commands.{command_of};
+ghost use Rattle.pcm_replay.specs.Calls.{texts};
 ghost use Rattle.pcm_replay.specs.Outcomes.{IsStatus};
 
 mod boxed;
@@ -38,8 +39,8 @@ fn words_after_name(rt: &HostRuntime) -> io::Result<Vec<String>> {
 
 fn run(rt: &HostRuntime, words: &[String]) -> u8
     ensures statuses { IsStatus result }
-    ensures usage { result ≡ 2 → command_of (map string_bytes words.now) ≡ None }
-    ensures only_usage { command_of (map string_bytes words.now) ≡ None → result ≢ 2 → (result ≡ 7) ⊎ (result ≡ 8) }
+    ensures usage { result ≡ 2 → command_of (texts words) ≡ None }
+    ensures only_usage { command_of (texts words) ≡ None → result ≢ 2 → (result ≡ 7) ⊎ (result ≡ 8) }
 {
     let mut files = RealFiles::new(rt);
     let mut out = FirstPut::new(RealSink::new(rt));

@@ -1,5 +1,5 @@
 -- What holds of each configuration that is read.
-use Rattle.std.proofs.Common.{ℕ, ◌*◌, ℤ, not, nat_lt, List, length, Option, Some, None, arith, IfOk}
+use Rattle.std.proofs.Common.{refl, ℕ, ◌*◌, ℤ, not, nat_lt, List, length, Option, Some, None, arith, IfOk}
 use Rattle.std.specs.List.{list_all}
 use Rattle.pcm_feeder.specs.Limits.{IsRate, AreFilters}
 use Rattle.pcm_desk.specs.Device.{IsInLimits}
@@ -87,7 +87,7 @@ values-kept device vchans table tables =
     after-any (files_in table) _ IsKept (λ files.
     after-kept (filters_in tables) _ (λ filters. AreFilters filters.list) IsKept (filters-kept tables) (λ filters f.
     whole-kept (config_with hardware capture slots files filters)
-    (record { device_is = record { rate = h.rate; filters = f }; block = h.block; ring = h.ring; ring_most = h.ring_most; slots_most = s.play; recorders_most = s.recording; quality = s.quality }))))))
+    (record { device_is = record { rate = h.rate; mix_rate = h.rate; same = refl; filters = f }; block = h.block; ring = h.ring; ring_most = h.ring_most; slots_most = s.play; recorders_most = s.recording; quality = s.quality }))))))
 
 tables-kept : (device vchans table : Members) (tables : List Members) → IfOk (tables_read device vchans table tables) IsKept
 unfolding tables_read

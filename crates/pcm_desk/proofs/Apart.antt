@@ -8,24 +8,25 @@ use Rattle.pcm_format.specs.declared.settings.Settings.{Settings}
 use Rattle.pcm_oss.specs.declared.event.Event.{Event}
 use Rattle.pcm_oss.specs.declared.event.Event.TheVariants.{Open, Write, Read, Ioctl, Close, Intr}
 use Rattle.pcm_oss.specs.declared.event.Way.{Way}
-use Rattle.pcm_oss.specs.declared.event.Way.TheVariants.{Play, Rec}
+use Rattle.pcm_oss.specs.declared.event.Way.TheVariants.{Play, Record}
 use Rattle.pcm_oss.specs.declared.reply.Errno.TheVariants.{Exist, Inval}
 use Rattle.pcm_oss.specs.declared.request.Request.{Request}
-use Rattle.pcm_desk.specs.declared.book.Book.{Book}
-use Rattle.pcm_desk.specs.declared.book.State.{State}
-use Rattle.pcm_desk.specs.declared.book.State.TheVariants.{Free, Setup, Primed, Running, Draining}
+use Rattle.pcm_desk.specs.declared.play_book.PlayBook.{PlayBook}
+use Rattle.pcm_desk.specs.declared.play_book.PlayState.{PlayState}
+use Rattle.pcm_desk.specs.declared.play_book.PlayState.TheVariants.{Free, Setup, Primed, Running, Draining}
 use Rattle.pcm_desk.specs.declared.record_book.RecordBook.{RecordBook}
 use Rattle.pcm_desk.specs.declared.device.Held.{Held}
 use Rattle.pcm_desk.specs.declared.limits.TheConstants.{DESCRIPTORS}
 use Rattle.pcm_desk.specs.Device.{DeviceSeen}
-use Rattle.pcm_desk.specs.Books.{BookTurn, begun, is_free, write_turn}
+use Rattle.pcm_desk.specs.declared.turn.Turn.{Turn}
+use Rattle.pcm_desk.specs.PlayBooks.{is_play_free, play_begun, write_turn}
 use Rattle.pcm_desk.specs.RecordBooks as records
-use Rattle.pcm_desk.specs.RecordBooks.{RecordTurn}
-use Rattle.pcm_desk.specs.RecordRequests as record_requests
-use Rattle.pcm_desk.specs.Desk.{Desk, DeskTurn, after, asking, book_at, by_way, capturing, close_on, close_play, close_record, closing, desk_at_start, held_by, interrupt_turn, ioctl_on, least_free, least_free_record, mixing, open_play, open_record, play_turn, rate_at, read_on, record_at, record_rate_at, record_turn, refusing, turning, unopened, record_unopened, with_book, with_record, write_on}
+use Rattle.pcm_desk.specs.RecordBooks.{is_record_free, record_begun}
+use Rattle.pcm_desk.specs.RecordRequests.{record_ask}
+use Rattle.pcm_desk.specs.Desk.{Desk, DeskTurn, after, asking, play_at, by_way, capturing, close_on, close_play, close_record, closing, desk_at_start, held_by, interrupt_turn, ioctl_on, least_free_play, least_free_record, mixing, open_play, open_record, play_turn, play_rate_at, read_on, record_at, record_rate_at, record_turn, refusing, turning, play_unopened, record_unopened, with_play, with_record, write_on}
 use Rattle.pcm_desk.specs.Events.{after_all}
 use Rattle.pcm_desk.specs.Own.{HoldApart, MayBeHeld, is_held, slots_of}
-use Rattle.pcm_desk.proofs.Holding.{held-ask, held-mixing, held-write}
+use Rattle.pcm_desk.proofs.PlayHolding.{held-ask, held-mixing, held-write}
 use Rattle.pcm_desk.proofs.RecordHolding.{record-held-ask, record-held-captured, record-held-read}
 
 -- ---- books by slot
@@ -66,11 +67,11 @@ has_map P f books slot keeps has = record {
 
 -- ---- channels
 
-abbrev IsHeld : Book → Type 0
+abbrev IsHeld : PlayBook → Type 0
 IsHeld book = is_held book.state ≡ true
 
 abbrev IsRecordHeld : RecordBook → Type 0
-IsRecordHeld book = records.is_free book.state ≡ false
+IsRecordHeld book = is_record_free book.state ≡ false
 
 -- the channel with this way and slot
 abbrev channel : Way → ℕ → Held
@@ -79,7 +80,7 @@ channel way slot = record { way = way; slot = slot }
 -- a channel is there and may be held
 abbrev IsTaken : Desk → Way → ℕ → Type 0
 IsTaken desk Play slot = HasAt IsHeld desk.play slot
-IsTaken desk Rec slot = HasAt IsRecordHeld desk.recording slot
+IsTaken desk Record slot = HasAt IsRecordHeld desk.recording slot
 
 -- the channel that a descriptor holds
 abbrev HoldsTaken : Desk → Held → Type 0
@@ -87,7 +88,7 @@ HoldsTaken desk held = IsTaken desk held.way held.slot
 
 taken_in : (way : Way) (desk : Desk) (slot : ℕ) → slot < slots_of desk way → MayBeHeld desk way slot → IsTaken desk way slot
 taken_in Play desk slot within may = record { within = within; book = may }
-taken_in Rec desk slot within may = record { within = within; book = may }
+taken_in Record desk slot within may = record { within = within; book = may }
 
 -- each descriptor holds one
 taken : (desk : Desk) (fd : ℕ) (held : Held) → HoldApart desk → held_by desk fd ≡ Some held → HoldsTaken desk held
@@ -95,11 +96,11 @@ taken desk fd held h e = taken_in held.way desk held.slot (h.within fd held e) (
 
 within_of : (way : Way) (desk : Desk) (slot : ℕ) → IsTaken desk way slot → slot < slots_of desk way
 within_of Play desk slot t = t.within
-within_of Rec desk slot t = t.within
+within_of Record desk slot t = t.within
 
 may_of : (way : Way) (desk : Desk) (slot : ℕ) → IsTaken desk way slot → MayBeHeld desk way slot
 may_of Play desk slot t = t.book
-may_of Rec desk slot t = t.book
+may_of Record desk slot t = t.book
 
 -- which is all that descriptors are to hold
 hold_apart : (desk : Desk) → ((fd : ℕ) (held : Held) → held_by desk fd ≡ Some held → HoldsTaken desk held)
@@ -122,47 +123,47 @@ moved desk new same moves h =
 -- it goes by the channel that the descriptor holds
 turned_in : (way : Way) (slot : ℕ) (play recording : ℕ → DeskTurn) (desk : Desk) (fd : ℕ) → held_by desk fd ≡ Some (channel way slot)
     → ((slot : ℕ) → held_by desk fd ≡ Some (channel Play slot) → HoldApart (play slot).desk)
-    → ((slot : ℕ) → held_by desk fd ≡ Some (channel Rec slot) → HoldApart (recording slot).desk)
+    → ((slot : ℕ) → held_by desk fd ≡ Some (channel Record slot) → HoldApart (recording slot).desk)
     → HoldApart (by_way way (play slot) (recording slot)).desk
 turned_in Play slot play recording desk fd e p r = p slot e
-turned_in Rec slot play recording desk fd e p r = r slot e
+turned_in Record slot play recording desk fd e p r = r slot e
 
 turned : (play recording : ℕ → DeskTurn) (held : Option Held) (desk : Desk) (fd : ℕ) → held_by desk fd ≡ held → HoldApart desk
     → ((slot : ℕ) → held_by desk fd ≡ Some (channel Play slot) → HoldApart (play slot).desk)
-    → ((slot : ℕ) → held_by desk fd ≡ Some (channel Rec slot) → HoldApart (recording slot).desk)
+    → ((slot : ℕ) → held_by desk fd ≡ Some (channel Record slot) → HoldApart (recording slot).desk)
     → HoldApart (turning play recording held desk).desk
 turned play recording None desk fd e h p r = h
 turned play recording (Some held) desk fd e h p r = turned_in held.way held.slot play recording desk fd e p r
 
 -- a channel that plays
-play_turned : (device : DeviceSeen) (turn : Book → BookTurn) (desk : Desk) (fd slot : ℕ) → ((book : Book) → IsHeld book → IsHeld (turn book).book) → HoldApart desk
+play_turned : (device : DeviceSeen) (turn : PlayBook → Turn PlayBook) (desk : Desk) (fd slot : ℕ) → ((book : PlayBook) → IsHeld book → IsHeld (turn book).book) → HoldApart desk
     → held_by desk fd ≡ Some (channel Play slot) → HoldApart (play_turn device turn desk slot).desk
 play_turned device turn desk fd slot keeps h e = moved desk (play_turn device turn desk slot).desk (λ other. refl) moves h
   where
-    book : Book
-    book = (turn (book_at device desk slot)).book
+    book : PlayBook
+    book = (turn (play_at device desk slot)).book
 
     is : IsHeld book
-    is = keeps (book_at device desk slot) (h.taken fd (channel Play slot) e (unopened device))
+    is = keeps (play_at device desk slot) (h.taken fd (channel Play slot) e (play_unopened device))
 
-    moves : (way : Way) (other : ℕ) → IsTaken desk way other → IsTaken (with_book desk slot book) way other
+    moves : (way : Way) (other : ℕ) → IsTaken desk way other → IsTaken (with_play desk slot book) way other
     moves Play other has = has_either IsHeld desk.play other slot book is has
-    moves Rec other has = has
+    moves Record other has = has
 
 -- a channel that records
-record_turned : (device : DeviceSeen) (turn : RecordBook → RecordTurn) (desk : Desk) (fd slot : ℕ) → ((book : RecordBook) → IsRecordHeld book → IsRecordHeld (turn book).book) → HoldApart desk
-    → held_by desk fd ≡ Some (channel Rec slot) → HoldApart (record_turn device turn desk slot).desk
+record_turned : (device : DeviceSeen) (turn : RecordBook → Turn RecordBook) (desk : Desk) (fd slot : ℕ) → ((book : RecordBook) → IsRecordHeld book → IsRecordHeld (turn book).book) → HoldApart desk
+    → held_by desk fd ≡ Some (channel Record slot) → HoldApart (record_turn device turn desk slot).desk
 record_turned device turn desk fd slot keeps h e = moved desk (record_turn device turn desk slot).desk (λ other. refl) moves h
   where
     book : RecordBook
     book = (turn (record_at device desk slot)).book
 
     is : IsRecordHeld book
-    is = keeps (record_at device desk slot) (h.taken fd (channel Rec slot) e (record_unopened device))
+    is = keeps (record_at device desk slot) (h.taken fd (channel Record slot) e (record_unopened device))
 
     moves : (way : Way) (other : ℕ) → IsTaken desk way other → IsTaken (with_record desk slot book) way other
     moves Play other has = has
-    moves Rec other has = has_either IsRecordHeld desk.recording other slot book is has
+    moves Record other has = has_either IsRecordHeld desk.recording other slot book is has
 
 -- ---- a descriptor that is set
 
@@ -182,19 +183,19 @@ reads descriptors at fd put held e =
 abbrev Spares : Desk → Desk → Held → Type 0
 Spares desk new held = (other : Held) → other ≢ held → HoldsTaken desk other → HoldsTaken new other
 
-play_spared : (slot : ℕ) (book : Book) (descriptors : List (Option Held)) (desk : Desk) → Spares desk (record desk { play = set desk.play slot book; descriptors = descriptors }) (channel Play slot)
+play_spared : (slot : ℕ) (book : PlayBook) (descriptors : List (Option Held)) (desk : Desk) → Spares desk (record desk { play = set desk.play slot book; descriptors = descriptors }) (channel Play slot)
 play_spared slot book descriptors desk other differ has = at other.way other.slot differ has
   where
     at : (way : Way) (k : ℕ) → channel way k ≢ channel Play slot → IsTaken desk way k → IsTaken (record desk { play = set desk.play slot book; descriptors = descriptors }) way k
     at Play k differ has = has_other IsHeld desk.play k slot book (λ same. differ (ap (channel Play) same)) has
-    at Rec k differ has = has
+    at Record k differ has = has
 
-record_spared : (slot : ℕ) (book : RecordBook) (descriptors : List (Option Held)) (desk : Desk) → Spares desk (record desk { recording = set desk.recording slot book; descriptors = descriptors }) (channel Rec slot)
+record_spared : (slot : ℕ) (book : RecordBook) (descriptors : List (Option Held)) (desk : Desk) → Spares desk (record desk { recording = set desk.recording slot book; descriptors = descriptors }) (channel Record slot)
 record_spared slot book descriptors desk other differ has = at other.way other.slot differ has
   where
-    at : (way : Way) (k : ℕ) → channel way k ≢ channel Rec slot → IsTaken desk way k → IsTaken (record desk { recording = set desk.recording slot book; descriptors = descriptors }) way k
+    at : (way : Way) (k : ℕ) → channel way k ≢ channel Record slot → IsTaken desk way k → IsTaken (record desk { recording = set desk.recording slot book; descriptors = descriptors }) way k
     at Play k differ has = has
-    at Rec k differ has = has_other IsRecordHeld desk.recording k slot book (λ same. differ (ap (channel Rec) same)) has
+    at Record k differ has = has_other IsRecordHeld desk.recording k slot book (λ same. differ (ap (channel Record) same)) has
 
 -- a descriptor is shut
 shut : (desk new : Desk) (fd : ℕ) (held : Held) → held_by desk fd ≡ Some held → new.descriptors ≡ set desk.descriptors fd None → Spares desk new held → HoldApart desk → HoldApart new
@@ -255,7 +256,7 @@ opened desk new fd held put has free spares h = hold_apart new each apart
 -- ---- an open
 
 -- what is free isn't held
-pub free-unheld : (state : State) → is_free state ≡ true → is_held state ≡ true → ⊥
+pub free-unheld : (state : PlayState) → is_play_free state ≡ true → is_held state ≡ true → ⊥
 free-unheld Free e held = cc
 free-unheld Setup e held = cc
 free-unheld Primed e held = cc
@@ -263,7 +264,7 @@ free-unheld Running e held = cc
 free-unheld (Draining closed) e held = cc
 
 -- the least free slot
-play_opened : (found : Option ℕ) (desk : Desk) (fd : ℕ) (settings : Settings) → least_free desk.play ≡ found → HoldApart desk → HoldApart (open_play found desk fd settings).desk
+play_opened : (found : Option ℕ) (desk : Desk) (fd : ℕ) (settings : Settings) → least_free_play desk.play ≡ found → HoldApart desk → HoldApart (open_play found desk fd settings).desk
 play_opened None desk fd settings e h = h
 play_opened (Some slot) desk fd settings e h =
     opened desk (open_play (Some slot) desk fd settings).desk fd new refl
@@ -273,11 +274,11 @@ play_opened (Some slot) desk fd settings e h =
     new : Held
     new = channel Play slot
 
-    book : Book
-    book = begun settings
+    book : PlayBook
+    book = play_begun settings
 
-    free : (slot < length desk.play) × (is_free (get_or desk.play slot book).state ≡ true)
-    free = let is = position-Some (λ (book : Book). is_free book.state) desk.play slot book e in (is.0, is.1)
+    free : (slot < length desk.play) × (is_play_free (get_or desk.play slot book).state ≡ true)
+    free = let is = position-Some (λ (book : PlayBook). is_play_free book.state) desk.play slot book e in (is.0, is.1)
 
 record_opened : (found : Option ℕ) (desk : Desk) (fd : ℕ) (settings : Settings) → least_free_record desk.recording ≡ found → HoldApart desk → HoldApart (open_record found desk fd settings).desk
 record_opened None desk fd settings e h = h
@@ -287,21 +288,21 @@ record_opened (Some slot) desk fd settings e h =
     (record_spared slot book (set desk.descriptors fd (Some new)) desk) h
   where
     new : Held
-    new = channel Rec slot
+    new = channel Record slot
 
     book : RecordBook
-    book = records.begun settings
+    book = record_begun settings
 
-    free : (slot < length desk.recording) × (records.is_free (get_or desk.recording slot book).state ≡ true)
-    free = let is = position-Some (λ (book : RecordBook). records.is_free book.state) desk.recording slot book e in (is.0, is.1)
+    free : (slot < length desk.recording) × (is_record_free (get_or desk.recording slot book).state ≡ true)
+    free = let is = position-Some (λ (book : RecordBook). is_record_free book.state) desk.recording slot book e in (is.0, is.1)
 
 opened_by : (way : Way) (desk : Desk) (fd : ℕ) (settings : Settings) → HoldApart desk
-    → HoldApart (by_way way (open_play (least_free desk.play) desk fd settings) (open_record (least_free_record desk.recording) desk fd settings)).desk
-opened_by Play desk fd settings h = play_opened (least_free desk.play) desk fd settings refl h
-opened_by Rec desk fd settings h = record_opened (least_free_record desk.recording) desk fd settings refl h
+    → HoldApart (by_way way (open_play (least_free_play desk.play) desk fd settings) (open_record (least_free_record desk.recording) desk fd settings)).desk
+opened_by Play desk fd settings h = play_opened (least_free_play desk.play) desk fd settings refl h
+opened_by Record desk fd settings h = record_opened (least_free_record desk.recording) desk fd settings refl h
 
 opened_or : (b : Bool) (way : Way) (desk : Desk) (fd : ℕ) (settings : Settings) → HoldApart desk
-    → HoldApart (cond {A = DeskTurn} b (refusing desk Exist) (by_way way (open_play (least_free desk.play) desk fd settings) (open_record (least_free_record desk.recording) desk fd settings))).desk
+    → HoldApart (cond {A = DeskTurn} b (refusing desk Exist) (by_way way (open_play (least_free_play desk.play) desk fd settings) (open_record (least_free_record desk.recording) desk fd settings))).desk
 opened_or true way desk fd settings h = h
 opened_or false way desk fd settings h = opened_by way desk fd settings h
 
@@ -319,16 +320,16 @@ read device desk fd count h =
 
 asked : (device : DeviceSeen) (request : Request) (desk : Desk) (fd : ℕ) → HoldApart desk → HoldApart (ioctl_on device (held_by desk fd) desk request).desk
 asked device request desk fd h =
-    turned (play_turn device (asking device request) desk) (record_turn device (record_requests.ask_turn request) desk) (held_by desk fd) desk fd refl h
-    (λ slot e. play_turned device (asking device request) desk fd slot (λ book is. held-ask (rate_at device book) request book is) h e)
-    (λ slot e. record_turned device (record_requests.ask_turn request) desk fd slot (record-held-ask request) h e)
+    turned (play_turn device (asking device request) desk) (record_turn device (record_ask request) desk) (held_by desk fd) desk fd refl h
+    (λ slot e. play_turned device (asking device request) desk fd slot (λ book is. held-ask (play_rate_at device book) request book is) h e)
+    (λ slot e. record_turned device (record_ask request) desk fd slot (record-held-ask request) h e)
 
 closed : (device : DeviceSeen) (desk : Desk) (fd : ℕ) → HoldApart desk → HoldApart (close_on device (held_by desk fd) desk fd).desk
 closed device desk fd h =
     turned (close_play device desk fd) (close_record device desk fd) (held_by desk fd) desk fd refl h
     (λ slot e. shut desk (close_play device desk fd slot).desk fd (channel Play slot) e refl
-    (play_spared slot (closing device (book_at device desk slot)) (set desk.descriptors fd None) desk) h)
-    (λ slot e. shut desk (close_record device desk fd slot).desk fd (channel Rec slot) e refl
+    (play_spared slot (closing device (play_at device desk slot)) (set desk.descriptors fd None) desk) h)
+    (λ slot e. shut desk (close_record device desk fd slot).desk fd (channel Record slot) e refl
     (record_spared slot (records.closed (record_at device desk slot)) (set desk.descriptors fd None) desk) h)
 
 -- an interrupt
@@ -337,7 +338,7 @@ passed device n desk h = moved desk (interrupt_turn device desk n).desk (λ fd. 
   where
     moves : (way : Way) (slot : ℕ) → IsTaken desk way slot → IsTaken (interrupt_turn device desk n).desk way slot
     moves Play slot has = has_map IsHeld (mixing device n) desk.play slot (held-mixing device n) has
-    moves Rec slot has = has_map IsRecordHeld (capturing device n) desk.recording slot (λ book is. record-held-captured (record_rate_at device book) n book is) has
+    moves Record slot has = has_map IsRecordHeld (capturing device n) desk.recording slot (λ book is. record-held-captured (record_rate_at device book) n book is) has
 
 -- Two descriptors hold two channels after every event.
 pub apart-after : (device : DeviceSeen) (desk : Desk) (event : Event) → HoldApart desk → HoldApart (after device desk event).desk

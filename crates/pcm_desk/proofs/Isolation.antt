@@ -8,24 +8,25 @@ use Rattle.pcm_format.specs.declared.settings.Settings.{Settings}
 use Rattle.pcm_oss.specs.declared.event.Event.{Event}
 use Rattle.pcm_oss.specs.declared.event.Event.TheVariants.{Open, Write, Read, Ioctl, Close, Intr}
 use Rattle.pcm_oss.specs.declared.event.Way.{Way}
-use Rattle.pcm_oss.specs.declared.event.Way.TheVariants.{Play, Rec}
+use Rattle.pcm_oss.specs.declared.event.Way.TheVariants.{Play, Record}
 use Rattle.pcm_oss.specs.declared.request.Request.{Request}
 use Rattle.pcm_oss.specs.declared.reply.Answer.TheVariants.{Done}
 use Rattle.pcm_oss.specs.declared.reply.Errno.TheVariants.{Exist, Inval}
 use Rattle.pcm_wave.specs.declared.pool.Source.{Source}
-use Rattle.pcm_desk.specs.declared.book.Book.{Book}
+use Rattle.pcm_desk.specs.declared.play_book.PlayBook.{PlayBook}
 use Rattle.pcm_desk.specs.declared.device.Held.{Held}
 use Rattle.pcm_desk.specs.declared.record_book.RecordBook.{RecordBook}
 use Rattle.pcm_desk.specs.Device.{DeviceSeen}
-use Rattle.pcm_desk.specs.Books.{BookTurn, begun, is_free, write_turn}
+use Rattle.pcm_desk.specs.declared.turn.Turn.{Turn}
+use Rattle.pcm_desk.specs.PlayBooks.{is_play_free, play_begun, write_turn}
 use Rattle.pcm_desk.specs.RecordBooks as records
-use Rattle.pcm_desk.specs.RecordBooks.{RecordTurn}
-use Rattle.pcm_desk.specs.RecordRequests as record_requests
-use Rattle.pcm_desk.specs.Desk.{Desk, DeskTurn, after, asking, book_at, by_way, close_on, close_play, close_record, closing, held_by, ioctl_on, least_free, least_free_record, open_play, open_record, open_turn, play_turn, read_on, record_at, record_turn, record_unopened, refusing, unopened, write_on}
-use Rattle.pcm_desk.specs.Own.{Channel, ChannelTurn, HoldApart, IsIsolated, Playing, Recording, channel_at, descriptor_of, held_after, is_held, own_turn, slots_of}
+use Rattle.pcm_desk.specs.RecordBooks.{is_record_free, record_begun}
+use Rattle.pcm_desk.specs.RecordRequests.{record_ask}
+use Rattle.pcm_desk.specs.Desk.{Desk, DeskTurn, after, asking, play_at, by_way, close_on, close_play, close_record, closing, held_by, ioctl_on, least_free_play, least_free_record, open_play, open_record, open_turn, play_turn, read_on, record_at, record_turn, record_unopened, refusing, play_unopened, write_on}
+use Rattle.pcm_desk.specs.Own.{Channel, GoesByDescriptor, HoldApart, IsIsolated, Playing, Recording, channel_at, descriptor_of, held_after, is_held, own_turn, slots_of}
 use Rattle.pcm_desk.specs.OwnEvents.{channel_begun}
 use Rattle.pcm_desk.proofs.Apart.{free-unheld}
-use Rattle.pcm_desk.proofs.Slots.{book_at-mixing, record_at-capturing}
+use Rattle.pcm_desk.proofs.Slots.{play_at-mixing, record_at-capturing}
 use Rattle.pcm_desk.proofs.Turning.{by-opening, by-turning}
 
 -- the number of a descriptor
@@ -41,53 +42,53 @@ abbrev channel_named : (way : Way) (slot : ℕ) → Held
 channel_named way slot = record { way = way; slot = slot }
 
 -- the one channel of an event, and the others
-pub record TurnsOne (device : DeviceSeen) (turn : Channel → ChannelTurn) (held : Held) (old : Desk) (new : DeskTurn) : Type 0 where
-  pub own : channel_at device new.desk held ≡ (turn (channel_at device old held)).channel
+pub record TurnsOne (device : DeviceSeen) (turn : Channel → Turn Channel) (held : Held) (old : Desk) (new : DeskTurn) : Type 0 where
+  pub own : channel_at device new.desk held ≡ (turn (channel_at device old held)).book
   pub reply : new.reply ≡ (turn (channel_at device old held)).reply
   pub others : (other : Held) → other ≢ held → channel_at device new.desk other ≡ channel_at device old other
 
 -- ---- one book of each way
 
 -- another channel that plays than the one at a slot
-other_play : (device : DeviceSeen) (desk : Desk) (slot : ℕ) (book : Book) (way : Way) (other : ℕ) → (channel_named way other ≢ channel_named Play slot)
+other_play : (device : DeviceSeen) (desk : Desk) (slot : ℕ) (book : PlayBook) (way : Way) (other : ℕ) → (channel_named way other ≢ channel_named Play slot)
     → channel_at device (record desk { play = set desk.play slot book }) (channel_named way other) ≡ channel_at device desk (channel_named way other)
-other_play device desk slot book Play other differ = ap Playing (get_or-set_other desk.play slot other book (unopened device) (λ same. differ (ap (channel_named Play) same)))
-other_play device desk slot book Rec other differ = refl
+other_play device desk slot book Play other differ = ap Playing (get_or-set_other desk.play slot other book (play_unopened device) (λ same. differ (ap (channel_named Play) same)))
+other_play device desk slot book Record other differ = refl
 
-other_record : (device : DeviceSeen) (desk : Desk) (slot : ℕ) (book : RecordBook) (way : Way) (other : ℕ) → (channel_named way other ≢ channel_named Rec slot)
+other_record : (device : DeviceSeen) (desk : Desk) (slot : ℕ) (book : RecordBook) (way : Way) (other : ℕ) → (channel_named way other ≢ channel_named Record slot)
     → channel_at device (record desk { recording = set desk.recording slot book }) (channel_named way other) ≡ channel_at device desk (channel_named way other)
 other_record device desk slot book Play other differ = refl
-other_record device desk slot book Rec other differ = ap Recording (get_or-set_other desk.recording slot other book (record_unopened device) (λ same. differ (ap (channel_named Rec) same)))
+other_record device desk slot book Record other differ = ap Recording (get_or-set_other desk.recording slot other book (record_unopened device) (λ same. differ (ap (channel_named Record) same)))
 
 -- ---- an event of a descriptor
 
 -- an event that turns a book that plays
-one_play : (device : DeviceSeen) (turn : Book → BookTurn) (own : Channel → ChannelTurn) (desk : Desk) (slot : ℕ) (new : DeskTurn) → slot < length desk.play
-    → new.reply ≡ (own (Playing (book_at device desk slot))).reply → (own (Playing (book_at device desk slot))).channel ≡ Playing (turn (book_at device desk slot)).book
+one_play : (device : DeviceSeen) (turn : PlayBook → Turn PlayBook) (own : Channel → Turn Channel) (desk : Desk) (slot : ℕ) (new : DeskTurn) → slot < length desk.play
+    → new.reply ≡ (own (Playing (play_at device desk slot))).reply → (own (Playing (play_at device desk slot))).book ≡ Playing (turn (play_at device desk slot)).book
     → ((held : Held) → channel_at device new.desk held ≡ channel_at device (play_turn device turn desk slot).desk held)
     → TurnsOne device own (channel_named Play slot) desk new
 one_play device turn own desk slot new there reply is same =
-    let book : Book = (turn (book_at device desk slot)).book in
+    let book : PlayBook = (turn (play_at device desk slot)).book in
     record {
-      own = same (channel_named Play slot) ∙ ap Playing (get_or-set_same desk.play slot book (unopened device) there) ∙ sym is;
+      own = same (channel_named Play slot) ∙ ap Playing (get_or-set_same desk.play slot book (play_unopened device) there) ∙ sym is;
       reply = reply;
       others = λ other differ. same other ∙ other_play device desk slot book other.way other.slot differ;
     }
 
-one_record : (device : DeviceSeen) (turn : RecordBook → RecordTurn) (own : Channel → ChannelTurn) (desk : Desk) (slot : ℕ) (new : DeskTurn) → slot < length desk.recording
-    → new.reply ≡ (own (Recording (record_at device desk slot))).reply → (own (Recording (record_at device desk slot))).channel ≡ Recording (turn (record_at device desk slot)).book
+one_record : (device : DeviceSeen) (turn : RecordBook → Turn RecordBook) (own : Channel → Turn Channel) (desk : Desk) (slot : ℕ) (new : DeskTurn) → slot < length desk.recording
+    → new.reply ≡ (own (Recording (record_at device desk slot))).reply → (own (Recording (record_at device desk slot))).book ≡ Recording (turn (record_at device desk slot)).book
     → ((held : Held) → channel_at device new.desk held ≡ channel_at device (record_turn device turn desk slot).desk held)
-    → TurnsOne device own (channel_named Rec slot) desk new
+    → TurnsOne device own (channel_named Record slot) desk new
 one_record device turn own desk slot new there reply is same =
     let book : RecordBook = (turn (record_at device desk slot)).book in
     record {
-      own = same (channel_named Rec slot) ∙ ap Recording (get_or-set_same desk.recording slot book (record_unopened device) there) ∙ sym is;
+      own = same (channel_named Record slot) ∙ ap Recording (get_or-set_same desk.recording slot book (record_unopened device) there) ∙ sym is;
       reply = reply;
       others = λ other differ. same other ∙ other_record device desk slot book other.way other.slot differ;
     }
 
 -- an event that is refused
-one_refused : (device : DeviceSeen) (own : Channel → ChannelTurn) (held : Held) (desk : Desk) (new : DeskTurn) → new.desk ≡ desk → new.reply ≡ (own (channel_at device desk held)).reply → (own (channel_at device desk held)).channel ≡ channel_at device desk held
+one_refused : (device : DeviceSeen) (own : Channel → Turn Channel) (held : Held) (desk : Desk) (new : DeskTurn) → new.desk ≡ desk → new.reply ≡ (own (channel_at device desk held)).reply → (own (channel_at device desk held)).book ≡ channel_at device desk held
     → TurnsOne device own held desk new
 one_refused device own held desk new same reply is = record {
   own = ap (λ (d : Desk). channel_at device d held) same ∙ sym is;
@@ -98,24 +99,24 @@ one_refused device own held desk new same reply is = record {
 write_one : (device : DeviceSeen) (way : Way) (slot : ℕ) (desk : Desk) (fd at count : ℕ) (source : Source) → slot < slots_of desk way
     → TurnsOne device (own_turn device (Write fd source at count)) (channel_named way slot) desk (write_on device (Some (channel_named way slot)) desk count)
 write_one device Play slot desk fd at count source there = one_play device (write_turn count) (own_turn device (Write fd source at count)) desk slot (write_on device (Some (channel_named Play slot)) desk count) there refl refl (λ held. refl)
-write_one device Rec slot desk fd at count source there = one_refused device (own_turn device (Write fd source at count)) (channel_named Rec slot) desk (write_on device (Some (channel_named Rec slot)) desk count) refl refl refl
+write_one device Record slot desk fd at count source there = one_refused device (own_turn device (Write fd source at count)) (channel_named Record slot) desk (write_on device (Some (channel_named Record slot)) desk count) refl refl refl
 
 read_one : (device : DeviceSeen) (way : Way) (slot : ℕ) (desk : Desk) (fd count : ℕ) → slot < slots_of desk way
     → TurnsOne device (own_turn device (Read fd count)) (channel_named way slot) desk (read_on device (Some (channel_named way slot)) desk count)
 read_one device Play slot desk fd count there = one_refused device (own_turn device (Read fd count)) (channel_named Play slot) desk (read_on device (Some (channel_named Play slot)) desk count) refl refl refl
-read_one device Rec slot desk fd count there = one_record device (records.read_turn count) (own_turn device (Read fd count)) desk slot (read_on device (Some (channel_named Rec slot)) desk count) there refl refl (λ held. refl)
+read_one device Record slot desk fd count there = one_record device (records.read_turn count) (own_turn device (Read fd count)) desk slot (read_on device (Some (channel_named Record slot)) desk count) there refl refl (λ held. refl)
 
 ioctl_one : (device : DeviceSeen) (way : Way) (slot : ℕ) (desk : Desk) (fd : ℕ) (request : Request) → slot < slots_of desk way
     → TurnsOne device (own_turn device (Ioctl fd request)) (channel_named way slot) desk (ioctl_on device (Some (channel_named way slot)) desk request)
 ioctl_one device Play slot desk fd request there = one_play device (asking device request) (own_turn device (Ioctl fd request)) desk slot (ioctl_on device (Some (channel_named Play slot)) desk request) there refl refl (λ held. refl)
-ioctl_one device Rec slot desk fd request there = one_record device (record_requests.ask_turn request) (own_turn device (Ioctl fd request)) desk slot (ioctl_on device (Some (channel_named Rec slot)) desk request) there refl refl (λ held. refl)
+ioctl_one device Record slot desk fd request there = one_record device (record_ask request) (own_turn device (Ioctl fd request)) desk slot (ioctl_on device (Some (channel_named Record slot)) desk request) there refl refl (λ held. refl)
 
 close_one : (device : DeviceSeen) (way : Way) (slot : ℕ) (desk : Desk) (fd at : ℕ) → slot < slots_of desk way
     → TurnsOne device (own_turn device (Close fd)) (channel_named way slot) desk (close_on device (Some (channel_named way slot)) desk at)
 close_one device Play slot desk fd at there =
     one_play device (λ book. record { book = closing device book; reply = Ok Done }) (own_turn device (Close fd)) desk slot (close_on device (Some (channel_named Play slot)) desk at) there refl refl (λ held. refl)
-close_one device Rec slot desk fd at there =
-    one_record device (λ book. record { book = records.closed book; reply = Ok Done }) (own_turn device (Close fd)) desk slot (close_on device (Some (channel_named Rec slot)) desk at) there refl refl (λ held. refl)
+close_one device Record slot desk fd at there =
+    one_record device (λ book. record { book = records.closed book; reply = Ok Done }) (own_turn device (Close fd)) desk slot (close_on device (Some (channel_named Record slot)) desk at) there refl refl (λ held. refl)
 
 -- an open descriptor is refused
 open_one : (device : DeviceSeen) (way : Way) (settings : Settings) (held : Held) (desk : Desk) (fd : ℕ) → held_by desk fd ≡ Some held
@@ -133,11 +134,11 @@ turns device (Close at) held desk fd n e there = rw (ap (held_by desk) (named at
 turns device (Intr frames) held desk fd n e there = cc
 
 -- an interrupt goes by each book alone
-passed : (device : DeviceSeen) (desk : Desk) (frames : ℕ) (way : Way) (slot : ℕ) → channel_at device (after device desk (Intr frames)).desk (channel_named way slot) ≡ (own_turn device (Intr frames) (channel_at device desk (channel_named way slot))).channel
-passed device desk frames Play slot = ap Playing (book_at-mixing device desk frames slot)
-passed device desk frames Rec slot = ap Recording (record_at-capturing device desk frames slot)
+passed : (device : DeviceSeen) (desk : Desk) (frames : ℕ) (way : Way) (slot : ℕ) → channel_at device (after device desk (Intr frames)).desk (channel_named way slot) ≡ (own_turn device (Intr frames) (channel_at device desk (channel_named way slot))).book
+passed device desk frames Play slot = ap Playing (play_at-mixing device desk frames slot)
+passed device desk frames Record slot = ap Recording (record_at-capturing device desk frames slot)
 
-each_alone : (device : DeviceSeen) (event : Event) (desk : Desk) → descriptor_of event ≡ None → (held : Held) → channel_at device (after device desk event).desk held ≡ (own_turn device event (channel_at device desk held)).channel
+each_alone : (device : DeviceSeen) (event : Event) (desk : Desk) → descriptor_of event ≡ None → (held : Held) → channel_at device (after device desk event).desk held ≡ (own_turn device event (channel_at device desk held)).book
 each_alone device (Open at way settings) desk n held = cc
 each_alone device (Write at source from count) desk n held = cc
 each_alone device (Read at count) desk n held = cc
@@ -153,13 +154,13 @@ holds_same device (Open at way settings) desk fd other n differ =
     let apart : other ≢ at = λ same. differ (same ∙ named at fd n) in
     by-opening (λ (w : Way) (d : Desk). held_by d other ≡ held_by desk other) way desk at settings (λ w. refl)
     (λ slot e. get_or-set_other desk.descriptors at other (Some (channel_named Play slot)) None apart)
-    (λ slot e. get_or-set_other desk.descriptors at other (Some (channel_named Rec slot)) None apart)
+    (λ slot e. get_or-set_other desk.descriptors at other (Some (channel_named Record slot)) None apart)
 holds_same device (Write at source from count) desk fd other n differ =
     by-turning (λ (d : Desk). held_by d other ≡ held_by desk other) (play_turn device (write_turn count) desk) (λ slot. refusing desk Inval) (held_by desk at) desk refl (λ slot. refl) (λ slot. refl)
 holds_same device (Read at count) desk fd other n differ =
     by-turning (λ (d : Desk). held_by d other ≡ held_by desk other) (λ slot. refusing desk Inval) (record_turn device (records.read_turn count) desk) (held_by desk at) desk refl (λ slot. refl) (λ slot. refl)
 holds_same device (Ioctl at request) desk fd other n differ =
-    by-turning (λ (d : Desk). held_by d other ≡ held_by desk other) (play_turn device (asking device request) desk) (record_turn device (record_requests.ask_turn request) desk) (held_by desk at) desk refl (λ slot. refl) (λ slot. refl)
+    by-turning (λ (d : Desk). held_by d other ≡ held_by desk other) (play_turn device (asking device request) desk) (record_turn device (record_ask request) desk) (held_by desk at) desk refl (λ slot. refl) (λ slot. refl)
 holds_same device (Close at) desk fd other n differ =
     let apart : other ≢ at = λ same. differ (same ∙ named at fd n) in
     by-turning (λ (d : Desk). held_by d other ≡ held_by desk other) (close_play device desk at) (close_record device desk at) (held_by desk at) desk refl
@@ -179,7 +180,7 @@ closed_shut : (device : DeviceSeen) (desk : Desk) (fd : ℕ) (held : Held) → f
 closed_shut device desk fd held there =
     elim held.way as (λ (way : Way). held_by (by_way way (close_play device desk fd held.slot) (close_record device desk fd held.slot)).desk fd ≡ None) [
       | Play ↦ get_or-set_same desk.descriptors fd None None there
-      | Rec ↦ get_or-set_same desk.descriptors fd None None there
+      | Record ↦ get_or-set_same desk.descriptors fd None None there
     ]
 
 -- an event of its own leaves an open descriptor its channel, but for a close
@@ -190,7 +191,7 @@ holds_until device (Write at source from count) desk fd held n e =
 holds_until device (Read at count) desk fd held n e =
     by-turning (λ (d : Desk). held_by d fd ≡ Some held) (λ slot. refusing desk Inval) (record_turn device (records.read_turn count) desk) (held_by desk at) desk e (λ slot. e) (λ slot. e)
 holds_until device (Ioctl at request) desk fd held n e =
-    by-turning (λ (d : Desk). held_by d fd ≡ Some held) (play_turn device (asking device request) desk) (record_turn device (record_requests.ask_turn request) desk) (held_by desk at) desk e (λ slot. e) (λ slot. e)
+    by-turning (λ (d : Desk). held_by d fd ≡ Some held) (play_turn device (asking device request) desk) (record_turn device (record_ask request) desk) (held_by desk at) desk e (λ slot. e) (λ slot. e)
 holds_until device (Close at) desk fd held n e =
     subst (λ (k : ℕ). held_by (close_on device (held_by desk k) desk k).desk fd ≡ None) (sym (named at fd n))
     (subst (λ (h : Option Held). held_by (close_on device h desk fd).desk fd ≡ None) (sym e) (closed_shut device desk fd held (descriptor_there desk fd held e)))
@@ -218,8 +219,8 @@ untaken_same device (Open at way settings) desk fd other n e there differ =
     let is : at ≡ fd = named at fd n in
     let here : at < length desk.descriptors = omega arith in
     by-opening (λ (w : Way) (d : Desk). held_by d at ≢ Some other → channel_at device d other ≡ channel_at device desk other) way desk at settings (λ w apart. refl)
-    (λ slot found apart. other_play device desk slot (begun settings) other.way other.slot (taken_there desk at (channel_named Play slot) other here apart))
-    (λ slot found apart. other_record device desk slot (records.begun settings) other.way other.slot (taken_there desk at (channel_named Rec slot) other here apart))
+    (λ slot found apart. other_play device desk slot (play_begun settings) other.way other.slot (taken_there desk at (channel_named Play slot) other here apart))
+    (λ slot found apart. other_record device desk slot (record_begun settings) other.way other.slot (taken_there desk at (channel_named Record slot) other here apart))
     (subst (λ (k : ℕ). held_by (open_turn desk at way settings).desk k ≢ Some other) (sym is) differ)
 untaken_same device (Write at source from count) desk fd other n e there differ = rw (ap (held_by desk) (named at fd n) ∙ e) refl
 untaken_same device (Read at count) desk fd other n e there differ = rw (ap (held_by desk) (named at fd n) ∙ e) refl
@@ -228,27 +229,27 @@ untaken_same device (Close at) desk fd other n e there differ = rw (ap (held_by 
 untaken_same device (Intr frames) desk fd other n e there differ = cc
 
 -- no open takes a slot that some descriptor holds
-play_taken : (device : DeviceSeen) (desk : Desk) (slot other : ℕ) (way : Way) (taken : ℕ) → HoldApart desk → least_free desk.play ≡ Some slot → held_by desk other ≡ Some (channel_named way taken) → channel_named way taken ≢ channel_named Play slot
+play_taken : (device : DeviceSeen) (desk : Desk) (slot other : ℕ) (way : Way) (taken : ℕ) → HoldApart desk → least_free_play desk.play ≡ Some slot → held_by desk other ≡ Some (channel_named way taken) → channel_named way taken ≢ channel_named Play slot
 play_taken device desk slot other Play taken h found e same =
-    let free = position-Some (λ (book : Book). is_free book.state) desk.play slot (unopened device) found in
-    free-unheld (get_or desk.play slot (unopened device)).state free.1 (subst (λ (k : ℕ). is_held (get_or desk.play k (unopened device)).state ≡ true) (ap (λ (x : Held). x.slot) same) (h.taken other (channel_named Play taken) e (unopened device)))
-play_taken device desk slot other Rec taken h found e same = let clash : Rec ≡ Play = ap (λ (x : Held). x.way) same in cc
+    let free = position-Some (λ (book : PlayBook). is_play_free book.state) desk.play slot (play_unopened device) found in
+    free-unheld (get_or desk.play slot (play_unopened device)).state free.1 (subst (λ (k : ℕ). is_held (get_or desk.play k (play_unopened device)).state ≡ true) (ap (λ (x : Held). x.slot) same) (h.taken other (channel_named Play taken) e (play_unopened device)))
+play_taken device desk slot other Record taken h found e same = let clash : Record ≡ Play = ap (λ (x : Held). x.way) same in cc
 
-record_taken : (device : DeviceSeen) (desk : Desk) (slot other : ℕ) (way : Way) (taken : ℕ) → HoldApart desk → least_free_record desk.recording ≡ Some slot → held_by desk other ≡ Some (channel_named way taken) → channel_named way taken ≢ channel_named Rec slot
-record_taken device desk slot other Rec taken h found e same =
-    let free = position-Some (λ (book : RecordBook). records.is_free book.state) desk.recording slot (record_unopened device) found in
-    let held : records.is_free (get_or desk.recording slot (record_unopened device)).state ≡ false = subst (λ (k : ℕ). records.is_free (get_or desk.recording k (record_unopened device)).state ≡ false) (ap (λ (x : Held). x.slot) same) (h.taken other (channel_named Rec taken) e (record_unopened device)) in
+record_taken : (device : DeviceSeen) (desk : Desk) (slot other : ℕ) (way : Way) (taken : ℕ) → HoldApart desk → least_free_record desk.recording ≡ Some slot → held_by desk other ≡ Some (channel_named way taken) → channel_named way taken ≢ channel_named Record slot
+record_taken device desk slot other Record taken h found e same =
+    let free = position-Some (λ (book : RecordBook). is_record_free book.state) desk.recording slot (record_unopened device) found in
+    let held : is_record_free (get_or desk.recording slot (record_unopened device)).state ≡ false = subst (λ (k : ℕ). is_record_free (get_or desk.recording k (record_unopened device)).state ≡ false) (ap (λ (x : Held). x.slot) same) (h.taken other (channel_named Record taken) e (record_unopened device)) in
     let clash : true ≡ false = sym free.1 ∙ held in
     cc
-record_taken device desk slot other Play taken h found e same = let clash : Play ≡ Rec = ap (λ (x : Held). x.way) same in cc
+record_taken device desk slot other Play taken h found e same = let clash : Play ≡ Record = ap (λ (x : Held). x.way) same in cc
 
 -- so each channel that another descriptor holds stays
 shut_leaves : (device : DeviceSeen) (event : Event) (desk : Desk) (fd other : ℕ) (theirs : Held) → HoldApart desk → descriptor_of event ≡ Some fd → held_by desk fd ≡ None → held_by desk other ≡ Some theirs
     → channel_at device (after device desk event).desk theirs ≡ channel_at device desk theirs
 shut_leaves device (Open at way settings) desk fd other theirs h n e m =
     by-opening (λ (w : Way) (d : Desk). channel_at device d theirs ≡ channel_at device desk theirs) way desk at settings (λ w. refl)
-    (λ slot found. other_play device desk slot (begun settings) theirs.way theirs.slot (play_taken device desk slot other theirs.way theirs.slot h found m))
-    (λ slot found. other_record device desk slot (records.begun settings) theirs.way theirs.slot (record_taken device desk slot other theirs.way theirs.slot h found m))
+    (λ slot found. other_play device desk slot (play_begun settings) theirs.way theirs.slot (play_taken device desk slot other theirs.way theirs.slot h found m))
+    (λ slot found. other_record device desk slot (record_begun settings) theirs.way theirs.slot (record_taken device desk slot other theirs.way theirs.slot h found m))
 shut_leaves device (Write at source from count) desk fd other theirs h n e m = rw (ap (held_by desk) (named at fd n) ∙ e) refl
 shut_leaves device (Read at count) desk fd other theirs h n e m = rw (ap (held_by desk) (named at fd n) ∙ e) refl
 shut_leaves device (Ioctl at request) desk fd other theirs h n e m = rw (ap (held_by desk) (named at fd n) ∙ e) refl
@@ -262,19 +263,24 @@ leaves device event desk fd other theirs None h n differ m e = shut_leaves devic
 leaves device event desk fd other theirs (Some held) h n differ m e =
     (turns device event held desk fd n e (h.within fd held e)).others theirs (λ same. differ (h.apart other fd theirs held m e same))
 
+-- an event of a descriptor
+by_descriptor : (device : DeviceSeen) (event : Event) (desk : Desk) (fd : ℕ) → HoldApart desk → descriptor_of event ≡ Some fd → GoesByDescriptor device event desk (after device desk event).desk (after device desk event).reply fd
+by_descriptor device event desk fd hold n = record {
+  opened = λ held e. (let turned = turns device event held desk fd n e (hold.within fd held e) in
+      record { own = turned.own; answer = turned.reply; until = holds_until device event desk fd held n e; others = turned.others });
+  shut = λ e other there differ. untaken_same device event desk fd other n e there differ;
+  holds = λ other differ. holds_same device event desk fd other n differ;
+  strangers = λ other theirs differ m. leaves device event desk fd other theirs (held_by desk fd) hold n differ m refl;
+}
+
 -- every event leaves the books of a desk to themselves
 pub isolated : (device : DeviceSeen) (event : Event) (desk : Desk) → HoldApart desk → IsIsolated device event desk (after device desk event).desk (after device desk event).reply
-isolated device event desk hold = record {
-  own = λ fd held n e. (turns device event held desk fd n e (hold.within fd held e)).own;
-  answer = λ fd held n e. (turns device event held desk fd n e (hold.within fd held e)).reply;
-  until = λ fd held n e. holds_until device event desk fd held n e;
-  others = λ fd other held n e differ. (turns device event held desk fd n e (hold.within fd held e)).others other differ;
-  untaken = λ fd other n e there differ. untaken_same device event desk fd other n e there differ;
-  holds = λ fd other n differ. holds_same device event desk fd other n differ;
-  strangers = λ fd other theirs n differ m. leaves device event desk fd other theirs (held_by desk fd) hold n differ m refl;
-  each = each_alone device event desk;
-  passes = holds_passing device event desk;
-}
+isolated device (Open fd way settings) desk hold = by_descriptor device (Open fd way settings) desk fd hold refl
+isolated device (Write fd source at count) desk hold = by_descriptor device (Write fd source at count) desk fd hold refl
+isolated device (Read fd count) desk hold = by_descriptor device (Read fd count) desk fd hold refl
+isolated device (Ioctl fd request) desk hold = by_descriptor device (Ioctl fd request) desk fd hold refl
+isolated device (Close fd) desk hold = by_descriptor device (Close fd) desk fd hold refl
+isolated device (Intr n) desk hold = record { each = each_alone device (Intr n) desk refl; passes = holds_passing device (Intr n) desk refl }
 
 -- ---- an opening
 
@@ -298,7 +304,7 @@ pub opened-begins : (device : DeviceSeen) (desk : Desk) (fd : ℕ) (way : Way) (
 opened-begins device desk fd way settings held shut =
     by-opening (λ (w : Way) (d : Desk). held_by d fd ≡ Some held → channel_at device d held ≡ channel_begun w settings) way desk fd settings
     (λ w holds. absurd (let none : None ≡ Some held = sym shut ∙ holds in cc))
-    (λ slot found. begins device desk fd (channel_named Play slot) held (open_play (Some slot) desk fd settings).desk (Playing (begun settings)) shut refl
-    (ap Playing (get_or-set_same desk.play slot (begun settings) (unopened device) (position-Some (λ (book : Book). is_free book.state) desk.play slot (unopened device) found).0)))
-    (λ slot found. begins device desk fd (channel_named Rec slot) held (open_record (Some slot) desk fd settings).desk (Recording (records.begun settings)) shut refl
-    (ap Recording (get_or-set_same desk.recording slot (records.begun settings) (record_unopened device) (position-Some (λ (book : RecordBook). records.is_free book.state) desk.recording slot (record_unopened device) found).0)))
+    (λ slot found. begins device desk fd (channel_named Play slot) held (open_play (Some slot) desk fd settings).desk (Playing (play_begun settings)) shut refl
+    (ap Playing (get_or-set_same desk.play slot (play_begun settings) (play_unopened device) (position-Some (λ (book : PlayBook). is_play_free book.state) desk.play slot (play_unopened device) found).0)))
+    (λ slot found. begins device desk fd (channel_named Record slot) held (open_record (Some slot) desk fd settings).desk (Recording (record_begun settings)) shut refl
+    (ap Recording (get_or-set_same desk.recording slot (record_begun settings) (record_unopened device) (position-Some (λ (book : RecordBook). is_record_free book.state) desk.recording slot (record_unopened device) found).0)))

@@ -1,8 +1,10 @@
-pub mod Safe
-pub mod States
-pub mod Asking
-pub mod Leaves
-pub mod Holding
+pub mod PlaySafe
+pub mod Openings
+pub mod PlayAsking
+pub mod PlayStates
+pub mod PlaySafeAsking
+pub mod PlayLeaves
+pub mod PlayHolding
 pub mod RecordAsking
 pub mod RecordSafe
 pub mod RecordLeaves
@@ -12,6 +14,7 @@ pub mod Slots
 pub mod Turning
 pub mod Isolation
 pub mod OwnEvents
+pub mod Refused
 pub mod Silent
 pub mod Props
 pub mod Ratios

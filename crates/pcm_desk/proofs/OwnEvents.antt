@@ -14,7 +14,8 @@ use Rattle.pcm_desk.specs.declared.device.Held.{Held}
 use Rattle.pcm_desk.specs.Device.{DeviceSeen}
 use Rattle.pcm_desk.specs.Desk.{Desk, after, held_by}
 use Rattle.pcm_desk.specs.Events.{after_all}
-use Rattle.pcm_desk.specs.Own.{Channel, ChannelTurn, HoldApart, Playing, Recording, channel_at, descriptor_of, held_after, own_turn}
+use Rattle.pcm_desk.specs.declared.turn.Turn.{Turn}
+use Rattle.pcm_desk.specs.Own.{Channel, GoesByDescriptor, GoesByEach, HoldApart, IsIsolatedBy, Playing, Recording, channel_at, descriptor_of, held_after, own_turn}
 use Rattle.pcm_desk.specs.OwnEvents.{Opens, channel_begun, closes, concerns, names, own_after, own_events, own_replies, replies_to, unnamed}
 use Rattle.pcm_desk.proofs.Apart.{apart-after}
 use Rattle.pcm_desk.proofs.Isolation.{isolated, opened-begins}
@@ -38,7 +39,7 @@ pub record IsOther (device : DeviceSeen) (held : Held) (fd : ℕ) (old new : Des
 
 pub record IsMine (device : DeviceSeen) (event : Event) (held : Held) (fd : ℕ) (old : Desk) : Type 0 where
   pub reply : (after device old event).reply ≡ (own_turn device event (channel_at device old held)).reply
-  pub channel : channel_at device (after device old event).desk held ≡ (own_turn device event (channel_at device old held)).channel
+  pub channel : channel_at device (after device old event).desk held ≡ (own_turn device event (channel_at device old held)).book
   pub holds : closes fd event ≡ false → held_by (after device old event).desk fd ≡ Some held
 
 -- an interrupt is answered alike at every desk
@@ -63,26 +64,32 @@ stays_open (Close at) fd held n e = absurd (let same : at ≡ fd = ap (λ (o : O
     number_in (Some k) = k
 stays_open (Intr n) fd held none e = refl
 
+isolated_by : (device : DeviceSeen) (event : Event) (desk : Desk) (named : Option ℕ) → descriptor_of event ≡ named → HoldApart desk
+    → IsIsolatedBy named device event desk (after device desk event).desk (after device desk event).reply
+isolated_by device event desk named n h =
+    subst (λ (o : Option ℕ). IsIsolatedBy o device event desk (after device desk event).desk (after device desk event).reply) n (isolated device event desk h)
+
 mine_by : (device : DeviceSeen) (event : Event) (desk : Desk) (fd : ℕ) (held : Held) (named : Option ℕ) → descriptor_of event ≡ named → (named ≡ None) ⊎ (named ≡ Some fd) → HoldApart desk → held_by desk fd ≡ Some held → IsMine device event held fd desk
 mine_by device event desk fd held named n (inl none) h e =
-    let alone = isolated device event desk h in
+    let alone : GoesByEach device event desk (after device desk event).desk = isolated_by device event desk None (n ∙ none) h in
     record {
       reply = told_alike device event desk (channel_at device desk held) (n ∙ none);
-      channel = alone.each (n ∙ none) held;
-      holds = λ goes. alone.passes (n ∙ none) fd ∙ e;
+      channel = alone.each held;
+      holds = λ goes. alone.passes fd ∙ e;
     }
 mine_by device event desk fd held named n (inr mine) h e =
-    let alone = isolated device event desk h in
+    let turned : GoesByDescriptor device event desk (after device desk event).desk (after device desk event).reply fd = isolated_by device event desk (Some fd) (n ∙ mine) h in
+    let alone = turned.opened held e in
     record {
-      reply = alone.answer fd held (n ∙ mine) e;
-      channel = alone.own fd held (n ∙ mine) e;
-      holds = λ goes. alone.until fd held (n ∙ mine) e ∙ stays_open event fd held (n ∙ mine) goes;
+      reply = alone.answer;
+      channel = alone.own;
+      holds = λ goes. alone.until ∙ stays_open event fd held (n ∙ mine) goes;
     }
 
 other_by : (device : DeviceSeen) (event : Event) (desk : Desk) (fd at : ℕ) (held : Held) → descriptor_of event ≡ Some at → fd ≢ at → HoldApart desk → held_by desk fd ≡ Some held → IsOther device held fd desk (after device desk event).desk
 other_by device event desk fd at held n differ h e =
-    let alone = isolated device event desk h in
-    record { channel = alone.strangers at fd held n differ e; holds = alone.holds at fd n differ ∙ e }
+    let turned : GoesByDescriptor device event desk (after device desk event).desk (after device desk event).reply at = isolated_by device event desk (Some at) n h in
+    record { channel = turned.strangers fd held differ e; holds = turned.holds fd differ ∙ e }
 
 -- whose an event is
 mine_named : (fd : ℕ) (named : Option ℕ) → names fd named ≡ true → (named ≡ None) ⊎ (named ≡ Some fd)
@@ -110,14 +117,14 @@ replies_step : (device : DeviceSeen) (event : Event) (events : List Event) (desk
     ≡ own_replies device (channel_at device desk held) (cond own (unnamed event ∷ cond closing [] (own_events fd events)) (own_events fd events))
 replies_step device event events desk fd held true true o c h m rest =
     let told = mine-turns device event desk fd held o h m in
-    ap (λ (r : Result Answer Errno). r ∷ []) (told.reply ∙ ap (λ (t : ChannelTurn). t.reply) (sym (unnamed_same device event (channel_at device desk held))))
+    ap (λ (r : Result Answer Errno). r ∷ []) (told.reply ∙ ap (λ (t : Turn Channel). t.reply) (sym (unnamed_same device event (channel_at device desk held))))
 replies_step device event events desk fd held true false o c h m rest =
     let told = mine-turns device event desk fd held o h m in
     let more : List Event = own_events fd events in
     let channel : Channel = channel_at device desk held in
     ap (λ (r : Result Answer Errno). r ∷ replies_to device fd (after device desk event).desk events) told.reply
     ∙ ap (λ (list : List (Result Answer Errno)). (own_turn device event channel).reply ∷ list) (rest (told.holds c) ∙ ap (λ (c : Channel). own_replies device c more) told.channel)
-    ∙ ap (λ (t : ChannelTurn). t.reply ∷ own_replies device t.channel more) (sym (unnamed_same device event channel))
+    ∙ ap (λ (t : Turn Channel). t.reply ∷ own_replies device t.book more) (sym (unnamed_same device event channel))
 replies_step device event events desk fd held false closing o c h m rest =
     let theirs = other-stays device event desk fd held o h m in
     rest theirs.holds ∙ ap (λ (c : Channel). own_replies device c (own_events fd events)) theirs.channel
@@ -148,7 +155,7 @@ after_step device event events desk fd held true false o c goes h m rest =
     let is = rest (told.holds c) in
     record {
       holds = is.holds;
-      book = is.book ∙ ap (λ (c : Channel). own_after device c more) told.channel ∙ ap (λ (t : ChannelTurn). own_after device t.channel more) (sym (unnamed_same device event channel));
+      book = is.book ∙ ap (λ (c : Channel). own_after device c more) told.channel ∙ ap (λ (t : Turn Channel). own_after device t.book more) (sym (unnamed_same device event channel));
     }
 after_step device event events desk fd held false false o c goes h m rest =
     let theirs = other-stays device event desk fd held o h m in

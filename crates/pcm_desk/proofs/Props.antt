@@ -3,21 +3,20 @@
 use Rattle.std.proofs.Props.{props}
 use Rattle.std.specs.Prelude.{ℕ}
 use Rattle.pcm_oss.specs.declared.event.Way.{Way}
-use Rattle.pcm_oss.specs.declared.event.Way.TheVariants.{Play, Rec}
+use Rattle.pcm_oss.specs.declared.event.Way.TheVariants.{Play, Record}
 use Rattle.pcm_rate.specs.declared.rate.Rate.{Rate}
-use Rattle.pcm_desk.specs.declared.book.Book.{Book}
-use Rattle.pcm_desk.specs.declared.book.State.{State}
-use Rattle.pcm_desk.specs.declared.book.State.TheVariants.{Free, Setup, Primed, Running, Draining}
+use Rattle.pcm_desk.specs.declared.play_book.PlayBook.{PlayBook}
+use Rattle.pcm_desk.specs.declared.play_book.PlayState.{PlayState}
+use Rattle.pcm_desk.specs.declared.play_book.PlayState.TheVariants.{Free, Setup, Primed, Running, Draining}
 use Rattle.pcm_desk.specs.declared.record_book.RecordBook.{RecordBook}
 use Rattle.pcm_desk.specs.declared.record_book.RecordState.{RecordState}
 use Rattle.pcm_desk.specs.declared.record_book.RecordState.TheVariants as record_states
 use Rattle.pcm_desk.specs.Desk.{Desk}
 use Rattle.pcm_desk.specs.Own.{HoldApart, MayBeHeld}
-use Rattle.pcm_desk.specs.Safe.{IsInOrder, BookIsSafe}
-use Rattle.pcm_desk.specs.RecordSafe.{RecordIsSafe}
-use Rattle.pcm_desk.specs.RecordSafe as records
+use Rattle.pcm_desk.specs.PlaySafe.{IsPlayInOrder, PlayIsSafe}
+use Rattle.pcm_desk.specs.RecordSafe.{IsRecordInOrder, RecordIsSafe}
 
-pub IsInOrder-prop : (rate : Rate) (state : State) (book : Book) → IsProp (IsInOrder rate state book)
+pub IsInOrder-prop : (rate : Rate) (state : PlayState) (book : PlayBook) → IsProp (IsPlayInOrder rate state book)
 IsInOrder-prop rate Free book = Prim.hlevel props
 IsInOrder-prop rate Setup book = Prim.hlevel props
 IsInOrder-prop rate Primed book = Prim.hlevel props
@@ -26,12 +25,12 @@ IsInOrder-prop rate (Draining closed) book = Prim.hlevel props
 
 pub ruleset order_props = (IsInOrder-prop, props)
 
-pub BookIsSafe-prop : (rate : Rate) (book : Book) → IsProp (BookIsSafe rate book)
-BookIsSafe-prop rate book = Prim.hlevel order_props
+pub PlayIsSafe-prop : (rate : Rate) (book : PlayBook) → IsProp (PlayIsSafe rate book)
+PlayIsSafe-prop rate book = Prim.hlevel order_props
 
-pub ruleset book_props = (BookIsSafe-prop, props)
+pub ruleset book_props = (PlayIsSafe-prop, props)
 
-pub record-IsInOrder-prop : (state : RecordState) (book : RecordBook) → IsProp (records.IsInOrder state book)
+pub record-IsInOrder-prop : (state : RecordState) (book : RecordBook) → IsProp (IsRecordInOrder state book)
 record-IsInOrder-prop record_states.Free book = Prim.hlevel props
 record-IsInOrder-prop record_states.Setup book = Prim.hlevel props
 record-IsInOrder-prop record_states.Running book = Prim.hlevel props
@@ -45,7 +44,7 @@ pub ruleset record_props = (RecordIsSafe-prop, props)
 
 pub MayBeHeld-prop : (desk : Desk) (way : Way) (slot : ℕ) → IsProp (MayBeHeld desk way slot)
 MayBeHeld-prop desk Play slot = Prim.hlevel props
-MayBeHeld-prop desk Rec slot = Prim.hlevel props
+MayBeHeld-prop desk Record slot = Prim.hlevel props
 
 pub ruleset held_props = (MayBeHeld-prop, props)
 

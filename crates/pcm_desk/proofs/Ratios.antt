@@ -18,21 +18,21 @@ use Rattle.pcm_plan.specs.Plans.{rate_among}
 use Rattle.pcm_plan.specs.Through.{recs}
 use Rattle.pcm_plan.proofs.Bits.{recs-bits}
 use Rattle.pcm_plan.proofs.Fits.{play-fits, play-ratio, play-tables, record-fits, record-ratio, record-tables}
-use Rattle.pcm_desk.specs.Device.{DeviceSeen, IsDevice, device_settings, filters_of, quality_of, plan_between, rate_between, mix_settings, record_plan_between, record_rate_between}
+use Rattle.pcm_desk.specs.Device.{DeviceSeen, IsDevice, device_settings, filters_of, quality_of, play_plan_between, play_rate_between, mix_settings, record_plan_between, record_rate_between}
 
 -- ---- from a client that plays to the mix
 
 -- the stages between a client and the mix fit each other
-pub plan-between-fits : (device : DeviceSeen) (settings : Settings) → IsDevice device → IsRate settings.rate → IsPlan (plan_between device settings)
-plan-between-fits device settings d s = play-fits (filters_of device) (quality_of device) settings (mix_settings device) d.filters s d.rate
+pub plan-between-fits : (device : DeviceSeen) (settings : Settings) → IsDevice device → IsRate settings.rate → IsPlan (play_plan_between device settings)
+plan-between-fits device settings d s = play-fits (filters_of device) (quality_of device) settings (mix_settings device) d.filters s d.mix_rate
 
 -- the device's filters are those that the stages ask for
-pub tables-between : (device : DeviceSeen) (settings : Settings) → IsDevice device → IsRate settings.rate → HaveTables (plan_between device settings).stages (filters_of device)
-tables-between device settings d s = play-tables (filters_of device) (quality_of device) settings (mix_settings device) d.filters s d.rate
+pub tables-between : (device : DeviceSeen) (settings : Settings) → IsDevice device → IsRate settings.rate → HaveTables (play_plan_between device settings).stages (filters_of device)
+tables-between device settings d s = play-tables (filters_of device) (quality_of device) settings (mix_settings device) d.filters s d.mix_rate
 
 -- both rates between a client and the mix are above 0
-pub ratio-between : (device : DeviceSeen) (settings : Settings) → IsDevice device → IsRate settings.rate → IsRatio (rate_between device settings)
-ratio-between device settings d s = play-ratio (filters_of device) (quality_of device) settings (mix_settings device) s d.rate
+pub ratio-between : (device : DeviceSeen) (settings : Settings) → IsDevice device → IsRate settings.rate → IsRatio (play_rate_between device settings)
+ratio-between device settings d s = play-ratio (filters_of device) (quality_of device) settings (mix_settings device) s d.mix_rate
 
 -- ---- from the device to a client that records
 

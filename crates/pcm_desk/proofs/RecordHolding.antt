@@ -8,33 +8,34 @@ use Rattle.pcm_rate.specs.declared.rate.Rate.{Rate}
 use Rattle.pcm_desk.specs.declared.record_book.RecordBook.{RecordBook}
 use Rattle.pcm_desk.specs.declared.record_book.RecordState.{RecordState}
 use Rattle.pcm_desk.specs.declared.record_book.RecordState.TheVariants.{Free, Setup, Running}
-use Rattle.pcm_desk.specs.RecordBooks.{RecordTurn, captured, fill_of, is_free, read_turn}
-use Rattle.pcm_desk.specs.RecordRequests.{ask_turn}
+use Rattle.pcm_desk.specs.declared.turn.Turn.{Turn}
+use Rattle.pcm_desk.specs.RecordBooks.{captured, is_record_free, read_turn, record_fill_of}
+use Rattle.pcm_desk.specs.RecordRequests.{record_ask}
 use Rattle.pcm_desk.proofs.RecordAsking.{Noting, SettingUp, Dropping, record-ask-does}
 
 -- a request
-pub record-held-ask : (request : Request) (book : RecordBook) → is_free book.state ≡ false → is_free (ask_turn request book).book.state ≡ false
+pub record-held-ask : (request : Request) (book : RecordBook) → is_record_free book.state ≡ false → is_record_free (record_ask request book).book.state ≡ false
 record-held-ask request book e =
     elim (record-ask-does request book) [
-      | Noting n ↦ elim n.state [ inl same ↦ ap is_free same ∙ e | inr starts ↦ ap is_free starts.1 ]
-      | SettingUp s ↦ ap is_free s.state ∙ e
-      | Dropping d ↦ ap is_free d.state
+      | Noting n ↦ elim n.state [ inl same ↦ ap is_record_free same ∙ e | inr starts ↦ ap is_record_free starts.1 ]
+      | SettingUp s ↦ ap is_record_free s.state ∙ e
+      | Dropping d ↦ ap is_record_free d.state
     ]
 
-read_in : (b : Bool) (length : ℕ) (book : RecordBook) → is_free book.state ≡ false
-    → is_free (cond {A = RecordTurn} b (record { book = book; reply = Err Again }) (record { book = record book { read = book.read + min length (fill_of book) }; reply = Ok (Got (min length (fill_of book))) })).book.state ≡ false
+read_in : (b : Bool) (length : ℕ) (book : RecordBook) → is_record_free book.state ≡ false
+    → is_record_free (cond {A = Turn RecordBook} b (record { book = book; reply = Err Again }) (record { book = record book { read = book.read + min length (record_fill_of book) }; reply = Ok (Got (min length (record_fill_of book))) })).book.state ≡ false
 read_in true length book e = e
 read_in false length book e = e
 
 -- a read
-pub record-held-read : (length : ℕ) (book : RecordBook) → is_free book.state ≡ false → is_free (read_turn length book).book.state ≡ false
-record-held-read length book e = read_in (nat_lt 0 length && eqb (fill_of book) 0) length book e
+pub record-held-read : (length : ℕ) (book : RecordBook) → is_record_free book.state ≡ false → is_record_free (read_turn length book).book.state ≡ false
+record-held-read length book e = read_in (nat_lt 0 length && eqb (record_fill_of book) 0) length book e
 
-captured_at : (state : RecordState) (rate : Rate) (n : ℕ) (book : RecordBook) → is_free state ≡ false → is_free (captured rate n (record book { state = state })).state ≡ false
+captured_at : (state : RecordState) (rate : Rate) (n : ℕ) (book : RecordBook) → is_record_free state ≡ false → is_record_free (captured rate n (record book { state = state })).state ≡ false
 captured_at Free rate n book e = e
 captured_at Setup rate n book e = e
 captured_at Running rate n book e = e
 
 -- an interrupt
-pub record-held-captured : (rate : Rate) (n : ℕ) (book : RecordBook) → is_free book.state ≡ false → is_free (captured rate n book).state ≡ false
+pub record-held-captured : (rate : Rate) (n : ℕ) (book : RecordBook) → is_record_free book.state ≡ false → is_record_free (captured rate n book).state ≡ false
 record-held-captured rate n book e = captured_at book.state rate n book e

@@ -6,16 +6,16 @@ use Rattle.pcm_rate.specs.Rates.{can}
 use Rattle.pcm_desk.specs.declared.record_book.RecordBook.{RecordBook}
 use Rattle.pcm_desk.specs.declared.record_book.RecordState.{RecordState}
 use Rattle.pcm_desk.specs.declared.record_book.RecordState.TheVariants.{Free, Setup, Running}
-use Rattle.pcm_desk.specs.RecordBooks.{is_running, is_setup}
-use Rattle.pcm_desk.specs.RecordRequests.{ask_turn}
+use Rattle.pcm_desk.specs.RecordBooks.{is_record_setup, is_running}
+use Rattle.pcm_desk.specs.RecordRequests.{record_ask}
 use Rattle.pcm_desk.specs.RecordSafe.{RecordIsSafe}
 use Rattle.pcm_desk.proofs.RecordAsking.{Noting, SettingUp, Dropping, Drops, Notes, SetsUp, record-ask-does}
 use Rattle.pcm_desk.proofs.RecordSafe.{can-none, setup-unstarted}
 
 -- the counts stay, and what runs goes on so
 pub record Stays (old new : RecordBook) : Type 0 where
-  pub settings : new.settings ≡ old.settings
-  pub fragments : new.fragments ≡ old.fragments
+  pub settings : new.opening.settings ≡ old.opening.settings
+  pub fragments : new.opening.fragments ≡ old.opening.fragments
   pub captured : new.captured ≡ old.captured
   pub given : new.given ≡ old.given
   pub kept : new.kept ≡ old.kept
@@ -33,7 +33,7 @@ pub record Ends (old new : RecordBook) : Type 0 where
 pub record Leaves (old new : RecordBook) : Type 0 where
   pub counts : Stays old new ⊎ Ends old new
 
-setup_stopped : (state : RecordState) → is_setup state ≡ true → is_running state ≡ false
+setup_stopped : (state : RecordState) → is_record_setup state ≡ true → is_running state ≡ false
 setup_stopped Free e = refl
 setup_stopped Setup e = refl
 setup_stopped Running e = cc
@@ -64,9 +64,9 @@ drop : (old new : RecordBook) → Drops old new → Ends old new
 drop old new d = record { captured = d.captured; given = d.given; kept = d.kept; read = d.read; stopped = ap is_running d.state }
 
 -- A request leaves the counts of a book, or nothing of its recording. What it takes in Setup alone leaves nothing, since there is nothing.
-pub record-ask-leaves : (rate : Rate) (request : Request) (book : RecordBook) → RecordIsSafe rate book → Leaves book (ask_turn request book).book
+pub record-ask-leaves : (rate : Rate) (request : Request) (book : RecordBook) → RecordIsSafe rate book → Leaves book (record_ask request book).book
 record-ask-leaves rate request book s =
-    let after = (ask_turn request book).book in
+    let after = (record_ask request book).book in
     elim (record-ask-does request book) [
       | Noting n ↦ record { counts = inl (noted book after n) }
       | SettingUp u ↦ record { counts = inr (set_up rate book after s u) }

@@ -5,14 +5,14 @@ use Rattle.pcm_format.specs.declared.settings.Settings.{Settings}
 use Rattle.pcm_oss.specs.declared.event.Event.{Event}
 use Rattle.pcm_oss.specs.declared.event.Event.TheVariants.{Open, Write, Read, Ioctl, Close, Intr}
 use Rattle.pcm_oss.specs.declared.event.Way.{Way}
-use Rattle.pcm_oss.specs.declared.event.Way.TheVariants.{Play, Rec}
+use Rattle.pcm_oss.specs.declared.event.Way.TheVariants.{Play, Record}
 use Rattle.pcm_oss.specs.declared.reply.Errno.TheVariants.{Exist, Inval}
 use Rattle.pcm_desk.specs.declared.device.Held.{Held}
 use Rattle.pcm_desk.specs.Device.{DeviceSeen}
-use Rattle.pcm_desk.specs.Books.{write_turn}
+use Rattle.pcm_desk.specs.PlayBooks.{write_turn}
 use Rattle.pcm_desk.specs.RecordBooks as records
-use Rattle.pcm_desk.specs.RecordRequests as record_requests
-use Rattle.pcm_desk.specs.Desk.{Desk, DeskTurn, after, asking, by_way, close_play, close_record, held_by, least_free, least_free_record, open_play, open_record, open_turn, play_turn, record_turn, refusing, turning}
+use Rattle.pcm_desk.specs.RecordRequests.{record_ask}
+use Rattle.pcm_desk.specs.Desk.{Desk, DeskTurn, after, asking, by_way, close_play, close_record, held_by, least_free_play, least_free_record, open_play, open_record, open_turn, play_turn, record_turn, refusing, turning}
 use Rattle.pcm_desk.specs.Events.{frames_taken}
 
 -- an event of a descriptor, whatever it does to a channel of each way
@@ -21,11 +21,11 @@ by-turning D play recording None desk same p r = same
 by-turning D play recording (Some held) desk same p r =
     elim held.way as (λ (way : Way). D (by_way way (play held.slot) (recording held.slot)).desk) [
       | Play ↦ p held.slot
-      | Rec ↦ r held.slot
+      | Record ↦ r held.slot
     ]
 
 -- an open that plays: it is refused, or takes the least slot that is free
-play_found : (D : Desk → Type 0) (found : Option ℕ) (desk : Desk) (fd : ℕ) (settings : Settings) → least_free desk.play ≡ found → D desk → ((slot : ℕ) → least_free desk.play ≡ Some slot → D (open_play (Some slot) desk fd settings).desk)
+play_found : (D : Desk → Type 0) (found : Option ℕ) (desk : Desk) (fd : ℕ) (settings : Settings) → least_free_play desk.play ≡ found → D desk → ((slot : ℕ) → least_free_play desk.play ≡ Some slot → D (open_play (Some slot) desk fd settings).desk)
     → D (open_play found desk fd settings).desk
 play_found D None desk fd settings e same p = same
 play_found D (Some slot) desk fd settings e same p = p slot e
@@ -36,19 +36,19 @@ record_found D None desk fd settings e same r = same
 record_found D (Some slot) desk fd settings e same r = r slot e
 
 way_found : (D : Way → Desk → Type 0) (way : Way) (desk : Desk) (fd : ℕ) (settings : Settings) → ((w : Way) → D w desk)
-    → ((slot : ℕ) → least_free desk.play ≡ Some slot → D Play (open_play (Some slot) desk fd settings).desk)
-    → ((slot : ℕ) → least_free_record desk.recording ≡ Some slot → D Rec (open_record (Some slot) desk fd settings).desk)
-    → D way (by_way way (open_play (least_free desk.play) desk fd settings) (open_record (least_free_record desk.recording) desk fd settings)).desk
-way_found D Play desk fd settings same p r = play_found (D Play) (least_free desk.play) desk fd settings refl (same Play) p
-way_found D Rec desk fd settings same p r = record_found (D Rec) (least_free_record desk.recording) desk fd settings refl (same Rec) r
+    → ((slot : ℕ) → least_free_play desk.play ≡ Some slot → D Play (open_play (Some slot) desk fd settings).desk)
+    → ((slot : ℕ) → least_free_record desk.recording ≡ Some slot → D Record (open_record (Some slot) desk fd settings).desk)
+    → D way (by_way way (open_play (least_free_play desk.play) desk fd settings) (open_record (least_free_record desk.recording) desk fd settings)).desk
+way_found D Play desk fd settings same p r = play_found (D Play) (least_free_play desk.play) desk fd settings refl (same Play) p
+way_found D Record desk fd settings same p r = record_found (D Record) (least_free_record desk.recording) desk fd settings refl (same Record) r
 
 -- an open of either way
 pub by-opening : (D : Way → Desk → Type 0) (way : Way) (desk : Desk) (fd : ℕ) (settings : Settings) → ((w : Way) → D w desk)
-    → ((slot : ℕ) → least_free desk.play ≡ Some slot → D Play (open_play (Some slot) desk fd settings).desk)
-    → ((slot : ℕ) → least_free_record desk.recording ≡ Some slot → D Rec (open_record (Some slot) desk fd settings).desk)
+    → ((slot : ℕ) → least_free_play desk.play ≡ Some slot → D Play (open_play (Some slot) desk fd settings).desk)
+    → ((slot : ℕ) → least_free_record desk.recording ≡ Some slot → D Record (open_record (Some slot) desk fd settings).desk)
     → D way (open_turn desk fd way settings).desk
 by-opening D way desk fd settings same p r =
-    elim (is_some (held_by desk fd)) as (λ (b : Bool). D way (cond {A = DeskTurn} b (refusing desk Exist) (by_way way (open_play (least_free desk.play) desk fd settings) (open_record (least_free_record desk.recording) desk fd settings))).desk) [
+    elim (is_some (held_by desk fd)) as (λ (b : Bool). D way (cond {A = DeskTurn} b (refusing desk Exist) (by_way way (open_play (least_free_play desk.play) desk fd settings) (open_record (least_free_record desk.recording) desk fd settings))).desk) [
       | true ↦ same way
       | false ↦ way_found D way desk fd settings same p r
     ]
@@ -63,7 +63,7 @@ handed-taken device desk (Write fd source at count) =
 handed-taken device desk (Read fd count) =
     by-turning (λ (d : Desk). d.handed ≡ desk.handed + 0) (λ slot. refusing desk Inval) (record_turn device (records.read_turn count) desk) (held_by desk fd) desk (omega arith) (λ slot. omega arith) (λ slot. omega arith)
 handed-taken device desk (Ioctl fd request) =
-    by-turning (λ (d : Desk). d.handed ≡ desk.handed + 0) (play_turn device (asking device request) desk) (record_turn device (record_requests.ask_turn request) desk) (held_by desk fd) desk (omega arith) (λ slot. omega arith) (λ slot. omega arith)
+    by-turning (λ (d : Desk). d.handed ≡ desk.handed + 0) (play_turn device (asking device request) desk) (record_turn device (record_ask request) desk) (held_by desk fd) desk (omega arith) (λ slot. omega arith) (λ slot. omega arith)
 handed-taken device desk (Close fd) =
     by-turning (λ (d : Desk). d.handed ≡ desk.handed + 0) (close_play device desk fd) (close_record device desk fd) (held_by desk fd) desk (omega arith) (λ slot. omega arith) (λ slot. omega arith)
 handed-taken device desk (Intr n) = refl

@@ -4,29 +4,30 @@ use Rattle.pcm_format.specs.declared.settings.Settings.{Settings}
 use Rattle.pcm_oss.specs.declared.event.Event.{Event}
 use Rattle.pcm_oss.specs.declared.event.Event.TheVariants.{Open, Write, Read, Ioctl, Close, Intr}
 use Rattle.pcm_oss.specs.declared.event.Way.{Way}
-use Rattle.pcm_oss.specs.declared.event.Way.TheVariants.{Play, Rec}
+use Rattle.pcm_oss.specs.declared.event.Way.TheVariants.{Play, Record}
 use Rattle.pcm_oss.specs.declared.request.Request.{Request}
 use Rattle.pcm_oss.specs.declared.reply.Answer.{Answer}
 use Rattle.pcm_oss.specs.declared.reply.Answer.TheVariants.{Done, Number}
 use Rattle.pcm_oss.specs.declared.reply.Errno.{Errno}
 use Rattle.pcm_oss.specs.declared.reply.Errno.TheVariants.{BadF, Busy, Exist, Inval}
 use Rattle.pcm_rate.specs.declared.rate.Rate.{Rate}
-use Rattle.pcm_desk.specs.declared.book.Book.{Book}
-use Rattle.pcm_desk.specs.declared.book.State.TheVariants.{Free}
+use Rattle.pcm_desk.specs.declared.play_book.PlayBook.{PlayBook}
+use Rattle.pcm_desk.specs.declared.play_book.PlayState.TheVariants.{Free}
 use Rattle.pcm_desk.specs.declared.record_book.RecordBook.{RecordBook}
 use Rattle.pcm_desk.specs.declared.record_book.RecordState.TheVariants as record_states
 use Rattle.pcm_desk.specs.declared.device.Held.{Held}
 use Rattle.pcm_desk.specs.declared.limits.TheConstants.{DESCRIPTORS}
-use Rattle.pcm_desk.specs.Device.{DeviceSeen, device_settings, mix_settings, play_slots, rate_between, record_rate_between, record_slots}
-use Rattle.pcm_desk.specs.Books.{BookTurn, is_free, begun, write_turn, close_turn, refilled}
-use Rattle.pcm_desk.specs.Requests.{ask_turn}
+use Rattle.pcm_desk.specs.Device.{DeviceSeen, device_settings, mix_settings, play_slots, play_rate_between, record_rate_between, record_slots}
+use Rattle.pcm_desk.specs.declared.turn.Turn.{Turn}
+use Rattle.pcm_desk.specs.PlayBooks.{close_turn, is_play_free, play_begun, refilled, write_turn}
+use Rattle.pcm_desk.specs.PlayRequests.{play_ask}
 use Rattle.pcm_desk.specs.RecordBooks as records
-use Rattle.pcm_desk.specs.RecordBooks.{RecordTurn}
-use Rattle.pcm_desk.specs.RecordRequests as record_requests
+use Rattle.pcm_desk.specs.RecordBooks.{is_record_free, record_begun}
+use Rattle.pcm_desk.specs.RecordRequests.{record_ask}
 
 pub record Desk : Type 0 where
   -- by slot: those that play
-  pub play : List Book
+  pub play : List PlayBook
   -- by slot: those that record
   pub recording : List RecordBook
   -- by descriptor: the channel that it holds, if it is open
@@ -42,17 +43,17 @@ pub record DeskTurn : Type 0 where
   pub reply : Result Answer Errno
 
 -- a book that nobody has opened yet
-abbrev pub unopened : DeviceSeen → Book
-unopened device = record (begun (mix_settings device)) { state = Free }
+abbrev pub play_unopened : DeviceSeen → PlayBook
+play_unopened device = record (play_begun (mix_settings device)) { state = Free }
 
 -- a record book that nobody has opened yet
 abbrev pub record_unopened : DeviceSeen → RecordBook
-record_unopened device = record (records.begun (device_settings device)) { state = record_states.Free }
+record_unopened device = record (record_begun (device_settings device)) { state = record_states.Free }
 
 -- before the first event
 abbrev pub desk_at_start : DeviceSeen → Desk
 desk_at_start device = record {
-  play = replicate (play_slots device) (unopened device);
+  play = replicate (play_slots device) (play_unopened device);
   recording = replicate (record_slots device) (record_unopened device);
   descriptors = replicate DESCRIPTORS None;
   handed = 0;
@@ -64,16 +65,16 @@ abbrev pub held_by : Desk → ℕ → Option Held
 held_by desk fd = slice_index_or desk.descriptors fd None
 
 -- the least slot that is free
-abbrev pub least_free : List Book → Option ℕ
-least_free books = position (λ book. is_free book.state) books
+abbrev pub least_free_play : List PlayBook → Option ℕ
+least_free_play books = position (λ book. is_play_free book.state) books
 
 -- the book of a slot
-abbrev pub book_at : DeviceSeen → Desk → ℕ → Book
-book_at device desk slot = slice_index_or desk.play slot (unopened device)
+abbrev pub play_at : DeviceSeen → Desk → ℕ → PlayBook
+play_at device desk slot = slice_index_or desk.play slot (play_unopened device)
 
 -- the least slot for recording that is free
 abbrev pub least_free_record : List RecordBook → Option ℕ
-least_free_record books = position (λ book. records.is_free book.state) books
+least_free_record books = position (λ book. is_record_free book.state) books
 
 -- the record book of a slot
 abbrev pub record_at : DeviceSeen → Desk → ℕ → RecordBook
@@ -83,8 +84,8 @@ record_at device desk slot = slice_index_or desk.recording slot (record_unopened
 abbrev pub refusing : Desk → Errno → DeskTurn
 refusing desk errno = record { desk = desk; reply = Err errno }
 
-abbrev pub with_book : Desk → ℕ → Book → Desk
-with_book desk slot book = record desk { play = slice_set desk.play slot book }
+abbrev pub with_play : Desk → ℕ → PlayBook → Desk
+with_play desk slot book = record desk { play = slice_set desk.play slot book }
 
 abbrev pub with_record : Desk → ℕ → RecordBook → Desk
 with_record desk slot book = record desk { recording = slice_set desk.recording slot book }
@@ -95,20 +96,20 @@ with_descriptor desk fd held = record desk { descriptors = slice_set desk.descri
 -- what is so of a channel that plays, or of one that records
 abbrev pub by_way : {X : Type 0} → Way → X → X → X
 by_way Play play recording = play
-by_way Rec play recording = recording
+by_way Record play recording = recording
 
 -- an open takes the least free slot of its way
 abbrev pub open_play : Option ℕ → Desk → ℕ → Settings → DeskTurn
 open_play None desk fd settings = refusing desk Busy
 open_play (Some slot) desk fd settings = record {
-  desk = with_descriptor (with_book desk slot (begun settings)) fd (Some (record { way = Play; slot = slot }));
+  desk = with_descriptor (with_play desk slot (play_begun settings)) fd (Some (record { way = Play; slot = slot }));
   reply = Ok (Number slot);
 }
 
 abbrev pub open_record : Option ℕ → Desk → ℕ → Settings → DeskTurn
 open_record None desk fd settings = refusing desk Busy
 open_record (Some slot) desk fd settings = record {
-  desk = with_descriptor (with_record desk slot (records.begun settings)) fd (Some (record { way = Rec; slot = slot }));
+  desk = with_descriptor (with_record desk slot (record_begun settings)) fd (Some (record { way = Record; slot = slot }));
   reply = Ok (Number slot);
 }
 
@@ -116,18 +117,18 @@ open_record (Some slot) desk fd settings = record {
 abbrev pub open_turn : Desk → ℕ → Way → Settings → DeskTurn
 open_turn desk fd way settings =
     if is_some (held_by desk fd) then refusing desk Exist
-    else by_way way (open_play (least_free desk.play) desk fd settings) (open_record (least_free_record desk.recording) desk fd settings)
+    else by_way way (open_play (least_free_play desk.play) desk fd settings) (open_record (least_free_record desk.recording) desk fd settings)
 
 -- an event of a channel that plays, whose book alone changes
-abbrev pub play_turn : DeviceSeen → (Book → BookTurn) → Desk → ℕ → DeskTurn
+abbrev pub play_turn : DeviceSeen → (PlayBook → Turn PlayBook) → Desk → ℕ → DeskTurn
 play_turn device turn desk slot =
-    let turned : BookTurn = turn (book_at device desk slot) in
-    record { desk = with_book desk slot turned.book; reply = turned.reply }
+    let turned : Turn PlayBook = turn (play_at device desk slot) in
+    record { desk = with_play desk slot turned.book; reply = turned.reply }
 
 -- an event of a channel that records, whose book alone changes
-abbrev pub record_turn : DeviceSeen → (RecordBook → RecordTurn) → Desk → ℕ → DeskTurn
+abbrev pub record_turn : DeviceSeen → (RecordBook → Turn RecordBook) → Desk → ℕ → DeskTurn
 record_turn device turn desk slot =
-    let turned : RecordTurn = turn (record_at device desk slot) in
+    let turned : Turn RecordBook = turn (record_at device desk slot) in
     record { desk = with_record desk slot turned.book; reply = turned.reply }
 
 -- an event of a descriptor, by the way of the channel that it holds: at its slot
@@ -144,30 +145,30 @@ abbrev pub read_on : DeviceSeen → Option Held → Desk → ℕ → DeskTurn
 read_on device held desk length = turning (λ slot. refusing desk Inval) (record_turn device (records.read_turn length) desk) held desk
 
 -- the rate between a book and the mix
-abbrev pub rate_at : DeviceSeen → Book → Rate
-rate_at device book = rate_between device book.settings
+abbrev pub play_rate_at : DeviceSeen → PlayBook → Rate
+play_rate_at device book = play_rate_between device book.opening.settings
 
 -- the rate between the device and a record book
 abbrev pub record_rate_at : DeviceSeen → RecordBook → Rate
-record_rate_at device book = record_rate_between device book.settings
+record_rate_at device book = record_rate_between device book.opening.settings
 
 -- the book after a request, and the reply
-abbrev pub asking : DeviceSeen → Request → Book → BookTurn
-asking device request book = ask_turn (rate_at device book) request book
+abbrev pub asking : DeviceSeen → Request → PlayBook → Turn PlayBook
+asking device request book = play_ask (play_rate_at device book) request book
 
 -- a request
 abbrev pub ioctl_on : DeviceSeen → Option Held → Desk → Request → DeskTurn
 ioctl_on device held desk request =
-    turning (play_turn device (asking device request) desk) (record_turn device (record_requests.ask_turn request) desk) held desk
+    turning (play_turn device (asking device request) desk) (record_turn device (record_ask request) desk) held desk
 
 -- the book after a close
-abbrev pub closing : DeviceSeen → Book → Book
-closing device book = close_turn (rate_at device book) book
+abbrev pub closing : DeviceSeen → PlayBook → PlayBook
+closing device book = close_turn (play_rate_at device book) book
 
 -- a close, which opens the descriptor for others
 abbrev pub close_play : DeviceSeen → Desk → ℕ → ℕ → DeskTurn
 close_play device desk fd slot = record {
-  desk = with_descriptor (with_book desk slot (closing device (book_at device desk slot))) fd None;
+  desk = with_descriptor (with_play desk slot (closing device (play_at device desk slot))) fd None;
   reply = Ok Done;
 }
 
@@ -185,9 +186,9 @@ abbrev pub mixed_by : DeviceSeen → Desk → ℕ → ℕ
 mixed_by device desk n = n
 
 -- a book once so many frames were mixed; where nothing is mixed it stays
-abbrev pub mixing : DeviceSeen → ℕ → Book → Book
+abbrev pub mixing : DeviceSeen → ℕ → PlayBook → PlayBook
 mixing device zero book = book
-mixing device (suc frames) book = refilled (rate_at device book) (suc frames) book
+mixing device (suc frames) book = refilled (play_rate_at device book) (suc frames) book
 
 -- a record book once so many frames were captured
 abbrev pub capturing : DeviceSeen → ℕ → RecordBook → RecordBook

@@ -1,5 +1,5 @@
 -- What the rules read of a device. Whatever a device has beside it is read by one more word here.
-use Rattle.std.specs.Prelude.{ℕ, [], ◌<◌, ◌≤◌}
+use Rattle.std.specs.Prelude.{◌≡◌, ℕ, [], ◌<◌, ◌≤◌}
 use Rattle.pcm_format.specs.declared.settings.Settings.{Settings}
 use Rattle.pcm_format.specs.Frames.{frame_bytes}
 use Rattle.pcm_rate.specs.declared.rate.Rate.{Rate}
@@ -11,7 +11,10 @@ use Rattle.pcm_desk.specs.declared.device.TheConstants.{QUALITY_MOST}
 use Rattle.pcm_desk.specs.declared.limits.TheConstants.{RING_FRAMES, SLOTS}
 
 pub record DeviceSeen : Type 0 where
+  -- the frames that are handed over, and captured
   pub settings : Settings
+  -- the frames that are mixed
+  pub mix : Settings
   pub slots : ℕ
   pub recorders : ℕ
   pub ring : ℕ
@@ -23,6 +26,7 @@ pub record DeviceSeen : Type 0 where
 abbrev pub seen : Filters → Device → DeviceSeen
 seen filters device = record {
   settings = device.settings;
+  mix = device.settings;
   slots = device.play_slots;
   recorders = device.record_slots;
   ring = device.ring_frames;
@@ -43,9 +47,9 @@ unfiltered device = seen no_filters device
 abbrev pub device_settings : DeviceSeen → Settings
 device_settings device = device.settings
 
--- the settings of the mix, which are the device's
+-- the settings of the mix
 abbrev pub mix_settings : DeviceSeen → Settings
-mix_settings device = device.settings
+mix_settings device = device.mix
 
 -- how many clients can play at once
 abbrev pub play_slots : DeviceSeen → ℕ
@@ -76,12 +80,12 @@ abbrev pub filters_of : DeviceSeen → Filters
 filters_of device = device.filters
 
 -- the plan from a client with these settings to the mix
-abbrev pub plan_between : DeviceSeen → Settings → PlanSeen
-plan_between device settings = plan_play (filters_of device) (quality_of device) settings (mix_settings device)
+abbrev pub play_plan_between : DeviceSeen → Settings → PlanSeen
+play_plan_between device settings = plan_play (filters_of device) (quality_of device) settings (mix_settings device)
 
 -- the change of rate from a client with these settings to the mix
-abbrev pub rate_between : DeviceSeen → Settings → Rate
-rate_between device settings = rate_in_plan (plan_between device settings)
+abbrev pub play_rate_between : DeviceSeen → Settings → Rate
+play_rate_between device settings = rate_in_plan (play_plan_between device settings)
 
 -- the plan from the device to a client that records with these settings
 abbrev pub record_plan_between : DeviceSeen → Settings → PlanSeen
@@ -91,9 +95,12 @@ record_plan_between device settings = plan_record (filters_of device) (quality_o
 abbrev pub record_rate_between : DeviceSeen → Settings → Rate
 record_rate_between device settings = rate_in_plan (record_plan_between device settings)
 
--- a device whose mix has a rate within the limits, as its filters are
+-- a device with rates within the limits, as its filters are
 pub record IsDevice (device : DeviceSeen) : Type 0 where
-  pub rate : IsRate (mix_settings device).rate
+  pub rate : IsRate (device_settings device).rate
+  pub mix_rate : IsRate (mix_settings device).rate
+  -- what is mixed is handed over as it is
+  pub same : mix_settings device ≡ device_settings device
   pub filters : AreFilters (filters_of device).list
 
 -- a device within the limits of a run

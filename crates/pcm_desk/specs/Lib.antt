@@ -1,8 +1,10 @@
 pub mod Device
 pub mod Usual
-pub mod Books
-pub mod Requests
-pub mod Safe
+pub mod BookTurns
+pub mod Openings
+pub mod PlayBooks
+pub mod PlayRequests
+pub mod PlaySafe
 pub mod RecordBooks
 pub mod RecordRequests
 pub mod RecordSafe

@@ -1,25 +1,27 @@
 -- What a client is told, and what becomes of its book, is a matter of that book and its own events alone.
-use Rattle.std.specs.Prelude.{◌≡◌, ◌≢◌, ◌<◌, ℕ, Bool, true, false, not, Option, Some, None, Result, Ok, Err, length, slice_index_or}
+use Rattle.std.specs.Prelude.{◌≡◌, ◌≢◌, ◌<◌, ℕ, Bool, true, false, not, Option, Some, None, Result, length, slice_index_or}
 use Rattle.pcm_oss.specs.declared.event.Event.{Event}
 use Rattle.pcm_oss.specs.declared.event.Event.TheVariants.{Open, Write, Read, Ioctl, Close, Intr}
 use Rattle.pcm_oss.specs.declared.event.Way.{Way}
-use Rattle.pcm_oss.specs.declared.event.Way.TheVariants.{Play, Rec}
+use Rattle.pcm_oss.specs.declared.event.Way.TheVariants.{Play, Record}
 use Rattle.pcm_oss.specs.declared.request.Request.{Request}
 use Rattle.pcm_oss.specs.declared.reply.Answer.{Answer}
-use Rattle.pcm_oss.specs.declared.reply.Answer.TheVariants.{Done, Number}
+use Rattle.pcm_oss.specs.declared.reply.Answer.TheVariants.{Number}
 use Rattle.pcm_oss.specs.declared.reply.Errno.{Errno}
 use Rattle.pcm_oss.specs.declared.reply.Errno.TheVariants.{Exist, Inval}
-use Rattle.pcm_desk.specs.declared.book.Book.{Book}
-use Rattle.pcm_desk.specs.declared.book.State.{State}
-use Rattle.pcm_desk.specs.declared.book.State.TheVariants.{Free, Draining}
+use Rattle.pcm_desk.specs.declared.play_book.PlayBook.{PlayBook}
+use Rattle.pcm_desk.specs.declared.play_book.PlayState.{PlayState}
+use Rattle.pcm_desk.specs.declared.play_book.PlayState.TheVariants.{Free, Draining}
 use Rattle.pcm_desk.specs.declared.device.Held.{Held}
 use Rattle.pcm_desk.specs.declared.record_book.RecordBook.{RecordBook}
 use Rattle.pcm_desk.specs.Device.{DeviceSeen}
-use Rattle.pcm_desk.specs.Books.{BookTurn, write_turn}
+use Rattle.pcm_desk.specs.declared.turn.Turn.{Turn}
+use Rattle.pcm_desk.specs.BookTurns.{doing, refused, telling}
+use Rattle.pcm_desk.specs.PlayBooks.{write_turn}
 use Rattle.pcm_desk.specs.RecordBooks as records
-use Rattle.pcm_desk.specs.RecordBooks.{RecordTurn}
-use Rattle.pcm_desk.specs.RecordRequests as record_requests
-use Rattle.pcm_desk.specs.Desk.{Desk, asking, book_at, by_way, capturing, closing, held_by, mixing, record_at}
+use Rattle.pcm_desk.specs.RecordBooks.{is_record_free}
+use Rattle.pcm_desk.specs.RecordRequests.{record_ask}
+use Rattle.pcm_desk.specs.Desk.{Desk, asking, play_at, by_way, capturing, closing, held_by, mixing, record_at}
 
 -- the descriptor that a client's event names
 abbrev pub descriptor_of : Event → Option ℕ
@@ -32,40 +34,31 @@ descriptor_of (Intr n) = None
 
 -- the book of a channel, of either way
 pub data Channel : Type 0 where
-  Playing : Book → Channel
+  Playing : PlayBook → Channel
   Recording : RecordBook → Channel
 
 -- the book of the channel with this way and slot
 abbrev pub channel_at : DeviceSeen → Desk → Held → Channel
-channel_at device desk held = by_way held.way (Playing (book_at device desk held.slot)) (Recording (record_at device desk held.slot))
-
--- a channel's book and the reply after an event
-pub record ChannelTurn : Type 0 where
-  pub channel : Channel
-  pub reply : Result Answer Errno
-
--- what the channel is refused
-abbrev pub refused : Channel → Errno → ChannelTurn
-refused channel errno = record { channel = channel; reply = Err errno }
+channel_at device desk held = by_way held.way (Playing (play_at device desk held.slot)) (Recording (record_at device desk held.slot))
 
 -- a turn of a book that plays, or of one that records
-abbrev pub played : BookTurn → ChannelTurn
-played turn = record { channel = Playing turn.book; reply = turn.reply }
+abbrev pub played : Turn PlayBook → Turn Channel
+played turn = record { book = Playing turn.book; reply = turn.reply }
 
-abbrev pub recorded : RecordTurn → ChannelTurn
-recorded turn = record { channel = Recording turn.book; reply = turn.reply }
+abbrev pub recorded : Turn RecordBook → Turn Channel
+recorded turn = record { book = Recording turn.book; reply = turn.reply }
 
-abbrev pub own_write : ℕ → Channel → ChannelTurn
+abbrev pub own_write : ℕ → Channel → Turn Channel
 own_write count (Playing book) = played (write_turn count book)
-own_write count (Recording book) = refused (Recording book) Inval
+own_write count (Recording book) = refused Inval (Recording book)
 
-abbrev pub own_read : ℕ → Channel → ChannelTurn
-own_read count (Playing book) = refused (Playing book) Inval
+abbrev pub own_read : ℕ → Channel → Turn Channel
+own_read count (Playing book) = refused Inval (Playing book)
 own_read count (Recording book) = recorded (records.read_turn count book)
 
-abbrev pub own_ioctl : DeviceSeen → Request → Channel → ChannelTurn
+abbrev pub own_ioctl : DeviceSeen → Request → Channel → Turn Channel
 own_ioctl device request (Playing book) = played (asking device request book)
-own_ioctl device request (Recording book) = recorded (record_requests.ask_turn request book)
+own_ioctl device request (Recording book) = recorded (record_ask request book)
 
 abbrev pub closing_own : DeviceSeen → Channel → Channel
 closing_own device (Playing book) = Playing (closing device book)
@@ -76,16 +69,16 @@ passing device n (Playing book) = Playing (mixing device n book)
 passing device n (Recording book) = Recording (capturing device n book)
 
 -- a book and the reply after an event of its own, or after an interrupt; a descriptor that is open can't be opened
-abbrev pub own_turn : DeviceSeen → Event → Channel → ChannelTurn
-own_turn device (Open fd way settings) channel = refused channel Exist
+abbrev pub own_turn : DeviceSeen → Event → Channel → Turn Channel
+own_turn device (Open fd way settings) channel = refused Exist channel
 own_turn device (Write fd source at count) channel = own_write count channel
 own_turn device (Read fd count) channel = own_read count channel
 own_turn device (Ioctl fd request) channel = own_ioctl device request channel
-own_turn device (Close fd) channel = record { channel = closing_own device channel; reply = Ok Done }
-own_turn device (Intr n) channel = record { channel = passing device n channel; reply = Ok (Number n) }
+own_turn device (Close fd) channel = doing (closing_own device channel)
+own_turn device (Intr n) channel = telling (Number n) (passing device n channel)
 
 -- a channel that a descriptor may hold: it isn't free, and doesn't drain behind a close
-abbrev pub is_held : State → Bool
+abbrev pub is_held : PlayState → Bool
 is_held Free = false
 is_held (Draining closed) = not closed
 is_held state = true
@@ -96,8 +89,8 @@ slots_of desk way = by_way way (length desk.play) (length desk.recording)
 
 -- the channel of a slot may be held
 abbrev pub MayBeHeld : Desk → Way → ℕ → Type 0
-MayBeHeld desk Play slot = (other : Book) → is_held (slice_index_or desk.play slot other).state ≡ true
-MayBeHeld desk Rec slot = (other : RecordBook) → records.is_free (slice_index_or desk.recording slot other).state ≡ false
+MayBeHeld desk Play slot = (other : PlayBook) → is_held (slice_index_or desk.play slot other).state ≡ true
+MayBeHeld desk Record slot = (other : RecordBook) → is_record_free (slice_index_or desk.recording slot other).state ≡ false
 
 -- Each open descriptor holds a slot that is there and a channel that may be held, and no two hold one.
 pub record HoldApart (desk : Desk) : Type 0 where
@@ -110,25 +103,36 @@ abbrev pub held_after : Event → Held → Option Held
 held_after (Close fd) held = None
 held_after _ held = Some held
 
--- What an event leaves of the books of a desk, and its reply: no book looks at another.
-pub record IsIsolated (device : DeviceSeen) (event : Event) (old new : Desk) (reply : Result Answer Errno) : Type 0 where
-  -- an event of an open descriptor goes by the book of that descriptor
-  pub own : (fd : ℕ) (held : Held) → descriptor_of event ≡ Some fd → held_by old fd ≡ Some held
-      → channel_at device new held ≡ (own_turn device event (channel_at device old held)).channel
-  pub answer : (fd : ℕ) (held : Held) → descriptor_of event ≡ Some fd → held_by old fd ≡ Some held
-      → reply ≡ (own_turn device event (channel_at device old held)).reply
-  -- which it holds until it is closed
-  pub until : (fd : ℕ) (held : Held) → descriptor_of event ≡ Some fd → held_by old fd ≡ Some held → held_by new fd ≡ held_after event held
-  -- and leaves every other book
-  pub others : (fd : ℕ) (other held : Held) → descriptor_of event ≡ Some fd → held_by old fd ≡ Some held → other ≢ held
-      → channel_at device new other ≡ channel_at device old other
-  -- an event of a descriptor that is shut leaves every book but that of the slot that it holds then, be it free or drain behind a close
-  pub untaken : (fd : ℕ) (other : Held) → descriptor_of event ≡ Some fd → held_by old fd ≡ None → fd < length old.descriptors
-      → held_by new fd ≢ Some other → channel_at device new other ≡ channel_at device old other
-  -- any event of a descriptor leaves what every other one holds, or that it is shut, and its book
-  pub holds : (fd other : ℕ) → descriptor_of event ≡ Some fd → other ≢ fd → held_by new other ≡ held_by old other
-  pub strangers : (fd other : ℕ) (theirs : Held) → descriptor_of event ≡ Some fd → other ≢ fd → held_by old other ≡ Some theirs
-      → channel_at device new theirs ≡ channel_at device old theirs
-  -- an interrupt goes by each book alone, and leaves what every descriptor holds, or that it is shut
-  pub each : descriptor_of event ≡ None → (held : Held) → channel_at device new held ≡ (own_turn device event (channel_at device old held)).channel
-  pub passes : descriptor_of event ≡ None → (fd : ℕ) → held_by new fd ≡ held_by old fd
+-- Of one descriptor: what its event leaves of a desk.
+
+-- where it is open, its channel goes by the book of that channel alone, every other channel stays, and it holds its own until it is
+-- closed
+pub record GoesAlone (device : DeviceSeen) (event : Event) (old new : Desk) (reply : Result Answer Errno) (fd : ℕ) (held : Held) : Type 0 where
+  pub own : channel_at device new held ≡ (own_turn device event (channel_at device old held)).book
+  pub answer : reply ≡ (own_turn device event (channel_at device old held)).reply
+  pub until : held_by new fd ≡ held_after event held
+  pub others : (other : Held) → other ≢ held → channel_at device new other ≡ channel_at device old other
+
+-- where it is shut, every channel stays but that of the slot that it holds then, be it free or drain behind a close
+abbrev pub TakesOne : DeviceSeen → Desk → Desk → ℕ → Type 0
+TakesOne device old new fd = (other : Held) → fd < length old.descriptors → held_by new fd ≢ Some other → channel_at device new other ≡ channel_at device old other
+
+pub record GoesByDescriptor (device : DeviceSeen) (event : Event) (old new : Desk) (reply : Result Answer Errno) (fd : ℕ) : Type 0 where
+  pub opened : (held : Held) → held_by old fd ≡ Some held → GoesAlone device event old new reply fd held
+  pub shut : held_by old fd ≡ None → TakesOne device old new fd
+  -- what every other descriptor holds stays, or that it is shut, and so does its channel
+  pub holds : (other : ℕ) → other ≢ fd → held_by new other ≡ held_by old other
+  pub strangers : (other : ℕ) (theirs : Held) → other ≢ fd → held_by old other ≡ Some theirs → channel_at device new theirs ≡ channel_at device old theirs
+
+-- Of an interrupt: it goes by each channel alone, and leaves what every descriptor holds, or that it is shut.
+pub record GoesByEach (device : DeviceSeen) (event : Event) (old new : Desk) : Type 0 where
+  pub each : (held : Held) → channel_at device new held ≡ (own_turn device event (channel_at device old held)).book
+  pub passes : (fd : ℕ) → held_by new fd ≡ held_by old fd
+
+-- What an event leaves of the channels of a desk, and its reply: no book looks at another.
+abbrev pub IsIsolatedBy : Option ℕ → DeviceSeen → Event → Desk → Desk → Result Answer Errno → Type 0
+IsIsolatedBy (Some fd) device event old new reply = GoesByDescriptor device event old new reply fd
+IsIsolatedBy None device event old new reply = GoesByEach device event old new
+
+abbrev pub IsIsolated : DeviceSeen → Event → Desk → Desk → Result Answer Errno → Type 0
+IsIsolated device event old new reply = IsIsolatedBy (descriptor_of event) device event old new reply

@@ -9,10 +9,11 @@ use Rattle.pcm_oss.specs.declared.reply.Errno.{Errno}
 use Rattle.pcm_wave.specs.declared.pool.Source.TheVariants.{Inline}
 use Rattle.pcm_desk.specs.declared.device.Held.{Held}
 use Rattle.pcm_desk.specs.Device.{DeviceSeen}
-use Rattle.pcm_desk.specs.Books.{begun}
-use Rattle.pcm_desk.specs.RecordBooks as records
+use Rattle.pcm_desk.specs.PlayBooks.{play_begun}
+use Rattle.pcm_desk.specs.RecordBooks.{record_begun}
 use Rattle.pcm_desk.specs.Desk.{Desk, DeskTurn, after, by_way, held_by}
-use Rattle.pcm_desk.specs.Own.{Channel, ChannelTurn, Playing, Recording, descriptor_of, own_turn}
+use Rattle.pcm_desk.specs.declared.turn.Turn.{Turn}
+use Rattle.pcm_desk.specs.Own.{Channel, Playing, Recording, descriptor_of, own_turn}
 
 -- a descriptor is this one; an event that names none is everyone's
 abbrev pub names : ℕ → Option ℕ → Bool
@@ -54,17 +55,17 @@ replies_to device fd desk (event ∷ events) =
 abbrev pub own_replies : DeviceSeen → Channel → List Event → List (Result Answer Errno)
 own_replies device channel [] = []
 own_replies device channel (event ∷ events) =
-    let turn : ChannelTurn = own_turn device event channel in
-    turn.reply ∷ own_replies device turn.channel events
+    let turn : Turn Channel = own_turn device event channel in
+    turn.reply ∷ own_replies device turn.book events
 
 -- and its book after them
 abbrev pub own_after : DeviceSeen → Channel → List Event → Channel
 own_after device channel [] = channel
-own_after device channel (event ∷ events) = own_after device (own_turn device event channel).channel events
+own_after device channel (event ∷ events) = own_after device (own_turn device event channel).book events
 
 -- a channel whose opening begins
 abbrev pub channel_begun : Way → Settings → Channel
-channel_begun way settings = by_way way (Playing (begun settings)) (Recording (records.begun settings))
+channel_begun way settings = by_way way (Playing (play_begun settings)) (Recording (record_begun settings))
 
 -- a descriptor that was shut is opened at a desk, and holds this channel then
 pub record Opens (device : DeviceSeen) (fd : ℕ) (way : Way) (settings : Settings) (held : Held) (old new : Desk) : Type 0 where

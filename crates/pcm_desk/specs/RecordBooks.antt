@@ -1,47 +1,38 @@
 -- The book of one record opening: what is counted, and what each event does to it. No book looks at another.
-use Rattle.std.specs.Prelude.{ℕ, ◌+◌, ◌-◌, ◌*◌, ◌/◌, ◌^◌, min, Bool, true, false, ◌&&◌, nat_lt, ◌==◌, if◌then◌else◌, Result, Ok, Err}
+use Rattle.std.specs.Prelude.{ℕ, ◌+◌, ◌-◌, ◌*◌, ◌/◌, ◌^◌, min, Bool, true, false, ◌&&◌, nat_lt, ◌==◌, if◌then◌else◌}
 use Rattle.pcm_format.specs.declared.settings.Settings.{Settings}
-use Rattle.pcm_oss.specs.declared.reply.Answer.{Answer}
 use Rattle.pcm_oss.specs.declared.reply.Answer.TheVariants.{Got}
-use Rattle.pcm_oss.specs.declared.reply.Errno.{Errno}
 use Rattle.pcm_oss.specs.declared.reply.Errno.TheVariants.{Again}
-use Rattle.pcm_oss.specs.declared.fragments.TheConstants.{FRAGMENTS}
-use Rattle.pcm_oss.specs.Fragments.{fragment_size, ring_size}
 use Rattle.pcm_format.specs.Frames.{frame_bytes}
 use Rattle.pcm_rate.specs.declared.rate.Rate.{Rate}
 use Rattle.pcm_rate.specs.Rates.{can}
 use Rattle.pcm_desk.specs.declared.record_book.RecordBook.{RecordBook}
 use Rattle.pcm_desk.specs.declared.record_book.RecordState.{RecordState}
 use Rattle.pcm_desk.specs.declared.record_book.RecordState.TheVariants.{Free, Setup, Running}
+use Rattle.pcm_desk.specs.declared.turn.Turn.{Turn}
+use Rattle.pcm_desk.specs.Openings as openings
+use Rattle.pcm_desk.specs.Openings.{ring_bytes}
+use Rattle.pcm_desk.specs.BookTurns.{refused, telling}
 
-abbrev pub is_free : RecordState → Bool
-is_free Free = true
-is_free state = false
+abbrev pub is_record_free : RecordState → Bool
+is_record_free Free = true
+is_record_free state = false
 
-abbrev pub is_setup : RecordState → Bool
-is_setup Free = false
-is_setup Setup = true
-is_setup Running = false
+abbrev pub is_record_setup : RecordState → Bool
+is_record_setup Setup = true
+is_record_setup state = false
 
 abbrev pub is_running : RecordState → Bool
 is_running Running = true
 is_running state = false
 
 -- the bytes that wait in the ring
-abbrev pub fill_of : RecordBook → ℕ
-fill_of book = book.kept - book.read
-
--- the bytes of a fragment
-abbrev pub fragment_bytes : RecordBook → ℕ
-fragment_bytes book = fragment_size book.fragments
-
--- the bytes that the ring holds at most
-abbrev pub ring_bytes : RecordBook → ℕ
-ring_bytes book = ring_size book.fragments
+abbrev pub record_fill_of : RecordBook → ℕ
+record_fill_of book = book.kept - book.read
 
 -- the bytes that fit
-abbrev pub free_of : RecordBook → ℕ
-free_of book = ring_bytes book - fill_of book
+abbrev pub record_free_of : RecordBook → ℕ
+record_free_of book = ring_bytes book.opening - record_fill_of book
 
 -- Counts of frames on the side of the client stand to those of the device's side by the rate between the two.
 
@@ -51,44 +42,43 @@ coming rate n book = can rate (book.captured + n) - book.given
 
 -- how many of them the ring keeps: whole frames, and the first ones
 abbrev pub keeping : Rate → ℕ → RecordBook → ℕ
-keeping rate n book = min (coming rate n book) (free_of book / frame_bytes book.settings)
-
--- a book and the reply after an event
-pub record RecordTurn : Type 0 where
-  pub book : RecordBook
-  pub reply : Result Answer Errno
+keeping rate n book = min (coming rate n book) (record_free_of book / frame_bytes book.opening.settings)
 
 -- an opening begins
-abbrev pub begun : Settings → RecordBook
-begun settings = record {
-  settings = settings;
-  fragments = FRAGMENTS;
-  trigger = true;
+abbrev pub record_begun : Settings → RecordBook
+record_begun settings = record {
+  opening = openings.begun settings;
   state = Setup;
   captured = 0;
   given = 0;
   kept = 0;
   read = 0;
-  told = 0;
   overruns = 0;
 }
 
 -- all bytes are dropped, and positions begin anew
-abbrev pub emptied : RecordState → RecordBook → RecordBook
-emptied state book = record book { state = state; captured = 0; given = 0; kept = 0; read = 0; told = 0 }
+abbrev pub record_emptied : RecordState → RecordBook → RecordBook
+record_emptied state book = record book {
+  opening = record book.opening { told = 0 };
+  state = state;
+  captured = 0;
+  given = 0;
+  kept = 0;
+  read = 0;
+}
 
-abbrev pub dropped : RecordBook → RecordBook
-dropped book = emptied Setup book
+abbrev pub record_dropped : RecordBook → RecordBook
+record_dropped book = record_emptied Setup book
 
 -- no descriptor has the book any more
 abbrev pub closed : RecordBook → RecordBook
-closed book = emptied Free book
+closed book = record_emptied Free book
 
 -- A read of at most `length` bytes. An empty ring has none now; else the oldest go.
-abbrev pub read_turn : ℕ → RecordBook → RecordTurn
+abbrev pub read_turn : ℕ → RecordBook → Turn RecordBook
 read_turn length book =
-    if nat_lt 0 length && fill_of book == 0 then record { book = book; reply = Err Again }
-    else record { book = record book { read = book.read + min length (fill_of book) }; reply = Ok (Got (min length (fill_of book))) }
+    if nat_lt 0 length && record_fill_of book == 0 then refused Again book
+    else telling (Got (min length (record_fill_of book))) (record book { read = book.read + min length (record_fill_of book) })
 
 -- an interrupt that brings more frames than are kept has lost some; the count stands still at its end
 abbrev pub overruns_after : Rate → ℕ → RecordBook → ℕ
@@ -100,7 +90,7 @@ abbrev pub captures : Rate → ℕ → RecordBook → RecordBook
 captures rate n book = record book {
   captured = book.captured + n;
   given = book.given + coming rate n book;
-  kept = book.kept + keeping rate n book * frame_bytes book.settings;
+  kept = book.kept + keeping rate n book * frame_bytes book.opening.settings;
   overruns = overruns_after rate n book;
 }
 

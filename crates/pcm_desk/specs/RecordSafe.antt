@@ -6,27 +6,28 @@ use Rattle.pcm_rate.specs.Rates.{can}
 use Rattle.pcm_desk.specs.declared.record_book.RecordBook.{RecordBook}
 use Rattle.pcm_desk.specs.declared.record_book.RecordState.{RecordState}
 use Rattle.pcm_desk.specs.declared.record_book.RecordState.TheVariants.{Free, Setup, Running}
-use Rattle.pcm_desk.specs.RecordBooks.{fill_of, ring_bytes}
+use Rattle.pcm_desk.specs.RecordBooks.{record_fill_of}
+use Rattle.pcm_desk.specs.Openings.{ring_bytes}
 
 -- nothing was captured, kept or read
-pub record IsUnstarted (book : RecordBook) : Type 0 where
+pub record IsRecordUnstarted (book : RecordBook) : Type 0 where
   pub captured_none : book.captured ≡ 0
   pub kept_none : book.kept ≡ 0
   pub read_none : book.read ≡ 0
 
 -- a book that isn't running counts nothing
-abbrev pub IsInOrder : RecordState → RecordBook → Type 0
-IsInOrder Free book = IsUnstarted book
-IsInOrder Setup book = IsUnstarted book
-IsInOrder Running book = Unit {0}
+abbrev pub IsRecordInOrder : RecordState → RecordBook → Type 0
+IsRecordInOrder Free book = IsRecordUnstarted book
+IsRecordInOrder Setup book = IsRecordUnstarted book
+IsRecordInOrder Running book = Unit {0}
 
 -- all that came of the captured frames did, no more was read than was kept, no more waits than the ring holds, and what a
 -- client may set is within its limits
 pub record RecordIsSafe (rate : Rate) (book : RecordBook) : Type 0 where
-  pub order : IsInOrder book.state book
+  pub order : IsRecordInOrder book.state book
   pub given : book.given ≡ can rate book.captured
   pub read : book.read ≤ book.kept
-  pub fill : fill_of book ≤ ring_bytes book
-  pub fragments : AreFragments book.fragments
+  pub fill : record_fill_of book ≤ ring_bytes book.opening
+  pub fragments : AreFragments book.opening.fragments
   -- no position was told that wasn't reached
-  pub told : book.told ≤ book.kept
+  pub told : book.opening.told ≤ book.kept

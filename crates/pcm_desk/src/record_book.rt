@@ -1,7 +1,6 @@
 //! The book of a record opening.
 
-use pcm_format::Settings;
-use pcm_oss::Fragments;
+use crate::Opening;
 
 /// Where a channel that records stands in its life.
 #[derive(Clone, Copy, Debug, PartialEq, Eq)]
@@ -14,14 +13,10 @@ pub enum RecordState {
     Running,
 }
 
-/// What is counted of a record opening.
+/// What is counted of an opening that records.
 #[derive(Clone, Copy, Debug, PartialEq, Eq)]
 pub struct RecordBook {
-    pub settings: Settings,
-    /// How the ring is cut.
-    pub fragments: Fragments,
-    /// Whether the channel may start by a post.
-    pub trigger: bool,
+    pub opening: Opening,
     pub state: RecordState,
     /// Frames of the device captured since the start.
     pub captured: u64,
@@ -31,8 +26,6 @@ pub struct RecordBook {
     pub kept: u64,
     /// Bytes read since the start.
     pub read: u64,
-    /// The position that was told last, in bytes.
-    pub told: u64,
     /// Interrupts that brought more frames than there was room for, since they were told last.
     pub overruns: u32,
 }

@@ -2,178 +2,68 @@
 
 ghost use Rattle.std.specs.Prelude.{◌≡◌, ◌≤◌};
 ghost use Rattle.pcm_oss.specs.Fragments.{AreFragments};
-ghost use Rattle.pcm_desk.specs.RecordBooks.{fill_of, ring_bytes};
-ghost use Rattle.pcm_desk.specs.RecordRequests.{ask, pointer_of, posted, roused_in, set_channels, set_format, set_fragments, set_rate, set_trigger, space_of, stopped_in, tell_errors, tell_pointer, trigger_of, triggered, with_settings};
+ghost use Rattle.pcm_desk.specs.Openings.{ring_bytes};
+ghost use Rattle.pcm_desk.specs.RecordBooks.{record_fill_of};
+ghost use Rattle.pcm_desk.specs.RecordRequests.{record_ask, record_posted, record_roused_in, record_set_trigger, record_stopped_in, record_tell_errors, record_triggered, record_with_opening, record_with_trigger};
 
-use crate::record_turn::{RECORD_BIT, RecordAsked};
-use crate::requests::at_rate;
-use crate::turn::{ALL_FORMATS, CAPABILITIES};
-use crate::{RecordBook, RecordState};
-use pcm_format::{Format, Layout, Settings};
-use pcm_oss::{Answer, Errno, Fragments, Request};
+use crate::{Opening, RecordBook, RecordState, Turn};
+use pcm_oss::{Answer, Errno, Request};
+
+/// The bit of a trigger that a channel which records has (`PCM_ENABLE_INPUT`).
+pub const RECORD_BIT: u32 = 1;
 
 impl RecordBook {
-    /// The book after a request of a channel that records, and the answer. What is asked of channels that play alone is refused.
-    pub fn asked(self, request: Request) -> Result<RecordAsked, Errno>
+    /// The book after a request of a channel that records, and the reply. What is asked of channels that play alone is refused.
+    pub fn asked(self, request: Request) -> Turn<RecordBook>
         requires read { self.read ≤ self.kept }
-        requires fill { fill_of self ≤ ring_bytes self }
-        requires fragments { AreFragments self.fragments }
-        ensures { result ≡ ask request self }
+        requires fill { record_fill_of self ≤ ring_bytes self.opening }
+        requires fragments { AreFragments self.opening.fragments }
+        ensures { result ≡ record_ask request self }
     {
         match request {
-            Request::SetFmt(code) => self.set_format(code),
-            Request::Speed(rate) => self.set_rate(rate),
-            Request::Channels(channels) => self.set_channels(channels),
-            Request::GetFmts => Ok(self.telling(ALL_FORMATS)),
-            Request::GetCaps => Ok(self.telling(CAPABILITIES)),
-            Request::GetBlkSize => Ok(self.telling(self.fragments.bytes())),
-            Request::SetFragment(arg) => self.set_fragments(arg),
-            Request::GetISpace => Ok(self.answering(self.space())),
-            Request::GetIPtr => Ok(self.tell_pointer()),
-            Request::GetError => Ok(self.tell_errors()),
+            Request::GetISpace => Turn::telling(self, self.opening.space(self.fill() as u32)),
+            Request::GetIPtr => self.with_opening(self.opening.tell_pointer(self.kept)),
+            Request::GetError => self.tell_errors(),
             Request::SetTrigger(bits) => self.set_trigger(bits),
-            Request::GetTrigger => Ok(self.telling(self.trigger_bits())),
-            Request::Post => Ok(self.posted().answering(Answer::Done)),
-            Request::Sync => Ok(self.answering(Answer::Done)),
-            Request::Halt => Ok(self.dropped().answering(Answer::Done)),
-            Request::GetOSpace
-            | Request::GetOPtr
-            | Request::GetODelay
-            | Request::SetPlayVol(_)
-            | Request::GetPlayVol => Err(Errno::Inval),
+            Request::Post => Turn::telling(self.posted(), Answer::Done),
+            Request::Sync => Turn::telling(self, Answer::Done),
+            Request::Halt => Turn::telling(self.dropped(), Answer::Done),
+            _ => self.with_opening(self.opening.asked(self.is_setup(), RECORD_BIT, request)),
         }
     }
 
-    fn answering(self, answer: Answer) -> RecordAsked
-        ensures { result ≡ record { book = self; answer = answer } }
+    // What was done to the book's opening is done to the book.
+    fn with_opening(self, turn: Turn<Opening>) -> Turn<RecordBook>
+        ensures { result ≡ record_with_opening self turn }
     {
-        RecordAsked { book: self, answer }
-    }
-
-    fn telling(self, number: u32) -> RecordAsked
-        ensures { result ≡ record { book = self; answer = Answer.Number number } }
-    {
-        self.answering(Answer::Number(number))
-    }
-
-    // Other settings, which the book takes in Setup alone. What isn't in its set is refused first.
-    fn with_settings(self, found: Option<Settings>) -> Result<RecordBook, Errno>
-        ensures { result ≡ with_settings found self }
-    {
-        let Some(settings) = found else {
-            return Err(Errno::Inval);
-        };
-        if !self.is_setup() {
-            return Err(Errno::Busy);
-        }
-        Ok(RecordBook { settings, ..self })
-    }
-
-    fn set_format(self, code: u32) -> Result<RecordAsked, Errno>
-        ensures { result ≡ set_format code self }
-    {
-        let book = match code {
-            0 => self,
-            _ => {
-                let settings = self.settings;
-                let format = Format::from_code(code);
-                self.with_settings(format.map(|format| Settings { format, ..settings }))?
-            }
-        };
-        Ok(book.telling(book.settings.format.code()))
-    }
-
-    fn set_rate(self, rate: u32) -> Result<RecordAsked, Errno>
-        ensures { result ≡ set_rate rate self }
-    {
-        let book = match rate {
-            0 => self,
-            _ => self.with_settings(at_rate(self.settings, rate))?,
-        };
-        Ok(book.telling(book.settings.rate))
-    }
-
-    fn set_channels(self, channels: u32) -> Result<RecordAsked, Errno>
-        ensures { result ≡ set_channels channels self }
-    {
-        let book = match channels {
-            0 => self,
-            _ => {
-                let settings = self.settings;
-                let layout = Layout::of(channels);
-                self.with_settings(layout.map(|layout| Settings { layout, ..settings }))?
-            }
-        };
-        Ok(book.telling(book.settings.layout.channels() as u32))
-    }
-
-    fn set_fragments(self, arg: u32) -> Result<RecordAsked, Errno>
-        ensures { result ≡ set_fragments arg self }
-    {
-        if !self.is_setup() {
-            return Err(Errno::Busy);
-        }
-        let fragments = Fragments::from_arg(arg);
-        let book = RecordBook { fragments, ..self };
-        Ok(book.telling(fragments.to_arg()))
-    }
-
-    fn space(&self) -> Answer
-        requires read { self.now.read ≤ self.now.kept }
-        requires fill { fill_of self.now ≤ ring_bytes self.now }
-        requires fragments { AreFragments self.now.fragments }
-        ensures { result ≡ space_of self.now }
-    {
-        let bytes = self.fill() as u32;
-        let fragsize = self.fragments.bytes();
-        Answer::Space {
-            fragments: bytes / fragsize,
-            fragstotal: self.fragments.count,
-            fragsize,
-            bytes,
+        Turn {
+            book: RecordBook {
+                opening: turn.book,
+                ..self
+            },
+            reply: turn.reply,
         }
     }
 
-    fn pointer(&self) -> Answer
-        requires fragments { AreFragments self.now.fragments }
-        ensures { result ≡ pointer_of self.now }
-    {
-        let fragsize = u64::from(self.fragments.bytes());
-        Answer::Pointer {
-            bytes: self.kept,
-            blocks: (self.kept / fragsize).saturating_sub(self.told / fragsize),
-            ptr: (self.kept % u64::from(self.fragments.size())) as u32,
-        }
-    }
-
-    fn tell_pointer(self) -> RecordAsked
-        requires fragments { AreFragments self.fragments }
-        ensures { tell_pointer self ≡ Ok result }
-    {
-        RecordBook {
-            told: self.kept,
-            ..self
-        }
-        .answering(self.pointer())
-    }
-
-    fn tell_errors(self) -> RecordAsked
-        ensures { tell_errors self ≡ Ok result }
+    fn tell_errors(self) -> Turn<RecordBook>
+        ensures { result ≡ record_tell_errors self }
     {
         let errors = Answer::Errors {
             underruns: 0,
             overruns: self.overruns,
         };
-        RecordBook {
-            overruns: 0,
-            ..self
-        }
-        .answering(errors)
+        Turn::telling(
+            RecordBook {
+                overruns: 0,
+                ..self
+            },
+            errors,
+        )
     }
 
     // A book in Setup starts.
     fn roused(self) -> RecordBook
-        ensures { result ≡ roused_in self.state self }
+        ensures { result ≡ record_roused_in self.state self }
     {
         match self.state {
             RecordState::Setup => RecordBook {
@@ -186,14 +76,18 @@ impl RecordBook {
 
     // A post starts a book that may start.
     fn posted(self) -> RecordBook
-        ensures { result ≡ posted self }
+        ensures { result ≡ record_posted self }
     {
-        if self.trigger { self.roused() } else { self }
+        if self.opening.trigger {
+            self.roused()
+        } else {
+            self
+        }
     }
 
     // A running book drops its bytes.
     fn stopped(self) -> RecordBook
-        ensures { result ≡ stopped_in self.state self }
+        ensures { result ≡ record_stopped_in self.state self }
     {
         match self.state {
             RecordState::Running => self.dropped(),
@@ -201,11 +95,21 @@ impl RecordBook {
         }
     }
 
+    fn with_trigger(self, trigger: bool) -> RecordBook
+        ensures { result ≡ record_with_trigger trigger self }
+    {
+        let opening = Opening {
+            trigger,
+            ..self.opening
+        };
+        RecordBook { opening, ..self }
+    }
+
     // The book once its trigger was set: on, it starts; off, it stops.
     fn triggered(self, trigger: bool) -> RecordBook
-        ensures { result ≡ triggered trigger self }
+        ensures { result ≡ record_triggered trigger self }
     {
-        let book = RecordBook { trigger, ..self };
+        let book = self.with_trigger(trigger);
         if trigger {
             book.roused()
         } else {
@@ -213,19 +117,13 @@ impl RecordBook {
         }
     }
 
-    fn set_trigger(self, bits: u32) -> Result<RecordAsked, Errno>
-        ensures { result ≡ set_trigger bits self }
+    fn set_trigger(self, bits: u32) -> Turn<RecordBook>
+        ensures { result ≡ record_set_trigger bits self }
     {
         if bits > 3 {
-            return Err(Errno::Inval);
+            return Turn::refused(self, Errno::Inval);
         }
         let trigger = bits % 2 == RECORD_BIT;
-        Ok(self.triggered(trigger).answering(Answer::Done))
-    }
-
-    fn trigger_bits(&self) -> u32
-        ensures { result ≡ trigger_of self.now }
-    {
-        if self.trigger { RECORD_BIT } else { 0 }
+        Turn::telling(self.triggered(trigger), Answer::Done)
     }
 }

@@ -1,21 +1,35 @@
-//! What a request comes to where it isn't refused.
+//! What an event comes to.
 
-use crate::Book;
-use pcm_oss::Answer;
+ghost use Rattle.std.specs.Prelude.{◌≡◌};
+ghost use Rattle.pcm_desk.specs.BookTurns.{refused, telling};
 
-/// The codes of all fourteen sample formats, added.
-pub const ALL_FORMATS: u32 = 0xff1f8;
+use pcm_oss::{Answer, Errno};
 
-/// What the device can do: triggers, and positions that are exact at every moment (`PCM_CAP_TRIGGER`,
-/// `PCM_CAP_REALTIME`).
-pub const CAPABILITIES: u32 = 0x1200;
-
-/// The bit of a trigger that a channel which plays has (`PCM_ENABLE_OUTPUT`).
-pub const PLAY_BIT: u32 = 2;
-
-/// The book after a request, and the answer.
+/// The book after an event, and the reply. What was refused leaves the book as it was.
 #[derive(Clone, Copy, Debug, PartialEq, Eq)]
-pub struct Turn {
-    pub book: Book,
-    pub answer: Answer,
+pub struct Turn<B> {
+    pub book: B,
+    pub reply: Result<Answer, Errno>,
+}
+
+impl<B> Turn<B> {
+    /// The book after what was done, and what is told of it.
+    pub fn telling(book: B, answer: Answer) -> Turn<B>
+        ensures { result ≡ telling answer book }
+    {
+        Turn {
+            book,
+            reply: Ok(answer),
+        }
+    }
+
+    /// The book as it was, and why nothing was done.
+    pub fn refused(book: B, errno: Errno) -> Turn<B>
+        ensures { result ≡ refused errno book }
+    {
+        Turn {
+            book,
+            reply: Err(errno),
+        }
+    }
 }

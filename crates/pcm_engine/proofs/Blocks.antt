@@ -13,23 +13,23 @@ use Rattle.pcm_format.specs.Frames.{Frame}
 use Rattle.pcm_format.proofs.Ranges.{flat_map-range-same, flat_map-range-shift, range-add}
 use Rattle.pcm_rate.specs.declared.rate.Rate.{Rate}
 use Rattle.pcm_rate.specs.Rates.{len}
-use Rattle.pcm_desk.specs.declared.book.Book.{Book}
-use Rattle.pcm_desk.specs.declared.book.State.{State}
-use Rattle.pcm_desk.specs.declared.book.State.TheVariants.{Free, Setup, Primed, Running, Draining}
-use Rattle.pcm_desk.specs.Books.{finished, frames_written, gives, is_free, refilled}
+use Rattle.pcm_desk.specs.declared.play_book.PlayBook.{PlayBook}
+use Rattle.pcm_desk.specs.declared.play_book.PlayState.{PlayState}
+use Rattle.pcm_desk.specs.declared.play_book.PlayState.TheVariants.{Free, Setup, Primed, Running, Draining}
+use Rattle.pcm_desk.specs.PlayBooks.{finished, frames_written, gives, is_play_free, refilled}
 use Rattle.pcm_desk.specs.Device.{DeviceSeen, mix_settings, play_slots}
-use Rattle.pcm_desk.specs.Desk.{book_at, mixing, rate_at}
+use Rattle.pcm_desk.specs.Desk.{play_at, mixing, play_rate_at}
 use Rattle.pcm_sound.specs.Gains.{GainSet, book_gain, last_gain}
 use Rattle.pcm_sound.specs.Runs.{Run, marking, playing, sounding}
 use Rattle.pcm_sound.specs.Story.{Story, told}
 use Rattle.pcm_sound.specs.Mix.{Table, adding, mix_of}
 use Rattle.pcm_sound.specs.DeviceList.{table_of, silence_in, mix_at, device_frame}
-use Rattle.pcm_sound.specs.Blocks.{turned}
+use Rattle.pcm_sound.specs.Added.{turned}
 use Rattle.pcm_sound.specs.Valid.{StoryIsValid}
 use Rattle.pcm_sound.proofs.DeviceLists.{IsDeviceFrame, mix_of-same, mix_of-more, mix_of-frame, sounding-frame, new_block}
 use Rattle.pcm_sound.proofs.Slots.{playing-own}
 use Rattle.pcm_sound.proofs.Sounding.{sounding-marking}
-use Rattle.pcm_desk.proofs.Slots.{book_at-mixing}
+use Rattle.pcm_desk.proofs.Slots.{play_at-mixing}
 use Rattle.pcm_sound.proofs.Turns.{turn}
 use Rattle.pcm_vchan.specs.Blocks.{silent_block, mixed_onto, block_of}
 use Rattle.pcm_engine.specs.Stands.{bytes_counted}
@@ -45,12 +45,12 @@ silence-joined frame_size a (suc n) =
 -- the table of a story after an interrupt
 abbrev pub next_table : DeviceSeen → Story → ℕ → Table
 next_table device story n slot position =
-    sounding device (last_gain (story.gains slot) position) (playing device story.desk.mixed n (book_at device story.desk slot) (story.runs slot)) position
+    sounding device (last_gain (story.gains slot) position) (playing device story.desk.mixed n (play_at device story.desk slot) (story.runs slot)) position
 
 next_frames : (device : DeviceSeen) (story : Story) (n : ℕ) → StoryIsValid device story → (slot position : ℕ) → IfSome (next_table device story n slot position) (IsDeviceFrame device)
 next_frames device story n v slot position =
-    sounding-frame device (last_gain (story.gains slot) position) (playing device story.desk.mixed n (book_at device story.desk slot) (story.runs slot)) position v.limits
-    (playing-own device story.desk.mixed n (book_at device story.desk slot) (story.runs slot) (v.slots slot).own)
+    sounding-frame device (last_gain (story.gains slot) position) (playing device story.desk.mixed n (play_at device story.desk slot) (story.runs slot)) position v.limits
+    (playing-own device story.desk.mixed n (play_at device story.desk slot) (story.runs slot) (v.slots slot).own)
 
 -- the mix of the first slots at the positions of an interrupt
 abbrev pub front_mix : DeviceSeen → Story → ℕ → ℕ → ℕ → Frame
@@ -61,9 +61,9 @@ fold-front : (device : DeviceSeen) (story : Story) (n j : ℕ) → StoryIsValid 
     → mixed_onto device n story.desk.play (bytes_counted device story) j (silent_block device n) ≡ flat_map (front_mix device story n j) (range_with_len 0 n)
 fold-front device story n zero v = sym (silence-joined (channels_of (mix_settings device).layout) 0 n)
 fold-front device story n (suc j) v =
-    let book : Book = book_at device story.desk j in
+    let book : PlayBook = play_at device story.desk j in
     let bytes : List ℕ = bytes_counted device story j in
-    let onto : List ℤ → ℕ → List ℤ = λ sum slot. turned device n (book_at device story.desk slot) (bytes_counted device story slot) sum in
+    let onto : List ℤ → ℕ → List ℤ = λ sum slot. turned device n (play_at device story.desk slot) (bytes_counted device story slot) sum in
     let sum : ℕ → Frame = front_mix device story n j in
     let next : suc j ≡ j + 1 = omega arith in
     let added = turn device story.desk.mixed n book (story.runs j) (λ k. last_gain (story.gains j) (story.desk.mixed + k)) bytes sum v.limits (v.slots j)
@@ -88,42 +88,42 @@ quiet true false volume now h same = absurd (let not_so : false ≡ true = h ref
 quiet false begun volume now h same = grind (arith, nat_tests)
 
 -- what an interrupt leaves of a book: its volume, and a free one free
-record Quiet (old new : Book) : Type 0 where
-  free : is_free old.state ≡ true → is_free new.state ≡ true
+record Quiet (old new : PlayBook) : Type 0 where
+  free : is_play_free old.state ≡ true → is_play_free new.state ≡ true
   volume : new.volume ≡ old.volume
 
-quiet_settled : (b closed : Bool) (given : Book) → is_free given.state ≡ false → Quiet given (cond {A = Book} b (finished (cond closed Free Setup) given) given)
+quiet_settled : (b closed : Bool) (given : PlayBook) → is_play_free given.state ≡ false → Quiet given (cond {A = PlayBook} b (finished (cond closed Free Setup) given) given)
 quiet_settled true closed given h = record { free = λ e. absurd (let not_so : true ≡ false = sym e ∙ h in cc); volume = refl }
 quiet_settled false closed given h = record { free = λ e. e; volume = refl }
 
-quiet_refilled : (state : State) (rate : Rate) (n : ℕ) (book : Book) → Quiet (record book { state = state }) (refilled rate n (record book { state = state }))
+quiet_refilled : (state : PlayState) (rate : Rate) (n : ℕ) (book : PlayBook) → Quiet (record book { state = state }) (refilled rate n (record book { state = state }))
 quiet_refilled Free rate n book = record { free = λ e. e; volume = refl }
 quiet_refilled Setup rate n book = record { free = λ e. e; volume = refl }
 quiet_refilled Primed rate n book = record { free = λ e. e; volume = refl }
 quiet_refilled Running rate n book = record { free = λ e. e; volume = refl }
 quiet_refilled (Draining closed) rate n book =
-    let given : Book = gives rate n (record book { state = Draining closed }) in
+    let given : PlayBook = gives rate n (record book { state = Draining closed }) in
     let q = quiet_settled (eqb given.given (len rate (frames_written given))) closed given refl in
     record { free = λ e. cc; volume = q.volume }
 
-quiet_mixing : (device : DeviceSeen) (n : ℕ) (book : Book) → Quiet book (mixing device n book)
+quiet_mixing : (device : DeviceSeen) (n : ℕ) (book : PlayBook) → Quiet book (mixing device n book)
 quiet_mixing device zero book = record { free = λ e. e; volume = refl }
-quiet_mixing device (suc n) book = quiet_refilled book.state (rate_at device book) (suc n) book
+quiet_mixing device (suc n) book = quiet_refilled book.state (play_rate_at device book) (suc n) book
 
 -- an interrupt sets no gain
 gains-kept : (device : DeviceSeen) (pool : Pool) (story : Story) (n slot : ℕ) → (told device pool story (Intr n)).gains slot ≡ story.gains slot
 gains-kept device pool story n slot =
-    let old : Book = book_at device story.desk slot in
-    let new : Book = book_at device (told device pool story (Intr n)).desk slot in
-    let q : Quiet old new = subst (Quiet old) (sym (book_at-mixing device story.desk n slot)) (quiet_mixing device n old) in
+    let old : PlayBook = play_at device story.desk slot in
+    let new : PlayBook = play_at device (told device pool story (Intr n)).desk slot in
+    let q : Quiet old new = subst (Quiet old) (sym (play_at-mixing device story.desk n slot)) (quiet_mixing device n old) in
     ap (λ (b : Bool). cond b (record { position = story.desk.mixed; gain = book_gain new } ∷ story.gains slot) (story.gains slot))
-    (quiet (is_free old.state) (is_free new.state) old.volume new.volume q.free q.volume)
+    (quiet (is_play_free old.state) (is_play_free new.state) old.volume new.volume q.free q.volume)
 
 -- what the slots give once the story is told
 told_table : (device : DeviceSeen) (pool : Pool) (story : Story) (n slot position : ℕ) → table_of device (told device pool story (Intr n)) slot position ≡ next_table device story n slot position
 told_table device pool story n slot position =
-    let old : Book = book_at device story.desk slot in
-    let new : Book = book_at device (told device pool story (Intr n)).desk slot in
+    let old : PlayBook = play_at device story.desk slot in
+    let new : PlayBook = play_at device (told device pool story (Intr n)).desk slot in
     let runs : List Run = playing device story.desk.mixed n old (story.runs slot) in
     ap (λ (gains : List GainSet). sounding device (last_gain gains position) (marking story.desk.mixed (Intr n) old new runs) position) (gains-kept device pool story n slot)
     ∙ sounding-marking device (last_gain (story.gains slot) position) story.desk.mixed (Intr n) old new runs position

@@ -7,17 +7,17 @@ use Rattle.std.proofs.lemmas.Bool.Decides.{nat_tests}
 use Rattle.pcm_wave.specs.declared.pool.Pool.{Pool}
 use Rattle.pcm_wave.specs.declared.pool.Source.{Source}
 use Rattle.pcm_wave.specs.Pools.{bytes_at, source_bytes}
-use Rattle.pcm_desk.specs.declared.book.Book.{Book}
+use Rattle.pcm_desk.specs.declared.play_book.PlayBook.{PlayBook}
 use Rattle.pcm_desk.specs.Device.{DeviceSeen}
 use Rattle.pcm_sound.specs.Runs.{Run, begun_run, taking, newest_bytes}
 use Rattle.pcm_sound.specs.Valid.{IsNewest, SlotIsValid}
 
-newest_length : (book : Book) (runs : List Run) → IsNewest book runs → length (newest_bytes runs) ≡ book.written
+newest_length : (book : PlayBook) (runs : List Run) → IsNewest book runs → length (newest_bytes runs) ≡ book.written
 newest_length book [] h = absurd h
 newest_length book (run ∷ runs) h = h.1
 
 -- there are as many as the book counts
-pub length-counted : (device : DeviceSeen) (mixed : ℕ) (book : Book) (runs : List Run) → SlotIsValid device mixed book runs → length (take book.written (newest_bytes runs)) ≡ book.written
+pub length-counted : (device : DeviceSeen) (mixed : ℕ) (book : PlayBook) (runs : List Run) → SlotIsValid device mixed book runs → length (take book.written (newest_bytes runs)) ≡ book.written
 length-counted device mixed book runs v =
     elim (cases_lt 0 book.written) [
       | inl some ↦ (let is = newest_length book runs (v.newest some) in omega (arith, length-take book.written (newest_bytes runs)))
@@ -25,7 +25,7 @@ length-counted device mixed book runs v =
     ]
 
 -- they are those of the newest run, where there are any
-pub counted-newest : (device : DeviceSeen) (mixed : ℕ) (book : Book) (runs : List Run) → SlotIsValid device mixed book runs → 0 < book.written → take book.written (newest_bytes runs) ≡ newest_bytes runs
+pub counted-newest : (device : DeviceSeen) (mixed : ℕ) (book : PlayBook) (runs : List Run) → SlotIsValid device mixed book runs → 0 < book.written → take book.written (newest_bytes runs) ≡ newest_bytes runs
 counted-newest device mixed book runs v some =
     let is = newest_length book runs (v.newest some) in
     take_all book.written (newest_bytes runs) (omega arith)
@@ -35,7 +35,7 @@ none_above : (n : ℕ) → (0 < n → ⊥) → n ≡ 0
 none_above zero h = refl
 none_above (suc n) h = absurd (h (omega arith))
 
-counted-taking_at : (b : Bool) (byte : ℕ) (bytes : List ℕ) (old : Book) (written : ℕ) (run : Run) (runs : List Run) → eqb old.written 0 ≡ b → written ≡ old.written + length (byte ∷ bytes) → (0 < old.written → IsNewest old (run ∷ runs))
+counted-taking_at : (b : Bool) (byte : ℕ) (bytes : List ℕ) (old : PlayBook) (written : ℕ) (run : Run) (runs : List Run) → eqb old.written 0 ≡ b → written ≡ old.written + length (byte ∷ bytes) → (0 < old.written → IsNewest old (run ∷ runs))
     → take written (newest_bytes (cond b (begun_run old (byte ∷ bytes) ∷ run ∷ runs) (record run { bytes = run.bytes ++ byte ∷ bytes } ∷ runs))) ≡ take old.written run.bytes ++ byte ∷ bytes
 counted-taking_at true byte bytes old written run runs e w newest =
     let zero_is : old.written ≡ 0 = grind (arith, nat_tests) in
@@ -48,7 +48,7 @@ counted-taking_at false byte bytes old written run runs e w newest =
     ∙ ap (λ bs. bs ++ byte ∷ bytes) (sym (take_all old.written run.bytes (omega arith)))
 
 -- bytes that are taken go behind those that are counted
-counted-taking : (more : List ℕ) (old : Book) (written : ℕ) (runs : List Run) → written ≡ old.written + length more → (0 < old.written → IsNewest old runs)
+counted-taking : (more : List ℕ) (old : PlayBook) (written : ℕ) (runs : List Run) → written ≡ old.written + length more → (0 < old.written → IsNewest old runs)
     → take written (newest_bytes (taking more old runs)) ≡ take old.written (newest_bytes runs) ++ more
 counted-taking [] old written runs w newest = ap (λ n. take n (newest_bytes runs)) (w ∙ (let e : old.written + 0 ≡ old.written = omega arith in e)) ∙ sym (append-nil (take old.written (newest_bytes runs)))
 counted-taking (byte ∷ bytes) old written [] w newest =
@@ -57,7 +57,7 @@ counted-taking (byte ∷ bytes) old written [] w newest =
 counted-taking (byte ∷ bytes) old written (run ∷ runs) w newest = counted-taking_at (eqb old.written 0) byte bytes old written run runs refl w newest
 
 -- a write: the bytes that a book accepts are the front of those that were brought
-pub counted-written : (device : DeviceSeen) (mixed : ℕ) (pool : Pool) (source : Source) (at count accepted : ℕ) (old : Book) (written : ℕ) (runs : List Run) → SlotIsValid device mixed old runs → at + count ≤ length (source_bytes pool source)
+pub counted-written : (device : DeviceSeen) (mixed : ℕ) (pool : Pool) (source : Source) (at count accepted : ℕ) (old : PlayBook) (written : ℕ) (runs : List Run) → SlotIsValid device mixed old runs → at + count ≤ length (source_bytes pool source)
     → written ≡ old.written + accepted → accepted ≤ count
     → take written (newest_bytes (taking (bytes_at pool source at (written - old.written)) old runs)) ≡ take written (take old.written (newest_bytes runs) ++ bytes_at pool source at count)
 counted-written device mixed pool source at count accepted old written runs v fits grew within =
@@ -73,6 +73,6 @@ counted-written device mixed pool source at count accepted old written runs v fi
     ∙ ap (λ n. take n (front ++ bytes_at pool source at count)) (sym all)
 
 -- another event: no more is counted than before
-pub counted-kept : (old : Book) (written : ℕ) (newest : List ℕ) → written ≤ old.written → take written newest ≡ take written (take old.written newest ++ [])
+pub counted-kept : (old : PlayBook) (written : ℕ) (newest : List ℕ) → written ≤ old.written → take written newest ≡ take written (take old.written newest ++ [])
 counted-kept old written newest less =
     sym (ap (take written) (append-nil (take old.written newest)) ∙ take-take written old.written newest less)

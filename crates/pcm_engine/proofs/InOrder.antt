@@ -7,53 +7,53 @@ use Rattle.pcm_oss.proofs.Limits.{usual-fragments}
 use Rattle.pcm_feeder.specs.declared.kind.Kind.{Kind}
 use Rattle.pcm_feeder.specs.Filters.{Filters}
 use Rattle.pcm_feeder.specs.Kept.{Kept}
-use Rattle.pcm_desk.specs.declared.book.Book.{Book}
+use Rattle.pcm_desk.specs.declared.play_book.PlayBook.{PlayBook}
 use Rattle.pcm_desk.specs.declared.device.Device.{Device}
 use Rattle.pcm_desk.specs.declared.record_book.RecordBook.{RecordBook}
 use Rattle.pcm_desk.specs.Device.{DeviceSeen, seen}
-use Rattle.pcm_desk.specs.Desk.{Desk, rate_at, record_rate_at, record_unopened, unopened}
-use Rattle.pcm_desk.specs.Safe.{BookIsSafe}
+use Rattle.pcm_desk.specs.Desk.{Desk, play_rate_at, record_rate_at, record_unopened, play_unopened}
+use Rattle.pcm_desk.specs.PlaySafe.{PlayIsSafe}
 use Rattle.pcm_desk.specs.RecordSafe.{RecordIsSafe}
-use Rattle.pcm_desk.proofs.Safe.{unstarted}
+use Rattle.pcm_desk.proofs.PlaySafe.{unstarted}
 use Rattle.pcm_desk.proofs.RecordSafe.{safe-unstarted}
 use Rattle.pcm_play.specs.declared.channel.PlayChannelOf.{PlayChannelOf}
-use Rattle.pcm_play.specs.Channels.{IsReady}
+use Rattle.pcm_play.specs.Channels.{IsPlayReady}
 use Rattle.pcm_play.proofs.Moving.{safe-at}
-use Rattle.pcm_record.specs.declared.channel.RecChannelOf.{RecChannelOf}
+use Rattle.pcm_record.specs.declared.channel.RecordChannelOf.{RecordChannelOf}
 use Rattle.pcm_record.specs.Channels.{IsRecordReady}
 use Rattle.pcm_record.proofs.Moving as recorders
-use Rattle.pcm_vchan.specs.Slots.{AreOf, RecordersAreOf, books_of, record_books_of}
+use Rattle.pcm_vchan.specs.Slots.{PlayAreOf, RecordAreOf, play_books_of, record_books_of}
 use Rattle.pcm_vchan.proofs.Channels.{some_channel}
-use Rattle.pcm_vchan.specs.Parents.{play_channels, rec_channels}
+use Rattle.pcm_vchan.specs.Parents.{play_channels, record_channels}
 use Rattle.pcm_engine.specs.declared.engine.EngineOf.{EngineOf}
 use Rattle.pcm_engine.specs.Engines.{AreReady, BooksAreSafe, RecordsAreSafe, RingsHold, desk_of}
 
 -- ---- channels that play
 
-abbrev IsSafe : DeviceSeen → Book → Type 0
-IsSafe device book = BookIsSafe (rate_at device book) book
+abbrev IsSafe : DeviceSeen → PlayBook → Type 0
+IsSafe device book = PlayIsSafe (play_rate_at device book) book
 
 -- a channel carries it by the plan that its chain goes by
-own_safe : {B : Type 0} (kind : B → Kind) (kept : B → Kept) (filters : Filters) (device : Device) (channel : PlayChannelOf B) → channel.device ≡ device → IsReady kind kept filters channel → IsSafe (seen filters device) channel.book
+own_safe : {B : Type 0} (kind : B → Kind) (kept : B → Kept) (filters : Filters) (device : Device) (channel : PlayChannelOf B) → channel.device ≡ device → IsPlayReady kind kept filters channel → IsSafe (seen filters device) channel.book
 own_safe kind kept filters device channel own ready =
     subst (λ (d : Device). IsSafe (seen filters d) channel.book) own
     (safe-at filters channel ready.planned)
 
 -- a book that nobody has opened
-unopened_safe : (device : DeviceSeen) → IsSafe device (unopened device)
+unopened_safe : (device : DeviceSeen) → IsSafe device (play_unopened device)
 unopened_safe device = record { order = unstarted; fill = omega arith; fragments = usual-fragments; volume = refl; told = omega arith }
 
 -- the book of each slot
-books_safe : {B : Type 0} (kind : B → Kind) (kept : B → Kept) (filters : Filters) (device : Device) (desk : Desk) (channels : List (PlayChannelOf B)) → desk.play ≡ books_of channels → AreOf device channels → All (IsReady kind kept filters) channels
+books_safe : {B : Type 0} (kind : B → Kind) (kept : B → Kept) (filters : Filters) (device : Device) (desk : Desk) (channels : List (PlayChannelOf B)) → desk.play ≡ play_books_of channels → PlayAreOf device channels → All (IsPlayReady kind kept filters) channels
     → BooksAreSafe (seen filters device) desk
 books_safe {B} kind kept filters device desk channels are own ready slot =
-    let none : Book = unopened (seen filters device) in
-    subst (λ (books : List Book). IsSafe (seen filters device) (get_or books slot none)) (sym are)
+    let none : PlayBook = play_unopened (seen filters device) in
+    subst (λ (books : List PlayBook). IsSafe (seen filters device) (get_or books slot none)) (sym are)
     (elim (cases_lt slot (length channels)) [
       | inl there ↦ (let some : PlayChannelOf B = some_channel channels slot there in
           subst (IsSafe (seen filters device)) (sym (get_or-map (λ (c : PlayChannelOf B). c.book) channels slot some none there))
           (own_safe kind kept filters device (get_or channels slot some) (own slot some there) (ready slot some there)))
-      | inr past ↦ subst (IsSafe (seen filters device)) (sym (get_or_past (books_of channels) slot none (omega (arith, length-map channels (λ (c : PlayChannelOf B). c.book)))))
+      | inr past ↦ subst (IsSafe (seen filters device)) (sym (get_or_past (play_books_of channels) slot none (omega (arith, length-map channels (λ (c : PlayChannelOf B). c.book)))))
           (unopened_safe (seen filters device))
     ])
 
@@ -62,7 +62,7 @@ books_safe {B} kind kept filters device desk channels are own ready slot =
 abbrev IsRecordSafe : DeviceSeen → RecordBook → Type 0
 IsRecordSafe device book = RecordIsSafe (record_rate_at device book) book
 
-record_own_safe : {B : Type 0} (kind : B → Kind) (kept : B → Kept) (filters : Filters) (device : Device) (channel : RecChannelOf B) → channel.device ≡ device → IsRecordReady kind kept filters channel → IsRecordSafe (seen filters device) channel.book
+record_own_safe : {B : Type 0} (kind : B → Kind) (kept : B → Kept) (filters : Filters) (device : Device) (channel : RecordChannelOf B) → channel.device ≡ device → IsRecordReady kind kept filters channel → IsRecordSafe (seen filters device) channel.book
 record_own_safe kind kept filters device channel own ready =
     subst (λ (d : Device). IsRecordSafe (seen filters d) channel.book) own
     (recorders.safe-at filters channel ready.planned)
@@ -71,16 +71,16 @@ record_unopened_safe : (device : DeviceSeen) → IsRecordSafe device (record_uno
 record_unopened_safe device =
     safe-unstarted (record_rate_at device (record_unopened device)) (record_unopened device) (record { captured_none = refl; kept_none = refl; read_none = refl }) refl refl usual-fragments
 
-records_safe : {B : Type 0} (kind : B → Kind) (kept : B → Kept) (filters : Filters) (device : Device) (desk : Desk) (recorders : List (RecChannelOf B)) → desk.recording ≡ record_books_of recorders → RecordersAreOf device recorders
+records_safe : {B : Type 0} (kind : B → Kind) (kept : B → Kept) (filters : Filters) (device : Device) (desk : Desk) (recorders : List (RecordChannelOf B)) → desk.recording ≡ record_books_of recorders → RecordAreOf device recorders
     → All (IsRecordReady kind kept filters) recorders → RecordsAreSafe (seen filters device) desk
 records_safe {B} kind kept filters device desk recorders are own ready slot =
     let none : RecordBook = record_unopened (seen filters device) in
     subst (λ (books : List RecordBook). IsRecordSafe (seen filters device) (get_or books slot none)) (sym are)
     (elim (cases_lt slot (length recorders)) [
-      | inl there ↦ (let some : RecChannelOf B = some_channel recorders slot there in
-          subst (IsRecordSafe (seen filters device)) (sym (get_or-map (λ (c : RecChannelOf B). c.book) recorders slot some none there))
+      | inl there ↦ (let some : RecordChannelOf B = some_channel recorders slot there in
+          subst (IsRecordSafe (seen filters device)) (sym (get_or-map (λ (c : RecordChannelOf B). c.book) recorders slot some none there))
           (record_own_safe kind kept filters device (get_or recorders slot some) (own slot some there) (ready slot some there)))
-      | inr past ↦ subst (IsRecordSafe (seen filters device)) (sym (get_or_past (record_books_of recorders) slot none (omega (arith, length-map recorders (λ (c : RecChannelOf B). c.book)))))
+      | inr past ↦ subst (IsRecordSafe (seen filters device)) (sym (get_or_past (record_books_of recorders) slot none (omega (arith, length-map recorders (λ (c : RecordChannelOf B). c.book)))))
           (record_unopened_safe (seen filters device))
     ])
 
@@ -90,18 +90,18 @@ records_safe {B} kind kept filters device desk recorders are own ready slot =
 pub rings-hold : {B : Type 0} (engine : EngineOf B) → RingsHold engine
 rings-hold engine = record {
   playing = λ slot other there. (let channel = get_or (play_channels engine.parent) slot other in let fill = channel.fill in let most = channel.safe.fill in omega arith);
-  recording = λ slot other there. (let channel = get_or (rec_channels engine.parent) slot other in let fill = channel.fill in let most = channel.safe.fill in omega arith);
+  recording = λ slot other there. (let channel = get_or (record_channels engine.parent) slot other in let fill = channel.fill in let most = channel.safe.fill in omega arith);
   device = engine.parent.full;
 }
 
 -- ---- an engine whose channels are ready
 
-pub ready-all : {B : Type 0} (kind : B → Kind) (kept : B → Kept) (engine : EngineOf B) → All (IsReady kind kept engine.tables) (play_channels engine.parent) → All (IsRecordReady kind kept engine.tables) (rec_channels engine.parent)
+pub ready-all : {B : Type 0} (kind : B → Kind) (kept : B → Kept) (engine : EngineOf B) → All (IsPlayReady kind kept engine.tables) (play_channels engine.parent) → All (IsRecordReady kind kept engine.tables) (record_channels engine.parent)
     → AreReady kind kept engine
 ready-all kind kept engine playing recording = record {
   playing = playing;
   recording = recording;
   books = books_safe kind kept engine.tables engine.parent.device (desk_of engine) (play_channels engine.parent) refl engine.own playing;
-  records = records_safe kind kept engine.tables engine.parent.device (desk_of engine) (rec_channels engine.parent) refl engine.recorders_own recording;
+  records = records_safe kind kept engine.tables engine.parent.device (desk_of engine) (record_channels engine.parent) refl engine.recorders_own recording;
   rings = rings-hold engine;
 }

@@ -11,15 +11,15 @@ use Rattle.pcm_desk.specs.Desk.{record_at}
 use Rattle.pcm_sound.specs.Pools.{AreAlike}
 use Rattle.pcm_sound.specs.Story.{Story, story_of}
 use Rattle.pcm_sound.proofs.Pools.{recordings-alike, story-alike}
-use Rattle.pcm_record.specs.declared.channel.RecChannelOf.{RecChannelOf}
+use Rattle.pcm_record.specs.declared.channel.RecordChannelOf.{RecordChannelOf}
 use Rattle.pcm_record.specs.Channels.{RecordStands}
 use Rattle.pcm_engine.specs.declared.engine.EngineOf.{EngineOf}
 use Rattle.pcm_engine.specs.Engines.{Stands, desk_of, device_of}
 use Rattle.pcm_engine.specs.Stands.{PartsStand, RecordersStand, bytes_kept}
-use Rattle.pcm_vchan.specs.Parents.{play_channels, rec_channels}
+use Rattle.pcm_vchan.specs.Parents.{play_channels, record_channels}
 
 -- channels that record stand for a story with either pool
-recorders_alike : {B : Type 0} (kept : B → Kept) (device : DeviceSeen) (one other : Pool) (recorders : List (RecChannelOf B)) (story : Story) → capture_frames other ≡ capture_frames one
+recorders_alike : {B : Type 0} (kept : B → Kept) (device : DeviceSeen) (one other : Pool) (recorders : List (RecordChannelOf B)) (story : Story) → capture_frames other ≡ capture_frames one
     → RecordersStand kept device one recorders story → RecordersStand kept device other recorders story
 recorders_alike {B} kept device one other recorders story captured s = record {
   slots = λ slot channel there.
@@ -35,5 +35,5 @@ stands-alike kept engine one other events alike s =
     let same : story_of device one events ≡ story_of device other events = sym (story-alike device one other events alike) in
     record {
       playing = subst (PartsStand kept device (desk_of engine) (play_channels engine.parent) engine.parent.ring.bytes) same s.playing;
-      recording = subst (RecordersStand kept device other (rec_channels engine.parent)) same (recorders_alike kept device one other (rec_channels engine.parent) (story_of device one events) alike.captured s.recording);
+      recording = subst (RecordersStand kept device other (record_channels engine.parent)) same (recorders_alike kept device one other (record_channels engine.parent) (story_of device one events) alike.captured s.recording);
     }

@@ -5,7 +5,7 @@ use Rattle.std.proofs.lemmas.List.{append-nil, get_or-map, take_all}
 use Rattle.pcm_oss.specs.declared.event.Event.{Event}
 use Rattle.pcm_oss.specs.declared.event.Event.TheVariants.{Open, Write, Read, Ioctl, Close, Intr}
 use Rattle.pcm_oss.specs.declared.event.Way.{Way}
-use Rattle.pcm_oss.specs.declared.event.Way.TheVariants.{Play, Rec}
+use Rattle.pcm_oss.specs.declared.event.Way.TheVariants.{Play, Record}
 use Rattle.pcm_oss.specs.declared.reply.Answer.{Answer}
 use Rattle.pcm_oss.specs.declared.reply.Errno.{Errno}
 use Rattle.pcm_oss.specs.Replies.{Reply}
@@ -25,33 +25,33 @@ use Rattle.pcm_desk.specs.declared.device.Device.{Device}
 use Rattle.pcm_desk.specs.declared.device.Held.{Held}
 use Rattle.pcm_desk.specs.declared.record_book.RecordBook.{RecordBook}
 use Rattle.pcm_desk.specs.Device.{DeviceSeen, IsDevice, device_settings, filters_of, seen}
-use Rattle.pcm_desk.specs.RecordBooks.{fill_of, is_running, keeping}
-use Rattle.pcm_desk.specs.Desk.{Desk, after, book_at, by_way, capturing, held_by, record_at, record_rate_at, record_unopened}
+use Rattle.pcm_desk.specs.RecordBooks.{is_running, keeping, record_fill_of}
+use Rattle.pcm_desk.specs.Desk.{Desk, after, play_at, by_way, capturing, held_by, record_at, record_rate_at, record_unopened}
 use Rattle.pcm_desk.specs.Events.{Fits, frames_taken}
 use Rattle.pcm_desk.specs.Own as own
-use Rattle.pcm_sound.specs.Plans.{recorded_bytes}
+use Rattle.pcm_sound.specs.Given.{recorded_bytes}
 use Rattle.pcm_sound.specs.Recordings.{Recording, read_bytes, recording_after}
-use Rattle.pcm_sound.specs.Replies.{bytes_got, bytes_to}
+use Rattle.pcm_sound.specs.StoryReplies.{bytes_got, bytes_to}
 use Rattle.pcm_sound.specs.Story.{Story, told}
 use Rattle.pcm_sound.specs.Valid.{RecordingIsValid, RecordingsAreValid, StoryIsValid}
 use Rattle.pcm_sound.proofs.Following.{bytes_in, frames_of_book, recording-follows, recording-hears}
 use Rattle.pcm_desk.proofs.Slots.{record_at-capturing}
 use Rattle.pcm_sound.proofs.Recorded.{idle-unstarted, recordings-told}
-use Rattle.pcm_record.specs.declared.channel.RecChannelOf.{RecChannelOf}
+use Rattle.pcm_record.specs.declared.channel.RecordChannelOf.{RecordChannelOf}
 use Rattle.pcm_record.specs.Channels.{IsRecordReady, RecordMoves, RecordStands}
 use Rattle.pcm_vchan.specs.Captures.{Captures}
-use Rattle.pcm_vchan.specs.Slots.{AllRecord, Each, RecordersAreOf, record_books_of}
+use Rattle.pcm_vchan.specs.Slots.{AllRecordStand, Each, RecordAreOf, record_books_of}
 use Rattle.pcm_vchan.proofs.Channels.{record-ready-moved}
 use Rattle.pcm_engine.specs.Stands.{RecordersStand, bytes_kept, frames_captured}
 use Rattle.pcm_engine.specs.Steps.{RecordersMove, bytes_answered, bytes_read, channel_read}
 
 -- the record book of a slot is that of its channel
-pub record_at-books : {B : Type 0} (device : DeviceSeen) (desk : Desk) (recorders : List (RecChannelOf B)) (slot : ℕ) (other : RecChannelOf B) → desk.recording ≡ record_books_of recorders → slot < length recorders → record_at device desk slot ≡ (get_or recorders slot other).book
+pub record_at-books : {B : Type 0} (device : DeviceSeen) (desk : Desk) (recorders : List (RecordChannelOf B)) (slot : ℕ) (other : RecordChannelOf B) → desk.recording ≡ record_books_of recorders → slot < length recorders → record_at device desk slot ≡ (get_or recorders slot other).book
 record_at-books {B = B} device desk recorders slot other recording there =
-    ap (λ (books : List RecordBook). get_or books slot (record_unopened device)) recording ∙ get_or-map (λ (c : RecChannelOf B). c.book) recorders slot other (record_unopened device) there
+    ap (λ (books : List RecordBook). get_or books slot (record_unopened device)) recording ∙ get_or-map (λ (c : RecordChannelOf B). c.book) recorders slot other (record_unopened device) there
 
 -- a channel of the device stands, once it moved and captured nothing, for the first of what it stood for
-stands-less : {B : Type 0} (kind : B → Kind) (kept : B → Kept) (device : DeviceSeen) (old new : RecChannelOf B) (bytes : List ℕ) (frames : List Frame) → RecordMoves kind kept (filters_of device) [] 0 old new
+stands-less : {B : Type 0} (kind : B → Kind) (kept : B → Kept) (device : DeviceSeen) (old new : RecordChannelOf B) (bytes : List ℕ) (frames : List Frame) → RecordMoves kind kept (filters_of device) [] 0 old new
     → RecordStands kept (filters_of device) old old.book bytes frames → RecordStands kept (filters_of device) new new.book (take new.book.kept bytes) (take new.book.captured frames)
 stands-less kind kept device old new bytes frames m s =
     let stood = m.stands bytes frames s in
@@ -59,10 +59,10 @@ stands-less kind kept device old new bytes frames m s =
     (subst (λ (f : List Frame). RecordStands kept (filters_of device) new new.book (take new.book.kept (bytes ++ [])) (take new.book.captured f)) (append-nil frames) stood)
 
 -- an event that takes no frames
-still : {B : Type 0} (kind : B → Kind) (kept : B → Kept) (device : DeviceSeen) (pool : Pool) (story : Story) (event : Event) (before now : List (RecChannelOf B)) → Fits device pool event → frames_taken event ≡ 0
+still : {B : Type 0} (kind : B → Kind) (kept : B → Kept) (device : DeviceSeen) (pool : Pool) (story : Story) (event : Event) (before now : List (RecordChannelOf B)) → Fits device pool event → frames_taken event ≡ 0
     → story.desk.recording ≡ record_books_of before → (told device pool story event).desk.recording ≡ record_books_of now → length now ≡ length before
     → Each (RecordMoves kind kept (filters_of device) [] 0) before now → RecordersStand kept device pool before story
-    → (slot : ℕ) (other : RecChannelOf B) → slot < length now
+    → (slot : ℕ) (other : RecordChannelOf B) → slot < length now
     → RecordStands kept (filters_of device) (get_or now slot other) (record_at device (told device pool story event).desk slot) (bytes_kept device (told device pool story event) slot) (frames_captured device pool (told device pool story event) slot)
 still kind kept device pool story event before now fits none before_are now_are same moves s slot other within =
     let there : slot < length before = omega arith in
@@ -78,26 +78,26 @@ still kind kept device pool story event before now fits none before_are now_are 
     (subst (λ (x : List Frame). RecordStands kept (filters_of device) (get_or now slot other) new (take new.kept (bytes_kept device story slot)) x) (sym f.frames) stands_new)
 
 -- a channel that captured frames of its device stands for these too, and for what it kept of them
-stands-captured : {B : Type 0} (kind : B → Kind) (kept : B → Kept) (device : DeviceSeen) (n : ℕ) (more : List Frame) (before now : RecChannelOf B) (old new : RecordBook) (bytes : List ℕ) (frames : List Frame)
+stands-captured : {B : Type 0} (kind : B → Kind) (kept : B → Kept) (device : DeviceSeen) (n : ℕ) (more : List Frame) (before now : RecordChannelOf B) (old new : RecordBook) (bytes : List ℕ) (frames : List Frame)
     → seen (filters_of device) before.device ≡ device → frames_of (channels_of (device_settings device).layout) (interleaved more) ≡ more → old ≡ before.book → now.book ≡ new
     → RecordMoves kind kept (filters_of device) (frames_of (channels_of (device_settings device).layout) (interleaved more)) (keeping (record_rate_at device before.book) n before.book) before now
     → RecordStands kept (filters_of device) before old bytes frames
-    → RecordStands kept (filters_of device) now new (take new.kept (bytes ++ recorded_bytes device old.settings (frames ++ more) old.given (keeping (record_rate_at device old) n old))) (take new.captured (frames ++ more))
+    → RecordStands kept (filters_of device) now new (take new.kept (bytes ++ recorded_bytes device old.opening.settings (frames ++ more) old.given (keeping (record_rate_at device old) n old))) (take new.captured (frames ++ more))
 stands-captured kind kept device n more before now old new bytes frames device_is input old_is new_is m s =
     let k : ℕ = keeping (record_rate_at device before.book) n before.book in
     let stood = subst (λ (b : RecordBook). RecordStands kept (filters_of device) before b bytes frames) old_is s in
     let stands = m.stands bytes frames stood in
-    let with_input = subst (λ (x : List Frame). RecordStands kept (filters_of device) now now.book (take now.book.kept (bytes ++ recorded_bytes (seen (filters_of device) before.device) before.book.settings (frames ++ x) before.book.given k)) (take now.book.captured (frames ++ x))) input stands in
-    let on_device = subst (λ (v : DeviceSeen). RecordStands kept (filters_of device) now now.book (take now.book.kept (bytes ++ recorded_bytes v before.book.settings (frames ++ more) before.book.given k)) (take now.book.captured (frames ++ more))) device_is with_input in
-    let of_book = subst (λ (b : RecordBook). RecordStands kept (filters_of device) now now.book (take now.book.kept (bytes ++ recorded_bytes device b.settings (frames ++ more) b.given (keeping (record_rate_at device b) n b))) (take now.book.captured (frames ++ more))) (sym old_is) on_device in
-    subst (λ (b : RecordBook). RecordStands kept (filters_of device) now b (take b.kept (bytes ++ recorded_bytes device old.settings (frames ++ more) old.given (keeping (record_rate_at device old) n old))) (take b.captured (frames ++ more))) new_is of_book
+    let with_input = subst (λ (x : List Frame). RecordStands kept (filters_of device) now now.book (take now.book.kept (bytes ++ recorded_bytes (seen (filters_of device) before.device) before.book.opening.settings (frames ++ x) before.book.given k)) (take now.book.captured (frames ++ x))) input stands in
+    let on_device = subst (λ (v : DeviceSeen). RecordStands kept (filters_of device) now now.book (take now.book.kept (bytes ++ recorded_bytes v before.book.opening.settings (frames ++ more) before.book.given k)) (take now.book.captured (frames ++ more))) device_is with_input in
+    let of_book = subst (λ (b : RecordBook). RecordStands kept (filters_of device) now now.book (take now.book.kept (bytes ++ recorded_bytes device b.opening.settings (frames ++ more) b.given (keeping (record_rate_at device b) n b))) (take now.book.captured (frames ++ more))) (sym old_is) on_device in
+    subst (λ (b : RecordBook). RecordStands kept (filters_of device) now b (take b.kept (bytes ++ recorded_bytes device old.opening.settings (frames ++ more) old.given (keeping (record_rate_at device old) n old))) (take b.captured (frames ++ more))) new_is of_book
 
 -- an interrupt
-heard : {B : Type 0} (kind : B → Kind) (kept : B → Kept) (device : DeviceSeen) (own : Device) (pool : Pool) (story : Story) (n : ℕ) (before now : List (RecChannelOf B)) → IsDevice device → IsCaptureIn (device_settings device).layout pool
-    → seen (filters_of device) own ≡ device → RecordersAreOf own before
+heard : {B : Type 0} (kind : B → Kind) (kept : B → Kept) (device : DeviceSeen) (own : Device) (pool : Pool) (story : Story) (n : ℕ) (before now : List (RecordChannelOf B)) → IsDevice device → IsCaptureIn (device_settings device).layout pool
+    → seen (filters_of device) own ≡ device → RecordAreOf own before
     → story.desk.recording ≡ record_books_of before → (told device pool story (Intr n)).desk.recording ≡ record_books_of now → length now ≡ length before
     → Each (Captures kind kept device n (interleaved (captured_frames (device_settings device).layout pool story.desk.handed n))) before now → RecordersStand kept device pool before story
-    → (slot : ℕ) (other : RecChannelOf B) → slot < length now
+    → (slot : ℕ) (other : RecordChannelOf B) → slot < length now
     → RecordStands kept (filters_of device) (get_or now slot other) (record_at device (told device pool story (Intr n)).desk slot) (bytes_kept device (told device pool story (Intr n)) slot) (frames_captured device pool (told device pool story (Intr n)) slot)
 heard {B = B} kind kept device own pool story n before now d captures seen_is are before_are now_are same moves s slot other within =
     let there : slot < length before = omega arith in
@@ -117,14 +117,14 @@ heard {B = B} kind kept device own pool story n before now d captures seen_is ar
     subst (λ (b : RecordBook). RecordStands kept (filters_of device) (get_or now slot other) b (bytes_in b (after_is b)) (frames_of_book device pool b (after_is b))) (sym went)
     (subst (λ (bytes : List ℕ). RecordStands kept (filters_of device) (get_or now slot other) new bytes (frames_of_book device pool new (after_is new))) (sym h.bytes)
     (subst (λ (frames : List Frame). RecordStands kept (filters_of device) (get_or now slot other) new
-    (take new.kept (bytes_kept device story slot ++ recorded_bytes device old.settings (frames_captured device pool story slot ++ more) old.given (keeping (record_rate_at device old) n old))) frames) (sym h.frames) stands))
+    (take new.kept (bytes_kept device story slot ++ recorded_bytes device old.opening.settings (frames_captured device pool story slot ++ more) old.given (keeping (record_rate_at device old) n old))) frames) (sym h.frames) stands))
 
 -- each stands for its slot after an event
-slots_stand : {B : Type 0} (kind : B → Kind) (kept : B → Kept) (device : DeviceSeen) (own : Device) (pool : Pool) (story : Story) (event : Event) (before now : List (RecChannelOf B)) → IsDevice device → IsCaptureIn (device_settings device).layout pool → Fits device pool event
-    → seen (filters_of device) own ≡ device → RecordersAreOf own before
+slots_stand : {B : Type 0} (kind : B → Kind) (kept : B → Kept) (device : DeviceSeen) (own : Device) (pool : Pool) (story : Story) (event : Event) (before now : List (RecordChannelOf B)) → IsDevice device → IsCaptureIn (device_settings device).layout pool → Fits device pool event
+    → seen (filters_of device) own ≡ device → RecordAreOf own before
     → story.desk.recording ≡ record_books_of before → (told device pool story event).desk.recording ≡ record_books_of now → length now ≡ length before
     → RecordersMove kind kept device pool story.desk.handed event before now → RecordersStand kept device pool before story
-    → (slot : ℕ) (other : RecChannelOf B) → slot < length now
+    → (slot : ℕ) (other : RecordChannelOf B) → slot < length now
     → RecordStands kept (filters_of device) (get_or now slot other) (record_at device (told device pool story event).desk slot) (bytes_kept device (told device pool story event) slot) (frames_captured device pool (told device pool story event) slot)
 slots_stand kind kept device own pool story (Open fd way settings) before now d c fits seen_is are b n same moves s = still kind kept device pool story (Open fd way settings) before now fits refl b n same moves s
 slots_stand kind kept device own pool story (Write fd source at count) before now d c fits seen_is are b n same moves s = still kind kept device pool story (Write fd source at count) before now fits refl b n same moves s
@@ -134,8 +134,8 @@ slots_stand kind kept device own pool story (Close fd) before now d c fits seen_
 slots_stand kind kept device own pool story (Intr frames) before now d c fits seen_is are b n same moves s = heard kind kept device own pool story frames before now d c seen_is are b n same moves s
 
 -- What stood for a story stands, one step on, for the story with one event more.
-pub recorders-told : {B : Type 0} (kind : B → Kind) (kept : B → Kept) (device : DeviceSeen) (own : Device) (pool : Pool) (story : Story) (event : Event) (old new : Desk) (before now : List (RecChannelOf B)) → IsCaptureIn (device_settings device).layout pool → Fits device pool event
-    → seen (filters_of device) own ≡ device → RecordersAreOf own before → old ≡ story.desk → new ≡ (after device old event).desk → old.recording ≡ record_books_of before → new.recording ≡ record_books_of now → length now ≡ length before
+pub recorders-told : {B : Type 0} (kind : B → Kind) (kept : B → Kept) (device : DeviceSeen) (own : Device) (pool : Pool) (story : Story) (event : Event) (old new : Desk) (before now : List (RecordChannelOf B)) → IsCaptureIn (device_settings device).layout pool → Fits device pool event
+    → seen (filters_of device) own ≡ device → RecordAreOf own before → old ≡ story.desk → new ≡ (after device old event).desk → old.recording ≡ record_books_of before → new.recording ≡ record_books_of now → length now ≡ length before
     → RecordersMove kind kept device pool old.handed event before now → StoryIsValid device story → RecordersStand kept device pool before story → RecordersStand kept device pool now (told device pool story event)
 recorders-told kind kept device own pool story event old new before now c fits seen_is are old_is new_is b n same moves v s =
     let desk_is : new ≡ (told device pool story event).desk = new_is ∙ ap (λ (d : Desk). (after device d event).desk) old_is in
@@ -154,7 +154,7 @@ length-captured layout pool handed n captures =
 -- ---- what is ready, and what reads get
 
 -- channels that were ready are ready after an event
-pub recorders-ready : {B : Type 0} (kind : B → Kind) (kept : B → Kept) (device : DeviceSeen) (pool : Pool) (handed : ℕ) (event : Event) (before now : List (RecChannelOf B)) → length now ≡ length before
+pub recorders-ready : {B : Type 0} (kind : B → Kind) (kept : B → Kept) (device : DeviceSeen) (pool : Pool) (handed : ℕ) (event : Event) (before now : List (RecordChannelOf B)) → length now ≡ length before
     → RecordersMove kind kept device pool handed event before now → All (IsRecordReady kind kept (filters_of device)) before → All (IsRecordReady kind kept (filters_of device)) now
 recorders-ready {B = B} kind kept device pool handed event before now same moves ready = at event moves
   where
@@ -171,20 +171,20 @@ recorders-ready {B = B} kind kept device pool handed event before now same moves
         record-ready-moved kind kept (filters_of device) _ _ (get_or before slot other) (get_or now slot other) (each slot other (omega arith)).moves (ready slot other (omega arith))
 
 -- each channel stands for its book, its bytes and its frames
-pub all-record : {B : Type 0} (kept : B → Kept) (device : DeviceSeen) (pool : Pool) (story : Story) (recorders : List (RecChannelOf B)) → story.desk.recording ≡ record_books_of recorders → RecordersStand kept device pool recorders story
-    → AllRecord kept (filters_of device) recorders (bytes_kept device story) (frames_captured device pool story)
+pub all-record : {B : Type 0} (kept : B → Kept) (device : DeviceSeen) (pool : Pool) (story : Story) (recorders : List (RecordChannelOf B)) → story.desk.recording ≡ record_books_of recorders → RecordersStand kept device pool recorders story
+    → AllRecordStand kept (filters_of device) recorders (bytes_kept device story) (frames_captured device pool story)
 all-record kept device pool story recorders are s = λ slot other there.
     subst (λ (b : RecordBook). RecordStands kept (filters_of device) (get_or recorders slot other) b (bytes_kept device story slot) (frames_captured device pool story slot)) (record_at-books device story.desk recorders slot other are there) (s.slots slot other there)
 
 -- the bytes that a book counts are all that a read may get
 read_counted : (device : DeviceSeen) (pool : Pool) (handed count : ℕ) (running : Bool) (book : RecordBook) (recording : Recording) → is_running book.state ≡ running → RecordingIsValid device pool handed book recording
-    → take (min count (fill_of book)) (drop book.read (take book.kept recording.kept)) ≡ read_bytes count book recording
+    → take (min count (record_fill_of book)) (drop book.read (take book.kept recording.kept)) ≡ read_bytes count book recording
 read_counted device pool handed count true book recording e v =
     let r = v.running e in
-    ap (λ (bytes : List ℕ). take (min count (fill_of book)) (drop book.read bytes)) (take_all book.kept recording.kept (omega (arith, r.kept)))
+    ap (λ (bytes : List ℕ). take (min count (record_fill_of book)) (drop book.read bytes)) (take_all book.kept recording.kept (omega (arith, r.kept)))
 read_counted device pool handed count false book recording e v =
     let none = idle-unstarted book.state book e v.safe.order in
-    let empty : min count (fill_of book) ≡ 0 = omega (arith, none.kept_none) in
+    let empty : min count (record_fill_of book) ≡ 0 = omega (arith, none.kept_none) in
     rw empty refl
 
 -- the bytes that come with the reply to an event are those that the story tells
@@ -194,10 +194,10 @@ answered-told device pool story (Write fd source at count) v = refl
 answered-told device pool story (Read fd count) v = held_at (held_by story.desk fd)
   where
     way_at : (way : Way) (slot : ℕ)
-        → channel_read count (by_way way (own.Playing (book_at device story.desk slot)) (own.Recording (record_at device story.desk slot))) (bytes_kept device story slot)
+        → channel_read count (by_way way (own.Playing (play_at device story.desk slot)) (own.Recording (record_at device story.desk slot))) (bytes_kept device story slot)
         ≡ by_way way [] (read_bytes count (record_at device story.desk slot) (story.recordings slot))
     way_at Play slot = refl
-    way_at Rec slot = read_counted device pool story.desk.handed count (is_running (record_at device story.desk slot).state) (record_at device story.desk slot) (story.recordings slot) refl (v slot)
+    way_at Record slot = read_counted device pool story.desk.handed count (is_running (record_at device story.desk slot).state) (record_at device story.desk slot) (story.recordings slot) refl (v slot)
 
     held_at : (held : Option Held) → bytes_read device story.desk (bytes_kept device story) count held ≡ bytes_got device story count held
     held_at None = refl

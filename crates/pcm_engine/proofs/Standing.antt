@@ -8,9 +8,9 @@ use Rattle.pcm_oss.specs.declared.event.Event.TheVariants.{Open, Write, Read, Io
 use Rattle.pcm_wave.specs.declared.pool.Pool.{Pool}
 use Rattle.pcm_feeder.specs.declared.kind.Kind.{Kind}
 use Rattle.pcm_feeder.specs.Kept.{Kept}
-use Rattle.pcm_desk.specs.declared.book.Book.{Book}
+use Rattle.pcm_desk.specs.declared.play_book.PlayBook.{PlayBook}
 use Rattle.pcm_desk.specs.Device.{DeviceSeen, device_frame_bytes, filters_of, play_slots, ring_frames}
-use Rattle.pcm_desk.specs.Desk.{Desk, book_at, unopened, held_by, after}
+use Rattle.pcm_desk.specs.Desk.{Desk, play_at, play_unopened, held_by, after}
 use Rattle.pcm_desk.specs.Events.{Fits, bytes_handed, frames_taken}
 use Rattle.pcm_sound.specs.Runs.{carrying, newest_bytes}
 use Rattle.pcm_sound.specs.Story.{Story, told}
@@ -20,8 +20,8 @@ use Rattle.pcm_sound.proofs.Slots.{newest_bytes-marking, newest_bytes-playing}
 use Rattle.pcm_sound.proofs.Stories.{keeps, valid-told, writes-write_on}
 use Rattle.pcm_sound.proofs.DeviceLists.{length-device_bytes, device_body-bytes, device_bytes-same, device_bytes-interrupt, new_block}
 use Rattle.pcm_play.specs.declared.channel.PlayChannelOf.{PlayChannelOf}
-use Rattle.pcm_vchan.specs.Slots.{books_of, AllStand}
-use Rattle.pcm_play.specs.Channels.{ChannelStands}
+use Rattle.pcm_vchan.specs.Slots.{play_books_of, AllPlayStand}
+use Rattle.pcm_play.specs.Channels.{PlayStands}
 use Rattle.pcm_engine.specs.Steps.{bytes_brought, ChannelsMove, ring_after}
 use Rattle.pcm_vchan.specs.Blocks.{block_bytes, block_of}
 use Rattle.pcm_engine.specs.Stands.{bytes_counted, PartsStand}
@@ -29,19 +29,19 @@ use Rattle.pcm_engine.proofs.Counted.{counted-kept, counted-written}
 use Rattle.pcm_engine.proofs.Blocks.{block-mixed}
 
 -- the book of a slot is that of its channel
-pub book_at-books : {B : Type 0} (device : DeviceSeen) (desk : Desk) (channels : List (PlayChannelOf B)) (slot : ℕ) (other : PlayChannelOf B) → desk.play ≡ books_of channels → slot < length channels → book_at device desk slot ≡ (get_or channels slot other).book
-book_at-books {B = B} device desk channels slot other play there =
-    ap (λ (books : List Book). get_or books slot (unopened device)) play ∙ get_or-map (λ (c : PlayChannelOf B). c.book) channels slot other (unopened device) there
+pub play_at-books : {B : Type 0} (device : DeviceSeen) (desk : Desk) (channels : List (PlayChannelOf B)) (slot : ℕ) (other : PlayChannelOf B) → desk.play ≡ play_books_of channels → slot < length channels → play_at device desk slot ≡ (get_or channels slot other).book
+play_at-books {B = B} device desk channels slot other play there =
+    ap (λ (books : List PlayBook). get_or books slot (play_unopened device)) play ∙ get_or-map (λ (c : PlayChannelOf B). c.book) channels slot other (play_unopened device) there
 
 -- what a desk, channels and a ring are to each other before and after an event
 pub record Stepped {B : Type 0} (kind : B → Kind) (kept : B → Kept) (device : DeviceSeen) (pool : Pool) (event : Event) (old new : Desk) (before now : List (PlayChannelOf B)) (ring_before ring_now : List ℕ) : Type 0 where
   pub desk : new ≡ (after device old event).desk
-  pub play_before : old.play ≡ books_of before
-  pub play_now : new.play ≡ books_of now
+  pub play_before : old.play ≡ play_books_of before
+  pub play_now : new.play ≡ play_books_of now
   pub slots : length now ≡ length before
   pub all_slots : length before ≡ play_slots device
   pub channels : ChannelsMove kind kept (filters_of device) pool event before now
-  pub ring : (streams : ℕ → List ℕ) → AllStand kept (filters_of device) before streams → ring_now ≡ ring_after device event (books_of before) streams (length before) ring_before
+  pub ring : (streams : ℕ → List ℕ) → AllPlayStand kept (filters_of device) before streams → ring_now ≡ ring_after device event (play_books_of before) streams (length before) ring_before
 
 -- the part of a step that is about a story: its own desks stand at both ends
 abbrev StoryStep : {B : Type 0} → (B → Kind) → (B → Kept) → DeviceSeen → Pool → Story → Event → List (PlayChannelOf B) → List (PlayChannelOf B) → List ℕ → List ℕ → Type 0
@@ -52,47 +52,47 @@ StoryStep kind kept device pool story event before now ring_before ring_now =
 
 -- what a slot's book counts after an event: what it counted before and what the event brought, as far as it was accepted
 record Counts (device : DeviceSeen) (pool : Pool) (story : Story) (event : Event) (slot : ℕ) : Type 0 where
-  are : bytes_counted device (told device pool story event) slot ≡ take (book_at device (told device pool story event).desk slot).written (bytes_counted device story slot ++ bytes_brought pool event)
+  are : bytes_counted device (told device pool story event) slot ≡ take (play_at device (told device pool story event).desk slot).written (bytes_counted device story slot ++ bytes_brought pool event)
 
 -- without the marks
 marks : (device : DeviceSeen) (pool : Pool) (story : Story) (event : Event) (slot : ℕ)
     → bytes_counted device (told device pool story event) slot
-    ≡ take (book_at device (told device pool story event).desk slot).written
-    (newest_bytes (carrying device pool story.desk event (book_at device story.desk slot) (book_at device (told device pool story event).desk slot) (story.runs slot)))
+    ≡ take (play_at device (told device pool story event).desk slot).written
+    (newest_bytes (carrying device pool story.desk event (play_at device story.desk slot) (play_at device (told device pool story event).desk slot) (story.runs slot)))
 marks device pool story event slot =
-    let old : Book = book_at device story.desk slot in
-    let new : Book = book_at device (told device pool story event).desk slot in
+    let old : PlayBook = play_at device story.desk slot in
+    let new : PlayBook = play_at device (told device pool story event).desk slot in
     ap (take new.written) (newest_bytes-marking story.desk.mixed event old new (carrying device pool story.desk event old new (story.runs slot)))
 
 counts_told : (device : DeviceSeen) (pool : Pool) (story : Story) (event : Event) (slot : ℕ) → Fits device pool event → StoryIsValid device story
-    → (book_at device (told device pool story event).desk slot).written ≤ (book_at device story.desk slot).written + length (bytes_brought pool event)
+    → (play_at device (told device pool story event).desk slot).written ≤ (play_at device story.desk slot).written + length (bytes_brought pool event)
     → Counts device pool story event slot
 counts_told device pool story (Open fd way settings) slot fits v more = record {
   are = marks device pool story (Open fd way settings) slot
-      ∙ counted-kept (book_at device story.desk slot) (book_at device (told device pool story (Open fd way settings)).desk slot).written (newest_bytes (story.runs slot)) (omega arith);
+      ∙ counted-kept (play_at device story.desk slot) (play_at device (told device pool story (Open fd way settings)).desk slot).written (newest_bytes (story.runs slot)) (omega arith);
 }
 counts_told device pool story (Write fd source at count) slot fits v more =
     let w = (writes-write_on device (held_by story.desk fd) story.desk count).slots slot in
     record {
       are = marks device pool story (Write fd source at count) slot
-          ∙ counted-written device story.desk.mixed pool source at count w.accepted (book_at device story.desk slot) (book_at device (told device pool story (Write fd source at count)).desk slot).written (story.runs slot)
+          ∙ counted-written device story.desk.mixed pool source at count w.accepted (play_at device story.desk slot) (play_at device (told device pool story (Write fd source at count)).desk slot).written (story.runs slot)
           (v.slots slot) fits.2.within w.accepts.written w.within;
     }
 counts_told device pool story (Read fd count) slot fits v more = record {
   are = marks device pool story (Read fd count) slot
-      ∙ counted-kept (book_at device story.desk slot) (book_at device (told device pool story (Read fd count)).desk slot).written (newest_bytes (story.runs slot)) (omega arith);
+      ∙ counted-kept (play_at device story.desk slot) (play_at device (told device pool story (Read fd count)).desk slot).written (newest_bytes (story.runs slot)) (omega arith);
 }
 counts_told device pool story (Ioctl fd request) slot fits v more = record {
   are = marks device pool story (Ioctl fd request) slot
-      ∙ counted-kept (book_at device story.desk slot) (book_at device (told device pool story (Ioctl fd request)).desk slot).written (newest_bytes (story.runs slot)) (omega arith);
+      ∙ counted-kept (play_at device story.desk slot) (play_at device (told device pool story (Ioctl fd request)).desk slot).written (newest_bytes (story.runs slot)) (omega arith);
 }
 counts_told device pool story (Close fd) slot fits v more = record {
   are = marks device pool story (Close fd) slot
-      ∙ counted-kept (book_at device story.desk slot) (book_at device (told device pool story (Close fd)).desk slot).written (newest_bytes (story.runs slot)) (omega arith);
+      ∙ counted-kept (play_at device story.desk slot) (play_at device (told device pool story (Close fd)).desk slot).written (newest_bytes (story.runs slot)) (omega arith);
 }
 counts_told device pool story (Intr n) slot fits v more =
-    let old : Book = book_at device story.desk slot in
-    let written : ℕ = (book_at device (told device pool story (Intr n)).desk slot).written in
+    let old : PlayBook = play_at device story.desk slot in
+    let written : ℕ = (play_at device (told device pool story (Intr n)).desk slot).written in
     record {
       are = marks device pool story (Intr n) slot
           ∙ ap (take written) (newest_bytes-playing device story.desk.mixed n old (story.runs slot))
@@ -102,25 +102,25 @@ counts_told device pool story (Intr n) slot fits v more =
 -- each channel stands for its slot after an event
 slots_stand : {B : Type 0} (kind : B → Kind) (kept : B → Kept) (device : DeviceSeen) (pool : Pool) (story : Story) (event : Event) (before now : List (PlayChannelOf B)) (ring_before ring_now : List ℕ)
     → Fits device pool event → StoryStep kind kept device pool story event before now ring_before ring_now → PartsStand kept device story.desk before ring_before story
-    → (slot : ℕ) (other : PlayChannelOf B) → slot < length now → ChannelStands kept (filters_of device) (get_or now slot other) (book_at device (told device pool story event).desk slot) (bytes_counted device (told device pool story event) slot)
+    → (slot : ℕ) (other : PlayChannelOf B) → slot < length now → PlayStands kept (filters_of device) (get_or now slot other) (play_at device (told device pool story event).desk slot) (bytes_counted device (told device pool story event) slot)
 slots_stand kind kept device pool story event before now ring_before ring_now fits st s slot other within =
     let same = st.slots in
     let there : slot < length before = omega arith in
-    let was = book_at-books device story.desk before slot other st.play_before there in
-    let is = book_at-books device (told device pool story event).desk now slot other st.play_now within in
+    let was = play_at-books device story.desk before slot other st.play_before there in
+    let is = play_at-books device (told device pool story event).desk now slot other st.play_now within in
     let moves = st.channels slot other there in
-    let stood = subst (λ (b : Book). ChannelStands kept (filters_of device) (get_or before slot other) b (bytes_counted device story slot)) was (s.slots slot other there) in
+    let stood = subst (λ (b : PlayBook). PlayStands kept (filters_of device) (get_or before slot other) b (bytes_counted device story slot)) was (s.slots slot other there) in
     let stands = moves.stands (bytes_counted device story slot) stood in
-    let more : (book_at device (told device pool story event).desk slot).written ≤ (book_at device story.desk slot).written + length (bytes_brought pool event) = rw (is, was) moves.written in
+    let more : (play_at device (told device pool story event).desk slot).written ≤ (play_at device story.desk slot).written + length (bytes_brought pool event) = rw (is, was) moves.written in
     let counts = counts_told device pool story event slot fits s.valid more in
-    subst (ChannelStands kept (filters_of device) (get_or now slot other) (book_at device (told device pool story event).desk slot)) (sym counts.are)
-    (subst (λ (b : Book). ChannelStands kept (filters_of device) (get_or now slot other) b (take b.written (bytes_counted device story slot ++ bytes_brought pool event))) (sym is) stands)
+    subst (PlayStands kept (filters_of device) (get_or now slot other) (play_at device (told device pool story event).desk slot)) (sym counts.are)
+    (subst (λ (b : PlayBook). PlayStands kept (filters_of device) (get_or now slot other) b (take b.written (bytes_counted device story slot ++ bytes_brought pool event))) (sym is) stands)
 
 -- each channel stands for its book and the bytes that its slot counts
-all_stand : {B : Type 0} (kept : B → Kept) (device : DeviceSeen) (story : Story) (channels : List (PlayChannelOf B)) (ring : List ℕ) → story.desk.play ≡ books_of channels → PartsStand kept device story.desk channels ring story
-    → AllStand kept (filters_of device) channels (bytes_counted device story)
+all_stand : {B : Type 0} (kept : B → Kept) (device : DeviceSeen) (story : Story) (channels : List (PlayChannelOf B)) (ring : List ℕ) → story.desk.play ≡ play_books_of channels → PartsStand kept device story.desk channels ring story
+    → AllPlayStand kept (filters_of device) channels (bytes_counted device story)
 all_stand kept device story channels ring play s = λ slot other there.
-    subst (λ (b : Book). ChannelStands kept (filters_of device) (get_or channels slot other) b (bytes_counted device story slot)) (book_at-books device story.desk channels slot other play there) (s.slots slot other there)
+    subst (λ (b : PlayBook). PlayStands kept (filters_of device) (get_or channels slot other) b (bytes_counted device story slot)) (play_at-books device story.desk channels slot other play there) (s.slots slot other there)
 
 -- ---- the device's ring
 
@@ -157,7 +157,7 @@ ring_told kind kept device pool story (Intr n) before now ring_before ring_now f
     let room : (handed + n) * z ≤ (ring_frames device + handed) * z = mul-le-mul_right z (let within = fits.1 in omega arith) in
     let sum : handed * z + n * z ≡ (handed + n) * z = omega arith in
     st.ring (bytes_counted device story) (all_stand kept device story before ring_before st.play_before s)
-    ∙ ap (λ (books : List Book). drop (n * z) ring_before ++ block_bytes device (block_of device n books (bytes_counted device story) (length before))) (sym st.play_before)
+    ∙ ap (λ (books : List PlayBook). drop (n * z) ring_before ++ block_bytes device (block_of device n books (bytes_counted device story) (length before))) (sym st.play_before)
     ∙ ap (λ slots. drop (n * z) ring_before ++ block_bytes device (block_of device n story.desk.play (bytes_counted device story) slots)) st.all_slots
     ∙ ap (λ ring. drop (n * z) ring ++ block_bytes device (block_of device n story.desk.play (bytes_counted device story) (play_slots device))) s.ring_is
     ∙ ap (λ samples. drop (n * z) (drop (handed * z) bytes) ++ block_bytes device samples) (block-mixed device pool story n s.valid)

@@ -1,27 +1,28 @@
 -- What becomes of a desk whose parent lent one channel.
-use Rattle.std.proofs.Common.{◌≡◌, ℕ, ◌<◌, List, length, set, get_or, min, take, drop, Option, Some, None, Result, Ok, Err, refl, sym, ap, ◌∙◌, subst, arith}
-use Rattle.std.specs.Prelude.{IfOk}
+use Rattle.std.proofs.Common.{Ok, Err, ◌≡◌, ℕ, ◌<◌, List, length, set, get_or, min, take, drop, Option, Some, None, Result, refl, sym, ap, ◌∙◌, subst, arith}
 use Rattle.std.proofs.lemmas.List.{length-map}
 use Rattle.pcm_oss.specs.declared.event.Way.{Way}
-use Rattle.pcm_oss.specs.declared.event.Way.TheVariants.{Play, Rec}
+use Rattle.pcm_oss.specs.declared.event.Way.TheVariants.{Play, Record}
 use Rattle.pcm_oss.specs.declared.reply.Answer.{Answer}
 use Rattle.pcm_oss.specs.declared.reply.Errno.{Errno}
-use Rattle.pcm_desk.specs.declared.book.Book.{Book}
+use Rattle.pcm_oss.specs.declared.reply.Errno.TheVariants.{BadF, Inval}
+use Rattle.pcm_desk.specs.declared.play_book.PlayBook.{PlayBook}
 use Rattle.pcm_desk.specs.declared.device.Device.{Device}
 use Rattle.pcm_desk.specs.declared.device.Held.{Held}
 use Rattle.pcm_desk.specs.declared.record_book.RecordBook.{RecordBook}
 use Rattle.pcm_desk.specs.Device.{DeviceSeen}
-use Rattle.pcm_desk.specs.Books.{BookTurn}
-use Rattle.pcm_desk.specs.RecordBooks.{RecordTurn, closed, fill_of}
-use Rattle.pcm_desk.specs.Desk.{Desk, DeskTurn, book_at, by_way, close_on, close_play, close_record, closing, held_by, play_turn, record_at, record_turn, record_unopened, turning, unopened, with_book, with_descriptor, with_record}
+use Rattle.pcm_desk.specs.declared.turn.Turn.{Turn}
+use Rattle.pcm_desk.specs.RecordBooks.{closed, record_fill_of}
+use Rattle.pcm_desk.specs.Desk.{Desk, DeskTurn, play_at, by_way, close_on, close_play, close_record, closing, held_by, play_turn, record_at, record_turn, record_unopened, refusing, turning, play_unopened, with_play, with_descriptor, with_record}
 use Rattle.pcm_desk.specs.Own.{HoldApart, Playing, Recording, slots_of}
 use Rattle.pcm_play.specs.declared.channel.PlayChannelOf.{PlayChannelOf}
-use Rattle.pcm_record.specs.declared.channel.RecChannelOf.{RecChannelOf}
+use Rattle.pcm_record.specs.declared.channel.RecordChannelOf.{RecordChannelOf}
 use Rattle.pcm_vchan.specs.declared.parent.ParentOf.{ParentOf}
-use Rattle.pcm_vchan.specs.Slots.{AreOf, RecordersAreOf}
-use Rattle.pcm_vchan.specs.Parents.{parent_books, play_channels, rec_channels, record_books}
+use Rattle.pcm_vchan.specs.Slots.{PlayAreOf, RecordAreOf}
+use Rattle.pcm_vchan.specs.Parents.{play_books, play_channels, record_channels, record_books}
 use Rattle.pcm_vchan.specs.Lending.{with_channel, with_recorder}
-use Rattle.pcm_vchan.proofs.Channels.{book_at-channel, books_of-set, record_at-channel, record_books_of-set}
+use Rattle.pcm_vchan.proofs.Channels.{play_at-channel, play_books_of-set, record_at-channel, record_books_of-set}
+use Rattle.pcm_engine.specs.Descriptors.{holding, playing_slot, recording_slot}
 use Rattle.pcm_engine.specs.Desks.{desk_with}
 use Rattle.pcm_engine.specs.Steps.{bytes_read, channel_read}
 
@@ -31,6 +32,67 @@ use Rattle.pcm_engine.specs.Steps.{bytes_read, channel_read}
 pub turning-held : (way : Way) (play recording : ℕ → DeskTurn) (found : Option Held) (held : Held) (desk : Desk) → found ≡ Some held → held.way ≡ way → turning play recording found desk ≡ by_way way (play held.slot) (recording held.slot)
 turning-held way play recording found held desk e is =
     ap (λ (h : Option Held). turning play recording h desk) e ∙ ap (λ (w : Way). by_way w (play held.slot) (recording held.slot)) is
+
+-- what a descriptor is refused for, and what it holds where it isn't
+pub holding-is : (found : Option Held) (held : Held) → holding found ≡ Ok held → found ≡ Some held
+holding-is None held e = cc
+holding-is (Some h) held e = let same : Ok h ≡ Ok held = e in ap (λ (r : Result Held Errno). some_of r) same
+  where
+    some_of : Result Held Errno → Option Held
+    some_of (Ok x) = Some x
+    some_of (Err errno) = None
+
+pub holding-not : (play recording : ℕ → DeskTurn) (found : Option Held) (desk : Desk) (errno : Errno) → holding found ≡ Err errno → turning play recording found desk ≡ refusing desk errno
+holding-not play recording None desk errno e = ap (λ (r : Result Held Errno). refusing desk (errno_of r)) e
+  where
+    errno_of : Result Held Errno → Errno
+    errno_of (Ok x) = BadF
+    errno_of (Err why) = why
+holding-not play recording (Some held) desk errno e = cc
+
+-- a channel of this way and slot
+abbrev pub channel_of : Way → ℕ → Held
+channel_of way slot = record { way = way; slot = slot }
+
+abbrev slot_in : Result ℕ Errno → ℕ
+slot_in (Ok slot) = slot
+slot_in (Err errno) = 0
+
+abbrev why_of : Result ℕ Errno → Errno
+why_of (Ok slot) = BadF
+why_of (Err errno) = errno
+
+playing_way : (way : Way) (at slot : ℕ) → by_way {X = Result ℕ Errno} way (Ok at) (Err Inval) ≡ Ok slot → channel_of way at ≡ channel_of Play slot
+playing_way Play at slot e = ap (channel_of Play) (ap slot_in e)
+playing_way Record at slot e = cc
+
+pub playing-is : (found : Option Held) (slot : ℕ) → playing_slot found ≡ Ok slot → found ≡ Some (channel_of Play slot)
+playing-is None slot e = cc
+playing-is (Some held) slot e = ap (λ (h : Held). Some h) (playing_way held.way held.slot slot e)
+
+playing_not_way : (way : Way) (at : ℕ) (play : ℕ → DeskTurn) (desk : Desk) (errno : Errno) → by_way {X = Result ℕ Errno} way (Ok at) (Err Inval) ≡ Err errno → by_way way (play at) (refusing desk Inval) ≡ refusing desk errno
+playing_not_way Play at play desk errno e = cc
+playing_not_way Record at play desk errno e = ap (λ (r : Result ℕ Errno). refusing desk (why_of r)) e
+
+pub playing-not : (play : ℕ → DeskTurn) (found : Option Held) (desk : Desk) (errno : Errno) → playing_slot found ≡ Err errno → turning play (λ slot. refusing desk Inval) found desk ≡ refusing desk errno
+playing-not play None desk errno e = ap (λ (r : Result ℕ Errno). refusing desk (why_of r)) e
+playing-not play (Some held) desk errno e = playing_not_way held.way held.slot play desk errno e
+
+recording_way : (way : Way) (at slot : ℕ) → by_way {X = Result ℕ Errno} way (Err Inval) (Ok at) ≡ Ok slot → channel_of way at ≡ channel_of Record slot
+recording_way Play at slot e = cc
+recording_way Record at slot e = ap (channel_of Record) (ap slot_in e)
+
+pub recording-is : (found : Option Held) (slot : ℕ) → recording_slot found ≡ Ok slot → found ≡ Some (channel_of Record slot)
+recording-is None slot e = cc
+recording-is (Some held) slot e = ap (λ (h : Held). Some h) (recording_way held.way held.slot slot e)
+
+recording_not_way : (way : Way) (at : ℕ) (recording : ℕ → DeskTurn) (desk : Desk) (errno : Errno) → by_way {X = Result ℕ Errno} way (Err Inval) (Ok at) ≡ Err errno → by_way way (refusing desk Inval) (recording at) ≡ refusing desk errno
+recording_not_way Play at recording desk errno e = ap (λ (r : Result ℕ Errno). refusing desk (why_of r)) e
+recording_not_way Record at recording desk errno e = cc
+
+pub recording-not : (recording : ℕ → DeskTurn) (found : Option Held) (desk : Desk) (errno : Errno) → recording_slot found ≡ Err errno → turning (λ slot. refusing desk Inval) recording found desk ≡ refusing desk errno
+recording-not recording None desk errno e = ap (λ (r : Result ℕ Errno). refusing desk (why_of r)) e
+recording-not recording (Some held) desk errno e = recording_not_way held.way held.slot recording desk errno e
 
 slot_there : {B : Type 0} (way : Way) (parent : ParentOf B) (descriptors : List (Option Held)) (fd : ℕ) (held : Held) → HoldApart (desk_with parent descriptors) → held_by (desk_with parent descriptors) fd ≡ Some held → held.way ≡ way
     → held.slot < slots_of (desk_with parent descriptors) way
@@ -42,82 +104,77 @@ play-there {B = B} parent descriptors fd held h e is =
     let there = slot_there Play parent descriptors fd held h e is in
     omega (arith, length-map (play_channels parent) (λ (c : PlayChannelOf B). c.book))
 
-pub record-there : {B : Type 0} (parent : ParentOf B) (descriptors : List (Option Held)) (fd : ℕ) (held : Held) → HoldApart (desk_with parent descriptors) → held_by (desk_with parent descriptors) fd ≡ Some held → held.way ≡ Rec
-    → held.slot < length (rec_channels parent)
+pub record-there : {B : Type 0} (parent : ParentOf B) (descriptors : List (Option Held)) (fd : ℕ) (held : Held) → HoldApart (desk_with parent descriptors) → held_by (desk_with parent descriptors) fd ≡ Some held → held.way ≡ Record
+    → held.slot < length (record_channels parent)
 record-there {B = B} parent descriptors fd held h e is =
-    let there = slot_there Rec parent descriptors fd held h e is in
-    omega (arith, length-map (rec_channels parent) (λ (c : RecChannelOf B). c.book))
+    let there = slot_there Record parent descriptors fd held h e is in
+    omega (arith, length-map (record_channels parent) (λ (c : RecordChannelOf B). c.book))
 
 -- ---- channels that play
 
 -- a channel that was lent is of the parent's device
-pub own-lent : {B : Type 0} (device : Device) (channels : List (PlayChannelOf B)) (slot : ℕ) (lent : PlayChannelOf B) → slot < length channels → lent ≡ get_or channels slot lent → AreOf device channels → lent.device ≡ device
+pub own-lent : {B : Type 0} (device : Device) (channels : List (PlayChannelOf B)) (slot : ℕ) (lent : PlayChannelOf B) → slot < length channels → lent ≡ get_or channels slot lent → PlayAreOf device channels → lent.device ≡ device
 own-lent {B = B} device channels slot lent there is own = ap (λ (channel : PlayChannelOf B). channel.device) is ∙ own slot lent there
 
 -- the books of a parent, one of whose channels changed
-pub books-lent : {B : Type 0} (how : Book → Book) (parent : ParentOf B) (slot : ℕ) (lent new : PlayChannelOf B) (other : Book) → slot < length (play_channels parent) → lent ≡ get_or (play_channels parent) slot lent
-    → new.book ≡ how lent.book → parent_books (with_channel parent slot new) ≡ set (parent_books parent) slot (how (get_or (parent_books parent) slot other))
-books-lent how parent slot lent new other there is changed = books_of-set how (play_channels parent) slot lent new other there is changed
+pub books-lent : {B : Type 0} (how : PlayBook → PlayBook) (parent : ParentOf B) (slot : ℕ) (lent new : PlayChannelOf B) (other : PlayBook) → slot < length (play_channels parent) → lent ≡ get_or (play_channels parent) slot lent
+    → new.book ≡ how lent.book → play_books (with_channel parent slot new) ≡ set (play_books parent) slot (how (get_or (play_books parent) slot other))
+books-lent how parent slot lent new other there is changed = play_books_of-set how (play_channels parent) slot lent new other there is changed
 
 -- the desk, where the book of the channel was turned
-pub desk-played : {B : Type 0} (device : DeviceSeen) (turn : Book → BookTurn) (parent : ParentOf B) (descriptors : List (Option Held)) (slot : ℕ) (lent new : PlayChannelOf B)
+pub desk-played : {B : Type 0} (device : DeviceSeen) (turn : PlayBook → Turn PlayBook) (parent : ParentOf B) (descriptors : List (Option Held)) (slot : ℕ) (lent new : PlayChannelOf B)
     → slot < length (play_channels parent) → lent ≡ get_or (play_channels parent) slot lent → new.book ≡ (turn lent.book).book
     → desk_with (with_channel parent slot new) descriptors ≡ (play_turn device turn (desk_with parent descriptors) slot).desk
 desk-played device turn parent descriptors slot lent new there is changed =
-    ap (λ (play : List Book). record { play = play; recording = record_books parent; descriptors = descriptors; handed = parent.handed; mixed = parent.mixed })
-    (books-lent (λ (book : Book). (turn book).book) parent slot lent new (unopened device) there is changed)
+    ap (λ (play : List PlayBook). record { play = play; recording = record_books parent; descriptors = descriptors; handed = parent.handed; mixed = parent.mixed })
+    (books-lent (λ (book : PlayBook). (turn book).book) parent slot lent new (play_unopened device) there is changed)
 
 -- and the reply
-pub reply-played : {B : Type 0} (device : DeviceSeen) (turn : Book → BookTurn) (parent : ParentOf B) (descriptors : List (Option Held)) (slot : ℕ) (lent : PlayChannelOf B) (answer : Result Answer Errno)
+pub reply-played : {B : Type 0} (device : DeviceSeen) (turn : PlayBook → Turn PlayBook) (parent : ParentOf B) (descriptors : List (Option Held)) (slot : ℕ) (lent : PlayChannelOf B) (answer : Result Answer Errno)
     → slot < length (play_channels parent) → lent ≡ get_or (play_channels parent) slot lent → answer ≡ (turn lent.book).reply
     → answer ≡ (play_turn device turn (desk_with parent descriptors) slot).reply
 reply-played device turn parent descriptors slot lent answer there is answered =
-    answered ∙ ap (λ (book : Book). (turn book).reply) (book_at-channel (play_channels parent) slot lent (unopened device) there is)
+    answered ∙ ap (λ (book : PlayBook). (turn book).reply) (play_at-channel (play_channels parent) slot lent (play_unopened device) there is)
 
 -- ---- channels that record
 
-pub own-lent_record : {B : Type 0} (device : Device) (channels : List (RecChannelOf B)) (slot : ℕ) (lent : RecChannelOf B) → slot < length channels → lent ≡ get_or channels slot lent → RecordersAreOf device channels → lent.device ≡ device
-own-lent_record {B = B} device channels slot lent there is own = ap (λ (channel : RecChannelOf B). channel.device) is ∙ own slot lent there
+pub own-lent_record : {B : Type 0} (device : Device) (channels : List (RecordChannelOf B)) (slot : ℕ) (lent : RecordChannelOf B) → slot < length channels → lent ≡ get_or channels slot lent → RecordAreOf device channels → lent.device ≡ device
+own-lent_record {B = B} device channels slot lent there is own = ap (λ (channel : RecordChannelOf B). channel.device) is ∙ own slot lent there
 
-pub desk-recorded : {B : Type 0} (device : DeviceSeen) (turn : RecordBook → RecordTurn) (parent : ParentOf B) (descriptors : List (Option Held)) (slot : ℕ) (lent new : RecChannelOf B)
-    → slot < length (rec_channels parent) → lent ≡ get_or (rec_channels parent) slot lent → new.book ≡ (turn lent.book).book
+pub desk-recorded : {B : Type 0} (device : DeviceSeen) (turn : RecordBook → Turn RecordBook) (parent : ParentOf B) (descriptors : List (Option Held)) (slot : ℕ) (lent new : RecordChannelOf B)
+    → slot < length (record_channels parent) → lent ≡ get_or (record_channels parent) slot lent → new.book ≡ (turn lent.book).book
     → desk_with (with_recorder parent slot new) descriptors ≡ (record_turn device turn (desk_with parent descriptors) slot).desk
 desk-recorded device turn parent descriptors slot lent new there is changed =
-    ap (λ (recording : List RecordBook). record { play = parent_books parent; recording = recording; descriptors = descriptors; handed = parent.handed; mixed = parent.mixed })
-    (record_books_of-set (λ (book : RecordBook). (turn book).book) (rec_channels parent) slot lent new (record_unopened device) there is changed)
+    ap (λ (recording : List RecordBook). record { play = play_books parent; recording = recording; descriptors = descriptors; handed = parent.handed; mixed = parent.mixed })
+    (record_books_of-set (λ (book : RecordBook). (turn book).book) (record_channels parent) slot lent new (record_unopened device) there is changed)
 
-pub reply-recorded : {B : Type 0} (device : DeviceSeen) (turn : RecordBook → RecordTurn) (parent : ParentOf B) (descriptors : List (Option Held)) (slot : ℕ) (lent : RecChannelOf B) (answer : Result Answer Errno)
-    → slot < length (rec_channels parent) → lent ≡ get_or (rec_channels parent) slot lent → answer ≡ (turn lent.book).reply
+pub reply-recorded : {B : Type 0} (device : DeviceSeen) (turn : RecordBook → Turn RecordBook) (parent : ParentOf B) (descriptors : List (Option Held)) (slot : ℕ) (lent : RecordChannelOf B) (answer : Result Answer Errno)
+    → slot < length (record_channels parent) → lent ≡ get_or (record_channels parent) slot lent → answer ≡ (turn lent.book).reply
     → answer ≡ (record_turn device turn (desk_with parent descriptors) slot).reply
 reply-recorded device turn parent descriptors slot lent answer there is answered =
-    answered ∙ ap (λ (book : RecordBook). (turn book).reply) (record_at-channel (rec_channels parent) slot lent (record_unopened device) there is)
+    answered ∙ ap (λ (book : RecordBook). (turn book).reply) (record_at-channel (record_channels parent) slot lent (record_unopened device) there is)
 
 -- what a read gets of a descriptor that holds a channel which records
-pub bytes_read-held : (device : DeviceSeen) (desk : Desk) (bytes : ℕ → List ℕ) (count : ℕ) (found : Option Held) (held : Held) (book : RecordBook) → found ≡ Some held → held.way ≡ Rec → book ≡ record_at device desk held.slot
-    → bytes_read device desk bytes count found ≡ take (min count (fill_of book)) (drop book.read (bytes held.slot))
+pub bytes_read-held : (device : DeviceSeen) (desk : Desk) (bytes : ℕ → List ℕ) (count : ℕ) (found : Option Held) (held : Held) (book : RecordBook) → found ≡ Some held → held.way ≡ Record → book ≡ record_at device desk held.slot
+    → bytes_read device desk bytes count found ≡ take (min count (record_fill_of book)) (drop book.read (bytes held.slot))
 bytes_read-held device desk bytes count found held book e is same =
     ap (bytes_read device desk bytes count) e
-    ∙ ap (λ (w : Way). channel_read count (by_way w (Playing (book_at device desk held.slot)) (Recording (record_at device desk held.slot))) (bytes held.slot)) is
-    ∙ ap (λ (b : RecordBook). take (min count (fill_of b)) (drop b.read (bytes held.slot))) (sym same)
-
--- two facts of what a call gave make a third
-pub IfOk-both : {X Y : Type 0} (r : Result X Y) (P Q R : X → Type 0) → ((x : X) → P x → Q x → R x) → IfOk r P → IfOk r Q → IfOk r R
-IfOk-both (Ok x) P Q R f p q = f x p q
-IfOk-both (Err y) P Q R f p q = tt
+    ∙ ap (λ (w : Way). channel_read count (by_way w (Playing (play_at device desk held.slot)) (Recording (record_at device desk held.slot))) (bytes held.slot)) is
+    ∙ ap (λ (b : RecordBook). take (min count (record_fill_of b)) (drop b.read (bytes held.slot))) (sym same)
 
 -- what holds for each way holds
-pub either-way : {X : Type 0} (way : Way) → (way ≡ Play → X) → (way ≡ Rec → X) → X
+pub either-way : {X : Type 0} (way : Way) → (way ≡ Play → X) → (way ≡ Record → X) → X
 either-way Play play recording = play refl
-either-way Rec play recording = recording refl
+either-way Record play recording = recording refl
 
 -- a close of a channel of either way, which shuts its descriptor
 pub closes-held : (device : DeviceSeen) (desk : Desk) (fd : ℕ) (found : Option Held) (held : Held) → found ≡ Some held
-    → with_descriptor (by_way held.way (with_book desk held.slot (closing device (book_at device desk held.slot))) (with_record desk held.slot (closed (record_at device desk held.slot)))) fd None
+    → with_descriptor (by_way held.way (with_play desk held.slot (closing device (play_at device desk held.slot))) (with_record desk held.slot (closed (record_at device desk held.slot)))) fd None
     ≡ (close_on device found desk fd).desk
 closes-held device desk fd found held e = at held.way ∙ sym (ap (λ (h : Option Held). (close_on device h desk fd).desk) e)
   where
     at : (way : Way)
-        → with_descriptor (by_way way (with_book desk held.slot (closing device (book_at device desk held.slot))) (with_record desk held.slot (closed (record_at device desk held.slot)))) fd None
+        → with_descriptor (by_way way (with_play desk held.slot (closing device (play_at device desk held.slot))) (with_record desk held.slot (closed (record_at device desk held.slot)))) fd None
         ≡ (by_way way (close_play device desk fd held.slot) (close_record device desk fd held.slot)).desk
     at Play = refl
-    at Rec = refl
+    at Record = refl

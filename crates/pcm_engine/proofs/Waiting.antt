@@ -5,34 +5,34 @@ use Rattle.std.proofs.lemmas.Bool.{cases_lt}
 use Rattle.std.proofs.lemmas.List.{get_or-map, length-map, take_all}
 use Rattle.pcm_format.specs.Frames.{Frame}
 use Rattle.pcm_oss.specs.declared.event.Way.{Way}
-use Rattle.pcm_oss.specs.declared.event.Way.TheVariants.{Play, Rec}
+use Rattle.pcm_oss.specs.declared.event.Way.TheVariants.{Play, Record}
 use Rattle.pcm_feeder.specs.declared.kind.Kind.{Kind}
 use Rattle.pcm_feeder.specs.Filters.{Filters}
 use Rattle.pcm_feeder.specs.Kept.{Kept}
 use Rattle.pcm_desk.specs.declared.device.Held.{Held}
 use Rattle.pcm_desk.specs.declared.record_book.RecordBook.{RecordBook}
 use Rattle.pcm_desk.specs.Device.{DeviceSeen}
-use Rattle.pcm_desk.specs.RecordBooks.{fill_of}
+use Rattle.pcm_desk.specs.RecordBooks.{record_fill_of}
 use Rattle.pcm_desk.specs.Desk.{Desk, by_way}
 use Rattle.pcm_desk.specs.Own.{channel_at, slots_of}
-use Rattle.pcm_record.specs.declared.channel.RecChannelOf.{RecChannelOf}
+use Rattle.pcm_record.specs.declared.channel.RecordChannelOf.{RecordChannelOf}
 use Rattle.pcm_record.specs.Channels.{IsRecordReady, RecordStands}
-use Rattle.pcm_vchan.specs.Slots.{AllRecord, record_books_of}
+use Rattle.pcm_vchan.specs.Slots.{AllRecordStand, record_books_of}
 use Rattle.pcm_vchan.proofs.Channels.{some_channel}
 use Rattle.pcm_engine.specs.Steps.{bytes_read, front_taken, channel_read}
 use Rattle.pcm_engine.proofs.Recording.{record_at-books}
 
 -- ---- what ready channels stand for, by slot
 
-abbrev AreReady : {B : Type 0} → (B → Kind) → (B → Kept) → Filters → List (RecChannelOf B) → Type 0
+abbrev AreReady : {B : Type 0} → (B → Kind) → (B → Kept) → Filters → List (RecordChannelOf B) → Type 0
 AreReady kind kept filters recorders = All (IsRecordReady kind kept filters) recorders
 
 -- the bytes and the frames of a slot: of its channel, or none where there is no such slot
-abbrev bytes_by : {B : Type 0} (kind : B → Kind) (kept : B → Kept) (filters : Filters) (recorders : List (RecChannelOf B)) → AreReady kind kept filters recorders → (slot : ℕ) → (slot < length recorders) ⊎ (length recorders ≤ slot) → List ℕ
+abbrev bytes_by : {B : Type 0} (kind : B → Kind) (kept : B → Kept) (filters : Filters) (recorders : List (RecordChannelOf B)) → AreReady kind kept filters recorders → (slot : ℕ) → (slot < length recorders) ⊎ (length recorders ≤ slot) → List ℕ
 bytes_by kind kept filters recorders ready slot (inl there) = (ready slot (some_channel recorders slot there) there).stands.bytes
 bytes_by kind kept filters recorders ready slot (inr past) = []
 
-abbrev frames_by : {B : Type 0} (kind : B → Kind) (kept : B → Kept) (filters : Filters) (recorders : List (RecChannelOf B)) → AreReady kind kept filters recorders → (slot : ℕ) → (slot < length recorders) ⊎ (length recorders ≤ slot) → List Frame
+abbrev frames_by : {B : Type 0} (kind : B → Kind) (kept : B → Kept) (filters : Filters) (recorders : List (RecordChannelOf B)) → AreReady kind kept filters recorders → (slot : ℕ) → (slot < length recorders) ⊎ (length recorders ≤ slot) → List Frame
 frames_by kind kept filters recorders ready slot (inl there) = (ready slot (some_channel recorders slot there) there).stands.frames
 frames_by kind kept filters recorders ready slot (inr past) = []
 
@@ -42,12 +42,12 @@ get_or-there [] k one other there = absurd (omega arith)
 get_or-there (x ∷ list) zero one other there = refl
 get_or-there (x ∷ list) (suc k) one other there = get_or-there list k one other (omega arith)
 
-stands_by : {B : Type 0} (kind : B → Kind) (kept : B → Kept) (filters : Filters) (recorders : List (RecChannelOf B)) (ready : AreReady kind kept filters recorders) (slot : ℕ) (other : RecChannelOf B) → slot < length recorders
+stands_by : {B : Type 0} (kind : B → Kind) (kept : B → Kept) (filters : Filters) (recorders : List (RecordChannelOf B)) (ready : AreReady kind kept filters recorders) (slot : ℕ) (other : RecordChannelOf B) → slot < length recorders
     → (is : (slot < length recorders) ⊎ (length recorders ≤ slot))
     → RecordStands kept filters (get_or recorders slot other) (get_or recorders slot other).book (bytes_by kind kept filters recorders ready slot is) (frames_by kind kept filters recorders ready slot is)
 stands_by {B} kind kept filters recorders ready slot other within (inl there) =
-    let some : RecChannelOf B = some_channel recorders slot there in
-    subst (λ (c : RecChannelOf B). RecordStands kept filters c c.book (ready slot some there).stands.bytes (ready slot some there).stands.frames) (get_or-there recorders slot some other there) (ready slot some there).stands.stands
+    let some : RecordChannelOf B = some_channel recorders slot there in
+    subst (λ (c : RecordChannelOf B). RecordStands kept filters c c.book (ready slot some there).stands.bytes (ready slot some there).stands.frames) (get_or-there recorders slot some other there) (ready slot some there).stands.stands
 stands_by kind kept filters recorders ready slot other within (inr past) = absurd (omega arith)
 
 -- ---- what a read gets
@@ -60,40 +60,40 @@ take_fill count bytes =
       | inr more ↦ (let is : min count (length bytes) ≡ length bytes = omega arith in ap (λ n. take n bytes) is ∙ take_all (length bytes) bytes (omega arith) ∙ sym (take_all count bytes more))
     ]
 
-front : {B : Type 0} (kept : B → Kept) (filters : Filters) (count : ℕ) (channel : RecChannelOf B) (bytes : List ℕ) (frames : List Frame) → RecordStands kept filters channel channel.book bytes frames
-    → take (min count (fill_of channel.book)) (drop channel.book.read bytes) ≡ take count channel.ring.bytes
+front : {B : Type 0} (kept : B → Kept) (filters : Filters) (count : ℕ) (channel : RecordChannelOf B) (bytes : List ℕ) (frames : List Frame) → RecordStands kept filters channel channel.book bytes frames
+    → take (min count (record_fill_of channel.book)) (drop channel.book.read bytes) ≡ take count channel.ring.bytes
 front kept filters count channel bytes frames s =
     ap (λ n. take (min count n) (drop channel.book.read bytes)) (sym channel.fill) ∙ ap (take (min count (length channel.ring.bytes))) (sym s.ring_is) ∙ take_fill count channel.ring.bytes
 
 -- the bytes of each ring, by slot
-abbrev rings : {B : Type 0} → List (RecChannelOf B) → List (List ℕ)
+abbrev rings : {B : Type 0} → List (RecordChannelOf B) → List (List ℕ)
 rings recorders = map (λ channel. channel.ring.bytes) recorders
 
-read_held : {B : Type 0} (kept : B → Kept) (filters : Filters) (device : DeviceSeen) (desk : Desk) (recorders : List (RecChannelOf B)) (bytes : ℕ → List ℕ) (frames : ℕ → List Frame) (count : ℕ) (way : Way) (slot : ℕ)
-    → desk.recording ≡ record_books_of recorders → AllRecord kept filters recorders bytes frames → slot < slots_of desk way
+read_held : {B : Type 0} (kept : B → Kept) (filters : Filters) (device : DeviceSeen) (desk : Desk) (recorders : List (RecordChannelOf B)) (bytes : ℕ → List ℕ) (frames : ℕ → List Frame) (count : ℕ) (way : Way) (slot : ℕ)
+    → desk.recording ≡ record_books_of recorders → AllRecordStand kept filters recorders bytes frames → slot < slots_of desk way
     → let held : Held = record { way = way; slot = slot } in
     channel_read count (channel_at device desk held) (bytes slot) ≡ by_way way [] (take count (get_or (rings recorders) slot []))
 read_held kept filters device desk recorders bytes frames count Play slot are stand there = refl
-read_held {B} kept filters device desk recorders bytes frames count Rec slot are stand there =
-    let here : slot < length recorders = omega (arith, there, ap (λ (l : List RecordBook). length l) are, length-map recorders (λ (c : RecChannelOf B). c.book)) in
-    let channel : RecChannelOf B = get_or recorders slot (some_channel recorders slot here) in
-    ap (λ (b : RecordBook). take (min count (fill_of b)) (drop b.read (bytes slot))) (record_at-books device desk recorders slot (some_channel recorders slot here) are here)
+read_held {B} kept filters device desk recorders bytes frames count Record slot are stand there =
+    let here : slot < length recorders = omega (arith, there, ap (λ (l : List RecordBook). length l) are, length-map recorders (λ (c : RecordChannelOf B). c.book)) in
+    let channel : RecordChannelOf B = get_or recorders slot (some_channel recorders slot here) in
+    ap (λ (b : RecordBook). take (min count (record_fill_of b)) (drop b.read (bytes slot))) (record_at-books device desk recorders slot (some_channel recorders slot here) are here)
     ∙ front kept filters count channel (bytes slot) (frames slot) (stand slot (some_channel recorders slot here) here)
-    ∙ ap (take count) (sym (get_or-map (λ (c : RecChannelOf B). c.ring.bytes) recorders slot (some_channel recorders slot here) [] here))
+    ∙ ap (take count) (sym (get_or-map (λ (c : RecordChannelOf B). c.ring.bytes) recorders slot (some_channel recorders slot here) [] here))
 
-read_found : {B : Type 0} (kept : B → Kept) (filters : Filters) (device : DeviceSeen) (desk : Desk) (recorders : List (RecChannelOf B)) (bytes : ℕ → List ℕ) (frames : ℕ → List Frame) (count : ℕ) (found : Option Held)
-    → desk.recording ≡ record_books_of recorders → AllRecord kept filters recorders bytes frames → ((held : Held) → found ≡ Some held → held.slot < slots_of desk held.way)
+read_found : {B : Type 0} (kept : B → Kept) (filters : Filters) (device : DeviceSeen) (desk : Desk) (recorders : List (RecordChannelOf B)) (bytes : ℕ → List ℕ) (frames : ℕ → List Frame) (count : ℕ) (found : Option Held)
+    → desk.recording ≡ record_books_of recorders → AllRecordStand kept filters recorders bytes frames → ((held : Held) → found ≡ Some held → held.slot < slots_of desk held.way)
     → bytes_read device desk bytes count found ≡ front_taken (rings recorders) count found
 read_found kept filters device desk recorders bytes frames count None are stand there = refl
 read_found kept filters device desk recorders bytes frames count (Some held) are stand there = read_held kept filters device desk recorders bytes frames count held.way held.slot are stand (there held refl)
 
 -- So a ready engine's reply to a read is the front of what waits in the ring of the slot that the descriptor holds.
-pub read-waiting : {B : Type 0} (kind : B → Kind) (kept : B → Kept) (filters : Filters) (device : DeviceSeen) (desk : Desk) (recorders : List (RecChannelOf B)) (count : ℕ) (found : Option Held) (reply : List ℕ)
+pub read-waiting : {B : Type 0} (kind : B → Kind) (kept : B → Kept) (filters : Filters) (device : DeviceSeen) (desk : Desk) (recorders : List (RecordChannelOf B)) (count : ℕ) (found : Option Held) (reply : List ℕ)
     → desk.recording ≡ record_books_of recorders → AreReady kind kept filters recorders → ((held : Held) → found ≡ Some held → held.slot < slots_of desk held.way)
-    → ((bytes : ℕ → List ℕ) (frames : ℕ → List Frame) → AllRecord kept filters recorders bytes frames → reply ≡ bytes_read device desk bytes count found)
+    → ((bytes : ℕ → List ℕ) (frames : ℕ → List Frame) → AllRecordStand kept filters recorders bytes frames → reply ≡ bytes_read device desk bytes count found)
     → reply ≡ front_taken (rings recorders) count found
 read-waiting kind kept filters device desk recorders count found reply are ready there answered =
     let bytes : ℕ → List ℕ = λ slot. bytes_by kind kept filters recorders ready slot (cases_lt slot (length recorders)) in
     let frames : ℕ → List Frame = λ slot. frames_by kind kept filters recorders ready slot (cases_lt slot (length recorders)) in
-    let stand : AllRecord kept filters recorders bytes frames = λ slot other within. stands_by kind kept filters recorders ready slot other within (cases_lt slot (length recorders)) in
+    let stand : AllRecordStand kept filters recorders bytes frames = λ slot other within. stands_by kind kept filters recorders ready slot other within (cases_lt slot (length recorders)) in
     answered bytes frames stand ∙ read_found kept filters device desk recorders bytes frames count found are stand there

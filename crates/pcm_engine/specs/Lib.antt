@@ -1,3 +1,4 @@
+pub mod Descriptors
 pub mod Desks
 pub mod Steps
 pub mod Stands

@@ -5,26 +5,26 @@ use Rattle.pcm_format.specs.Frames.{Frame}
 use Rattle.pcm_wave.specs.declared.pool.Pool.{Pool}
 use Rattle.pcm_wave.specs.Pools.{captured_frames}
 use Rattle.pcm_desk.specs.Device.{DeviceSeen, device_frame_bytes, device_settings, filters_of}
-use Rattle.pcm_desk.specs.Desk.{Desk, book_at, record_at}
+use Rattle.pcm_desk.specs.Desk.{Desk, play_at, record_at}
 use Rattle.pcm_sound.specs.Runs.{newest_bytes}
 use Rattle.pcm_sound.specs.Story.{Story}
 use Rattle.pcm_sound.specs.DeviceList.{device_bytes}
 use Rattle.pcm_sound.specs.Valid.{RecordingsAreValid, StoryIsValid}
 use Rattle.pcm_play.specs.declared.channel.PlayChannelOf.{PlayChannelOf}
-use Rattle.pcm_play.specs.Channels.{ChannelStands}
-use Rattle.pcm_record.specs.declared.channel.RecChannelOf.{RecChannelOf}
+use Rattle.pcm_play.specs.Channels.{PlayStands}
+use Rattle.pcm_record.specs.declared.channel.RecordChannelOf.{RecordChannelOf}
 use Rattle.pcm_record.specs.Channels.{RecordStands}
 
 -- the bytes that a slot's book counts: those of its newest run, unless it is over
 abbrev pub bytes_counted : DeviceSeen → Story → ℕ → List ℕ
-bytes_counted device story slot = take (book_at device story.desk slot).written (newest_bytes (story.runs slot))
+bytes_counted device story slot = take (play_at device story.desk slot).written (newest_bytes (story.runs slot))
 
 -- A desk, channels and a device's ring stand for a story: the desk is the story's, each channel stands for its slot's book
 -- and the bytes that it counts, and the device's ring holds what was not handed over.
 pub record PartsStand {B : Type 0} (kept : B → Kept) (device : DeviceSeen) (desk : Desk) (channels : List (PlayChannelOf B)) (ring : List ℕ) (story : Story) : Type 0 where
   pub desk_is : desk ≡ story.desk
   pub slots : (slot : ℕ) (other : PlayChannelOf B) → slot < length channels
-      → ChannelStands kept (filters_of device) (slice_index_or channels slot other) (book_at device story.desk slot) (bytes_counted device story slot)
+      → PlayStands kept (filters_of device) (slice_index_or channels slot other) (play_at device story.desk slot) (bytes_counted device story slot)
   pub ring_is : ring ≡ drop (story.desk.handed * device_frame_bytes device) (device_bytes device story)
   pub valid : StoryIsValid device story
 
@@ -38,7 +38,7 @@ frames_captured device pool story slot =
     captured_frames (device_settings device).layout pool (story.recordings slot).start (record_at device story.desk slot).captured
 
 -- Channels that record stand for a story: each for its slot's book, the bytes that were kept and the frames that were captured.
-pub record RecordersStand {B : Type 0} (kept : B → Kept) (device : DeviceSeen) (pool : Pool) (recorders : List (RecChannelOf B)) (story : Story) : Type 0 where
-  pub slots : (slot : ℕ) (other : RecChannelOf B) → slot < length recorders
+pub record RecordersStand {B : Type 0} (kept : B → Kept) (device : DeviceSeen) (pool : Pool) (recorders : List (RecordChannelOf B)) (story : Story) : Type 0 where
+  pub slots : (slot : ℕ) (other : RecordChannelOf B) → slot < length recorders
       → RecordStands kept (filters_of device) (slice_index_or recorders slot other) (record_at device story.desk slot) (bytes_kept device story slot) (frames_captured device pool story slot)
   pub valid : RecordingsAreValid device pool story

@@ -8,16 +8,16 @@ use Rattle.pcm_feeder.specs.declared.kind.Kind.{Kind}
 use Rattle.pcm_feeder.specs.Filters.{Filters}
 use Rattle.pcm_feeder.specs.Kept.{Kept}
 use Rattle.pcm_feeder.specs.Streams.{interleaved}
-use Rattle.pcm_desk.specs.declared.book.Book.{Book}
+use Rattle.pcm_desk.specs.declared.play_book.PlayBook.{PlayBook}
 use Rattle.pcm_desk.specs.declared.device.Held.{Held}
 use Rattle.pcm_desk.specs.Device.{DeviceSeen, device_frame_bytes, device_settings, filters_of}
 use Rattle.pcm_desk.specs.Desk.{Desk, by_way, held_by}
 use Rattle.pcm_desk.specs.Own.{Channel, Playing, Recording, channel_at}
-use Rattle.pcm_desk.specs.RecordBooks.{fill_of}
+use Rattle.pcm_desk.specs.RecordBooks.{record_fill_of}
 use Rattle.pcm_desk.specs.Events.{frames_taken}
 use Rattle.pcm_play.specs.declared.channel.PlayChannelOf.{PlayChannelOf}
-use Rattle.pcm_play.specs.Channels.{Moves}
-use Rattle.pcm_record.specs.declared.channel.RecChannelOf.{RecChannelOf}
+use Rattle.pcm_play.specs.Channels.{PlayMoves}
+use Rattle.pcm_record.specs.declared.channel.RecordChannelOf.{RecordChannelOf}
 use Rattle.pcm_record.specs.Channels.{RecordMoves}
 use Rattle.pcm_vchan.specs.Slots.{Each}
 use Rattle.pcm_vchan.specs.Blocks.{block_bytes, block_of}
@@ -30,15 +30,15 @@ bytes_brought pool event = []
 
 -- the channels after an event
 abbrev pub ChannelsMove : {B : Type 0} → (B → Kind) → (B → Kept) → Filters → Pool → Event → List (PlayChannelOf B) → List (PlayChannelOf B) → Type 0
-ChannelsMove kind kept filters pool event old new = Each (Moves kind kept filters (bytes_brought pool event) (frames_taken event)) old new
+ChannelsMove kind kept filters pool event old new = Each (PlayMoves kind kept filters (bytes_brought pool event) (frames_taken event)) old new
 
 -- the bytes of the device's ring after an event, from the books of the slots and the bytes of their runs
-abbrev pub ring_after : DeviceSeen → Event → List Book → (ℕ → List ℕ) → ℕ → List ℕ → List ℕ
+abbrev pub ring_after : DeviceSeen → Event → List PlayBook → (ℕ → List ℕ) → ℕ → List ℕ → List ℕ
 ring_after device (Intr n) books streams slots ring = drop (n * device_frame_bytes device) ring ++ block_bytes device (block_of device n books streams slots)
 ring_after device event books streams slots ring = ring
 
 -- the channels that record after an event, once so many frames were handed over
-abbrev pub RecordersMove : {B : Type 0} → (B → Kind) → (B → Kept) → DeviceSeen → Pool → ℕ → Event → List (RecChannelOf B) → List (RecChannelOf B) → Type 0
+abbrev pub RecordersMove : {B : Type 0} → (B → Kind) → (B → Kept) → DeviceSeen → Pool → ℕ → Event → List (RecordChannelOf B) → List (RecordChannelOf B) → Type 0
 RecordersMove kind kept device pool handed (Intr n) old new =
     Each (Captures kind kept device n (interleaved (captured_frames (device_settings device).layout pool handed n))) old new
 RecordersMove kind kept device pool handed event old new = Each (RecordMoves kind kept (filters_of device) [] 0) old new
@@ -46,7 +46,7 @@ RecordersMove kind kept device pool handed event old new = Each (RecordMoves kin
 -- the bytes that a read of so many gets of a channel, from those that were kept of its recording: the oldest that no read got
 abbrev pub channel_read : ℕ → Channel → List ℕ → List ℕ
 channel_read count (Playing book) bytes = []
-channel_read count (Recording book) bytes = take (min count (fill_of book)) (drop book.read bytes)
+channel_read count (Recording book) bytes = take (min count (record_fill_of book)) (drop book.read bytes)
 
 -- the bytes that a read gets of what a descriptor holds, from the bytes that were kept in each slot: it looks at its own alone
 abbrev pub bytes_read : DeviceSeen → Desk → (ℕ → List ℕ) → ℕ → Option Held → List ℕ

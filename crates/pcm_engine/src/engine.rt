@@ -2,22 +2,23 @@
 
 ghost use Rattle.std.specs.Prelude.{◌≡◌, [], ◌∷◌, ◌++◌, ◌+◌, ◌*◌, ◌<◌, ◌≤◌, length, take, drop, All, List, ℕ, IfOk, IsErr};
 ghost use Rattle.pcm_fixed.specs.Fixed.{fixed_len};
-ghost use Rattle.pcm_desk.specs.declared.limits.TheConstants.{DESCRIPTORS, RING_FRAMES};
+ghost use Rattle.pcm_desk.specs.declared.limits.TheConstants.{RING_FRAMES};
 ghost use Rattle.pcm_engine.specs.declared.limits.TheConstants.{STEPS};
 ghost use Rattle.pcm_desk.specs.Events.{Fits, bytes_handed};
 ghost use Rattle.pcm_desk.specs.Device.{seen};
 ghost use Rattle.pcm_desk.specs.Own.{HoldApart};
-ghost use Rattle.pcm_vchan.specs.Parents.{play_channels, rec_channels};
-ghost use Rattle.pcm_vchan.specs.Slots.{AreOf};
+ghost use Rattle.pcm_vchan.specs.Parents.{play_channels, record_channels};
+ghost use Rattle.pcm_vchan.specs.Slots.{PlayAreOf};
 ghost use Rattle.pcm_desk.proofs.Props.{hold_props};
 ghost use Rattle.pcm_engine.specs.Desks.{desk_with};
-ghost use Rattle.pcm_vchan.specs.Slots.{RecordersAreOf};
+ghost use Rattle.pcm_vchan.specs.Slots.{RecordAreOf};
 ghost use Rattle.pcm_oss.specs.declared.fragments.TheConstants.{RING_BYTES};
 ghost use Rattle.pcm_format.specs.Layouts.{channels_of};
 
-use crate::clients::{close, ioctl, open, write};
-use crate::recordings::{answer_read, interrupt};
-use pcm_desk::{DESCRIPTORS, Device, Held};
+use crate::clients::{answer_read, close, ioctl, open, write};
+use crate::descriptors::Descriptors;
+use crate::interrupts::interrupt;
+use pcm_desk::Device;
 use pcm_feeder::{Feeder, RacksOf, Tables};
 use pcm_fixed::Fixed;
 use pcm_oss::{Answer, Event, ReplyBuf};
@@ -30,16 +31,16 @@ use std::alloc::{AllocError, Global};
 pub struct EngineOf<B> {
     parent: ParentOf<B>,
     tables: Tables,
-    descriptors: [Option<Held>; DESCRIPTORS],
+    descriptors: Descriptors,
     captured: Fixed<i32>,
     steps: u32,
-    ghost own: { AreOf parent.device (play_channels parent) },
-    ghost recorders_own: { RecordersAreOf parent.device (rec_channels parent) },
-    ghost apart: { HoldApart (desk_with parent descriptors) } by { Prim.hlevel hold_props },
+    ghost own: { PlayAreOf parent.device (play_channels parent) },
+    ghost recorders_own: { RecordAreOf parent.device (record_channels parent) },
+    ghost apart: { HoldApart (desk_with parent descriptors.held) } by { Prim.hlevel hold_props },
     ghost counted: { All (λ channel. channel.book.done + channel.book.written ≤ RING_BYTES * steps) (play_channels parent) },
     ghost given: { All (λ channel. channel.book.given ≤ RING_FRAMES * steps) (play_channels parent) },
-    ghost kept: { All (λ channel. channel.book.kept ≤ RING_BYTES * steps) (rec_channels parent) },
-    ghost captured_within: { All (λ channel. channel.book.captured ≤ RING_FRAMES * steps) (rec_channels parent) },
+    ghost kept: { All (λ channel. channel.book.kept ≤ RING_BYTES * steps) (record_channels parent) },
+    ghost captured_within: { All (λ channel. channel.book.captured ≤ RING_FRAMES * steps) (record_channels parent) },
     ghost captured_size: { fixed_len captured ≡ parent.device.ring_frames * channels_of parent.device.settings.layout },
     ghost mixed_within: { parent.mixed ≤ RING_FRAMES * steps },
     ghost handed_within: { parent.handed ≤ RING_FRAMES * steps },
@@ -55,12 +56,12 @@ impl<B: Feeder> EngineOf<B> {
     ghost use Rattle.pcm_desk.specs.Desk.{after, held_by};
     ghost use Rattle.pcm_desk.specs.Own.{IsIsolated};
     ghost use Rattle.pcm_sound.specs.Story.{story_of};
-    ghost use Rattle.pcm_sound.specs.Replies.{reply_to};
+    ghost use Rattle.pcm_sound.specs.StoryReplies.{reply_to};
     ghost use Rattle.pcm_sound.specs.DeviceList.{device_text};
     ghost use Rattle.pcm_sound.specs.Plain.{HasNoShortage, plain_text};
     ghost use Rattle.pcm_feeder.specs.Racks.{AreRacks, list_of};
-    ghost use Rattle.pcm_vchan.specs.Slots.{AllRecord, AllStand};
-    ghost use Rattle.pcm_vchan.specs.Parents.{parent_books};
+    ghost use Rattle.pcm_vchan.specs.Slots.{AllRecordStand, AllPlayStand};
+    ghost use Rattle.pcm_vchan.specs.Parents.{play_books};
     ghost use Rattle.pcm_engine.specs.Steps.{ChannelsMove, RecordersMove, bytes_answered, front_taken, ring_after};
     ghost use Rattle.pcm_engine.specs.Engines.{device_of, desk_of, AreReady, BooksAreSafe, IsUnchanged, RecordsAreSafe, RingsHold, Stands, waiting_in};
 
@@ -85,7 +86,7 @@ impl<B: Feeder> EngineOf<B> {
         Ok(EngineOf {
             parent,
             tables,
-            descriptors: [None; DESCRIPTORS],
+            descriptors: Descriptors::all_shut(),
             captured: Fixed::new(captured),
             steps: 0,
         })
@@ -142,7 +143,7 @@ impl<B: Feeder> EngineOf<B> {
         ensures isolated { IsIsolated (device_of self.old) event.now
             (desk_of self.old) (desk_of self.new) reply.new.result }
         ensures read { (bytes : ℕ → List ℕ) (frames : ℕ → List Frame)
-            → AllRecord B.kept self.old.tables (rec_channels self.old.parent) bytes frames
+            → AllRecordStand B.kept self.old.tables (record_channels self.old.parent) bytes frames
             → reply.new.bytes
             ≡ bytes_answered (device_of self.old) (desk_of self.old) bytes event.now }
         ensures taken { (fd count : ℕ) → event.now ≡ Read fd count
@@ -172,26 +173,26 @@ impl<B: Feeder> EngineOf<B> {
         ensures tables { self.new.tables ≡ self.old.tables }
         ensures slots { length (play_channels self.new.parent)
             ≡ length (play_channels self.old.parent) }
-        ensures recorders_slots { length (rec_channels self.new.parent)
-            ≡ length (rec_channels self.old.parent) }
+        ensures recorders_slots { length (record_channels self.new.parent)
+            ≡ length (record_channels self.old.parent) }
         ensures steps { self.new.steps ≡ self.old.steps + 1 }
         ensures desk { desk_of self.new
             ≡ (after (device_of self.old) (desk_of self.old) event.now).desk }
         ensures reply { reply.new.result
             ≡ (after (device_of self.old) (desk_of self.old) event.now).reply }
         ensures bytes { (bytes : ℕ → List ℕ) (frames : ℕ → List Frame)
-            → AllRecord B.kept self.old.tables (rec_channels self.old.parent) bytes frames
+            → AllRecordStand B.kept self.old.tables (record_channels self.old.parent) bytes frames
             → reply.new.bytes
             ≡ bytes_answered (device_of self.old) (desk_of self.old) bytes event.now }
         ensures refused { IsErr reply.new.result → IsUnchanged self.old self.new }
         ensures channels { ChannelsMove B.kind B.kept self.old.tables pool.now event.now
             (play_channels self.old.parent) (play_channels self.new.parent) }
         ensures recorders { RecordersMove B.kind B.kept (device_of self.old) pool.now self.old.parent.handed event.now
-            (rec_channels self.old.parent) (rec_channels self.new.parent) }
+            (record_channels self.old.parent) (record_channels self.new.parent) }
         ensures ring { (streams : ℕ → List ℕ)
-            → AllStand B.kept self.old.tables (play_channels self.old.parent) streams
+            → AllPlayStand B.kept self.old.tables (play_channels self.old.parent) streams
             → self.new.parent.ring.bytes
-            ≡ ring_after (device_of self.old) event.now (parent_books self.old.parent) streams
+            ≡ ring_after (device_of self.old) event.now (play_books self.old.parent) streams
             (length (play_channels self.old.parent)) self.old.parent.ring.bytes }
         ensures count { result ≡ bytes_handed (device_of self.old) event.now }
         ensures out { take result out.new ≡ take result self.old.parent.ring.bytes }
@@ -229,18 +230,8 @@ impl<B: Feeder> EngineOf<B> {
                 0
             }
             Event::Intr { frames } => {
-                let n = frames as usize;
-                let size = n * parent.device.settings.frame_bytes();
-                interrupt(
-                    parent,
-                    tables,
-                    pool,
-                    n,
-                    &mut self.captured,
-                    &mut out[..size],
-                );
                 reply.keep(Ok(Answer::Number(frames)), &[]);
-                size
+                interrupt(parent, tables, pool, frames, &mut self.captured, out)
             }
         }
     }

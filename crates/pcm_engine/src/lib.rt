@@ -3,10 +3,11 @@
 #![tactic(auto)]
 
 mod clients;
+mod descriptors;
 mod engine;
+mod interrupts;
 mod laws;
 mod limits;
-mod recordings;
 
 pub use engine::{Engine, EngineOf};
 pub use laws::engines_stand_with_alike_pools;

@@ -52,7 +52,8 @@ pub fn read_config<F: Files, K: Sink>(
     files: &mut F,
     out: &mut K,
 ) -> Result<Config, Ending>
-    ensures ok { IfOk result (λ config. GivesValue (config_part (named name.entry)) config over both F.seen K.seen files out) }
+    ensures ok { IfOk result (λ config. GivesValue (config_part (named name.entry)) config
+        over both F.seen K.seen files out) }
     ensures limits { IfOk result (λ config. IsInLimits (device_seen config)) }
     ensures container { IfOk result IsHeld }
     ensures paths { IfOk result (λ config. (path : List ℕ) → IsPath config path
@@ -80,7 +81,8 @@ pub fn read_script<F: Files, K: Sink>(
     out: &mut K,
 ) -> Result<Script, Ending>
     requires limits { IsInLimits (device_seen config.now) }
-    ensures ok { IfOk result (λ script. GivesValue (script_part config.now waves.now name.now) script over both F.seen K.seen files out) }
+    ensures ok { IfOk result (λ script. GivesValue (script_part config.now waves.now name.now) script
+        over both F.seen K.seen files out) }
     ensures fits { IfOk result (λ script. AllFit (device_seen config.now) waves.now script) }
     ensures count { IfOk result (λ script. length script.events ≤ EVENTS) }
     ensures frames { IfOk result

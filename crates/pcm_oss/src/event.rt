@@ -10,7 +10,7 @@ pub enum Way {
     /// From the client to the device.
     Play,
     /// From the device to the client.
-    Rec,
+    Record,
 }
 
 /// One step of a run: a client's call, or the device's interrupt.

@@ -1,6 +1,7 @@
 //! What an event is answered.
 
 ghost use Rattle.std.specs.Prelude.{◌≡◌, ◌≤◌, [], length, take, IfOk};
+ghost use Rattle.pcm_oss.specs.Replies.{bytes_due};
 
 use pcm_fixed::Fixed;
 use std::alloc::{AllocError, Global};
@@ -74,7 +75,6 @@ impl Model for ReplyBuf {
 }
 
 impl ReplyBuf {
-    ghost use Rattle.pcm_oss.specs.Replies.{bytes_due};
     ghost use Rattle.pcm_oss.specs.declared.reply.TheConstants.{REPLY_BYTES};
 
     /// Begins with the reply of an event that has no more to say. All memory of the buffer is taken here.
@@ -88,15 +88,16 @@ impl ReplyBuf {
         })
     }
 
-    /// Makes this the reply: as many bytes as a read got, and none with any other result.
+    /// Makes this the reply, with the front of `bytes`: as many as a read got, and none with any other result.
     pub fn keep(&mut self, reply: Result<Answer, Errno>, bytes: &[u8])
-        requires due { length bytes.now ≡ bytes_due reply }
-        requires few { length bytes.now ≤ REPLY_BYTES }
-        ensures { self.new ≡ record { result = reply; bytes = bytes.now } }
+        requires due { bytes_due reply ≤ length bytes.now }
+        requires few { bytes_due reply ≤ REPLY_BYTES }
+        ensures { self.new ≡ record { result = reply; bytes = take (bytes_due reply) bytes.now } }
     {
+        let count = bytes_due(reply);
         self.result = reply;
-        self.count = bytes.len();
-        copy_front(bytes, &mut self.bytes);
+        self.count = count;
+        copy_front(&bytes[..count], &mut self.bytes);
     }
 
     /// The result that was kept last.
@@ -112,6 +113,16 @@ impl ReplyBuf {
         ensures few { length result.now ≤ REPLY_BYTES }
     {
         &self.bytes[..self.count]
+    }
+}
+
+// How many bytes come with a reply.
+fn bytes_due(reply: Result<Answer, Errno>) -> usize
+    ensures { result ≡ bytes_due reply }
+{
+    match reply {
+        Ok(Answer::Got(count)) => count as usize,
+        _ => 0,
     }
 }
 

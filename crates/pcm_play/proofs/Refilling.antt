@@ -23,29 +23,29 @@ use Rattle.pcm_chain.specs.declared.chain.ChainOf.{ChainOf}
 use Rattle.pcm_chain.specs.declared.chain.Pulled.{Pulled}
 use Rattle.pcm_chain.specs.Chains.{boxes_in, plan_in, ChainStands}
 use Rattle.pcm_chain.specs.Pulls.{waiting_frames, IsPastTheEnd, Pulls, StandsBehind}
-use Rattle.pcm_desk.specs.declared.book.Book.{Book}
-use Rattle.pcm_desk.specs.Device.{DeviceSeen, IsDevice, filters_of, mix_settings, plan_between, seen}
-use Rattle.pcm_desk.specs.Books.{giving, is_draining, is_started, fill_of, frames_written, refilled}
-use Rattle.pcm_desk.specs.Desk.{mixing, rate_at}
-use Rattle.pcm_desk.proofs.Safe.{settings-refilled}
+use Rattle.pcm_desk.specs.declared.play_book.PlayBook.{PlayBook}
+use Rattle.pcm_desk.specs.Device.{DeviceSeen, IsDevice, filters_of, mix_settings, play_plan_between, seen}
+use Rattle.pcm_desk.specs.PlayBooks.{frames_written, giving, is_draining, is_started, play_fill_of, refilled}
+use Rattle.pcm_desk.specs.Desk.{mixing, play_rate_at}
+use Rattle.pcm_desk.proofs.PlaySafe.{settings-refilled}
 use Rattle.pcm_desk.proofs.Ratios.{plan-between-fits, ratio-between}
 use Rattle.pcm_sound.specs.Gains.{book_gain}
-use Rattle.pcm_sound.specs.Plans.{given_samples}
-use Rattle.pcm_sound.specs.Blocks.{turned}
+use Rattle.pcm_sound.specs.Given.{given_samples}
+use Rattle.pcm_sound.specs.Added.{turned}
 use Rattle.pcm_sound.proofs.DeviceLists.{frames-channels}
 use Rattle.pcm_sound.proofs.Stories.{IsSafeAt, safe-mixing}
 use Rattle.pcm_play.specs.declared.channel.PlayChannelOf.{PlayChannelOf}
-use Rattle.pcm_play.specs.Channels.{ChannelStands, IsPlanned, Moves}
+use Rattle.pcm_play.specs.Channels.{PlayStands, IsPlayPlanned, PlayMoves}
 use Rattle.pcm_chain.proofs.Waiting.{frames-waiting}
 use Rattle.pcm_play.proofs.Moving.{ended, planned-as, safe-at}
 use Rattle.pcm_play.proofs.Stands.{nothing-more, stands-pulled}
 use Rattle.pcm_play.proofs.Refills.{Goes, GoesOrEnds, PullsAsCounted, giving-none, refilled-goes, mixing-some, eaten-written, length-eaten, length-waiting, pulls-counted, front-written}
 
 -- what a pull of a channel's chain says of its frames, once the run's bytes are known
-pub record PullsRun {B : Type 0} (kept : B → Kept) (device : DeviceSeen) (gain : Gain) (n : ℕ) (book : Book) (bytes : List ℕ) (new : ChainOf B) (pulled : Pulled) (out_old out_new : List ℤ) : Type 0 where
-  pub counted : PullsAsCounted (rate_at device book) n book pulled
-  pub samples : out_new ≡ written (outs (plan_between device book.settings) (filters_of device) gain (frames book.settings bytes) book.given pulled.given) out_old
-  pub behind : StandsBehind kept (filters_of device) (is_draining book.state) (drop book.eaten (frames book.settings bytes)) new (take book.eaten (frames book.settings bytes)) book.given pulled
+pub record PullsRun {B : Type 0} (kept : B → Kept) (device : DeviceSeen) (gain : Gain) (n : ℕ) (book : PlayBook) (bytes : List ℕ) (new : ChainOf B) (pulled : Pulled) (out_old out_new : List ℤ) : Type 0 where
+  pub counted : PullsAsCounted (play_rate_at device book) n book pulled
+  pub samples : out_new ≡ written (outs (play_plan_between device book.opening.settings) (filters_of device) gain (frames book.opening.settings bytes) book.given pulled.given) out_old
+  pub behind : StandsBehind kept (filters_of device) (is_draining book.state) (drop book.eaten (frames book.opening.settings bytes)) new (take book.eaten (frames book.opening.settings bytes)) book.given pulled
 
 -- what a pull means, for whatever its chain stands for
 abbrev PullsFor : {B : Type 0} → (B → Kept) → Filters → Gain → Bool → ℕ → List Frame → ChainOf B → ChainOf B → Pulled → List ℤ → List ℤ → Type 0
@@ -53,126 +53,126 @@ PullsFor kept tables gain no_more n waiting old new pulled out_old out_new =
     (x : List Frame) (zeros before : ℕ) → ChainStands kept tables old x zeros before → IsPastTheEnd no_more zeros waiting → Pulls kept tables gain no_more n waiting old new x before pulled out_old out_new
 
 -- the frames that wait in a channel's ring
-waiting-is : {B : Type 0} (kept : B → Kept) (filters : Filters) (old : PlayChannelOf B) (bytes : List ℕ) → IsPlanned filters old → old.book.eaten ≤ frames_written old.book → ChannelStands kept filters old old.book bytes
-    → waiting_frames (plan_in old.chain) old.book.settings.format old.ring.bytes ≡ drop old.book.eaten (frames old.book.settings bytes)
+waiting-is : {B : Type 0} (kept : B → Kept) (filters : Filters) (old : PlayChannelOf B) (bytes : List ℕ) → IsPlayPlanned filters old → old.book.eaten ≤ frames_written old.book → PlayStands kept filters old old.book bytes
+    → waiting_frames (plan_in old.chain) old.book.opening.settings.format old.ring.bytes ≡ drop old.book.eaten (frames old.book.opening.settings bytes)
 waiting-is kept filters old bytes planned within s =
-    let settings : Settings = old.book.settings in
+    let settings : Settings = old.book.opening.settings in
     ap (λ (p : PlanSeen). waiting_frames p settings.format old.ring.bytes) planned.plan_is
-    ∙ ap (waiting_frames (plan_between (seen filters old.device) settings) settings.format) s.ring_is
+    ∙ ap (waiting_frames (play_plan_between (seen filters old.device) settings) settings.format) s.ring_is
     ∙ frames-waiting settings bytes old.book.eaten (let count = s.count in rw count within)
 
 pub pulls-run : {B : Type 0} (kept : B → Kept) (filters : Filters) (old : PlayChannelOf B) (new : ChainOf B) (gain : Gain) (no_more : Bool) (n : ℕ) (pulled : Pulled) (out_old out_new : List ℤ) (bytes : List ℕ)
-    → is_started old.book.state ≡ true → IsPlanned filters old → no_more ≡ is_draining old.book.state
-    → PullsFor kept filters gain no_more n (waiting_frames (plan_in old.chain) old.book.settings.format old.ring.bytes) old.chain new pulled out_old out_new
-    → ChannelStands kept filters old old.book bytes → PullsRun kept (seen filters old.device) gain n old.book bytes new pulled out_old out_new
+    → is_started old.book.state ≡ true → IsPlayPlanned filters old → no_more ≡ is_draining old.book.state
+    → PullsFor kept filters gain no_more n (waiting_frames (plan_in old.chain) old.book.opening.settings.format old.ring.bytes) old.chain new pulled out_old out_new
+    → PlayStands kept filters old old.book bytes → PullsRun kept (seen filters old.device) gain n old.book bytes new pulled out_old out_new
 pulls-run {B = B} kept filters old new gain no_more n pulled out_old out_new bytes started planned drains pulls s =
     let device : DeviceSeen = seen filters old.device in
-    let book : Book = old.book in
-    let all : List Frame = frames book.settings bytes in
-    let within = eaten-written (rate_at device book) book (safe-at filters old planned) in
-    let whole : book.eaten ≤ whole_frames book.settings (length bytes) = (let count = s.count in rw count within) in
+    let book : PlayBook = old.book in
+    let all : List Frame = frames book.opening.settings bytes in
+    let within = eaten-written (play_rate_at device book) book (safe-at filters old planned) in
+    let whole : book.eaten ≤ whole_frames book.opening.settings (length bytes) = (let count = s.count in rw count within) in
     let at_plan : PullsFor kept (filters_of device) gain (is_draining book.state) n (drop book.eaten all) old.chain new pulled out_old out_new =
     rw (drains, waiting-is kept filters old bytes planned within s) at pulls in
-    let long : length all ≡ frames_written book = length-frames book.settings bytes ∙ ap (whole_frames book.settings) s.count in
+    let long : length all ≡ frames_written book = length-frames book.opening.settings bytes ∙ ap (whole_frames book.opening.settings) s.count in
     let p = at_plan (take book.eaten all) s.zeros book.given s.chain_is (λ some.
     let over = s.ended some in
     (over.0, drop_all book.eaten all (omega (arith, over.1, long)))) in
     record {
-      counted = pulls-counted (rate_at device book) n book pulled (length (take book.eaten all)) (length (drop book.eaten all)) started within
-          (length-eaten book.settings bytes book.eaten whole) (length-waiting book.settings bytes book.eaten ∙ ap (λ m. whole_frames book.settings m - book.eaten) s.count)
+      counted = pulls-counted (play_rate_at device book) n book pulled (length (take book.eaten all)) (length (drop book.eaten all)) started within
+          (length-eaten book.opening.settings bytes book.eaten whole) (length-waiting book.opening.settings bytes book.eaten ∙ ap (λ m. whole_frames book.opening.settings m - book.eaten) s.count)
           (rw (ap (λ (plan : PlanSeen). rate_in_plan plan) planned.plan_is) at p.far);
       samples = p.frames ∙ ap (λ (plan : PlanSeen). written (outs plan (filters_of device) gain (take book.eaten all ++ drop book.eaten all) book.given pulled.given) out_old) planned.plan_is
-          ∙ ap (λ fs. written (outs (plan_between device book.settings) (filters_of device) gain fs book.given pulled.given) out_old) (take-append-drop book.eaten all);
+          ∙ ap (λ fs. written (outs (play_plan_between device book.opening.settings) (filters_of device) gain fs book.given pulled.given) out_old) (take-append-drop book.eaten all);
       behind = p.stands;
     }
 
 -- what an interrupt leaves of a started book
-pub record BookRefilled (device : DeviceSeen) (n : ℕ) (old new : Book) : Type 0 where
-  pub settings : new.settings ≡ old.settings
-  pub fragments : new.fragments ≡ old.fragments
+pub record BookRefilled (device : DeviceSeen) (n : ℕ) (old new : PlayBook) : Type 0 where
+  pub settings : new.opening.settings ≡ old.opening.settings
+  pub fragments : new.opening.fragments ≡ old.opening.fragments
   pub safe : IsSafeAt device new
   -- where no bytes are counted, nothing is
-  pub ended : new.written ≡ 0 → (new.eaten ≡ 0) × (new.given ≡ 0) × (new.eaten * frame_bytes new.settings ≤ new.written) × (0 ≡ fill_of new)
+  pub ended : new.written ≡ 0 → (new.eaten ≡ 0) × (new.given ≡ 0) × (new.eaten * frame_bytes new.opening.settings ≤ new.written) × (0 ≡ play_fill_of new)
   pub done : new.written ≡ 0 → new.done ≤ old.done + old.written
   -- where some are, the run goes on
-  pub goes : (new.written ≡ 0 → ⊥) → Goes (rate_at device old) n old new
+  pub goes : (new.written ≡ 0 → ⊥) → Goes (play_rate_at device old) n old new
 
 -- the book of a refill is that of an interrupt
-pub book-mixed : (device : DeviceSeen) (n : ℕ) (old new : Book) (between : Rate) (plan : PlanSeen) → 0 < n
-    → new ≡ refilled between n old → between ≡ rate_in_plan plan → plan ≡ plan_between device old.settings → new ≡ mixing device n old
+pub book-mixed : (device : DeviceSeen) (n : ℕ) (old new : PlayBook) (between : Rate) (plan : PlanSeen) → 0 < n
+    → new ≡ refilled between n old → between ≡ rate_in_plan plan → plan ≡ play_plan_between device old.opening.settings → new ≡ mixing device n old
 book-mixed device n old new between plan some made rate_is plan_is =
     made ∙ ap (λ (r : Rate). refilled r n old) (rate_is ∙ ap (λ (p : PlanSeen). rate_in_plan p) plan_is) ∙ sym (mixing-some device n old some)
 
-pub book-refilled : (device : DeviceSeen) (n : ℕ) (old new : Book) (between : Rate) (plan : PlanSeen) → 0 < n → IsDevice device → IsRate old.settings.rate → IsSafeAt device old → is_started old.state ≡ true
-    → new ≡ refilled between n old → between ≡ rate_in_plan plan → plan ≡ plan_between device old.settings → BookRefilled device n old new
+pub book-refilled : (device : DeviceSeen) (n : ℕ) (old new : PlayBook) (between : Rate) (plan : PlanSeen) → 0 < n → IsDevice device → IsRate old.opening.settings.rate → IsSafeAt device old → is_started old.state ≡ true
+    → new ≡ refilled between n old → between ≡ rate_in_plan plan → plan ≡ play_plan_between device old.opening.settings → BookRefilled device n old new
 book-refilled device n old new between plan some d rate safe started made rate_is plan_is =
-    let is : new ≡ refilled (rate_at device old) n old = made ∙ ap (λ (r : Rate). refilled r n old) (rate_is ∙ ap (λ (p : PlanSeen). rate_in_plan p) plan_is) in
-    let settings : new.settings ≡ old.settings = ap (λ (b : Book). b.settings) is ∙ settings-refilled (rate_at device old) n old in
+    let is : new ≡ refilled (play_rate_at device old) n old = made ∙ ap (λ (r : Rate). refilled r n old) (rate_is ∙ ap (λ (p : PlanSeen). rate_in_plan p) plan_is) in
+    let settings : new.opening.settings ≡ old.opening.settings = ap (λ (b : PlayBook). b.opening.settings) is ∙ settings-refilled (play_rate_at device old) n old in
     let safe_now : IsSafeAt device new = subst (IsSafeAt device) (mixing-some device n old some ∙ sym is) (safe-mixing device n old d rate safe) in
-    let goes : GoesOrEnds (rate_at device old) n old new = subst (GoesOrEnds (rate_at device old) n old) (sym is) (refilled-goes (rate_at device old) n old started) in
+    let goes : GoesOrEnds (play_rate_at device old) n old new = subst (GoesOrEnds (play_rate_at device old) n old) (sym is) (refilled-goes (play_rate_at device old) n old started) in
     record {
       settings = settings;
       fragments = elim goes.counts [ inl on ↦ on.fragments | inr over ↦ over.fragments ];
       safe = safe_now;
       done = λ none. elim goes.counts [ inl on ↦ omega (arith, on.done) | inr over ↦ over.done ];
-      ended = ended (rate_at device new) new (ratio-between device new.settings d (subst (λ (s : Settings). IsRate s.rate) (sym settings) rate)) safe_now;
+      ended = ended (play_rate_at device new) new (ratio-between device new.opening.settings d (subst (λ (s : Settings). IsRate s.rate) (sym settings) rate)) safe_now;
       goes = λ more. elim goes.counts [ inl on ↦ on | inr over ↦ absurd (more over.written) ];
     }
 
 -- what the book of a run that goes on says of the ring, once as many frames were pulled as it counts
-pub record RingRefilled (old new : Book) (eaten : ℕ) : Type 0 where
-  pub within : new.eaten * frame_bytes new.settings ≤ new.written
-  pub fill : fill_of old - eaten * frame_bytes old.settings ≡ fill_of new
+pub record RingRefilled (old new : PlayBook) (eaten : ℕ) : Type 0 where
+  pub within : new.eaten * frame_bytes new.opening.settings ≤ new.written
+  pub fill : play_fill_of old - eaten * frame_bytes old.opening.settings ≡ play_fill_of new
 
-pub ring-refilled : (device : DeviceSeen) (n : ℕ) (old new : Book) (pulled : Pulled) → IsSafeAt device new → Goes (rate_at device old) n old new → PullsAsCounted (rate_at device old) n old pulled → RingRefilled old new pulled.eaten
+pub ring-refilled : (device : DeviceSeen) (n : ℕ) (old new : PlayBook) (pulled : Pulled) → IsSafeAt device new → Goes (play_rate_at device old) n old new → PullsAsCounted (play_rate_at device old) n old pulled → RingRefilled old new pulled.eaten
 ring-refilled device n old new pulled safe go counted =
-    let size : frame_bytes new.settings ≡ frame_bytes old.settings = ap frame_bytes go.settings in
-    let z : ℕ = frame_bytes old.settings in
+    let size : frame_bytes new.opening.settings ≡ frame_bytes old.opening.settings = ap frame_bytes go.settings in
+    let z : ℕ = frame_bytes old.opening.settings in
     let eaten : new.eaten ≡ old.eaten + pulled.eaten = go.eaten ∙ sym counted.eaten in
     let sum : (old.eaten + pulled.eaten) * z ≡ old.eaten * z + pulled.eaten * z = omega arith in
     record {
-      within = frames_fit new.settings new.written new.eaten (eaten-written (rate_at device new) new safe);
+      within = frames_fit new.opening.settings new.written new.eaten (eaten-written (play_rate_at device new) new safe);
       fill = rw (go.written, eaten, size) (omega arith);
     }
 
 -- a channel that isn't started adds nothing to a block
-pub turned-none : (device : DeviceSeen) (n : ℕ) (book : Book) (bytes : List ℕ) (sum : List ℤ) → is_started book.state ≡ false → sum ≡ turned device n book bytes sum
+pub turned-none : (device : DeviceSeen) (n : ℕ) (book : PlayBook) (bytes : List ℕ) (sum : List ℤ) → is_started book.state ≡ false → sum ≡ turned device n book bytes sum
 turned-none device n book bytes sum idle =
     let size : ℕ = channels_of (mix_settings device).layout in
     let bits : ℕ = bits_of (mix_settings device).format in
     let none : 0 * size ≡ 0 = omega arith in
-    let samples : ℕ → List ℤ = given_samples device (book_gain book) book.settings bytes book.given in
-    sym (ap (λ (k : ℕ). mixed bits (take (k * size) sum) (samples k) ++ drop (k * size) sum) (giving-none (rate_at device book) n book idle)
+    let samples : ℕ → List ℤ = given_samples device (book_gain book) book.opening.settings bytes book.given in
+    sym (ap (λ (k : ℕ). mixed bits (take (k * size) sum) (samples k) ++ drop (k * size) sum) (giving-none (play_rate_at device book) n book idle)
     ∙ ap (λ (m : ℕ). mixed bits (take m sum) (samples 0) ++ drop m sum) none)
 
 -- what a channel adds to a block: the samples that its chain gave
-pub turned-pulled : {B : Type 0} (kept : B → Kept) (device : DeviceSeen) (gain : Gain) (n : ℕ) (book : Book) (bytes : List ℕ) (new : ChainOf B) (pulled : Pulled) (out_old out_new sum acc : List ℤ) (size bits : ℕ)
-    → IsDevice device → IsRate book.settings.rate → gain ≡ book_gain book → PullsRun kept device gain n book bytes new pulled out_old out_new → size ≡ channels_of (mix_settings device).layout → bits ≡ bits_of (mix_settings device).format
+pub turned-pulled : {B : Type 0} (kept : B → Kept) (device : DeviceSeen) (gain : Gain) (n : ℕ) (book : PlayBook) (bytes : List ℕ) (new : ChainOf B) (pulled : Pulled) (out_old out_new sum acc : List ℤ) (size bits : ℕ)
+    → IsDevice device → IsRate book.opening.settings.rate → gain ≡ book_gain book → PullsRun kept device gain n book bytes new pulled out_old out_new → size ≡ channels_of (mix_settings device).layout → bits ≡ bits_of (mix_settings device).format
     → acc ≡ mixed bits (take (pulled.given * size) sum) (take (pulled.given * size) out_new) → acc ++ drop (pulled.given * size) sum ≡ turned device n book bytes sum
 turned-pulled kept device gain n book bytes new pulled out_old out_new sum acc size bits d rate gain_is p size_is bits_is acc_is =
     let c : ℕ = channels_of (mix_settings device).layout in
-    let given : List Frame = outs (plan_between device book.settings) (filters_of device) gain (frames book.settings bytes) book.given pulled.given in
-    let have = outs-channels (plan_between device book.settings) (filters_of device) gain (frames book.settings bytes) book.given pulled.given (plan-between-fits device book.settings d rate) (frames-channels book.settings bytes) in
+    let given : List Frame = outs (play_plan_between device book.opening.settings) (filters_of device) gain (frames book.opening.settings bytes) book.given pulled.given in
+    let have = outs-channels (play_plan_between device book.opening.settings) (filters_of device) gain (frames book.opening.settings bytes) book.given pulled.given (plan-between-fits device book.opening.settings d rate) (frames-channels book.opening.settings bytes) in
     let front : take (pulled.given * c) out_new ≡ interleaved given =
-    ap (take (pulled.given * c)) p.samples ∙ front-written c pulled.given given out_old have (length-outs (plan_between device book.settings) (filters_of device) gain (frames book.settings bytes) book.given pulled.given) in
+    ap (take (pulled.given * c)) p.samples ∙ front-written c pulled.given given out_old have (length-outs (play_plan_between device book.opening.settings) (filters_of device) gain (frames book.opening.settings bytes) book.given pulled.given) in
     ap (λ a. a ++ drop (pulled.given * size) sum) acc_is
     ∙ ap (λ s. mixed bits (take (pulled.given * s) sum) (take (pulled.given * s) out_new) ++ drop (pulled.given * s) sum) size_is
     ∙ ap (λ b. mixed b (take (pulled.given * c) sum) (take (pulled.given * c) out_new) ++ drop (pulled.given * c) sum) bits_is
     ∙ ap (λ f. mixed (bits_of (mix_settings device).format) (take (pulled.given * c) sum) f ++ drop (pulled.given * c) sum) front
-    ∙ ap (λ count. mixed (bits_of (mix_settings device).format) (take (count * c) sum) (given_samples device gain book.settings bytes book.given count) ++ drop (count * c) sum) p.counted.given
-    ∙ ap (λ (g : Gain). mixed (bits_of (mix_settings device).format) (take (giving (rate_at device book) n book * c) sum) (given_samples device g book.settings bytes book.given (giving (rate_at device book) n book)) ++ drop (giving (rate_at device book) n book * c) sum) gain_is
+    ∙ ap (λ count. mixed (bits_of (mix_settings device).format) (take (count * c) sum) (given_samples device gain book.opening.settings bytes book.given count) ++ drop (count * c) sum) p.counted.given
+    ∙ ap (λ (g : Gain). mixed (bits_of (mix_settings device).format) (take (giving (play_rate_at device book) n book * c) sum) (given_samples device g book.opening.settings bytes book.given (giving (play_rate_at device book) n book)) ++ drop (giving (play_rate_at device book) n book * c) sum) gain_is
 
 -- a channel whose run goes on, once its chain was pulled
 pub moves-pulled : {B : Type 0} (kind : B → Kind) (kept : B → Kept) (filters : Filters) (old new : PlayChannelOf B) (n : ℕ) (pulled : Pulled) (gain : Gain) (out_old out_new : List ℤ)
-    → IsPlanned filters old → new.device ≡ old.device → plan_in new.chain ≡ plan_in old.chain → Goes (rate_at (seen filters old.device) old.book) n old.book new.book → (HaveKinds kind (boxes_in old.chain) → HaveKinds kind (boxes_in new.chain)) → new.ring.bytes ≡ drop (pulled.eaten * frame_bytes old.book.settings) old.ring.bytes
-    → ((bytes : List ℕ) → ChannelStands kept filters old old.book bytes → PullsRun kept (seen filters old.device) gain n old.book bytes new.chain pulled out_old out_new) → Moves kind kept filters [] n old new
+    → IsPlayPlanned filters old → new.device ≡ old.device → plan_in new.chain ≡ plan_in old.chain → Goes (play_rate_at (seen filters old.device) old.book) n old.book new.book → (HaveKinds kind (boxes_in old.chain) → HaveKinds kind (boxes_in new.chain)) → new.ring.bytes ≡ drop (pulled.eaten * frame_bytes old.book.opening.settings) old.ring.bytes
+    → ((bytes : List ℕ) → PlayStands kept filters old old.book bytes → PullsRun kept (seen filters old.device) gain n old.book bytes new.chain pulled out_old out_new) → PlayMoves kind kept filters [] n old new
 moves-pulled {B = B} kind kept filters old new n pulled gain out_old out_new planned device plan go kinds ring pulls = record {
   kinds = kinds;
   planned = planned-as filters old new device plan go.settings;
   stands = λ bytes s.
       let p = pulls bytes s in
-      subst (ChannelStands kept filters new new.book) (sym (nothing-more new.book.written bytes (s.count ∙ sym go.written)))
-      (stands-pulled kept filters old new (rate_at (seen filters old.device) old.book) n pulled bytes (eaten-written (rate_at (seen filters old.device) old.book) old.book (safe-at filters old planned)) go p.counted ring p.behind s);
+      subst (PlayStands kept filters new new.book) (sym (nothing-more new.book.written bytes (s.count ∙ sym go.written)))
+      (stands-pulled kept filters old new (play_rate_at (seen filters old.device) old.book) n pulled bytes (eaten-written (play_rate_at (seen filters old.device) old.book) old.book (safe-at filters old planned)) go p.counted ring p.behind s);
   written = omega (arith, go.written);
   counted = omega (arith, go.written, go.done);
   grown = omega (arith, go.written, go.done);

@@ -11,27 +11,27 @@ use Rattle.pcm_feeder.specs.Streams.{interleaved, written, HaveChannels}
 use Rattle.pcm_feeder.proofs.Frames.{length-interleaved}
 use Rattle.pcm_chain.specs.declared.chain.Pulled.{Pulled}
 use Rattle.pcm_chain.specs.Pulls.{PullsAsFar}
-use Rattle.pcm_desk.specs.declared.book.Book.{Book}
-use Rattle.pcm_desk.specs.declared.book.State.{State}
-use Rattle.pcm_desk.specs.declared.book.State.TheVariants.{Free, Setup, Primed, Running, Draining}
+use Rattle.pcm_desk.specs.declared.play_book.PlayBook.{PlayBook}
+use Rattle.pcm_desk.specs.declared.play_book.PlayState.{PlayState}
+use Rattle.pcm_desk.specs.declared.play_book.PlayState.TheVariants.{Free, Setup, Primed, Running, Draining}
 use Rattle.pcm_desk.specs.Device.{DeviceSeen}
-use Rattle.pcm_desk.specs.Books.{is_started, is_draining, allowed_in, frames_written, giving, gives, finished, refilled}
-use Rattle.pcm_desk.specs.Safe.{IsInOrder, BookIsSafe}
-use Rattle.pcm_desk.specs.Desk.{mixing, rate_at}
+use Rattle.pcm_desk.specs.PlayBooks.{allowed_in, finished, frames_written, gives, giving, is_draining, is_started, refilled}
+use Rattle.pcm_desk.specs.PlaySafe.{IsPlayInOrder, PlayIsSafe}
+use Rattle.pcm_desk.specs.Desk.{mixing, play_rate_at}
 
 -- ---- books
 
 -- an interrupt that mixes some frames is a refill
-pub mixing-some : (device : DeviceSeen) (n : ℕ) (book : Book) → 0 < n → mixing device n book ≡ refilled (rate_at device book) n book
+pub mixing-some : (device : DeviceSeen) (n : ℕ) (book : PlayBook) → 0 < n → mixing device n book ≡ refilled (play_rate_at device book) n book
 mixing-some device zero book some = absurd (omega arith)
 mixing-some device (suc n) book some = refl
 
 -- what is allowed of a started book, by whether it drains
-pub allowed-is : (rate : Rate) (book : Book) → is_started book.state ≡ true
+pub allowed-is : (rate : Rate) (book : PlayBook) → is_started book.state ≡ true
     → allowed_in rate book.state book ≡ cond (is_draining book.state) (len rate (frames_written book)) (can rate (frames_written book))
 allowed-is rate book started = at book.state started
   where
-    at : (state : State) → is_started state ≡ true → allowed_in rate state book ≡ cond (is_draining state) (len rate (frames_written book)) (can rate (frames_written book))
+    at : (state : PlayState) → is_started state ≡ true → allowed_in rate state book ≡ cond (is_draining state) (len rate (frames_written book)) (can rate (frames_written book))
     at Free e = cc
     at Setup e = cc
     at Primed e = cc
@@ -39,10 +39,10 @@ allowed-is rate book started = at book.state started
     at (Draining closed) e = refl
 
 -- a book that isn't started gives nothing
-pub giving-none : (rate : Rate) (n : ℕ) (book : Book) → is_started book.state ≡ false → giving rate n book ≡ 0
+pub giving-none : (rate : Rate) (n : ℕ) (book : PlayBook) → is_started book.state ≡ false → giving rate n book ≡ 0
 giving-none rate n book idle = at book.state idle
   where
-    at : (state : State) → is_started state ≡ false → min n (allowed_in rate state book - book.given) ≡ 0
+    at : (state : PlayState) → is_started state ≡ false → min n (allowed_in rate state book - book.given) ≡ 0
     at Free e = omega arith
     at Setup e = omega arith
     at Primed e = omega arith
@@ -50,10 +50,10 @@ giving-none rate n book idle = at book.state idle
     at (Draining closed) e = cc
 
 -- no frame is eaten that wasn't written
-pub eaten-written : (rate : Rate) (book : Book) → BookIsSafe rate book → book.eaten ≤ frames_written book
+pub eaten-written : (rate : Rate) (book : PlayBook) → PlayIsSafe rate book → book.eaten ≤ frames_written book
 eaten-written rate book safe = at book.state safe.order
   where
-    at : (state : State) → IsInOrder rate state book → book.eaten ≤ frames_written book
+    at : (state : PlayState) → IsPlayInOrder rate state book → book.eaten ≤ frames_written book
     at Free o = let none = o.eaten_none in omega arith
     at Setup o = let u = o.1 in let none = u.eaten_none in omega arith
     at Primed o = let u = o.1 in let none = u.eaten_none in omega arith
@@ -61,9 +61,9 @@ eaten-written rate book safe = at book.state safe.order
     at (Draining closed) o = o.eats.written
 
 -- the counts of a started book after an interrupt that doesn't end its run
-pub record Goes (rate : Rate) (n : ℕ) (old new : Book) : Type 0 where
-  pub settings : new.settings ≡ old.settings
-  pub fragments : new.fragments ≡ old.fragments
+pub record Goes (rate : Rate) (n : ℕ) (old new : PlayBook) : Type 0 where
+  pub settings : new.opening.settings ≡ old.opening.settings
+  pub fragments : new.opening.fragments ≡ old.opening.fragments
   pub done : new.done ≡ old.done
   pub written : new.written ≡ old.written
   pub eaten : new.eaten ≡ (gives rate n old).eaten
@@ -71,35 +71,35 @@ pub record Goes (rate : Rate) (n : ℕ) (old new : Book) : Type 0 where
   pub draining : is_draining new.state ≡ is_draining old.state
 
 -- a run is over, of which all whole frames were played
-pub record IsOver (old new : Book) : Type 0 where
-  pub settings : new.settings ≡ old.settings
-  pub fragments : new.fragments ≡ old.fragments
+pub record IsOver (old new : PlayBook) : Type 0 where
+  pub settings : new.opening.settings ≡ old.opening.settings
+  pub fragments : new.opening.fragments ≡ old.opening.fragments
   pub done : new.done ≤ old.done + old.written
   pub written : new.written ≡ 0
 
 -- an interrupt leaves the counts that it moved on, or none
-pub record GoesOrEnds (rate : Rate) (n : ℕ) (old new : Book) : Type 0 where
+pub record GoesOrEnds (rate : Rate) (n : ℕ) (old new : PlayBook) : Type 0 where
   pub counts : Goes rate n old new ⊎ IsOver old new
 
 -- what is played to its end counts all whole frames
-finished_done : (book : Book) → book.done + frames_written book * frame_bytes book.settings ≤ book.done + book.written
-finished_done book = let fits = frames_fit book.settings book.written (frames_written book) (omega arith) in omega arith
+finished_done : (book : PlayBook) → book.done + frames_written book * frame_bytes book.opening.settings ≤ book.done + book.written
+finished_done book = let fits = frames_fit book.opening.settings book.written (frames_written book) (omega arith) in omega arith
 
-settles : (b closed : Bool) (rate : Rate) (n : ℕ) (book : Book)
-    → GoesOrEnds rate n (record book { state = Draining closed }) (let given : Book = gives rate n (record book { state = Draining closed }) in cond b (finished (cond closed Free Setup) given) given)
+settles : (b closed : Bool) (rate : Rate) (n : ℕ) (book : PlayBook)
+    → GoesOrEnds rate n (record book { state = Draining closed }) (let given : PlayBook = gives rate n (record book { state = Draining closed }) in cond b (finished (cond closed Free Setup) given) given)
 settles true closed rate n book = record { counts = inr (record { settings = refl; fragments = refl; done = finished_done book; written = refl }) }
 settles false closed rate n book = record { counts = inl (record { settings = refl; fragments = refl; done = refl; written = refl; eaten = refl; given = refl; draining = refl }) }
 
-pub refilled-goes : (rate : Rate) (n : ℕ) (book : Book) → is_started book.state ≡ true → GoesOrEnds rate n book (refilled rate n book)
+pub refilled-goes : (rate : Rate) (n : ℕ) (book : PlayBook) → is_started book.state ≡ true → GoesOrEnds rate n book (refilled rate n book)
 refilled-goes rate n book started = at book.state started
   where
-    at : (state : State) → is_started state ≡ true → GoesOrEnds rate n (record book { state = state }) (refilled rate n (record book { state = state }))
+    at : (state : PlayState) → is_started state ≡ true → GoesOrEnds rate n (record book { state = state }) (refilled rate n (record book { state = state }))
     at Free e = cc
     at Setup e = cc
     at Primed e = cc
     at Running e = record { counts = inl (record { settings = refl; fragments = refl; done = refl; written = refl; eaten = refl; given = refl; draining = refl }) }
     at (Draining closed) e =
-        let given : Book = gives rate n (record book { state = Draining closed }) in
+        let given : PlayBook = gives rate n (record book { state = Draining closed }) in
         settles (eqb given.given (len rate (frames_written given))) closed rate n book
 
 -- ---- pulls
@@ -112,11 +112,11 @@ pub length-waiting : (settings : Settings) (bytes : List ℕ) (n : ℕ) → leng
 length-waiting settings bytes n = omega (arith, length-drop n (frames settings bytes), length-frames settings bytes)
 
 -- a pull gives and eats what the book counts
-pub record PullsAsCounted (rate : Rate) (n : ℕ) (book : Book) (pulled : Pulled) : Type 0 where
+pub record PullsAsCounted (rate : Rate) (n : ℕ) (book : PlayBook) (pulled : Pulled) : Type 0 where
   pub given : pulled.given ≡ giving rate n book
   pub eaten : book.eaten + pulled.eaten ≡ (gives rate n book).eaten
 
-pub pulls-counted : (rate : Rate) (n : ℕ) (book : Book) (pulled : Pulled) (eaten waiting : ℕ) → is_started book.state ≡ true → book.eaten ≤ frames_written book
+pub pulls-counted : (rate : Rate) (n : ℕ) (book : PlayBook) (pulled : Pulled) (eaten waiting : ℕ) → is_started book.state ≡ true → book.eaten ≤ frames_written book
     → eaten ≡ book.eaten → waiting ≡ frames_written book - book.eaten
     → PullsAsFar rate (is_draining book.state) n eaten waiting book.given pulled → PullsAsCounted rate n book pulled
 pulls-counted rate n book pulled eaten waiting started within e w far =

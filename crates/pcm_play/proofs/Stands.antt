@@ -11,14 +11,14 @@ use Rattle.pcm_feeder.specs.Kept.{Kept}
 use Rattle.pcm_chain.specs.declared.chain.Pulled.{Pulled}
 use Rattle.pcm_chain.specs.Chains.{ChainStands}
 use Rattle.pcm_chain.specs.Pulls.{StandsBehind}
-use Rattle.pcm_desk.specs.Books.{is_draining, frames_written}
+use Rattle.pcm_desk.specs.PlayBooks.{is_draining, frames_written}
 use Rattle.pcm_play.specs.declared.channel.PlayChannelOf.{PlayChannelOf}
-use Rattle.pcm_play.specs.Channels.{waiting_of, ChannelStands}
+use Rattle.pcm_play.specs.Channels.{waiting_of, PlayStands}
 use Rattle.pcm_play.proofs.Refills.{Goes, PullsAsCounted, length-waiting}
 
 -- a channel that begins, or whose run is over, stands for no bytes
 pub stands-empty : {B : Type 0} (kept : B → Kept) (filters : Filters) (channel : PlayChannelOf B) → channel.book.written ≡ 0 → channel.book.eaten ≡ 0 → channel.book.given ≡ 0 → channel.ring.bytes ≡ []
-    → ((tables : Filters) → ChainStands kept tables channel.chain [] 0 0) → ChannelStands kept filters channel channel.book []
+    → ((tables : Filters) → ChainStands kept tables channel.chain [] 0 0) → PlayStands kept filters channel channel.book []
 stands-empty kept filters channel written eaten given ring begins = record {
   book_is = refl;
   count = sym written;
@@ -29,15 +29,15 @@ stands-empty kept filters channel written eaten given ring begins = record {
 }
   where
     nothing-left : [] ≡ waiting_of channel.book []
-    nothing-left = let none : 0 * frame_bytes channel.book.settings ≡ 0 = omega arith in rw (eaten, none) refl
+    nothing-left = let none : 0 * frame_bytes channel.book.opening.settings ≡ 0 = omega arith in rw (eaten, none) refl
 
 -- a channel whose run goes on stands for the same bytes, once its chain was pulled
 pub stands-pulled : {B : Type 0} (kept : B → Kept) (filters : Filters) (old new : PlayChannelOf B) (rate : Rate) (n : ℕ) (pulled : Pulled) (bytes : List ℕ) → old.book.eaten ≤ frames_written old.book
-    → Goes rate n old.book new.book → PullsAsCounted rate n old.book pulled → new.ring.bytes ≡ drop (pulled.eaten * frame_bytes old.book.settings) old.ring.bytes
-    → StandsBehind kept filters (is_draining old.book.state) (drop old.book.eaten (frames old.book.settings bytes)) new.chain (take old.book.eaten (frames old.book.settings bytes)) old.book.given pulled
-    → ChannelStands kept filters old old.book bytes → ChannelStands kept filters new new.book bytes
+    → Goes rate n old.book new.book → PullsAsCounted rate n old.book pulled → new.ring.bytes ≡ drop (pulled.eaten * frame_bytes old.book.opening.settings) old.ring.bytes
+    → StandsBehind kept filters (is_draining old.book.state) (drop old.book.eaten (frames old.book.opening.settings bytes)) new.chain (take old.book.eaten (frames old.book.opening.settings bytes)) old.book.given pulled
+    → PlayStands kept filters old old.book bytes → PlayStands kept filters new new.book bytes
 stands-pulled kept filters old new rate n pulled bytes within go counted ring behind s =
-    let settings : Settings = old.book.settings in
+    let settings : Settings = old.book.opening.settings in
     let z : ℕ = frame_bytes settings in
     let e : ℕ = old.book.eaten in
     let p : ℕ = pulled.eaten in
@@ -60,17 +60,17 @@ stands-pulled kept filters old new rate n pulled bytes within go counted ring be
     }
 
 -- a channel that took bytes stands for these too
-pub stands-taking : {B : Type 0} (kept : B → Kept) (filters : Filters) (old new : PlayChannelOf B) (bytes more : List ℕ) → new.chain ≡ old.chain → new.book.settings ≡ old.book.settings → new.book.eaten ≡ old.book.eaten → new.book.given ≡ old.book.given
+pub stands-taking : {B : Type 0} (kept : B → Kept) (filters : Filters) (old new : PlayChannelOf B) (bytes more : List ℕ) → new.chain ≡ old.chain → new.book.opening.settings ≡ old.book.opening.settings → new.book.eaten ≡ old.book.eaten → new.book.given ≡ old.book.given
     → new.book.written ≡ old.book.written + length more → is_draining old.book.state ≡ false
-    → old.book.eaten * frame_bytes old.book.settings ≤ old.book.written → new.ring.bytes ≡ old.ring.bytes ++ more
-    → take old.book.eaten (frames old.book.settings (bytes ++ more)) ≡ take old.book.eaten (frames old.book.settings bytes)
-    → ChannelStands kept filters old old.book bytes → ChannelStands kept filters new new.book (bytes ++ more)
+    → old.book.eaten * frame_bytes old.book.opening.settings ≤ old.book.written → new.ring.bytes ≡ old.ring.bytes ++ more
+    → take old.book.eaten (frames old.book.opening.settings (bytes ++ more)) ≡ take old.book.eaten (frames old.book.opening.settings bytes)
+    → PlayStands kept filters old old.book bytes → PlayStands kept filters new new.book (bytes ++ more)
 stands-taking kept filters old new bytes more chain settings eaten given written busy within ring front s = record {
   book_is = refl;
   count = omega (arith, length-append bytes more, s.count);
   ring_is = ring ∙ ap (λ waiting. waiting ++ more) s.ring_is
-      ∙ sym (drop-append-le (old.book.eaten * frame_bytes old.book.settings) bytes more (omega (arith, s.count)))
-      ∙ ap (λ m. drop (m * frame_bytes old.book.settings) (bytes ++ more)) (sym eaten) ∙ ap (λ (r : Settings). drop (new.book.eaten * frame_bytes r) (bytes ++ more)) (sym settings);
+      ∙ sym (drop-append-le (old.book.eaten * frame_bytes old.book.opening.settings) bytes more (omega (arith, s.count)))
+      ∙ ap (λ m. drop (m * frame_bytes old.book.opening.settings) (bytes ++ more)) (sym eaten) ∙ ap (λ (r : Settings). drop (new.book.eaten * frame_bytes r) (bytes ++ more)) (sym settings);
   zeros = 0;
   chain_is = rw (chain, settings, eaten, given, front) (rw none-fed at s.chain_is);
   ended = λ some. absurd (omega arith);
@@ -83,18 +83,18 @@ stands-taking kept filters old new bytes more chain settings eaten given written
     ]
 
 -- a channel whose state alone changed stands for the same bytes
-pub stands-state : {B : Type 0} (kept : B → Kept) (filters : Filters) (old new : PlayChannelOf B) (bytes : List ℕ) → new.chain ≡ old.chain → new.ring.bytes ≡ old.ring.bytes → new.book.settings ≡ old.book.settings → new.book.eaten ≡ old.book.eaten → new.book.given ≡ old.book.given
+pub stands-state : {B : Type 0} (kept : B → Kept) (filters : Filters) (old new : PlayChannelOf B) (bytes : List ℕ) → new.chain ≡ old.chain → new.ring.bytes ≡ old.ring.bytes → new.book.opening.settings ≡ old.book.opening.settings → new.book.eaten ≡ old.book.eaten → new.book.given ≡ old.book.given
     → new.book.written ≡ old.book.written → (is_draining old.book.state ≡ true → is_draining new.book.state ≡ true)
-    → ChannelStands kept filters old old.book bytes → ChannelStands kept filters new new.book bytes
+    → PlayStands kept filters old old.book bytes → PlayStands kept filters new new.book bytes
 stands-state kept filters old new bytes chain ring settings eaten given written drains s = record {
   book_is = refl;
   count = s.count ∙ sym written;
-  ring_is = ring ∙ s.ring_is ∙ ap (λ m. drop (m * frame_bytes old.book.settings) bytes) (sym eaten) ∙ ap (λ (r : Settings). drop (new.book.eaten * frame_bytes r) bytes) (sym settings);
+  ring_is = ring ∙ s.ring_is ∙ ap (λ m. drop (m * frame_bytes old.book.opening.settings) bytes) (sym eaten) ∙ ap (λ (r : Settings). drop (new.book.eaten * frame_bytes r) bytes) (sym settings);
   zeros = s.zeros;
   chain_is = rw (chain, settings, eaten, given) s.chain_is;
   ended = λ some.
       let over = s.ended some in
-      let same : frames_written new.book ≡ frames_written old.book = ap (λ (r : Settings). whole_frames r new.book.written) settings ∙ ap (whole_frames old.book.settings) written in
+      let same : frames_written new.book ≡ frames_written old.book = ap (λ (r : Settings). whole_frames r new.book.written) settings ∙ ap (whole_frames old.book.opening.settings) written in
       (drains over.0, eaten ∙ over.1 ∙ sym same);
 }
 

@@ -10,11 +10,11 @@ ghost use Rattle.pcm_oss.specs.declared.fragments.TheConstants.{RING_BYTES};
 ghost use Rattle.pcm_oss.specs.Fragments.{AreFragments};
 ghost use Rattle.pcm_plan.specs.Plans.{rate_in_plan};
 ghost use Rattle.pcm_chain.specs.Chains.{ChainStands, boxes_in, plan_in};
-ghost use Rattle.pcm_desk.specs.Books.{ring_bytes};
-ghost use Rattle.pcm_desk.specs.Device.{plan_between, seen};
+ghost use Rattle.pcm_desk.specs.Openings.{ring_bytes};
+ghost use Rattle.pcm_desk.specs.Device.{play_plan_between, seen};
 
 use pcm_chain::ChainOf;
-use pcm_desk::{Book, Device};
+use pcm_desk::{Device, PlayBook};
 use pcm_feeder::{Feeder, Tables};
 use pcm_plan::plan_play;
 use pcm_ring::ByteRing;
@@ -23,24 +23,29 @@ use pcm_ring::ByteRing;
 pub fn begin_anew<B: Feeder>(
     device: &Device,
     tables: &Tables,
-    book: &Book,
+    book: &PlayBook,
     ring: &mut ByteRing,
     chain: &mut ChainOf<B>,
 )
     requires device { IsRate device.now.settings.rate }
-    requires rate { IsRate book.now.settings.rate }
-    requires fragments { AreFragments book.now.fragments }
+    requires rate { IsRate book.now.opening.settings.rate }
+    requires fragments { AreFragments book.now.opening.fragments }
     requires room { ring.old.max ≡ RING_BYTES }
     requires kinds { HaveKinds B.kind (boxes_in chain.old) }
-    ensures ring { ring.new ≡ record (empty_ring RING_BYTES) { size = ring_bytes book.now } }
+    ensures ring { ring.new ≡ record (empty_ring RING_BYTES) { size = ring_bytes book.now.opening } }
     ensures limits { AreFilters tables.now.list }
-    ensures plan { plan_in chain.new ≡ plan_between (seen tables.now device.now) book.now.settings }
+    ensures plan { plan_in chain.new ≡ play_plan_between (seen tables.now device.now) book.now.opening.settings }
     ensures ratio { IsRatio (rate_in_plan (plan_in chain.new)) }
     ensures kinds { HaveKinds B.kind (boxes_in chain.new) }
     ensures begins { (tables : Filters) → ChainStands B.kept tables chain.new [] 0 0 }
 {
     ring.clear();
-    ring.set_size(book.fragments.size() as usize);
-    let plan = plan_play(&book.settings, &device.settings, device.quality, tables);
+    ring.set_size(book.opening.fragments.size() as usize);
+    let plan = plan_play(
+        &book.opening.settings,
+        &device.settings,
+        device.quality,
+        tables,
+    );
     chain.reset(&plan);
 }

@@ -12,15 +12,16 @@ ghost use Rattle.pcm_feeder.specs.Racks.{HaveKinds, IsRack};
 ghost use Rattle.pcm_plan.specs.Plans.{rate_in_plan};
 ghost use Rattle.pcm_chain.specs.Chains.{boxes_in, plan_in};
 ghost use Rattle.pcm_desk.specs.Device.{seen};
-ghost use Rattle.pcm_desk.specs.Books.{is_free, fill_of, ring_bytes, begun, write_turn};
-ghost use Rattle.pcm_desk.specs.Safe.{BookIsSafe};
+ghost use Rattle.pcm_desk.specs.Openings.{ring_bytes};
+ghost use Rattle.pcm_desk.specs.PlayBooks.{is_play_free, play_begun, play_fill_of, write_turn};
+ghost use Rattle.pcm_desk.specs.PlaySafe.{PlayIsSafe};
 ghost use Rattle.pcm_desk.proofs.Props.{book_props};
-ghost use Rattle.pcm_desk.specs.Desk.{asking, closing, mixing, unopened};
-ghost use Rattle.pcm_sound.specs.Blocks.{turned};
+ghost use Rattle.pcm_desk.specs.Desk.{asking, closing, mixing, play_unopened};
+ghost use Rattle.pcm_sound.specs.Added.{turned};
 
 use crate::anew::begin_anew;
 use pcm_chain::ChainOf;
-use pcm_desk::{Book, Device, State};
+use pcm_desk::{Device, PlayBook, PlayState};
 use pcm_feeder::{Feeder, RackOf, Tables};
 use pcm_format::Settings;
 use pcm_mix::mix_into;
@@ -32,22 +33,22 @@ use std::alloc::{AllocError, Global};
 #[derive(Drop)]
 pub struct PlayChannelOf<B> {
     pub device: Device,
-    pub book: Book,
+    pub book: PlayBook,
     pub ring: ByteRing,
     pub chain: ChainOf<B>,
     ghost device_rate: { IsRate device.settings.rate },
-    ghost rate: { IsRate book.settings.rate },
+    ghost rate: { IsRate book.opening.settings.rate },
     ghost ratio: { IsRatio (rate_in_plan (plan_in chain)) },
     ghost room: { ring.max ≡ RING_BYTES },
-    ghost size: { ring.size ≡ ring_bytes book },
-    ghost fill: { length ring.bytes ≡ fill_of book },
-    ghost within: { book.eaten * frame_bytes book.settings ≤ book.written },
-    ghost safe: { BookIsSafe (rate_in_plan (plan_in chain)) book } by { Prim.hlevel book_props },
+    ghost size: { ring.size ≡ ring_bytes book.opening },
+    ghost fill: { length ring.bytes ≡ play_fill_of book },
+    ghost within: { book.eaten * frame_bytes book.opening.settings ≤ book.written },
+    ghost safe: { PlayIsSafe (rate_in_plan (plan_in chain)) book } by { Prim.hlevel book_props },
 }
 
 impl<B: Feeder> PlayChannelOf<B> {
     ghost use Rattle.pcm_feeder.specs.Filters.{Filters};
-    ghost use Rattle.pcm_play.specs.Channels.{ChannelStands, IsPlanned, Moves, StandsForSome};
+    ghost use Rattle.pcm_play.specs.Channels.{PlayStands, IsPlayPlanned, PlayMoves, PlayStandsForSome};
 
     /// A channel of a device that nobody has opened.
     pub fn new(
@@ -58,17 +59,17 @@ impl<B: Feeder> PlayChannelOf<B> {
     ) -> Result<PlayChannelOf<B>, AllocError>
         requires device { IsRate device.settings.rate }
         requires kinds { IsRack B.kind rack }
-        ensures book { IfOk result (λ made. made.book ≡ unopened (seen tables.now device)) }
+        ensures book { IfOk result (λ made. made.book ≡ play_unopened (seen tables.now device)) }
         ensures device { IfOk result (λ made. made.device ≡ device) }
         ensures kinds { IfOk result (λ made. HaveKinds B.kind (boxes_in made.chain)) }
-        ensures planned { IfOk result (λ made. IsPlanned tables.now made) }
-        ensures stands { IfOk result (λ made. ChannelStands B.kept tables.now made made.book []) }
+        ensures planned { IfOk result (λ made. IsPlayPlanned tables.now made) }
+        ensures stands { IfOk result (λ made. PlayStands B.kept tables.now made made.book []) }
     {
         let mut ring = ByteRing::new(alloc, RING_BYTES as usize)?;
         let mut chain = ChainOf::new(alloc, rack)?;
-        let book = Book {
-            state: State::Free,
-            ..Book::begun(device.settings)
+        let book = PlayBook {
+            state: PlayState::Free,
+            ..PlayBook::begun(device.settings)
         };
         begin_anew(&device, tables, &book, &mut ring, &mut chain);
         Ok(PlayChannelOf {
@@ -81,7 +82,7 @@ impl<B: Feeder> PlayChannelOf<B> {
 
     /// Whether nobody has the channel, and nothing of it is left to play.
     pub fn is_free(&self) -> bool
-        ensures { result ≡ is_free self.now.book.state }
+        ensures { result ≡ is_play_free self.now.book.state }
     {
         self.book.is_free()
     }
@@ -90,11 +91,11 @@ impl<B: Feeder> PlayChannelOf<B> {
     pub fn begin(&mut self, tables: &Tables, settings: Settings)
         requires rate { IsRate settings.rate }
         requires kinds { HaveKinds B.kind (boxes_in self.old.chain) }
-        ensures book { self.new.book ≡ begun settings }
+        ensures book { self.new.book ≡ play_begun settings }
         ensures device { self.new.device ≡ self.old.device }
-        ensures moves { Moves B.kind B.kept tables.now [] 0 self.old self.new }
+        ensures moves { PlayMoves B.kind B.kept tables.now [] 0 self.old self.new }
     {
-        self.book = Book::begun(settings);
+        self.book = PlayBook::begun(settings);
         begin_anew(
             &self.device,
             tables,
@@ -111,23 +112,20 @@ impl<B: Feeder> PlayChannelOf<B> {
         ensures reply { result ≡ (write_turn (length bytes.now) self.old.book).reply }
         ensures device { self.new.device ≡ self.old.device }
         ensures refused { OnErr result (self.new ≡ self.old) }
-        ensures moves { (filters : Filters) → Moves B.kind B.kept filters bytes.now 0 self.old self.new }
+        ensures moves { (filters : Filters) → PlayMoves B.kind B.kept filters bytes.now 0 self.old self.new }
     {
-        if self.book.is_draining() {
-            return Err(Errno::Busy);
-        }
-        if !bytes.is_empty() && self.ring.free() == 0 {
-            return Err(Errno::Again);
-        }
-        let accepted = self.ring.put(bytes);
-        self.book = self.book.accepting(accepted as u64);
-        Ok(Answer::Number(accepted as u32))
+        let turn = self.book.write(bytes.len() as u64);
+        let answer = turn.reply?;
+        // The ring has room for as many as the book accepts.
+        self.ring.put(bytes);
+        self.book = turn.book;
+        Ok(answer)
     }
 
     /// Does what a request asks. Where nothing of a run is left, the ring and the chain begin anew, as the book says.
     pub fn ioctl(&mut self, tables: &Tables, request: Request) -> Result<Answer, Errno>
         requires kinds { HaveKinds B.kind (boxes_in self.old.chain) }
-        requires planned { IsPlanned tables.now self.old }
+        requires planned { IsPlayPlanned tables.now self.old }
         requires count { self.old.book.done + self.old.book.written < 2 ^ 64 }
         ensures book { self.new.book
             ≡ (asking (seen tables.now self.old.device) request self.old.book).book }
@@ -135,9 +133,10 @@ impl<B: Feeder> PlayChannelOf<B> {
             ≡ (asking (seen tables.now self.old.device) request self.old.book).reply }
         ensures device { self.new.device ≡ self.old.device }
         ensures refused { OnErr result (self.new ≡ self.old) }
-        ensures moves { Moves B.kind B.kept tables.now [] 0 self.old self.new }
+        ensures moves { PlayMoves B.kind B.kept tables.now [] 0 self.old self.new }
     {
-        let turn = self.book.asked(self.chain.plan().rate(), request)?;
+        let turn = self.book.asked(self.chain.plan().rate(), request);
+        let answer = turn.reply?;
         self.book = turn.book;
         if self.book.written == 0 {
             begin_anew(
@@ -148,17 +147,17 @@ impl<B: Feeder> PlayChannelOf<B> {
                 &mut self.chain,
             );
         }
-        Ok(turn.answer)
+        Ok(answer)
     }
 
     /// No descriptor has the channel any more: what was written plays to its end.
     pub fn close(&mut self)
         requires kinds { HaveKinds B.kind (boxes_in self.old.chain) }
         requires count { self.old.book.done + self.old.book.written < 2 ^ 64 }
-        ensures book { (filters : Filters) → IsPlanned filters self.old
+        ensures book { (filters : Filters) → IsPlayPlanned filters self.old
             → self.new.book ≡ closing (seen filters self.old.device) self.old.book }
         ensures device { self.new.device ≡ self.old.device }
-        ensures moves { (filters : Filters) → Moves B.kind B.kept filters [] 0 self.old self.new }
+        ensures moves { (filters : Filters) → PlayMoves B.kind B.kept filters [] 0 self.old self.new }
     {
         let rate = self.chain.plan().rate();
         self.book = self.book.closed(rate);
@@ -173,8 +172,8 @@ impl<B: Feeder> PlayChannelOf<B> {
     pub fn refill(&mut self, tables: &Tables, n: usize, frames: &mut [i32], sum: &mut [i32])
         requires some { 0 < n }
         requires kinds { HaveKinds B.kind (boxes_in self.old.chain) }
-        requires planned { IsPlanned tables.now self.old }
-        requires stands { StandsForSome B.kept tables.now self.old }
+        requires planned { IsPlayPlanned tables.now self.old }
+        requires stands { PlayStandsForSome B.kept tables.now self.old }
         requires frames { length frames.old ≡ n * channels_of self.old.device.settings.layout }
         requires sum { length sum.old ≡ n * channels_of self.old.device.settings.layout }
         requires fits { All (FitsBits (bits_of self.old.device.settings.format)) sum.old }
@@ -182,8 +181,8 @@ impl<B: Feeder> PlayChannelOf<B> {
         requires counted { self.old.book.done + self.old.book.written < 2 ^ 64 }
         ensures book { self.new.book ≡ mixing (seen tables.now self.old.device) n self.old.book }
         ensures device { self.new.device ≡ self.old.device }
-        ensures moves { Moves B.kind B.kept tables.now [] n self.old self.new }
-        ensures sum { (bytes : List ℕ) → ChannelStands B.kept tables.now self.old self.old.book bytes
+        ensures moves { PlayMoves B.kind B.kept tables.now [] n self.old self.new }
+        ensures sum { (bytes : List ℕ) → PlayStands B.kept tables.now self.old self.old.book bytes
             → sum.new ≡ turned (seen tables.now self.old.device) n self.old.book bytes sum.old }
         ensures fits { All (FitsBits (bits_of self.old.device.settings.format)) sum.new }
     {
@@ -191,7 +190,7 @@ impl<B: Feeder> PlayChannelOf<B> {
             return;
         }
         let settings = self.device.settings;
-        let format = self.book.settings.format;
+        let format = self.book.opening.settings.format;
         let ended = self.book.is_draining();
         let gain = gain_of(self.book.volume);
         let pulled = self

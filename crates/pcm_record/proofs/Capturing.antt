@@ -28,13 +28,14 @@ use Rattle.pcm_desk.specs.declared.record_book.RecordState.{RecordState}
 use Rattle.pcm_desk.specs.declared.record_book.RecordState.TheVariants.{Free, Setup, Running}
 use Rattle.pcm_desk.specs.Device.{DeviceSeen, IsDevice, seen}
 use Rattle.pcm_desk.specs.Desk.{capturing, record_rate_at}
-use Rattle.pcm_desk.specs.RecordBooks.{captured, captured_in, captures, coming, fill_of, free_of, is_running, keeping, ring_bytes}
+use Rattle.pcm_desk.specs.Openings.{ring_bytes}
+use Rattle.pcm_desk.specs.RecordBooks.{captured, captured_in, captures, coming, is_running, keeping, record_fill_of, record_free_of}
 use Rattle.pcm_desk.specs.RecordSafe.{RecordIsSafe}
 use Rattle.pcm_desk.proofs.Ratios.{record-few}
 use Rattle.pcm_desk.proofs.RecordSafe.{record-safe-captured}
-use Rattle.pcm_sound.specs.Plans.{recorded_bytes}
+use Rattle.pcm_sound.specs.Given.{recorded_bytes}
 use Rattle.pcm_sound.proofs.Recordings.{length-recorded}
-use Rattle.pcm_record.specs.declared.channel.RecChannelOf.{RecChannelOf}
+use Rattle.pcm_record.specs.declared.channel.RecordChannelOf.{RecordChannelOf}
 use Rattle.pcm_record.specs.Channels.{IsRecordPlanned, RecordMoves, RecordStands}
 use Rattle.pcm_record.proofs.Moving.{device-is, planned-as}
 use Rattle.pcm_record.proofs.Stands.{stands-as, stands-captured}
@@ -52,28 +53,28 @@ captures-running rate n book runs = at book.state runs
 
 -- what an interrupt leaves of a running book
 pub record BookCaptured (device : DeviceSeen) (n : ℕ) (old new : RecordBook) : Type 0 where
-  pub settings : new.settings ≡ old.settings
-  pub fragments : new.fragments ≡ old.fragments
+  pub settings : new.opening.settings ≡ old.opening.settings
+  pub fragments : new.opening.fragments ≡ old.opening.fragments
   pub captured : new.captured ≡ old.captured + n
-  pub kept : new.kept ≡ old.kept + keeping (record_rate_at device old) n old * frame_bytes old.settings
+  pub kept : new.kept ≡ old.kept + keeping (record_rate_at device old) n old * frame_bytes old.opening.settings
   pub read : new.read ≡ old.read
   pub most : new.kept ≤ old.kept + RING_BYTES
   pub safe : RecordIsSafe (record_rate_at device old) new
   pub is : new ≡ capturing device n old
 
-pub book-captured : (device : DeviceSeen) (n : ℕ) (old new : RecordBook) → is_running old.state ≡ true → RecordIsSafe (record_rate_at device old) old → new ≡ captures (record_rate_at device old) n old → BookCaptured device n old new
-book-captured device n old new runs safe made =
+pub book-captured : (device : DeviceSeen) (n : ℕ) (old new : RecordBook) → is_running old.state ≡ true → RecordIsSafe (record_rate_at device old) old → new ≡ captured (record_rate_at device old) n old → BookCaptured device n old new
+book-captured device n old new runs safe is =
     let rate : Rate = record_rate_at device old in
-    let is : new ≡ captured rate n old = made ∙ captures-running rate n old runs in
-    let kept : new.kept ≡ old.kept + keeping rate n old * frame_bytes old.settings = ap (λ (b : RecordBook). b.kept) made in
+    let made : new ≡ captures rate n old = is ∙ sym (captures-running rate n old runs) in
+    let kept : new.kept ≡ old.kept + keeping rate n old * frame_bytes old.opening.settings = ap (λ (b : RecordBook). b.kept) made in
     let read : new.read ≡ old.read = ap (λ (b : RecordBook). b.read) made in
     let after : RecordIsSafe rate new = subst (RecordIsSafe rate) (sym is) (record-safe-captured rate n old safe) in
     let before = safe.read in
     let fill = after.fill in
     let fits = after.fragments.fits in
     record {
-      settings = ap (λ (b : RecordBook). b.settings) made;
-      fragments = ap (λ (b : RecordBook). b.fragments) made;
+      settings = ap (λ (b : RecordBook). b.opening.settings) made;
+      fragments = ap (λ (b : RecordBook). b.opening.fragments) made;
       captured = ap (λ (b : RecordBook). b.captured) made;
       kept = kept;
       read = read;
@@ -83,25 +84,25 @@ book-captured device n old new runs safe made =
     }
 
 -- the bytes kept have room in a count
-pub kept-most : (device : DeviceSeen) (n : ℕ) (book : RecordBook) → is_running book.state ≡ true → RecordIsSafe (record_rate_at device book) book → book.kept + keeping (record_rate_at device book) n book * frame_bytes book.settings ≤ book.kept + RING_BYTES
-kept-most device n book runs safe = (book-captured device n book (captures (record_rate_at device book) n book) runs safe refl).most
+pub kept-most : (device : DeviceSeen) (n : ℕ) (book : RecordBook) → is_running book.state ≡ true → RecordIsSafe (record_rate_at device book) book → book.kept + keeping (record_rate_at device book) n book * frame_bytes book.opening.settings ≤ book.kept + RING_BYTES
+kept-most device n book runs safe = (book-captured device n book (captures (record_rate_at device book) n book) runs safe (captures-running (record_rate_at device book) n book runs)).most
 
 -- and so have the frames that come
-pub given-most : (device : DeviceSeen) (n : ℕ) (book : RecordBook) → IsDevice device → IsRate book.settings.rate → RecordIsSafe (record_rate_at device book) book → book.captured + n < 2 ^ 56 → book.given + coming (record_rate_at device book) n book < 2 ^ 64
+pub given-most : (device : DeviceSeen) (n : ℕ) (book : RecordBook) → IsDevice device → IsRate book.opening.settings.rate → RecordIsSafe (record_rate_at device book) book → book.captured + n < 2 ^ 56 → book.given + coming (record_rate_at device book) n book < 2 ^ 64
 given-most device n book d rate safe few =
     let given = safe.given in
-    let before = record-few device book.settings book.captured d rate in
-    let after = record-few device book.settings (book.captured + n) d rate in
+    let before = record-few device book.opening.settings book.captured d rate in
+    let after = record-few device book.opening.settings (book.captured + n) d rate in
     omega arith
 
 -- ---- pushes
 
 -- the frames pushed are those of the samples
-pub pushed-is : {B : Type 0} (filters : Filters) (old : RecChannelOf B) (samples : List ℤ) → IsRecordPlanned filters old → pushed_frames (plan_in old.chain) samples ≡ frames_of (channels_of old.device.settings.layout) samples
+pub pushed-is : {B : Type 0} (filters : Filters) (old : RecordChannelOf B) (samples : List ℤ) → IsRecordPlanned filters old → pushed_frames (plan_in old.chain) samples ≡ frames_of (channels_of old.device.settings.layout) samples
 pushed-is filters old samples planned = ap (λ (p : PlanSeen). pushed_frames p samples) planned.plan_is
 
 -- so many they are
-pub pushed-count : {B : Type 0} (filters : Filters) (old : RecChannelOf B) (n : ℕ) (samples : List ℤ) → IsRecordPlanned filters old → length samples ≡ n * channels_of old.device.settings.layout → length (pushed_frames (plan_in old.chain) samples) ≡ n
+pub pushed-count : {B : Type 0} (filters : Filters) (old : RecordChannelOf B) (n : ℕ) (samples : List ℤ) → IsRecordPlanned filters old → length samples ≡ n * channels_of old.device.settings.layout → length (pushed_frames (plan_in old.chain) samples) ≡ n
 pushed-count filters old n samples planned whole =
     let layout = old.device.settings.layout in
     ap length (pushed-is filters old samples planned) ∙ count-frames (channels_of layout) n samples (channels_of-above layout) whole
@@ -111,16 +112,16 @@ pub record PushCaptured {B : Type 0} (kept : B → Kept) (filters : Filters) (de
   pub came : pushed.came ≡ coming (record_rate_at device book) n book
   pub keeps : pushed.kept ≡ keeping (record_rate_at device book) n book
   pub records : HasRecorded kept filters new (frames ++ input)
-  pub bytes : bytes_new ≡ bytes_old ++ recorded_bytes device book.settings (frames ++ input) book.given (keeping (record_rate_at device book) n book)
+  pub bytes : bytes_new ≡ bytes_old ++ recorded_bytes device book.opening.settings (frames ++ input) book.given (keeping (record_rate_at device book) n book)
 
-pub push-captured : {B : Type 0} (kept : B → Kept) (filters : Filters) (old : RecChannelOf B) (n : ℕ) (samples : List ℤ) (new : ChainOf B) (pushed : Pushed) (ring bytes : List ℕ) (frames : List Frame)
-    → IsRecordPlanned filters old → length samples ≡ n * channels_of old.device.settings.layout → pushed.kept ≡ min pushed.came (room_for (plan_in old.chain) old.book.settings.format old.ring)
-    → Pushes kept filters old.book.settings.format (pushed_frames (plan_in old.chain) samples) old.chain new frames pushed old.ring.bytes ring → RecordStands kept filters old old.book bytes frames
+pub push-captured : {B : Type 0} (kept : B → Kept) (filters : Filters) (old : RecordChannelOf B) (n : ℕ) (samples : List ℤ) (new : ChainOf B) (pushed : Pushed) (ring bytes : List ℕ) (frames : List Frame)
+    → IsRecordPlanned filters old → length samples ≡ n * channels_of old.device.settings.layout → pushed.kept ≡ min pushed.came (room_for (plan_in old.chain) old.book.opening.settings.format old.ring)
+    → Pushes kept filters old.book.opening.settings.format (pushed_frames (plan_in old.chain) samples) old.chain new frames pushed old.ring.bytes ring → RecordStands kept filters old old.book bytes frames
     → PushCaptured kept filters (seen filters old.device) n old.book frames (frames_of (channels_of old.device.settings.layout) samples) new pushed old.ring.bytes ring
 push-captured {B = B} kept filters old n samples new pushed ring bytes frames planned whole kept_is p s =
     let device : DeviceSeen = seen filters old.device in
     let book : RecordBook = old.book in
-    let settings : Settings = book.settings in
+    let settings : Settings = book.opening.settings in
     let rate : Rate = record_rate_at device book in
     let plan : PlanSeen = plan_in old.chain in
     let input : List Frame = frames_of (channels_of old.device.settings.layout) samples in
@@ -133,8 +134,8 @@ push-captured {B = B} kept filters old n samples new pushed ring bytes frames pl
     ∙ ap (λ k. can rate (length frames + k)) (pushed-count filters old n samples planned whole) ∙ ap (λ k. can rate (k + n)) s.captured in
     let came : pushed.came ≡ coming rate n book =
     p.came ∙ ap (λ k. k - can (rate_in_plan plan) (length frames)) reach ∙ ap (λ k. can rate (book.captured + n) - k) given in
-    let free : free_bytes old.ring ≡ free_of book = ap (λ k. k - length old.ring.bytes) old.size ∙ ap (λ k. ring_bytes book - k) old.fill in
-    let room : room_for plan settings.format old.ring ≡ free_of book / frame_bytes settings =
+    let free : free_bytes old.ring ≡ record_free_of book = ap (λ k. k - length old.ring.bytes) old.size ∙ ap (λ k. ring_bytes book.opening - k) old.fill in
+    let room : room_for plan settings.format old.ring ≡ record_free_of book / frame_bytes settings =
     ap (λ (q : PlanSeen). room_for q settings.format old.ring) is ∙ ap (λ k. k / frame_bytes settings) free in
     let keeps : pushed.kept ≡ keeping rate n book = kept_is ∙ ap (λ k. min k (room_for plan settings.format old.ring)) came ∙ ap (λ k. min (coming rate n book) k) room in
     record {
@@ -148,30 +149,39 @@ push-captured {B = B} kept filters old n samples new pushed ring bytes frames pl
           ∙ ap (λ count. old.ring.bytes ++ recorded_bytes device settings (frames ++ input) book.given count) keeps;
     }
 
+-- the rate of the chain's plan, which a push leaves
+pub rate-pushed : {B : Type 0} (filters : Filters) (old : RecordChannelOf B) (new : ChainOf B) (between : Rate) (plan : PlanSeen) → IsRecordPlanned filters old → between ≡ rate_in_plan plan → plan ≡ plan_in new → plan_in new ≡ plan_in old.chain
+    → between ≡ record_rate_at (seen filters old.device) old.book
+rate-pushed filters old new between plan planned rate_is plan_is same = rate_is ∙ ap (λ (q : PlanSeen). rate_in_plan q) (plan_is ∙ same ∙ planned.plan_is)
+
+-- the book by that rate
+pub captured-at : (device : DeviceSeen) (n : ℕ) (old new : RecordBook) (between : Rate) → between ≡ record_rate_at device old → new ≡ captured between n old → new ≡ capturing device n old
+captured-at device n old new between rate is = is ∙ ap (λ (r : Rate). captured r n old) rate
+
 -- ---- channels
 
 -- the bytes that were kept
-kept-length : {B : Type 0} (kept : B → Kept) (filters : Filters) (old : RecChannelOf B) (n : ℕ) (frames input : List Frame) (new : ChainOf B) → IsRecordPlanned filters old → plan_in new ≡ plan_in old.chain → HasRecorded kept filters new (frames ++ input)
+kept-length : {B : Type 0} (kept : B → Kept) (filters : Filters) (old : RecordChannelOf B) (n : ℕ) (frames input : List Frame) (new : ChainOf B) → IsRecordPlanned filters old → plan_in new ≡ plan_in old.chain → HasRecorded kept filters new (frames ++ input)
     → let device : DeviceSeen = seen filters old.device in
-    length (recorded_bytes device old.book.settings (frames ++ input) old.book.given (keeping (record_rate_at device old.book) n old.book)) ≡ keeping (record_rate_at device old.book) n old.book * frame_bytes old.book.settings
+    length (recorded_bytes device old.book.opening.settings (frames ++ input) old.book.given (keeping (record_rate_at device old.book) n old.book)) ≡ keeping (record_rate_at device old.book) n old.book * frame_bytes old.book.opening.settings
 kept-length kept filters old n frames input new planned plan records =
     let device : DeviceSeen = seen filters old.device in
-    length-recorded device old.book.settings (frames ++ input) old.book.given (keeping (record_rate_at device old.book) n old.book) (device-is filters old planned) old.rate
+    length-recorded device old.book.opening.settings (frames ++ input) old.book.given (keeping (record_rate_at device old.book) n old.book) (device-is filters old planned) old.rate
     (subst (λ (p : PlanSeen). HaveChannels (channels_of p.source) (frames ++ input)) (plan ∙ planned.plan_is) records.frames)
 
 -- the ring holds as many bytes as the book says
-pub fill-captured : {B : Type 0} (kept : B → Kept) (filters : Filters) (old : RecChannelOf B) (book : RecordBook) (n : ℕ) (frames input : List Frame) (new : ChainOf B) (pushed : Pushed) (ring : List ℕ) → IsRecordPlanned filters old → plan_in new ≡ plan_in old.chain
-    → BookCaptured (seen filters old.device) n old.book book → PushCaptured kept filters (seen filters old.device) n old.book frames input new pushed old.ring.bytes ring → length ring ≡ fill_of book
+pub fill-captured : {B : Type 0} (kept : B → Kept) (filters : Filters) (old : RecordChannelOf B) (book : RecordBook) (n : ℕ) (frames input : List Frame) (new : ChainOf B) (pushed : Pushed) (ring : List ℕ) → IsRecordPlanned filters old → plan_in new ≡ plan_in old.chain
+    → BookCaptured (seen filters old.device) n old.book book → PushCaptured kept filters (seen filters old.device) n old.book frames input new pushed old.ring.bytes ring → length ring ≡ record_fill_of book
 fill-captured kept filters old book n frames input new pushed ring planned plan b p =
     let device : DeviceSeen = seen filters old.device in
-    let more : List ℕ = recorded_bytes device old.book.settings (frames ++ input) old.book.given (keeping (record_rate_at device old.book) n old.book) in
+    let more : List ℕ = recorded_bytes device old.book.opening.settings (frames ++ input) old.book.given (keeping (record_rate_at device old.book) n old.book) in
     let long = kept-length kept filters old n frames input new planned plan p.records in
     let fill = old.fill in
     let within = old.within in
     omega (arith, ap length p.bytes, length-append old.ring.bytes more, long, b.kept, b.read)
 
 -- a channel that is running, once its chain was pushed
-pub moves-captured : {B : Type 0} (kind : B → Kind) (kept : B → Kept) (filters : Filters) (old new : RecChannelOf B) (n : ℕ) (input : List Frame) (pushed : Pushed) → IsRecordPlanned filters old → new.device ≡ old.device → plan_in new.chain ≡ plan_in old.chain
+pub moves-captured : {B : Type 0} (kind : B → Kind) (kept : B → Kept) (filters : Filters) (old new : RecordChannelOf B) (n : ℕ) (input : List Frame) (pushed : Pushed) → IsRecordPlanned filters old → new.device ≡ old.device → plan_in new.chain ≡ plan_in old.chain
     → (HaveKinds kind (boxes_in old.chain) → HaveKinds kind (boxes_in new.chain)) → length input ≡ n → HaveBits 32 input → BookCaptured (seen filters old.device) n old.book new.book
     → ((bytes : List ℕ) (frames : List Frame) → RecordStands kept filters old old.book bytes frames → PushCaptured kept filters (seen filters old.device) n old.book frames input new.chain pushed old.ring.bytes new.ring.bytes)
     → RecordMoves kind kept filters input (keeping (record_rate_at (seen filters old.device) old.book) n old.book) old new
@@ -180,8 +190,8 @@ moves-captured {B = B} kind kept filters old new n input pushed planned device p
   planned = planned-as filters old new device plan b.settings;
   stands = λ bytes frames s.
       let p = pushes bytes frames s in
-      let more : List ℕ = recorded_bytes (seen filters old.device) old.book.settings (frames ++ input) old.book.given (keeping (record_rate_at (seen filters old.device) old.book) n old.book) in
-      let long : length more ≡ keeping (record_rate_at (seen filters old.device) old.book) n old.book * frame_bytes old.book.settings = kept-length kept filters old n frames input new.chain planned plan p.records in
+      let more : List ℕ = recorded_bytes (seen filters old.device) old.book.opening.settings (frames ++ input) old.book.given (keeping (record_rate_at (seen filters old.device) old.book) n old.book) in
+      let long : length more ≡ keeping (record_rate_at (seen filters old.device) old.book) n old.book * frame_bytes old.book.opening.settings = kept-length kept filters old n frames input new.chain planned plan p.records in
       let grows : new.book.kept ≡ old.book.kept + length more = omega (arith, b.kept, long) in
       let brings : new.book.captured ≡ old.book.captured + length input = omega (arith, b.captured, count) in
       stands-as kept filters new (bytes ++ more) (take new.book.kept (bytes ++ more)) (frames ++ input) (take new.book.captured (frames ++ input))

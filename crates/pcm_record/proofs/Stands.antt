@@ -13,13 +13,13 @@ use Rattle.pcm_chain.specs.declared.chain.ChainOf.{ChainOf}
 use Rattle.pcm_chain.specs.Pushes.{HasRecorded}
 use Rattle.pcm_desk.specs.declared.record_book.RecordBook.{RecordBook}
 use Rattle.pcm_desk.specs.Device.{DeviceSeen}
-use Rattle.pcm_desk.specs.RecordSafe.{IsUnstarted}
-use Rattle.pcm_sound.specs.Plans.{recorded_bytes}
-use Rattle.pcm_record.specs.declared.channel.RecChannelOf.{RecChannelOf}
+use Rattle.pcm_desk.specs.RecordSafe.{IsRecordUnstarted}
+use Rattle.pcm_sound.specs.Given.{recorded_bytes}
+use Rattle.pcm_record.specs.declared.channel.RecordChannelOf.{RecordChannelOf}
 use Rattle.pcm_record.specs.Channels.{RecordStands}
 
 -- a channel that begins, or whose recording is over, stands for no bytes and no frames
-pub stands-empty : {B : Type 0} (kept : B → Kept) (filters : Filters) (channel : RecChannelOf B) → IsUnstarted channel.book → channel.ring.bytes ≡ []
+pub stands-empty : {B : Type 0} (kept : B → Kept) (filters : Filters) (channel : RecordChannelOf B) → IsRecordUnstarted channel.book → channel.ring.bytes ≡ []
     → ((tables : Filters) → HasRecorded kept tables channel.chain []) → RecordStands kept filters channel channel.book [] []
 stands-empty kept filters channel none ring records = record {
   book_is = refl;
@@ -31,7 +31,7 @@ stands-empty kept filters channel none ring records = record {
 }
 
 -- what a channel stands for, told by equal lists
-pub stands-as : {B : Type 0} (kept : B → Kept) (filters : Filters) (channel : RecChannelOf B) (bytes same_bytes : List ℕ) (frames same_frames : List Frame) → same_bytes ≡ bytes → same_frames ≡ frames
+pub stands-as : {B : Type 0} (kept : B → Kept) (filters : Filters) (channel : RecordChannelOf B) (bytes same_bytes : List ℕ) (frames same_frames : List Frame) → same_bytes ≡ bytes → same_frames ≡ frames
     → RecordStands kept filters channel channel.book bytes frames → RecordStands kept filters channel channel.book same_bytes same_frames
 stands-as kept filters channel bytes same_bytes frames same_frames b f s =
     subst (λ list. RecordStands kept filters channel channel.book list same_frames) (sym b)
@@ -39,7 +39,7 @@ stands-as kept filters channel bytes same_bytes frames same_frames b f s =
 
 -- the counts of a book stay, but for so many bytes more that were read
 pub record Reads (count : ℕ) (old new : RecordBook) : Type 0 where
-  pub settings : new.settings ≡ old.settings
+  pub settings : new.opening.settings ≡ old.opening.settings
   pub captured : new.captured ≡ old.captured
   pub kept : new.kept ≡ old.kept
   pub read : new.read ≡ old.read + count
@@ -47,14 +47,14 @@ pub record Reads (count : ℕ) (old new : RecordBook) : Type 0 where
 -- so it is after a read
 pub reads-count : (count : ℕ) (old new : RecordBook) → new ≡ record old { read = old.read + count } → Reads count old new
 reads-count count old new is = record {
-  settings = ap (λ (b : RecordBook). b.settings) is;
+  settings = ap (λ (b : RecordBook). b.opening.settings) is;
   captured = ap (λ (b : RecordBook). b.captured) is;
   kept = ap (λ (b : RecordBook). b.kept) is;
   read = ap (λ (b : RecordBook). b.read) is;
 }
 
 -- a channel of whose bytes so many were read stands for the same bytes
-pub stands-read : {B : Type 0} (kept : B → Kept) (filters : Filters) (old new : RecChannelOf B) (count : ℕ) (bytes : List ℕ) (frames : List Frame) → new.chain ≡ old.chain → new.ring.bytes ≡ drop count old.ring.bytes → Reads count old.book new.book
+pub stands-read : {B : Type 0} (kept : B → Kept) (filters : Filters) (old new : RecordChannelOf B) (count : ℕ) (bytes : List ℕ) (frames : List Frame) → new.chain ≡ old.chain → new.ring.bytes ≡ drop count old.ring.bytes → Reads count old.book new.book
     → RecordStands kept filters old old.book bytes frames → RecordStands kept filters new new.book bytes frames
 stands-read {B = B} kept filters old new count bytes frames chain ring r s = record {
   book_is = refl;
@@ -66,7 +66,7 @@ stands-read {B = B} kept filters old new count bytes frames chain ring r s = rec
 }
 
 -- a channel that captured more frames, of which more bytes were kept, stands for these too
-pub stands-captured : {B : Type 0} (kept : B → Kept) (filters : Filters) (old new : RecChannelOf B) (bytes more : List ℕ) (frames input : List Frame) → new.ring.bytes ≡ old.ring.bytes ++ more → new.book.read ≡ old.book.read
+pub stands-captured : {B : Type 0} (kept : B → Kept) (filters : Filters) (old new : RecordChannelOf B) (bytes more : List ℕ) (frames input : List Frame) → new.ring.bytes ≡ old.ring.bytes ++ more → new.book.read ≡ old.book.read
     → old.book.read ≤ old.book.kept → new.book.kept ≡ old.book.kept + length more → new.book.captured ≡ old.book.captured + length input → HaveBits 32 input → HasRecorded kept filters new.chain (frames ++ input)
     → RecordStands kept filters old old.book bytes frames → RecordStands kept filters new new.book (bytes ++ more) (frames ++ input)
 stands-captured kept filters old new bytes more frames input ring read within grows captures bits records s = record {

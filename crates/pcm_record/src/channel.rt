@@ -1,10 +1,10 @@
 //! A channel that records: its book, the chain that captured frames go through, and the ring with the bytes that wait.
 
-ghost use Rattle.std.specs.Prelude.{◌≡◌, ◌+◌, ◌*◌, ◌^◌, ◌<◌, ◌≤◌, [], ℕ, List, length, take, drop, Ok, Err, IfOk, IfErr, OnErr};
+ghost use Rattle.std.specs.Prelude.{◌≡◌, ◌+◌, ◌*◌, ◌^◌, ◌<◌, ◌≤◌, [], ℕ, List, length, take, drop, IfOk, OnErr};
 ghost use Rattle.pcm_format.specs.Frames.{Frame};
 ghost use Rattle.pcm_format.specs.Layouts.{channels_of};
 ghost use Rattle.pcm_oss.specs.declared.fragments.TheConstants.{RING_BYTES};
-ghost use Rattle.pcm_oss.specs.declared.reply.Answer.TheVariants.{Got};
+ghost use Rattle.pcm_oss.specs.Replies.{bytes_due};
 ghost use Rattle.pcm_rate.specs.Rates.{IsRatio};
 ghost use Rattle.pcm_feeder.specs.Limits.{IsRate};
 ghost use Rattle.pcm_feeder.specs.Racks.{HaveKinds, IsRack};
@@ -13,8 +13,9 @@ ghost use Rattle.pcm_plan.specs.Plans.{rate_in_plan};
 ghost use Rattle.pcm_chain.specs.Chains.{boxes_in, plan_in};
 ghost use Rattle.pcm_desk.specs.declared.limits.TheConstants.{RING_FRAMES};
 ghost use Rattle.pcm_desk.specs.Device.{seen};
-ghost use Rattle.pcm_desk.specs.RecordBooks.{begun, closed, fill_of, is_free, keeping, read_turn, ring_bytes};
-ghost use Rattle.pcm_desk.specs.RecordRequests.{ask_turn};
+ghost use Rattle.pcm_desk.specs.Openings.{ring_bytes};
+ghost use Rattle.pcm_desk.specs.RecordBooks.{closed, is_record_free, keeping, read_turn, record_begun, record_fill_of};
+ghost use Rattle.pcm_desk.specs.RecordRequests.{record_ask};
 ghost use Rattle.pcm_desk.specs.RecordSafe.{RecordIsSafe};
 ghost use Rattle.pcm_desk.proofs.Props.{record_props};
 ghost use Rattle.pcm_desk.specs.Desk.{capturing, record_rate_at, record_unopened};
@@ -30,22 +31,22 @@ use std::alloc::{AllocError, Global};
 
 /// A channel that records from the device.
 #[derive(Drop)]
-pub struct RecChannelOf<B> {
+pub struct RecordChannelOf<B> {
     pub device: Device,
     pub book: RecordBook,
     pub ring: ByteRing,
     pub chain: ChainOf<B>,
     ghost device_rate: { IsRate device.settings.rate },
-    ghost rate: { IsRate book.settings.rate },
+    ghost rate: { IsRate book.opening.settings.rate },
     ghost ratio: { IsRatio (rate_in_plan (plan_in chain)) },
     ghost room: { ring.max ≡ RING_BYTES },
-    ghost size: { ring.size ≡ ring_bytes book },
-    ghost fill: { length ring.bytes ≡ fill_of book },
+    ghost size: { ring.size ≡ ring_bytes book.opening },
+    ghost fill: { length ring.bytes ≡ record_fill_of book },
     ghost within: { book.read ≤ book.kept },
     ghost safe: { RecordIsSafe (rate_in_plan (plan_in chain)) book } by { Prim.hlevel record_props },
 }
 
-impl<B: Feeder> RecChannelOf<B> {
+impl<B: Feeder> RecordChannelOf<B> {
     ghost use Rattle.pcm_feeder.specs.Filters.{Filters};
     ghost use Rattle.pcm_record.specs.Channels.{IsRecordPlanned, RecordMoves, RecordStands, RecordStandsForSome};
 
@@ -55,7 +56,7 @@ impl<B: Feeder> RecChannelOf<B> {
         device: Device,
         tables: &Tables,
         rack: RackOf<B>,
-    ) -> Result<RecChannelOf<B>, AllocError>
+    ) -> Result<RecordChannelOf<B>, AllocError>
         requires device { IsRate device.settings.rate }
         requires kinds { IsRack B.kind rack }
         ensures book { IfOk result (λ made. made.book ≡ record_unopened (seen tables.now device)) }
@@ -71,7 +72,7 @@ impl<B: Feeder> RecChannelOf<B> {
             ..RecordBook::begun(device.settings)
         };
         begin_anew(&device, tables, &book, &mut ring, &mut chain);
-        Ok(RecChannelOf {
+        Ok(RecordChannelOf {
             device,
             book,
             ring,
@@ -81,7 +82,7 @@ impl<B: Feeder> RecChannelOf<B> {
 
     /// Whether nobody has the channel.
     pub fn is_free(&self) -> bool
-        ensures { result ≡ is_free self.now.book.state }
+        ensures { result ≡ is_record_free self.now.book.state }
     {
         self.book.is_free()
     }
@@ -90,7 +91,7 @@ impl<B: Feeder> RecChannelOf<B> {
     pub fn begin(&mut self, tables: &Tables, settings: Settings)
         requires rate { IsRate settings.rate }
         requires kinds { HaveKinds B.kind (boxes_in self.old.chain) }
-        ensures book { self.new.book ≡ begun settings }
+        ensures book { self.new.book ≡ record_begun settings }
         ensures device { self.new.device ≡ self.old.device }
         ensures moves { RecordMoves B.kind B.kept tables.now [] 0 self.old self.new }
     {
@@ -105,40 +106,39 @@ impl<B: Feeder> RecChannelOf<B> {
     }
 
     /// Moves the bytes that have waited longest to the front of `out`, as many as there are, and answers how many.
-    pub fn read(&mut self, out: &mut [u8]) -> Result<usize, Errno>
+    pub fn read(&mut self, out: &mut [u8]) -> Result<Answer, Errno>
         ensures book { self.new.book ≡ (read_turn (length out.old) self.old.book).book }
-        ensures some { IfOk result (λ count. (read_turn (length out.old) self.old.book).reply ≡ Ok (Got count)) }
-        ensures none { IfErr result (λ errno. (read_turn (length out.old) self.old.book).reply ≡ Err errno) }
-        ensures within { IfOk result (λ count. count ≤ length out.old) }
-        ensures bytes { IfOk result (λ count. (filters : Filters) (bytes : List ℕ) (frames : List Frame)
+        ensures reply { result ≡ (read_turn (length out.old) self.old.book).reply }
+        ensures within { bytes_due result ≤ length out.old }
+        ensures bytes { (filters : Filters) (bytes : List ℕ) (frames : List Frame)
             → RecordStands B.kept filters self.old self.old.book bytes frames
-            → take count out.new ≡ take count (drop self.old.book.read bytes)) }
-        ensures rest { IfOk result (λ count. drop count out.new ≡ drop count out.old) }
+            → take (bytes_due result) out.new ≡ take (bytes_due result) (drop self.old.book.read bytes) }
+        ensures rest { drop (bytes_due result) out.new ≡ drop (bytes_due result) out.old }
         ensures refused { OnErr result (self.new ≡ self.old) }
         ensures kept { OnErr result (out.new ≡ out.old) }
         ensures device { self.new.device ≡ self.old.device }
         ensures moves { (filters : Filters) → RecordMoves B.kind B.kept filters [] 0 self.old self.new }
     {
-        let kept = self.book.kept;
-        if self.book.read == kept && !out.is_empty() {
-            return Err(Errno::Again);
-        }
-        let count = self.ring.take(out);
-        self.book = self.book.reading(count as u64);
-        Ok(count)
+        let turn = self.book.read(out.len() as u64);
+        let answer = turn.reply?;
+        // As many bytes wait in the ring as the book tells.
+        self.ring.take(out);
+        self.book = turn.book;
+        Ok(answer)
     }
 
     /// Does what a request asks. Where the channel isn't running then, the ring and the chain begin anew, as the book says.
     pub fn ioctl(&mut self, tables: &Tables, request: Request) -> Result<Answer, Errno>
         requires kinds { HaveKinds B.kind (boxes_in self.old.chain) }
         requires planned { IsRecordPlanned tables.now self.old }
-        ensures book { self.new.book ≡ (ask_turn request self.old.book).book }
-        ensures reply { result ≡ (ask_turn request self.old.book).reply }
+        ensures book { self.new.book ≡ (record_ask request self.old.book).book }
+        ensures reply { result ≡ (record_ask request self.old.book).reply }
         ensures device { self.new.device ≡ self.old.device }
         ensures refused { OnErr result (self.new ≡ self.old) }
         ensures moves { RecordMoves B.kind B.kept tables.now [] 0 self.old self.new }
     {
-        let turn = self.book.asked(request)?;
+        let turn = self.book.asked(request);
+        let answer = turn.reply?;
         self.book = turn.book;
         if !turn.book.is_running() {
             begin_anew(
@@ -149,7 +149,7 @@ impl<B: Feeder> RecChannelOf<B> {
                 &mut self.chain,
             );
         }
-        Ok(turn.answer)
+        Ok(answer)
     }
 
     /// No descriptor has the channel any more: what wasn't read is dropped.
@@ -183,13 +183,11 @@ impl<B: Feeder> RecChannelOf<B> {
         if !self.book.is_running() {
             return;
         }
-        let format = self.book.settings.format;
-        let pushed = self.chain.push(tables, input, &mut self.ring, format);
-        self.book = self
-            .book
-            .capturing(frames as u64, pushed.came as u64, pushed.kept as u64);
+        let format = self.book.opening.settings.format;
+        self.chain.push(tables, input, &mut self.ring, format);
+        self.book = self.book.captured(self.chain.plan().rate(), frames as u64);
     }
 }
 
 /// A channel whose rack holds boxes.
-pub type RecChannel = RecChannelOf<Box<dyn Feeder>>;
+pub type RecordChannel = RecordChannelOf<Box<dyn Feeder>>;

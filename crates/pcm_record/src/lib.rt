@@ -6,4 +6,4 @@
 mod anew;
 mod channel;
 
-pub use channel::{RecChannel, RecChannelOf};
+pub use channel::{RecordChannel, RecordChannelOf};

@@ -10,7 +10,7 @@ use Rattle.pcm_oss.specs.Replies.{Reply}
 use Rattle.pcm_desk.specs.Device.{DeviceSeen, device_frame_bytes}
 use Rattle.pcm_desk.specs.Events.{Fits, bytes_handed, frames_taken}
 use Rattle.pcm_sound.specs.DeviceList.{device_text}
-use Rattle.pcm_sound.specs.Replies.{replies, reply_to}
+use Rattle.pcm_sound.specs.StoryReplies.{replies, reply_to}
 use Rattle.pcm_sound.specs.Story.{Story, story_at_start, story_of, told, told_all}
 use Rattle.pcm_feeder.specs.declared.kind.Kind.{Kind}
 use Rattle.pcm_feeder.specs.Kept.{Kept}

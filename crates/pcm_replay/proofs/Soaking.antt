@@ -9,7 +9,7 @@ use Rattle.pcm_desk.specs.Device.{DeviceSeen}
 use Rattle.pcm_desk.specs.Events.{Fits, bytes_handed}
 use Rattle.pcm_desk.specs.Usual.{usual_device}
 use Rattle.pcm_sound.specs.DeviceList.{device_text}
-use Rattle.pcm_sound.specs.Replies.{replies, reply_to}
+use Rattle.pcm_sound.specs.StoryReplies.{replies, reply_to}
 use Rattle.pcm_sound.specs.Story.{story_at_start, story_of}
 use Rattle.pcm_feeder.specs.declared.kind.Kind.{Kind}
 use Rattle.pcm_feeder.specs.Kept.{Kept}

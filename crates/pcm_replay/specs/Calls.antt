@@ -22,4 +22,5 @@ texts words = map string_bytes words.entry.now
 -- the call with these words, files and sink
 abbrev pub call : {F K : Type 0} → (F → FilesSeen) → (K → SinkSeen) → Words → Lent F → Lent K → Call
 call seen heard words files out =
-    let change = both seen heard files out in record { words = texts words; before = change.before; after = change.after }
+    let change = both seen heard files out in
+    record { words = texts words; before = change.before; after = change.after }

@@ -38,8 +38,10 @@ pub fn convert_wave<B: Feeder, F: Files, K: Sink>(
     requires rate { IsRate target.rate }
     requires format { IsWaveFormat target.format }
     requires size { HasRoom (conversion_to source.now target) }
-    ensures ok { OnOk result (Does (Converts name.now (conversion_to source.now target)) over both F.seen K.seen files out) }
-    ensures err { IfErr result (Cuts (Converts name.now (conversion_to source.now target)) over both F.seen K.seen files out) }
+    ensures ok { OnOk result (Does (Converts name.now (conversion_to source.now target))
+        over both F.seen K.seen files out) }
+    ensures err { IfErr result (Cuts (Converts name.now (conversion_to source.now target))
+        over both F.seen K.seen files out) }
 {
     let Ok(mut conversion) = conversion_of(alloc, racks, source.wave().settings(), target) else {
         return Err(Ending::NoMemory);

@@ -37,7 +37,8 @@ pub fn play_into<B: Feeder, F: Files, K: Sink>(
     ensures played { OnOk result (HasPlayed B.kind B.kept replay.new pool.now events.now (length events.now)) }
     ensures device { OnOk result (device_of replay.new.engine ≡ device_of replay.old.engine) }
     ensures ok { OnOk result (WritesAll
-        (output_played name.now head.now (playback (device_of replay.old.engine) pool.now events.now)) over both F.seen K.seen files out) }
+        (output_played name.now head.now (playback (device_of replay.old.engine) pool.now events.now))
+        over both F.seen K.seen files out) }
     ensures err { OnErr result (CutsRun name.now head.now
         (playback (device_of replay.old.engine) pool.now events.now) over both F.seen K.seen files out) }
 {
@@ -66,7 +67,8 @@ fn play<B: Feeder, F: Files, K: Sink>(
     ensures played { OnOk result (HasPlayed B.kind B.kept replay.new pool.now events.now (length events.now)) }
     ensures device { OnOk result (device_of replay.new.engine ≡ device_of replay.old.engine) }
     ensures ok { OnOk result (WritesFirst
-        (playback (device_of replay.old.engine) pool.now events.now) (length events.now) over both F.seen K.seen files out) }
+        (playback (device_of replay.old.engine) pool.now events.now) (length events.now)
+        over both F.seen K.seen files out) }
     ensures err { OnErr result (CutsEvents
         (playback (device_of replay.old.engine) pool.now events.now) over both F.seen K.seen files out) }
 {

@@ -82,8 +82,10 @@ impl<B: Feeder> ReplayOf<B> {
         ensures played { HasPlayed B.kind B.kept self.new pool.now events.now (at + 1) }
         ensures device { device_of self.new.engine ≡ device_of self.old.engine }
         ensures only { OnlyAdds over both F.seen K.seen files out }
-        ensures ok { OnOk result (WritesNext (playback (device_of self.old.engine) pool.now events.now) at over both F.seen K.seen files out) }
-        ensures err { OnErr result (CutsNext (playback (device_of self.old.engine) pool.now events.now) at over both F.seen K.seen files out) }
+        ensures ok { OnOk result (WritesNext (playback (device_of self.old.engine) pool.now events.now) at
+            over both F.seen K.seen files out) }
+        ensures err { OnErr result (CutsNext (playback (device_of self.old.engine) pool.now events.now) at
+            over both F.seen K.seen files out) }
     {
         let Filled { bytes, line } = self.step_at(events, pool, at);
         write_turn(files, out, &self.block[..bytes], &self.line[..line])

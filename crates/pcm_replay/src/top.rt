@@ -7,9 +7,9 @@ ghost use Rattle.pcm_replay.specs.Accepted.{LeavesAlike, LeavesCheck, LeavesPlai
 ghost use Rattle.pcm_replay.specs.Accepted.{RunsEngine, SoaksEngine};
 ghost use Rattle.pcm_replay.specs.Calls.{call};
 ghost use Rattle.pcm_replay.specs.Endings.{DoesWords, EndsCall, Finishes};
-ghost use Rattle.pcm_replay.specs.Outcomes.{CannotReadOne, EndsFormless, EndsUnfailing, FailsAtLine, FailsAtSink, IsCut};
-ghost use Rattle.pcm_replay.specs.Outcomes.{IsStatus, LacksMemory, MayEndAs, RefusesConfig, RefusesScript, RefusesWave};
-ghost use Rattle.pcm_replay.specs.Outcomes.{RefusesWords, WasAccepted};
+ghost use Rattle.pcm_replay.specs.Outcomes.{CannotReadOne, EndsFormless, EndsUnfailing, FailsAtLine, FailsAtSink};
+ghost use Rattle.pcm_replay.specs.Outcomes.{IsCut, IsStatus, LacksMemory, MayEndAs, RefusesConfig, RefusesScript};
+ghost use Rattle.pcm_replay.specs.Outcomes.{RefusesWave, RefusesWords, WasAccepted};
 
 use crate::commands::do_command;
 use crate::refusals::refuse_words;

@@ -5,9 +5,9 @@ use Rattle.pcm_oss.specs.declared.event.Event.{Event}
 use Rattle.pcm_oss.specs.declared.event.Event.TheVariants.{Open}
 use Rattle.pcm_oss.specs.declared.event.Way.TheVariants.{Play}
 use Rattle.pcm_format.specs.declared.settings.Settings.{Settings}
-use Rattle.pcm_desk.specs.declared.book.Book.{Book}
-use Rattle.pcm_desk.specs.declared.book.State.{State}
-use Rattle.pcm_desk.specs.Desk.{desk_at_start, book_at}
+use Rattle.pcm_desk.specs.declared.play_book.PlayBook.{PlayBook}
+use Rattle.pcm_desk.specs.declared.play_book.PlayState.{PlayState}
+use Rattle.pcm_desk.specs.Desk.{desk_at_start, play_at}
 use Rattle.pcm_desk.specs.Device.{DeviceSeen, no_filters}
 use Rattle.pcm_desk.specs.Events.{after_all}
 use Rattle.pcm_desk.specs.Usual.{usual_settings}
@@ -25,7 +25,11 @@ use Rattle.pcm_verdict.specs.Transcript.{transcript}
 
 -- a ring of four frames, where a row looks at single frames
 abbrev pub small_device : DeviceSeen
-small_device = record { settings = usual_settings; slots = 4; recorders = 4; ring = 4; block = 2; quality = 1; filters = no_filters }
+small_device = record { settings = usual_settings; mix = usual_settings; slots = 4; recorders = 4; ring = 4; block = 2; quality = 1; filters = no_filters }
+
+-- a device that mixes and hands over in these settings
+abbrev pub device_in : Settings → DeviceSeen → DeviceSeen
+device_in settings device = record device { settings = settings; mix = settings }
 
 -- an open with the settings of the device
 abbrev pub opens : ℕ → Event
@@ -95,21 +99,30 @@ abbrev pub unity_from : ℕ → GainSet
 unity_from position = record { position = position; gain = unity }
 
 -- a book with the counts of a run, and all else as an opening begins: four fragments of 4096 bytes, the trigger on, 100 on both sides
-abbrev pub book_in : Settings → State → ℕ → ℕ → ℕ → Book
+abbrev pub book_in : Settings → PlayState → ℕ → ℕ → ℕ → PlayBook
 book_in settings state written eaten given = record {
-  settings = settings;
-  fragments = record { log = 12; count = 4 };
-  trigger = true;
+  opening = record { settings = settings; fragments = record { log = 12; count = 4 }; trigger = true; told = 0 };
   volume = 0x6464;
   state = state;
   written = written;
   eaten = eaten;
   given = given;
   done = 0;
-  told = 0;
   underruns = 0;
 }
 
+-- a book whose ring is cut so
+abbrev pub cut_in : ℕ → ℕ → PlayBook → PlayBook
+cut_in log count book = record book { opening = record book.opening { fragments = record { log = log; count = count } } }
+
+-- a book that was told this position
+abbrev pub told_at : ℕ → PlayBook → PlayBook
+told_at position book = record book { opening = record book.opening { told = position } }
+
+-- a book with other settings
+abbrev pub set_to : Settings → PlayBook → PlayBook
+set_to settings book = record book { opening = record book.opening { settings = settings } }
+
 -- the first slot's book after events
-abbrev pub book_after : DeviceSeen → List Event → Book
-book_after device events = book_at device (after_all device (desk_at_start device) events) 0
+abbrev pub book_after : DeviceSeen → List Event → PlayBook
+book_after device events = play_at device (after_all device (desk_at_start device) events) 0

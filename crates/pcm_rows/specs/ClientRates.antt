@@ -8,14 +8,14 @@ use Rattle.pcm_oss.specs.declared.event.Way.TheVariants.{Play}
 use Rattle.pcm_format.specs.declared.format.Format.TheVariants.{S16Le, S32Le}
 use Rattle.pcm_format.specs.declared.layout.Layout.TheVariants.{One, Two, Eight}
 use Rattle.pcm_format.specs.declared.settings.Settings.{Settings}
-use Rattle.pcm_desk.specs.declared.book.Book.{Book}
-use Rattle.pcm_desk.specs.declared.book.State.TheVariants.{Free, Setup, Running, Draining}
+use Rattle.pcm_desk.specs.declared.play_book.PlayBook.{PlayBook}
+use Rattle.pcm_desk.specs.declared.play_book.PlayState.TheVariants.{Free, Setup, Running, Draining}
 use Rattle.pcm_desk.specs.declared.device.TheConstants.{OPENING}
 use Rattle.pcm_desk.specs.Device.{DeviceSeen}
 use Rattle.pcm_desk.specs.Usual.{usual_device}
 use Rattle.pcm_sound.specs.Runs.{Run}
 use Rattle.pcm_script.specs.declared.script.Script.{Script}
-use Rattle.pcm_rows.specs.Calls.{book_in, joined, piece, small_device}
+use Rattle.pcm_rows.specs.Calls.{book_in, cut_in, device_in, joined, piece, small_device}
 use Rattle.pcm_rows.specs.ClientFormats.{client_script}
 use Rattle.pcm_rows.specs.FilterRows.{sixty_four_taps}
 use Rattle.pcm_rows.specs.Stages.{two_taps}
@@ -65,11 +65,11 @@ tail_lines = joined (
     codes "1: ok 0" ∷ codes "2: ok 8" ∷ codes "3: ok" ∷ codes "4: ok 3" ∷ codes "5: ok 1" ∷ codes "6: ok 4" ∷ [])
 
 -- its book while the last frame fades to silence: both frames are eaten, and one output is left
-abbrev pub tail_book : Book
+abbrev pub tail_book : PlayBook
 tail_book = book_in half_settings (Draining true) 8 2 3
 
 -- and after that: its two frames were played
-abbrev pub tail_over_book : Book
+abbrev pub tail_over_book : PlayBook
 tail_over_book = record (book_in half_settings Free 0 0 0) { done = 8 }
 
 -- its run: pieces count frames of the mix
@@ -85,7 +85,7 @@ tail_run = record {
 
 -- a device of one channel of 32 bits, over a ring of four frames
 abbrev pub narrow_device : DeviceSeen
-narrow_device = record small_device { settings = record { format = S32Le; layout = One; rate = 48000 } }
+narrow_device = device_in (record { format = S32Le; layout = One; rate = 48000 }) small_device
 
 -- two channels at half its rate: (1, 0) and (1, 2)
 abbrev pub downmix_text : List ℕ
@@ -115,12 +115,12 @@ abbrev pub wide_events : List Event
 wide_events = Open 0 Play wide_settings ∷ Write 0 Inline 0 4096 ∷ Intr 254 ∷ Intr 2 ∷ Write 0 Inline 4096 32 ∷ Intr 2 ∷ []
 
 -- its book while it runs
-abbrev pub wide_book : ℕ → ℕ → ℕ → ℕ → Book
+abbrev pub wide_book : ℕ → ℕ → ℕ → ℕ → PlayBook
 wide_book written eaten given underruns = record (book_in wide_settings Running written eaten given) { underruns = underruns }
 
 -- a device of one channel of 32 bits, whose filter doubles rates with two taps
 abbrev pub filtered_device : DeviceSeen
-filtered_device = record usual_device { settings = record { format = S32Le; layout = One; rate = 48000 }; quality = 2; filters = two_taps }
+filtered_device = record (device_in (record { format = S32Le; layout = One; rate = 48000 }) usual_device) { quality = 2; filters = two_taps }
 
 -- half its rate
 abbrev pub filtered_settings : Settings
@@ -147,12 +147,12 @@ filtered_lines = joined (
     codes "1: ok 0" ∷ codes "2: ok 8" ∷ codes "3: ok" ∷ codes "4: ok 1024" ∷ codes "5: ok 4" ∷ [])
 
 -- its book once both frames were played
-abbrev pub filtered_book : Book
+abbrev pub filtered_book : PlayBook
 filtered_book = record (book_in filtered_settings Setup 0 0 0) { done = 8 }
 
 -- a device of eight channels over a ring of four frames, whose filter has 64 taps
 abbrev pub ahead_device : DeviceSeen
-ahead_device = record small_device { settings = record wide_settings { rate = 48000 }; quality = 2; filters = sixty_four_taps }
+ahead_device = record (device_in (record wide_settings { rate = 48000 }) small_device) { quality = 2; filters = sixty_four_taps }
 
 -- a frame of eight channels: 256, 257 and so on
 abbrev pub ahead_frame : List ℕ
@@ -174,5 +174,5 @@ ahead_script = record {
 }
 
 -- its book while it runs
-abbrev pub ahead_book : ℕ → ℕ → ℕ → Book
-ahead_book written eaten given = record (wide_book written eaten given 32) { fragments = record { log = 4; count = 2 } }
+abbrev pub ahead_book : ℕ → ℕ → ℕ → PlayBook
+ahead_book written eaten given = cut_in 4 2 (wide_book written eaten given 32)

@@ -2,8 +2,8 @@
 use Rattle.std.specs.Prelude.{ℕ, List, [], ◌∷◌, ◌++◌, codes, replicate, Some, None, false}
 use Rattle.pcm_oss.specs.declared.event.Event.TheVariants.{Write, Intr}
 use Rattle.pcm_wave.specs.declared.pool.Source.TheVariants.{Inline}
-use Rattle.pcm_desk.specs.declared.book.Book.{Book}
-use Rattle.pcm_desk.specs.declared.book.State.TheVariants.{Running}
+use Rattle.pcm_desk.specs.declared.play_book.PlayBook.{PlayBook}
+use Rattle.pcm_desk.specs.declared.play_book.PlayState.TheVariants.{Running}
 use Rattle.pcm_desk.specs.Usual.{usual_settings}
 use Rattle.pcm_sound.specs.Runs.{Piece, Run}
 use Rattle.pcm_script.specs.declared.script.Script.{Script}
@@ -45,7 +45,7 @@ starved_lines = joined (
     codes "6: ok 4" ∷ codes "7: ok 1016" ∷ codes "8: ok 8" ∷ [])
 
 -- four interrupts were short
-abbrev pub starved_book : Book
+abbrev pub starved_book : PlayBook
 starved_book = record (book_in usual_settings Running 4100 1025 1025) { underruns = 4 }
 
 -- what the interrupts took of the stream, the newest first: frame 1024 is mixed at 1028

@@ -2,8 +2,8 @@
 use Rattle.std.specs.Prelude.{ℕ, List, [], ◌∷◌, codes, Some, None, true}
 use Rattle.pcm_oss.specs.declared.event.Event.TheVariants.{Write, Close, Intr}
 use Rattle.pcm_wave.specs.declared.pool.Source.TheVariants.{Inline}
-use Rattle.pcm_desk.specs.declared.book.Book.{Book}
-use Rattle.pcm_desk.specs.declared.book.State.TheVariants.{Free}
+use Rattle.pcm_desk.specs.declared.play_book.PlayBook.{PlayBook}
+use Rattle.pcm_desk.specs.declared.play_book.PlayState.TheVariants.{Free}
 use Rattle.pcm_desk.specs.Usual.{usual_settings}
 use Rattle.pcm_sound.specs.Runs.{Run}
 use Rattle.pcm_script.specs.declared.script.Script.{Script}
@@ -92,7 +92,7 @@ short_drain_run = record {
 }
 
 -- a slot whose run is over, of which two frames were played
-abbrev pub over_book : Book
+abbrev pub over_book : PlayBook
 over_book = record (book_in usual_settings Free 0 0 0) { done = 8 }
 
 -- three bytes of a frame of four

@@ -10,6 +10,7 @@ use Rattle.pcm_desk.specs.Device.{DeviceSeen, no_filters}
 use Rattle.pcm_feeder.specs.declared.stage.Spec.TheVariants.{Matrix, Linear, Volume}
 use Rattle.pcm_feeder.specs.Filters.{Filters}
 use Rattle.pcm_plan.specs.Plans.{PlanSeen, plan_play}
+use Rattle.pcm_rows.specs.Calls.{device_in}
 
 -- settings of 16 bits
 abbrev pub sixteen_bits : Layout → ℕ → Settings
@@ -17,7 +18,7 @@ sixteen_bits layout rate = record { format = S16Le; layout = layout; rate = rate
 
 -- a device of 32 bits
 abbrev pub wide_device : DeviceSeen
-wide_device = record usual_device { settings = record { format = S32Le; layout = Two; rate = 48000 } }
+wide_device = device_in (record { format = S32Le; layout = Two; rate = 48000 }) usual_device
 
 -- a plan whose converter draws lines
 abbrev pub plan_by_lines : Settings → Settings → PlanSeen

@@ -4,7 +4,7 @@ use Rattle.pcm_format.specs.declared.settings.Settings.{Settings}
 use Rattle.pcm_format.specs.declared.layout.Layout.TheVariants.{One}
 use Rattle.pcm_oss.specs.declared.event.Event.{Event}
 use Rattle.pcm_oss.specs.declared.event.Event.TheVariants.{Open, Read, Ioctl, Intr}
-use Rattle.pcm_oss.specs.declared.event.Way.TheVariants.{Play, Rec}
+use Rattle.pcm_oss.specs.declared.event.Way.TheVariants.{Play, Record}
 use Rattle.pcm_oss.specs.declared.request.Request.TheVariants.{SetFragment, SetTrigger, GetCaps, GetError, GetFmts, GetIPtr, GetISpace, Post}
 use Rattle.pcm_wave.specs.declared.pool.Pool.{Pool}
 use Rattle.pcm_wave.specs.DataFiles.{DataFileSeen}
@@ -53,7 +53,7 @@ full_text = joined (
 
 abbrev pub full_script : Script
 full_script = recording_script (
-    Open 0 Rec usual_settings ∷ Ioctl 0 (SetFragment 0x00020004) ∷ Ioctl 0 (SetTrigger 1) ∷ Intr 6 ∷ Intr 4
+    Open 0 Record usual_settings ∷ Ioctl 0 (SetFragment 0x00020004) ∷ Ioctl 0 (SetTrigger 1) ∷ Intr 6 ∷ Intr 4
     ∷ Ioctl 0 GetError ∷ Ioctl 0 GetISpace ∷ Read 0 64 ∷ Read 0 1 ∷ Read 0 0 ∷ Ioctl 0 GetIPtr ∷ []) 10
 
 abbrev pub full_lines : List ℕ
@@ -83,14 +83,14 @@ mono_text = joined (
     codes "read 0 64" ∷ [])
 
 abbrev pub mono_recording_script : Script
-mono_recording_script = recording_script (Open 0 Rec mono_settings ∷ Ioctl 0 (SetFragment 0x00020004) ∷ Ioctl 0 Post ∷ Intr 2 ∷ Read 0 64 ∷ []) 2
+mono_recording_script = recording_script (Open 0 Record mono_settings ∷ Ioctl 0 (SetFragment 0x00020004) ∷ Ioctl 0 Post ∷ Intr 2 ∷ Read 0 64 ∷ []) 2
 
 abbrev pub mono_lines : List ℕ
 mono_lines = joined (codes "1: ok 0" ∷ codes "2: ok 131076" ∷ codes "3: ok" ∷ codes "4: ok 2" ∷ codes "5: ok 4 01000200" ∷ [])
 
 -- a recording that starts behind two frames, and is read behind the end of what is answers_recorded
 abbrev pub late_events : List Event
-late_events = Open 0 Rec usual_settings ∷ Intr 8 ∷ Read 0 4 ∷ Ioctl 0 (SetTrigger 1) ∷ Intr 3 ∷ Read 0 16 ∷ []
+late_events = Open 0 Record usual_settings ∷ Intr 8 ∷ Read 0 4 ∷ Ioctl 0 (SetTrigger 1) ∷ Intr 3 ∷ Read 0 16 ∷ []
 
 abbrev pub late_lines : List ℕ
 late_lines = joined (
@@ -109,7 +109,7 @@ other_way_text = joined (
 
 abbrev pub other_way_script : Script
 other_way_script = recording_script (
-    Open 0 Play OPENING ∷ Open 0 Rec OPENING ∷ Read 0 4 ∷ Ioctl 0 GetIPtr ∷ Ioctl 0 (SetTrigger 4) ∷ Ioctl 0 GetFmts ∷ Ioctl 0 GetCaps ∷ []) 0
+    Open 0 Play OPENING ∷ Open 0 Record OPENING ∷ Read 0 4 ∷ Ioctl 0 GetIPtr ∷ Ioctl 0 (SetTrigger 4) ∷ Ioctl 0 GetFmts ∷ Ioctl 0 GetCaps ∷ []) 0
 
 abbrev pub other_way_lines : List ℕ
 other_way_lines = joined (

@@ -6,15 +6,15 @@ use Rattle.pcm_wave.specs.declared.pool.Source.TheVariants.{Inline}
 use Rattle.pcm_oss.specs.declared.event.Way.TheVariants.{Play}
 use Rattle.pcm_oss.specs.declared.request.Request.{Request}
 use Rattle.pcm_oss.specs.declared.request.Request.TheVariants.{SetFmt, Channels, GetFmts, GetCaps, SetFragment, GetOSpace, GetISpace, GetOPtr, GetIPtr, GetError, SetTrigger, SetPlayVol, Post, Sync, Halt}
-use Rattle.pcm_desk.specs.declared.book.Book.{Book}
-use Rattle.pcm_desk.specs.declared.book.State.TheVariants.{Setup, Running}
+use Rattle.pcm_desk.specs.declared.play_book.PlayBook.{PlayBook}
+use Rattle.pcm_desk.specs.declared.play_book.PlayState.TheVariants.{Setup, Running}
 use Rattle.pcm_desk.specs.declared.device.TheConstants.{OPENING}
 use Rattle.pcm_desk.specs.Usual.{usual_settings}
 use Rattle.pcm_sound.specs.Gains.{GainSet}
 use Rattle.pcm_sound.specs.Runs.{Piece, Run}
 use Rattle.pcm_sound.specs.Story.{story_of}
 use Rattle.pcm_script.specs.declared.script.Script.{Script}
-use Rattle.pcm_rows.specs.Calls.{book_in, joined, opens, piece, small_device, times}
+use Rattle.pcm_rows.specs.Calls.{book_in, cut_in, joined, opens, piece, small_device, times, told_at}
 use Rattle.pcm_rows.specs.ClientRates.{half_settings, tail_script, wide_settings}
 use Rattle.pcm_rows.specs.OneClient.{drain_bytes}
 
@@ -58,7 +58,7 @@ posted_lines = joined (
     codes "7: ok 8" ∷ codes "8: ok 4" ∷ codes "9: ok 4" ∷ [])
 
 -- two interrupts were short since the count was told
-abbrev pub posted_book : Book
+abbrev pub posted_book : PlayBook
 posted_book = record (book_in usual_settings Running 16 4 4) { underruns = 2 }
 
 -- frame 2 is mixed at 4, right behind the silence of the two that were missing
@@ -98,8 +98,8 @@ synced_lines = joined (
     codes "5: ok underruns=0 overruns=0" ∷ codes "6: ok bytes=8 blocks=0 ptr=8" ∷ codes "7: ok 4" ∷ [])
 
 -- its run is over, and eight bytes were played and told
-abbrev pub synced_book : Book
-synced_book = record (book_in usual_settings Setup 0 0 0) { done = 8; told = 8 }
+abbrev pub synced_book : PlayBook
+synced_book = record (told_at 8 (book_in usual_settings Setup 0 0 0)) { done = 8 }
 
 -- two frames at half the rate of the device, which last for four
 abbrev pub synced_tail_text : List ℕ
@@ -300,17 +300,17 @@ small_ring_lines = joined (
     codes "1: ok 0" ∷ codes "2: ok 131076" ∷ codes "3: ok 32" ∷ codes "4: refused again" ∷ codes "5: ok 0" ∷ [])
 
 -- its book, which runs
-abbrev pub small_ring_book : Book
-small_ring_book = record (book_in usual_settings Running 32 0 0) { fragments = record { log = 4; count = 2 } }
+abbrev pub small_ring_book : PlayBook
+small_ring_book = cut_in 4 2 (book_in usual_settings Running 32 0 0)
 
 -- the same fragments with frames of 32 bytes: half a frame fills one
 abbrev pub half_frame_events : List Event
 half_frame_events = Open 0 Play wide_settings ∷ asks (SetFragment 0x00020004) ∷ Write 0 Inline 0 16 ∷ Intr 1 ∷ []
 
 -- its book while it runs, which has no whole frame yet
-abbrev pub half_frame_book : ℕ → Book
+abbrev pub half_frame_book : ℕ → PlayBook
 half_frame_book underruns =
-    record (book_in wide_settings Running 16 0 0) { fragments = record { log = 4; count = 2 }; underruns = underruns }
+    record (cut_in 4 2 (book_in wide_settings Running 16 0 0)) { underruns = underruns }
 
 -- the same with the trigger off, and then on, and a write of no bytes
 abbrev pub no_bytes_events : List Event

@@ -3,7 +3,7 @@
 
 ghost use Rattle.std.specs.Prelude.{◌≡◌, pos, negsuc, [], ◌∷◌, Some, None};
 ghost use Rattle.pcm_format.specs.declared.layout.Layout.TheVariants.{One, Two};
-ghost use Rattle.pcm_desk.specs.Device.{no_filters, plan_between, rate_between};
+ghost use Rattle.pcm_desk.specs.Device.{no_filters, play_plan_between, play_rate_between};
 ghost use Rattle.pcm_desk.specs.Usual.{usual_settings};
 ghost use Rattle.pcm_feeder.specs.declared.stage.Spec.TheVariants.{Matrix, Hold, Linear, Poly, Volume, Depth};
 ghost use Rattle.pcm_feeder.specs.Layouts.{unity};
@@ -129,11 +129,11 @@ pub fn qualities_among_filters()
 
 /// A device's plans take the filters of its run.
 pub fn plans_of_a_device_with_filters()
-    ensures plan { plan_between filtered_device filtered_settings
+    ensures plan { play_plan_between filtered_device filtered_settings
         ≡ record { source = One; target = One; stages = Poly 24000 48000 1 0 2 ∷ Volume One ∷ [] } }
-    ensures rate { rate_between filtered_device filtered_settings
+    ensures rate { play_rate_between filtered_device filtered_settings
         ≡ record { src = 24000; dst = 48000; lookahead = 1 } }
-    ensures low { (plan_between (record filtered_device { quality = 1 }) filtered_settings).stages
+    ensures low { (play_plan_between (record filtered_device { quality = 1 }) filtered_settings).stages
         ≡ Linear 24000 48000 1 ∷ Volume One ∷ [] }
 {}
 

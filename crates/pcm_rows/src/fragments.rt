@@ -2,7 +2,7 @@
 #![tactic(auto, unfolding(crate::proofs::Computing::row))]
 
 ghost use Rattle.std.specs.Prelude.{◌≡◌, ◌∷◌, [], take};
-ghost use Rattle.pcm_desk.specs.declared.book.State.TheVariants.{Running};
+ghost use Rattle.pcm_desk.specs.declared.play_book.PlayState.TheVariants.{Running};
 ghost use Rattle.pcm_desk.specs.Usual.{usual_device};
 ghost use Rattle.pcm_rows.specs.Calls.{accepted, judged, played, printed, book_after, story_after, unity_from};
 ghost use Rattle.pcm_rows.specs.Fragments.{starved_text, starved_script, starved_bytes, starved_lines, starved_book, starved_run, full_ring_text, full_ring_script, full_ring_lines};

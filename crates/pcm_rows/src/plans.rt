@@ -4,7 +4,7 @@
 ghost use Rattle.std.specs.Prelude.{◌≡◌, ◌∷◌, [], pos};
 ghost use Rattle.pcm_format.specs.declared.format.Format.TheVariants.{S16Le};
 ghost use Rattle.pcm_format.specs.declared.layout.Layout.TheVariants.{One, Two, Six};
-ghost use Rattle.pcm_desk.specs.Device.{no_filters, plan_between};
+ghost use Rattle.pcm_desk.specs.Device.{no_filters, play_plan_between};
 ghost use Rattle.pcm_desk.specs.Usual.{usual_device, usual_settings};
 ghost use Rattle.pcm_feeder.specs.declared.stage.Spec.TheVariants.{Matrix, Hold, Linear, Poly, Volume, Depth};
 ghost use Rattle.pcm_feeder.specs.Layouts.{unity};
@@ -16,15 +16,15 @@ ghost use Rattle.pcm_rows.specs.Stages.{mono, two_taps};
 /// A client with the device's settings goes through the volume and the depth, one of six channels
 /// through a matrix before, and a device of 32 bits has no depth.
 pub fn plans_at_the_rate_of_the_device()
-    ensures usual { plan_between usual_device usual_settings
+    ensures usual { play_plan_between usual_device usual_settings
         ≡ record { source = Two; target = Two; stages = Volume Two ∷ Depth 16 2 ∷ [] } }
-    ensures six { plan_between usual_device (at_usual_rate S16Le Six)
+    ensures six { play_plan_between usual_device (at_usual_rate S16Le Six)
         ≡ record {
           source = Six;
           target = Two;
           stages = Matrix Six Two ∷ Volume Two ∷ Depth 16 2 ∷ [];
         } }
-    ensures wide { plan_between wide_device usual_settings
+    ensures wide { play_plan_between wide_device usual_settings
         ≡ record { source = Two; target = Two; stages = Volume Two ∷ [] } }
 {}
 

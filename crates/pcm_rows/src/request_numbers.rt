@@ -9,7 +9,7 @@ ghost use Rattle.pcm_oss.specs.declared.fragments.TheConstants.{FRAGMENTS};
 ghost use Rattle.pcm_oss.specs.declared.volume.TheConstants.{VOLUME};
 ghost use Rattle.pcm_oss.specs.Fragments.{fragments_asked, fragments_told};
 ghost use Rattle.pcm_oss.specs.Volumes.{gain_of, is_volume};
-ghost use Rattle.pcm_desk.specs.declared.turn.TheConstants.{ALL_FORMATS};
+ghost use Rattle.pcm_desk.specs.declared.opening.TheConstants.{ALL_FORMATS};
 
 /// All formats are told by the sum of their codes.
 pub fn codes_of_all_formats()

@@ -10,18 +10,18 @@ ghost use Rattle.pcm_oss.specs.declared.request.Request.{Request};
 ghost use Rattle.pcm_oss.specs.declared.request.Request.TheVariants.{Sync};
 ghost use Rattle.pcm_rate.specs.declared.rate.Rate.{Rate};
 ghost use Rattle.pcm_rate.specs.Rates.{unchanged};
-ghost use Rattle.pcm_desk.specs.declared.book.Book.{Book};
-ghost use Rattle.pcm_desk.specs.declared.book.State.TheVariants.{Free, Setup, Primed, Running, Draining};
-ghost use Rattle.pcm_desk.specs.Books.{close_turn, write_turn};
-ghost use Rattle.pcm_desk.specs.Desk.{after, book_at, desk_at_start, refusing};
-ghost use Rattle.pcm_desk.specs.Requests.{ask_turn};
+ghost use Rattle.pcm_desk.specs.declared.play_book.PlayBook.{PlayBook};
+ghost use Rattle.pcm_desk.specs.declared.play_book.PlayState.TheVariants.{Free, Setup, Primed, Running, Draining};
+ghost use Rattle.pcm_desk.specs.PlayBooks.{close_turn, write_turn};
+ghost use Rattle.pcm_desk.specs.Desk.{after, play_at, desk_at_start, refusing};
+ghost use Rattle.pcm_desk.specs.PlayRequests.{play_ask};
 ghost use Rattle.pcm_rows.specs.Calls.{small_device};
 ghost use Rattle.pcm_rows.specs.RequestTable.{turns_in, turns_asked, cut_book, setup_book, primed_book, running_book, draining_book, full_book, rows_in_every_state, setup_rows, primed_rows, running_rows, draining_rows, full_rows, full_running_book, full_running_rows, part_book, part_rows, played_book, ended_book, half_rate, half_given_book, accepts, refuses, closed_desk};
 
 /// Some requests are answered alike in every state, whatever the book and its rate: what tells of
 /// settings and counts, what is outside its set, a volume, and a halt.
 pub fn requests_in_every_state()
-    ensures { (rate : Rate) (book : Book)
+    ensures { (rate : Rate) (book : PlayBook)
         → turns_asked rate book (rows_in_every_state book)
         ≡ turns_in book (rows_in_every_state book) }
 {}
@@ -62,14 +62,14 @@ pub fn part_of_a_frame_starts_nothing()
 
 /// Where all whole frames were given, a drain is over at once, and a part of a frame is dropped.
 pub fn what_is_played_is_over_at_once()
-    ensures synced { ask_turn unchanged Sync played_book
+    ensures synced { play_ask unchanged Sync played_book
         ≡ record { book = ended_book Setup; reply = Ok Done } }
     ensures closed { close_turn unchanged played_book ≡ ended_book Free }
 {}
 
 /// At half the rate a drain goes on where all that was sure was given, until the last frame has faded.
 pub fn what_is_not_faded_drains()
-    ensures synced { ask_turn half_rate Sync half_given_book
+    ensures synced { play_ask half_rate Sync half_given_book
         ≡ record { book = record half_given_book { state = Draining false }; reply = Ok Done } }
     ensures closed { close_turn half_rate half_given_book
         ≡ record half_given_book { state = Draining true } }
@@ -77,7 +77,7 @@ pub fn what_is_not_faded_drains()
 
 /// Nothing can be asked of a channel that drains after its close, nor of one that nobody opened.
 pub fn no_request_of_a_closed_descriptor()
-    ensures draining { (book_at small_device closed_desk 0).state ≡ Draining true }
+    ensures draining { (play_at small_device closed_desk 0).state ≡ Draining true }
     ensures request { (request : Request)
         → after small_device closed_desk (Ioctl 0 request) ≡ refusing closed_desk BadF }
     ensures written { after small_device closed_desk (Write 0 Inline 8 4) ≡ refusing closed_desk BadF }

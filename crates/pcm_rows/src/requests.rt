@@ -5,7 +5,7 @@ ghost use Rattle.std.specs.Prelude.{◌≡◌, ◌∷◌, ◌++◌, [], replicat
 ghost use Rattle.pcm_wave.specs.declared.pool.Pool.{Pool};
 ghost use Rattle.pcm_oss.specs.declared.event.Event.TheVariants.{Intr};
 ghost use Rattle.pcm_oss.specs.declared.request.Request.TheVariants.{SetTrigger, Post, Sync, Halt};
-ghost use Rattle.pcm_desk.specs.declared.book.State.TheVariants.{Setup, Primed, Running, Draining};
+ghost use Rattle.pcm_desk.specs.declared.play_book.PlayState.TheVariants.{Setup, Primed, Running, Draining};
 ghost use Rattle.pcm_desk.specs.Usual.{usual_settings};
 ghost use Rattle.pcm_sound.specs.Story.{story_of};
 ghost use Rattle.pcm_rows.specs.Calls.{small_device, accepted, judged, played, printed, book_after, book_in, piece, story_after, unity_from};

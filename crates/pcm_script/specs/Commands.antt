@@ -10,7 +10,7 @@ use Rattle.pcm_format.specs.declared.settings.TheConstants.{RATE_LEAST, RATE_MOS
 use Rattle.pcm_format.specs.Formats.{code_of, format_named}
 use Rattle.pcm_format.specs.Layouts.{layout_of}
 use Rattle.pcm_oss.specs.declared.event.Way.{Way}
-use Rattle.pcm_oss.specs.declared.event.Way.TheVariants.{Play, Rec}
+use Rattle.pcm_oss.specs.declared.event.Way.TheVariants.{Play, Record}
 use Rattle.pcm_wave.specs.DataFiles.{DataFileSeen}
 use Rattle.pcm_wave.specs.Pools.{body_in}
 use Rattle.pcm_desk.specs.declared.device.TheConstants.{OPENING}
@@ -34,7 +34,7 @@ descriptor_in word = number_within 0 (DESCRIPTORS - 1) word
 abbrev pub way_in : List ℕ → Result Way ScriptKind
 way_in word =
     if bytes_eq word (codes "play") then Ok Play
-    else if bytes_eq word (codes "rec") then Ok Rec
+    else if bytes_eq word (codes "rec") then Ok Record
     else Err Name
 
 abbrev pub or_fault : {A : Type 0} → Option A → ScriptKind → Result A ScriptKind

@@ -29,7 +29,7 @@ pub(crate) fn way_in(word: &[u8]) -> Result<Way, ScriptKind>
     if word == b"play".as_slice() {
         Ok(Way::Play)
     } else if word == b"rec".as_slice() {
-        Ok(Way::Rec)
+        Ok(Way::Record)
     } else {
         Err(ScriptKind::Name)
     }

@@ -8,7 +8,7 @@ use Rattle.pcm_format.specs.declared.layout.Layout.TheVariants.{One, Two, Six}
 use Rattle.pcm_oss.specs.declared.event.Event.{Event}
 use Rattle.pcm_oss.specs.declared.event.Event.TheVariants.{Open, Ioctl}
 use Rattle.pcm_oss.specs.declared.event.Way.{Way}
-use Rattle.pcm_oss.specs.declared.event.Way.TheVariants.{Play, Rec}
+use Rattle.pcm_oss.specs.declared.event.Way.TheVariants.{Play, Record}
 use Rattle.pcm_oss.specs.declared.request.Request.TheVariants.{SetTrigger}
 use Rattle.pcm_desk.specs.Events.{all_frames_taken}
 use Rattle.pcm_script.specs.declared.script.Script.{Script}
@@ -30,8 +30,8 @@ first_events =
     ∷ opened 1 Play U8 One 8000
     ∷ opened 2 Play S24Be Six 96000
     ∷ opened 3 Play S32Le Two 48000
-    ∷ opened 4 Rec S16Be One 22050
-    ∷ opened 5 Rec S32Le Two 48000
+    ∷ opened 4 Record S16Be One 22050
+    ∷ opened 5 Record S32Le Two 48000
     ∷ started 4
     ∷ started 5
     ∷ []

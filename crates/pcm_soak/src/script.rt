@@ -42,8 +42,8 @@ fn first_events(alloc: Global) -> Result<Vec<Event>, AllocError>
         opened(1, Way::Play, Format::U8, Layout::One, 8000),
         opened(2, Way::Play, Format::S24Be, Layout::Six, 96000),
         opened(3, Way::Play, Format::S32Le, Layout::Two, 48000),
-        opened(4, Way::Rec, Format::S16Be, Layout::One, 22050),
-        opened(5, Way::Rec, Format::S32Le, Layout::Two, 48000),
+        opened(4, Way::Record, Format::S16Be, Layout::One, 22050),
+        opened(5, Way::Record, Format::S32Le, Layout::Two, 48000),
         started(4),
         started(5),
     ]?)

@@ -24,10 +24,10 @@ use Rattle.pcm_feeder.specs.declared.stage.Gain.{Gain}
 use Rattle.pcm_feeder.specs.Streams.{HaveChannels}
 use Rattle.pcm_feeder.specs.Limits.{IsRate}
 use Rattle.pcm_mix.proofs.Blocks.{length-mixed}
-use Rattle.pcm_desk.specs.Device.{DeviceSeen, IsDevice, device_frame_bytes, filters_of, mix_settings, plan_between, play_slots, ring_frames}
+use Rattle.pcm_desk.specs.Device.{DeviceSeen, IsDevice, device_frame_bytes, device_settings, filters_of, mix_settings, play_plan_between, play_slots, ring_frames}
 use Rattle.pcm_plan.proofs.Through.{length-out}
 use Rattle.pcm_desk.proofs.Ratios.{plan-between-fits}
-use Rattle.pcm_sound.specs.Plans.{given_frame}
+use Rattle.pcm_sound.specs.Given.{given_frame}
 use Rattle.pcm_sound.specs.Gains.{last_gain}
 use Rattle.pcm_sound.specs.Runs.{Run, Piece, covers, run_frames, piece_frame, first_of, sounding}
 use Rattle.pcm_sound.specs.Story.{Story, told}
@@ -54,16 +54,16 @@ mix_of-more bits silent table slots position =
 -- the frames that were mixed stay as they were
 pub device_list-same : (device : DeviceSeen) (a b : Table) (count : ℕ) → ((slot position : ℕ) → position < count → a slot position ≡ b slot position) → device_list device a count ≡ device_list device b count
 device_list-same device a b count h =
-    ap (λ mixed. replicate (ring_frames device) (silence_in (mix_settings device)) ++ mixed)
+    ap (λ mixed. replicate (ring_frames device) (silence_in (device_settings device)) ++ mixed)
     (map-range-same (device_frame device (mix_at device a)) (device_frame device (mix_at device b)) count
     (λ position l. mix_of-same (bits_of (mix_settings device).format) (silence_in (mix_settings device)) a b (play_slots device) position (λ slot. h slot position l)))
 
 -- more positions
 pub device_list-more : (device : DeviceSeen) (table : Table) (count n : ℕ) → device_list device table (count + n) ≡ device_list device table count ++ map (device_frame device (mix_at device table)) (range_with_len count n)
 device_list-more device table count n =
-    ap (λ positions. replicate (ring_frames device) (silence_in (mix_settings device)) ++ map (device_frame device (mix_at device table)) positions) (range-add 0 count n ∙ ap (λ a. range_with_len 0 count ++ range_with_len a n) (zero-add count))
-    ∙ ap (λ mixed. replicate (ring_frames device) (silence_in (mix_settings device)) ++ mixed) (map-append (device_frame device (mix_at device table)) (range_with_len 0 count) (range_with_len count n))
-    ∙ sym (append_assoc (replicate (ring_frames device) (silence_in (mix_settings device))) (map (device_frame device (mix_at device table)) (range_with_len 0 count)) (map (device_frame device (mix_at device table)) (range_with_len count n)))
+    ap (λ positions. replicate (ring_frames device) (silence_in (device_settings device)) ++ map (device_frame device (mix_at device table)) positions) (range-add 0 count n ∙ ap (λ a. range_with_len 0 count ++ range_with_len a n) (zero-add count))
+    ∙ ap (λ mixed. replicate (ring_frames device) (silence_in (device_settings device)) ++ mixed) (map-append (device_frame device (mix_at device table)) (range_with_len 0 count) (range_with_len count n))
+    ∙ sym (append_assoc (replicate (ring_frames device) (silence_in (device_settings device))) (map (device_frame device (mix_at device table)) (range_with_len 0 count)) (map (device_frame device (mix_at device table)) (range_with_len count n)))
 
 length-silence : (settings : Settings) → length (silence_in settings) ≡ channels_of settings.layout
 length-silence settings = length-replicate (channels_of settings.layout) (pos 0)
@@ -82,7 +82,7 @@ IsDeviceFrame device frame = length frame ≡ channels_of (mix_settings device).
 -- what a client's frames give is a frame of the device
 pub length-given_frame : (device : DeviceSeen) (settings : Settings) (bytes : List ℕ) (k : ℕ) (gain : Gain) → IsDevice device → IsRate settings.rate → IsDeviceFrame device (given_frame device settings (frames settings bytes) k gain)
 length-given_frame device settings bytes k gain d s =
-    length-out (plan_between device settings) (filters_of device) (frames settings bytes) k gain (plan-between-fits device settings d s) (frames-channels settings bytes)
+    length-out (play_plan_between device settings) (filters_of device) (frames settings bytes) k gain (plan-between-fits device settings d s) (frames-channels settings bytes)
 
 piece_frame-frame : (device : DeviceSeen) (gain : Gain) (settings : Settings) (bytes : List ℕ) (position : ℕ) (found : Option Piece) → IsDevice device → IsRate settings.rate
     → IfSome (piece_frame device gain settings (frames settings bytes) position found) (IsDeviceFrame device)
@@ -114,34 +114,40 @@ fold-frame device bits table position sum (slot ∷ slots) s g = fold-frame devi
 pub mix_of-frame : (device : DeviceSeen) (bits : ℕ) (table : Table) (slots position : ℕ) → ((slot : ℕ) → IfSome (table slot position) (IsDeviceFrame device)) → IsDeviceFrame device (mix_of bits (silence_in (mix_settings device)) table slots position)
 mix_of-frame device bits table slots position g = fold-frame device bits table position (silence_in (mix_settings device)) (range_with_len 0 slots) (length-silence (mix_settings device)) g
 
-pub device_list-frames : (device : DeviceSeen) (table : Table) (count : ℕ) → ((slot position : ℕ) → IfSome (table slot position) (IsDeviceFrame device)) → All (IsDeviceFrame device) (device_list device table count)
-device_list-frames device table count g =
-    All-append (IsDeviceFrame device) (replicate (ring_frames device) (silence_in (mix_settings device))) (map (device_frame device (mix_at device table)) (range_with_len 0 count))
-    (All-replicate (IsDeviceFrame device) (ring_frames device) (silence_in (mix_settings device)) (length-silence (mix_settings device)))
+-- silence of the device is a frame of it
+silence-frame : (device : DeviceSeen) → IsDevice device → IsDeviceFrame device (silence_in (device_settings device))
+silence-frame device d = length-silence (device_settings device) ∙ ap (λ (settings : Settings). channels_of settings.layout) (sym d.same)
+
+pub device_list-frames : (device : DeviceSeen) (table : Table) (count : ℕ) → IsDevice device → ((slot position : ℕ) → IfSome (table slot position) (IsDeviceFrame device)) → All (IsDeviceFrame device) (device_list device table count)
+device_list-frames device table count d g =
+    All-append (IsDeviceFrame device) (replicate (ring_frames device) (silence_in (device_settings device))) (map (device_frame device (mix_at device table)) (range_with_len 0 count))
+    (All-replicate (IsDeviceFrame device) (ring_frames device) (silence_in (device_settings device)) (silence-frame device d))
     (All-map (IsDeviceFrame device) (device_frame device (mix_at device table)) (range_with_len 0 count)
     (λ k d l. mix_of-frame device (bits_of (mix_settings device).format) table (play_slots device) (get_or (range_with_len 0 count) k d) (λ slot. g slot (get_or (range_with_len 0 count) k d))))
 
-length-spelled_frame : (device : DeviceSeen) (frame : Frame) → IsDeviceFrame device frame → length (spelled_frame (mix_settings device).format frame) ≡ device_frame_bytes device
-length-spelled_frame device frame h = length-flat_map-spelled (mix_settings device).format frame ∙ ap (λ n. n * bytes_of (mix_settings device).format) h
+length-spelled_frame : (device : DeviceSeen) (frame : Frame) → IsDevice device → IsDeviceFrame device frame → length (spelled_frame (device_settings device).format frame) ≡ device_frame_bytes device
+length-spelled_frame device frame d h =
+    length-flat_map-spelled (device_settings device).format frame
+    ∙ ap (λ n. n * bytes_of (device_settings device).format) (h ∙ ap (λ (settings : Settings). channels_of settings.layout) d.same)
 
 -- the bytes of the device's frames
-pub length-spelled_frames : (device : DeviceSeen) (list : List Frame) → All (IsDeviceFrame device) list → length (spelled_frames (mix_settings device).format list) ≡ length list * device_frame_bytes device
-length-spelled_frames device [] v = omega arith
-length-spelled_frames device (frame ∷ list) v =
-    let here = length-spelled_frame device frame (All-head (IsDeviceFrame device) frame list v) in
-    let rest = length-spelled_frames device list (All-tail (IsDeviceFrame device) frame list v) in
-    omega (arith, length-append (spelled_frame (mix_settings device).format frame) (spelled_frames (mix_settings device).format list))
+pub length-spelled_frames : (device : DeviceSeen) (list : List Frame) → IsDevice device → All (IsDeviceFrame device) list → length (spelled_frames (device_settings device).format list) ≡ length list * device_frame_bytes device
+length-spelled_frames device [] d v = omega arith
+length-spelled_frames device (frame ∷ list) d v =
+    let here = length-spelled_frame device frame d (All-head (IsDeviceFrame device) frame list v) in
+    let rest = length-spelled_frames device list d (All-tail (IsDeviceFrame device) frame list v) in
+    omega (arith, length-append (spelled_frame (device_settings device).format frame) (spelled_frames (device_settings device).format list))
 
 -- the first frames are the first bytes
-pub spelled_frames-take : (device : DeviceSeen) (n : ℕ) (list : List Frame) → All (IsDeviceFrame device) list → spelled_frames (mix_settings device).format (take n list) ≡ take (n * device_frame_bytes device) (spelled_frames (mix_settings device).format list)
-spelled_frames-take device zero list v = let none : 0 * device_frame_bytes device ≡ 0 = omega arith in rw none refl
-spelled_frames-take device (suc n) [] v = sym (take_all (suc n * device_frame_bytes device) [] (omega arith))
-spelled_frames-take device (suc n) (frame ∷ list) v =
-    let first : List ℕ = spelled_frame (mix_settings device).format frame in
-    let rest : List ℕ = spelled_frames (mix_settings device).format list in
-    let size = length-spelled_frame device frame (All-head (IsDeviceFrame device) frame list v) in
+pub spelled_frames-take : (device : DeviceSeen) (n : ℕ) (list : List Frame) → IsDevice device → All (IsDeviceFrame device) list → spelled_frames (device_settings device).format (take n list) ≡ take (n * device_frame_bytes device) (spelled_frames (device_settings device).format list)
+spelled_frames-take device zero list d v = let none : 0 * device_frame_bytes device ≡ 0 = omega arith in rw none refl
+spelled_frames-take device (suc n) [] d v = sym (take_all (suc n * device_frame_bytes device) [] (omega arith))
+spelled_frames-take device (suc n) (frame ∷ list) d v =
+    let first : List ℕ = spelled_frame (device_settings device).format frame in
+    let rest : List ℕ = spelled_frames (device_settings device).format list in
+    let size = length-spelled_frame device frame d (All-head (IsDeviceFrame device) frame list v) in
     let count : suc n * device_frame_bytes device ≡ length first + n * device_frame_bytes device = omega arith in
-    ap (λ bytes. first ++ bytes) (spelled_frames-take device n list (All-tail (IsDeviceFrame device) frame list v))
+    ap (λ bytes. first ++ bytes) (spelled_frames-take device n list d (All-tail (IsDeviceFrame device) frame list v))
     ∙ sym (take-append-add first rest (n * device_frame_bytes device))
     ∙ ap (λ bytes. take bytes (first ++ rest)) (sym count)
 
@@ -157,16 +163,16 @@ table-frames device story v slot position = sounding-frame device (last_gain (st
 -- how long they are
 pub length-device_bytes : (device : DeviceSeen) (story : Story) → StoryIsValid device story → length (device_bytes device story) ≡ ((ring_frames device) + story.desk.handed) * device_frame_bytes device
 length-device_bytes device story v =
-    length-spelled_frames device (device_list device (table_of device story) story.desk.handed) (device_list-frames device (table_of device story) story.desk.handed (table-frames device story v))
-    ∙ ap (λ n. n * device_frame_bytes device) (length-append (replicate (ring_frames device) (silence_in (mix_settings device))) (map (device_frame device (mix_at device (table_of device story))) (range_with_len 0 story.desk.handed))
-    ∙ (let ring = length-replicate (ring_frames device) (silence_in (mix_settings device)) in
+    length-spelled_frames device (device_list device (table_of device story) story.desk.handed) v.limits (device_list-frames device (table_of device story) story.desk.handed v.limits (table-frames device story v))
+    ∙ ap (λ n. n * device_frame_bytes device) (length-append (replicate (ring_frames device) (silence_in (device_settings device))) (map (device_frame device (mix_at device (table_of device story))) (range_with_len 0 story.desk.handed))
+    ∙ (let ring = length-replicate (ring_frames device) (silence_in (device_settings device)) in
     let mixed_length : length (map (device_frame device (mix_at device (table_of device story))) (range_with_len 0 story.desk.handed)) ≡ story.desk.handed = length-map (range_with_len 0 story.desk.handed) (device_frame device (mix_at device (table_of device story))) ∙ length-range_with_len 0 story.desk.handed in
     omega arith))
 
 -- what was handed over is the front of them
 pub device_body-bytes : (device : DeviceSeen) (story : Story) → StoryIsValid device story → device_body device story ≡ take (story.desk.handed * device_frame_bytes device) (device_bytes device story)
 device_body-bytes device story v =
-    spelled_frames-take device story.desk.handed (device_list device (table_of device story) story.desk.handed) (device_list-frames device (table_of device story) story.desk.handed (table-frames device story v))
+    spelled_frames-take device story.desk.handed (device_list device (table_of device story) story.desk.handed) v.limits (device_list-frames device (table_of device story) story.desk.handed v.limits (table-frames device story v))
 
 -- the new frames of an interrupt, joined
 abbrev pub new_block : DeviceSeen → Pool → Story → ℕ → List ℤ
@@ -174,20 +180,20 @@ new_block device pool story n = flat_map (device_frame device (mix_at device (ta
 
 -- an interrupt mixes its frames behind those that were mixed before
 pub device_bytes-interrupt : (device : DeviceSeen) (pool : Pool) (story : Story) (n : ℕ) → StoryIsValid device story
-    → device_bytes device (told device pool story (Intr n)) ≡ device_bytes device story ++ flat_map (spelled (mix_settings device).format) (new_block device pool story n)
+    → device_bytes device (told device pool story (Intr n)) ≡ device_bytes device story ++ flat_map (spelled (device_settings device).format) (new_block device pool story n)
 device_bytes-interrupt device pool story n v =
     let new : Story = told device pool story (Intr n) in
-    ap (spelled_frames (mix_settings device).format)
+    ap (spelled_frames (device_settings device).format)
     (device_list-more device (table_of device new) story.desk.handed n
     ∙ ap (λ list. list ++ map (device_frame device (mix_at device (table_of device new))) (range_with_len story.desk.handed n))
     (device_list-same device (table_of device new) (table_of device story) story.desk.handed (λ slot position l. table_of-told device pool story (Intr n) slot position v (let even = v.mixed in omega arith))))
-    ∙ flat_map-append (spelled_frame (mix_settings device).format) (device_list device (table_of device story) story.desk.handed) (map (device_frame device (mix_at device (table_of device new))) (range_with_len story.desk.handed n))
-    ∙ ap (λ bytes. device_bytes device story ++ bytes) (spelled_frames-map (mix_settings device).format (device_frame device (mix_at device (table_of device new))) (range_with_len story.desk.handed n))
+    ∙ flat_map-append (spelled_frame (device_settings device).format) (device_list device (table_of device story) story.desk.handed) (map (device_frame device (mix_at device (table_of device new))) (range_with_len story.desk.handed n))
+    ∙ ap (λ bytes. device_bytes device story ++ bytes) (spelled_frames-map (device_settings device).format (device_frame device (mix_at device (table_of device new))) (range_with_len story.desk.handed n))
 
 -- every other event leaves them
 pub device_bytes-same : (device : DeviceSeen) (pool : Pool) (story : Story) (event : Event) → StoryIsValid device story → (told device pool story event).desk.handed ≡ story.desk.handed
     → device_bytes device (told device pool story event) ≡ device_bytes device story
 device_bytes-same device pool story event v e =
     let new : Story = told device pool story event in
-    ap (λ count. spelled_frames (mix_settings device).format (device_list device (table_of device new) count)) e
-    ∙ ap (spelled_frames (mix_settings device).format) (device_list-same device (table_of device new) (table_of device story) story.desk.handed (λ slot position l. table_of-told device pool story event slot position v (let even = v.mixed in omega arith)))
+    ap (λ count. spelled_frames (device_settings device).format (device_list device (table_of device new) count)) e
+    ∙ ap (spelled_frames (device_settings device).format) (device_list-same device (table_of device new) (table_of device story) story.desk.handed (λ slot position l. table_of-told device pool story event slot position v (let even = v.mixed in omega arith)))

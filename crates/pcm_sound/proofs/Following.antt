@@ -6,7 +6,7 @@ use Rattle.std.proofs.lemmas.List.FromFn.{length-map-range_with_len, take-map-ra
 use Rattle.pcm_oss.specs.declared.event.Event.{Event}
 use Rattle.pcm_oss.specs.declared.event.Event.TheVariants.{Open, Write, Read, Ioctl, Close, Intr}
 use Rattle.pcm_oss.specs.declared.event.Way.{Way}
-use Rattle.pcm_oss.specs.declared.event.Way.TheVariants.{Play, Rec}
+use Rattle.pcm_oss.specs.declared.event.Way.TheVariants.{Play, Record}
 use Rattle.pcm_oss.specs.declared.reply.Answer.TheVariants.{Got}
 use Rattle.pcm_oss.specs.declared.reply.Errno.TheVariants.{Again, Inval}
 use Rattle.pcm_wave.specs.declared.pool.Pool.{Pool}
@@ -17,17 +17,18 @@ use Rattle.pcm_rate.specs.declared.rate.Rate.{Rate}
 use Rattle.pcm_rate.specs.Rates.{can}
 use Rattle.pcm_rate.proofs.Counts.{len_grows}
 use Rattle.pcm_feeder.specs.Limits.{IsRate}
+use Rattle.pcm_desk.specs.declared.turn.Turn.{Turn}
 use Rattle.pcm_desk.specs.declared.device.Held.{Held}
 use Rattle.pcm_desk.specs.declared.record_book.RecordBook.{RecordBook}
 use Rattle.pcm_desk.specs.declared.record_book.RecordState.{RecordState}
 use Rattle.pcm_desk.specs.declared.record_book.RecordState.TheVariants.{Free, Setup, Running}
 use Rattle.pcm_desk.specs.Device.{DeviceSeen, IsDevice, device_settings}
-use Rattle.pcm_desk.specs.RecordBooks.{RecordTurn, captured_in, captures, fill_of, is_running, keeping, read_turn}
-use Rattle.pcm_desk.specs.RecordSafe.{IsUnstarted, RecordIsSafe}
+use Rattle.pcm_desk.specs.RecordBooks.{captured_in, captures, is_running, keeping, read_turn, record_fill_of}
+use Rattle.pcm_desk.specs.RecordSafe.{IsRecordUnstarted, RecordIsSafe}
 use Rattle.pcm_desk.specs.Desk.{Desk, after, by_way, capturing, held_by, read_on, record_at, record_rate_at, record_turn, refusing}
 use Rattle.pcm_desk.proofs.Ratios.{record-ratio-between}
 use Rattle.pcm_desk.specs.Events.{Fits, frames_taken}
-use Rattle.pcm_sound.specs.Plans.{recorded_bytes}
+use Rattle.pcm_sound.specs.Given.{recorded_bytes}
 use Rattle.pcm_sound.specs.Recordings as recordings
 use Rattle.pcm_sound.specs.Recordings.{Recording, handing, recorded_frames, recording_after, recording_from, starts_recording}
 use Rattle.pcm_sound.specs.Story.{Story}
@@ -92,10 +93,10 @@ FollowsAt device pool old event new slot recording =
     Follows device pool (record_at device old slot) (record_at device new slot) recording (recording_after device pool old event (record_at device old slot) (record_at device new slot) recording)
 
 read_turned : (device : DeviceSeen) (pool : Pool) (handed count : ℕ) (empty : Bool) (book : RecordBook) (recording : Recording)
-    → let new : RecordBook = (cond {A = RecordTurn} empty (record { book = book; reply = Err Again }) (record { book = record book { read = book.read + min count (fill_of book) }; reply = Ok (Got (min count (fill_of book))) })).book in
+    → let new : RecordBook = (cond {A = Turn RecordBook} empty (record { book = book; reply = Err Again }) (record { book = record book { read = book.read + min count (record_fill_of book) }; reply = Ok (Got (min count (record_fill_of book))) })).book in
     Follows device pool book new recording (cond (starts_recording book new) (recording_from handed) (handing book new recording))
 read_turned device pool handed count true book recording = follows-read device pool handed book.read book recording
-read_turned device pool handed count false book recording = follows-read device pool handed (book.read + min count (fill_of book)) book recording
+read_turned device pool handed count false book recording = follows-read device pool handed (book.read + min count (record_fill_of book)) book recording
 
 read_at : (device : DeviceSeen) (pool : Pool) (desk : Desk) (fd count at slot : ℕ) (recording : Recording) → FollowsAt device pool desk (Read fd count) (record_turn device (read_turn count) desk at).desk slot recording
 read_at device pool desk fd count at slot recording =
@@ -105,7 +106,7 @@ read_at device pool desk fd count at slot recording =
     elim (record_at-with device desk at slot book) [
       | inl here ↦ subst FollowFrom (sym here.1)
           (subst (λ (k : ℕ). FollowFrom (read_turn count (record_at device desk k)).book) here.0
-          (read_turned device pool desk.handed count (nat_lt 0 count && eqb (fill_of old) 0) old recording))
+          (read_turned device pool desk.handed count (nat_lt 0 count && eqb (record_fill_of old) 0) old recording))
       | inr same ↦ subst FollowFrom (sym same) (follows-read device pool desk.handed old.read old recording)
     ]
 
@@ -114,7 +115,7 @@ read_follows device pool None desk fd count slot recording = follows-read device
 read_follows device pool (Some held) desk fd count slot recording =
     elim held.way as (λ (way : Way). FollowsAt device pool desk (Read fd count) (by_way way (refusing desk Inval) (record_turn device (read_turn count) desk held.slot)).desk slot recording) [
       | Play ↦ follows-read device pool desk.handed (record_at device desk slot).read (record_at device desk slot) recording
-      | Rec ↦ read_at device pool desk fd count held.slot slot recording
+      | Record ↦ read_at device pool desk fd count held.slot slot recording
     ]
 
 turned_follows : (device : DeviceSeen) (pool : Pool) (story : Story) (new : Desk) (slot : ℕ) → AllTurned device story.desk new → RecordingsAreValid device pool story
@@ -137,18 +138,18 @@ recording-follows device pool story (Intr n) slot fits none v = absurd (let some
 -- what an interrupt leaves of a slot: what it keeps behind the bytes, and what was captured behind the frames
 pub record Hears (device : DeviceSeen) (pool : Pool) (handed n : ℕ) (old new : RecordBook) (before now : Recording) : Type 0 where
   pub bytes : bytes_in new now ≡ take new.kept (bytes_in old before
-      ++ recorded_bytes device old.settings (frames_of_book device pool old before ++ captured_frames (device_settings device).layout pool handed n) old.given (keeping (record_rate_at device old) n old))
+      ++ recorded_bytes device old.opening.settings (frames_of_book device pool old before ++ captured_frames (device_settings device).layout pool handed n) old.given (keeping (record_rate_at device old) n old))
   pub frames : frames_of_book device pool new now ≡ take new.captured (frames_of_book device pool old before ++ captured_frames (device_settings device).layout pool handed n)
 
 -- a channel that hadn't started hears nothing
-hears-nothing : (device : DeviceSeen) (pool : Pool) (handed n : ℕ) (book : RecordBook) (recording : Recording) → IsUnstarted book → Hears device pool handed n book book recording recording
+hears-nothing : (device : DeviceSeen) (pool : Pool) (handed n : ℕ) (book : RecordBook) (recording : Recording) → IsRecordUnstarted book → Hears device pool handed n book book recording recording
 hears-nothing device pool handed n book recording none = record { bytes = rw (none.kept_none) refl; frames = rw (none.captured_none) refl }
 
-hears-running : (device : DeviceSeen) (pool : Pool) (handed n : ℕ) (book : RecordBook) (recording : Recording) → IsDevice device → IsRate book.settings.rate → RecordIsSafe (record_rate_at device book) book → IsRecorded device pool handed book recording
+hears-running : (device : DeviceSeen) (pool : Pool) (handed n : ℕ) (book : RecordBook) (recording : Recording) → IsDevice device → IsRate book.opening.settings.rate → RecordIsSafe (record_rate_at device book) book → IsRecorded device pool handed book recording
     → Hears device pool handed n book (captures (record_rate_at device book) n book) recording (recordings.keeps device pool n book recording)
 hears-running device pool handed n book recording d s safe r =
     let rate : Rate = record_rate_at device book in
-    let ratio = record-ratio-between device book.settings d s in
+    let ratio = record-ratio-between device book.opening.settings d s in
     let layout : Layout = (device_settings device).layout in
     let new : RecordBook = captures rate n book in
     let count : ℕ = keeping rate n book in
@@ -157,9 +158,9 @@ hears-running device pool handed n book recording d s safe r =
     let within : book.given + count ≤ can rate (book.captured + n) = omega (arith, safe.given, grows) in
     let all : captured_frames layout pool recording.start book.captured ++ captured_frames layout pool handed n ≡ captured_frames layout pool recording.start (book.captured + n) =
     sym (captured-add device pool recording.start book.captured n ∙ ap (λ at. captured_frames layout pool recording.start book.captured ++ captured_frames layout pool at n) r.place) in
-    let more : List ℕ = recorded_bytes device book.settings x book.given count in
-    let heard : recorded_bytes device book.settings (captured_frames layout pool recording.start book.captured ++ captured_frames layout pool handed n) book.given count ≡ more =
-    ap (λ (frames : List Frame). recorded_bytes device book.settings frames book.given count) all ∙ recorded-captured device pool book.settings recording.start (book.captured + n) book.given count d s within in
+    let more : List ℕ = recorded_bytes device book.opening.settings x book.given count in
+    let heard : recorded_bytes device book.opening.settings (captured_frames layout pool recording.start book.captured ++ captured_frames layout pool handed n) book.given count ≡ more =
+    ap (λ (frames : List Frame). recorded_bytes device book.opening.settings frames book.given count) all ∙ recorded-captured device pool book.opening.settings recording.start (book.captured + n) book.given count d s within in
     record {
       bytes = ap (λ front. take new.kept (front ++ more)) (sym (take_all book.kept recording.kept (omega (arith, r.kept))))
           ∙ ap (λ back. take new.kept (bytes_in book recording ++ back)) (sym heard);

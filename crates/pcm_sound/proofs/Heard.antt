@@ -9,13 +9,13 @@ use Rattle.pcm_format.specs.declared.settings.Settings.{Settings}
 use Rattle.pcm_format.specs.Frames.{Frame}
 use Rattle.pcm_rate.specs.Rates.{len}
 use Rattle.pcm_feeder.specs.declared.stage.Gain.{Gain}
-use Rattle.pcm_desk.specs.declared.book.Book.{Book}
-use Rattle.pcm_desk.specs.Device.{DeviceSeen, IsDevice, plan_between, rate_between}
-use Rattle.pcm_desk.specs.Books.{is_started}
-use Rattle.pcm_desk.specs.Safe.{BookIsSafe}
-use Rattle.pcm_desk.specs.Desk.{rate_at}
+use Rattle.pcm_desk.specs.declared.play_book.PlayBook.{PlayBook}
+use Rattle.pcm_desk.specs.Device.{DeviceSeen, IsDevice, play_plan_between, play_rate_between}
+use Rattle.pcm_desk.specs.PlayBooks.{is_started}
+use Rattle.pcm_desk.specs.PlaySafe.{PlayIsSafe}
+use Rattle.pcm_desk.specs.Desk.{play_rate_at}
 use Rattle.pcm_desk.proofs.Ratios.{ratio-between}
-use Rattle.pcm_sound.specs.Plans.{given_frame}
+use Rattle.pcm_sound.specs.Given.{given_frame}
 use Rattle.pcm_sound.specs.Runs.{Piece, Run, covers, first_of, piece_frame, run_frames, sounding}
 use Rattle.pcm_sound.specs.Plain.{IsInPlace, IsUnbroken, Span, drop_end, is_within, place_of, run_end, span_at, span_frame, span_of, spans_of}
 use Rattle.pcm_sound.specs.Places.{FollowFrom, IsCounted, IsOver, IsOverFrom, SlotIsPlaced}
@@ -113,7 +113,7 @@ going_end false None start lasts mixed d h = omega arith
 going_end drained (Some position) start lasts mixed d h = cc
 
 -- a run that its book counts
-counted_heard : (b : Bool) (device : DeviceSeen) (mixed : ℕ) (book : Book) (run : Run) (runs : List Run) → is_started book.state ≡ b → IsDevice device → BookIsSafe (rate_at device book) book → SlotIsValid device mixed book (run ∷ runs)
+counted_heard : (b : Bool) (device : DeviceSeen) (mixed : ℕ) (book : PlayBook) (run : Run) (runs : List Run) → is_started book.state ≡ b → IsDevice device → PlayIsSafe (play_rate_at device book) book → SlotIsValid device mixed book (run ∷ runs)
     → IsNewest book (run ∷ runs) → IsCounted mixed book run → RunIsHeard device mixed run
 counted_heard false device mixed book run runs e d safe v newest c = λ unbroken.
     let w = c.waits e in
@@ -122,7 +122,7 @@ counted_heard true device mixed book run runs e d safe v newest c = λ unbroken.
     let g = c.goes e in
     let f = g.follow unbroken in
     let sum = f.1 in
-    let most = given-lasts (rate_at device book) book (ratio-between device book.settings d v.settings) e safe in
+    let most = given-lasts (play_rate_at device book) book (ratio-between device book.opening.settings d v.settings) e safe in
     let lasts = lasts-newest device book run runs newest in
     subst (λ (start : Option ℕ). HeardFrom device mixed run start) (sym g.started) (record {
       count = book.given;
@@ -132,7 +132,7 @@ counted_heard true device mixed book run runs e d safe v newest c = λ unbroken.
     })
 
 -- the newest run, which its book counts or which is over
-newest_heard : (b : Bool) (device : DeviceSeen) (mixed : ℕ) (book : Book) (run : Run) (runs : List Run) → nat_lt 0 book.written ≡ b → IsDevice device → BookIsSafe (rate_at device book) book → SlotIsValid device mixed book (run ∷ runs)
+newest_heard : (b : Bool) (device : DeviceSeen) (mixed : ℕ) (book : PlayBook) (run : Run) (runs : List Run) → nat_lt 0 book.written ≡ b → IsDevice device → PlayIsSafe (play_rate_at device book) book → SlotIsValid device mixed book (run ∷ runs)
     → SlotIsPlaced device mixed book (run ∷ runs) → RunIsHeard device mixed run
 newest_heard true device mixed book run runs e d safe v p =
     let above : 0 < book.written = grind (arith, nat_tests) in
@@ -140,7 +140,7 @@ newest_heard true device mixed book run runs e d safe v p =
 newest_heard false device mixed book run runs e d safe v p = let none : book.written ≡ 0 = grind (arith, nat_tests) in over_heard device mixed run (p.1 none)
 
 -- each run of a slot is heard so, unless a piece is short
-pub runs-heard : (device : DeviceSeen) (mixed : ℕ) (book : Book) (runs : List Run) → IsDevice device → BookIsSafe (rate_at device book) book → SlotIsValid device mixed book runs → SlotIsPlaced device mixed book runs
+pub runs-heard : (device : DeviceSeen) (mixed : ℕ) (book : PlayBook) (runs : List Run) → IsDevice device → PlayIsSafe (play_rate_at device book) book → SlotIsValid device mixed book runs → SlotIsPlaced device mixed book runs
     → All (RunIsHeard device mixed) runs
 runs-heard device mixed book [] d safe v p = All-nil (RunIsHeard device mixed)
 runs-heard device mixed book (run ∷ runs) d safe v p =
@@ -151,7 +151,7 @@ runs-heard device mixed book (run ∷ runs) d safe v p =
 
 -- a run that started, as it is heard until a position
 abbrev span_from : DeviceSeen → ℕ → Run → ℕ → Span
-span_from device until run start = record { plan = plan_between device run.settings; stream = run_frames run; start = start; end = run_end device until start run }
+span_from device until run start = record { plan = play_plan_between device run.settings; stream = run_frames run; start = start; end = run_end device until start run }
 
 -- it is heard at a position
 abbrev is_heard : DeviceSeen → ℕ → Run → ℕ → ℕ → Bool
@@ -266,7 +266,7 @@ earlier_end false (Some position) lasted p until mixed h g = same_test _ _ (λ e
 -- a span that is heard until a position is heard before it, whatever comes later
 earlier_heard : (device : DeviceSeen) (until mixed p start : ℕ) (run : Run) → p < until → until ≤ mixed → is_heard device mixed run start p ≡ is_heard device until run start p
 earlier_heard device until mixed p start run h g =
-    let end = earlier_end run.drained run.dropped (start + len (rate_between device run.settings) (length (run_frames run))) p until mixed h g in
+    let end = earlier_end run.drained run.dropped (start + len (play_rate_between device run.settings) (length (run_frames run))) p until mixed h g in
     ap (λ (b : Bool). nat_lt start mixed && (nat_le start p && b)) end
     ∙ same_test (nat_lt start mixed && is_within p (span_from device until run start)) (is_heard device until run start p) (λ e. grind (arith, nat_tests)) (λ e. grind (arith, nat_tests))
 

@@ -6,13 +6,13 @@ use Rattle.std.proofs.lemmas.Bool.{eqb-true}
 use Rattle.std.proofs.lemmas.Bool.Decides.{nat_tests}
 use Rattle.pcm_oss.specs.declared.event.Event.TheVariants.{Intr}
 use Rattle.pcm_rate.specs.Rates.{len}
-use Rattle.pcm_desk.specs.declared.book.Book.{Book}
-use Rattle.pcm_desk.specs.declared.book.State.{State}
-use Rattle.pcm_desk.specs.declared.book.State.TheVariants.{Free, Setup, Primed, Running, Draining}
+use Rattle.pcm_desk.specs.declared.play_book.PlayBook.{PlayBook}
+use Rattle.pcm_desk.specs.declared.play_book.PlayState.{PlayState}
+use Rattle.pcm_desk.specs.declared.play_book.PlayState.TheVariants.{Free, Setup, Primed, Running, Draining}
 use Rattle.pcm_desk.specs.Device.{DeviceSeen, IsDevice}
-use Rattle.pcm_desk.specs.Books.{finished, frames_written, gives, giving, is_draining, is_started, refilled}
-use Rattle.pcm_desk.specs.Safe.{BookIsSafe}
-use Rattle.pcm_desk.specs.Desk.{mixing, rate_at}
+use Rattle.pcm_desk.specs.PlayBooks.{finished, frames_written, gives, giving, is_draining, is_started, refilled}
+use Rattle.pcm_desk.specs.PlaySafe.{PlayIsSafe}
+use Rattle.pcm_desk.specs.Desk.{mixing, play_rate_at}
 use Rattle.pcm_sound.specs.Runs.{Piece, Run, piece_of, playing, marked, marking}
 use Rattle.pcm_sound.specs.Plain.{IsUnbroken}
 use Rattle.pcm_sound.specs.Places.{IsOver, IsOverFrom, IsGoing, IsCounted, SlotIsPlaced}
@@ -22,36 +22,36 @@ use Rattle.pcm_sound.proofs.Slots.{untold-same}
 use Rattle.pcm_sound.proofs.Places.{drained_now, idle-later, idle_undrained, lasted_end, lasting, lasts-newest, over-all, placed-left, told_run}
 
 -- an interrupt takes nothing of a slot that hasn't started, nor of any where nothing is mixed
-played_idle : (device : DeviceSeen) (position n : ℕ) (book : Book) (runs : List Run) → is_started book.state && nat_lt 0 n ≡ false → playing device position n book runs ≡ runs
+played_idle : (device : DeviceSeen) (position n : ℕ) (book : PlayBook) (runs : List Run) → is_started book.state && nat_lt 0 n ≡ false → playing device position n book runs ≡ runs
 played_idle device position n book [] e = refl
 played_idle device position n book (run ∷ runs) e = ap (λ (b : Bool). cond b (record run { pieces = piece_of device position n book ∷ run.pieces } ∷ runs) (run ∷ runs)) e
 
 -- else a piece of the newest run
-abbrev played_run : DeviceSeen → ℕ → ℕ → Book → Run → Run
+abbrev played_run : DeviceSeen → ℕ → ℕ → PlayBook → Run → Run
 played_run device position n book run = record run { pieces = piece_of device position n book ∷ run.pieces }
 
-played_started : (device : DeviceSeen) (position n : ℕ) (book : Book) (run : Run) (runs : List Run) → is_started book.state && nat_lt 0 n ≡ true → playing device position n book (run ∷ runs) ≡ played_run device position n book run ∷ runs
+played_started : (device : DeviceSeen) (position n : ℕ) (book : PlayBook) (run : Run) (runs : List Run) → is_started book.state && nat_lt 0 n ≡ true → playing device position n book (run ∷ runs) ≡ played_run device position n book run ∷ runs
 played_started device position n book run runs e = ap (λ (b : Bool). cond b (played_run device position n book run ∷ runs) (run ∷ runs)) e
 
 -- where the pieces of a slot stand after an interrupt
-abbrev IsPlacedAt : DeviceSeen → ℕ → ℕ → Book → Book → List Run → Type 0
+abbrev IsPlacedAt : DeviceSeen → ℕ → ℕ → PlayBook → PlayBook → List Run → Type 0
 IsPlacedAt device mixed n old new runs = SlotIsPlaced device (mixed + n) new (marking mixed (Intr n) old new runs)
 
 -- where the book and its runs stay
-placed_same : (device : DeviceSeen) (mixed n : ℕ) (book : Book) (runs : List Run) → IsDevice device → BookIsSafe (rate_at device book) book → SlotIsValid device mixed book runs → SlotIsPlaced device mixed book runs
+placed_same : (device : DeviceSeen) (mixed n : ℕ) (book : PlayBook) (runs : List Run) → IsDevice device → PlayIsSafe (play_rate_at device book) book → SlotIsValid device mixed book runs → SlotIsPlaced device mixed book runs
     → SlotIsPlaced device mixed book (marking mixed (Intr n) book book runs)
-placed_same device mixed n book runs d safe v p = placed-left device mixed (Intr n) book book runs d safe v (given-same (rate_at device book) false book) (untold-same device mixed book runs v) p
+placed_same device mixed n book runs d safe v p = placed-left device mixed (Intr n) book book runs d safe v (given-same (play_rate_at device book) false book) (untold-same device mixed book runs v) p
 
 -- a slot that hasn't started
-placed_idle : (device : DeviceSeen) (mixed n : ℕ) (book : Book) (runs : List Run) → IsDevice device → is_started book.state ≡ false → BookIsSafe (rate_at device book) book → SlotIsValid device mixed book runs
+placed_idle : (device : DeviceSeen) (mixed n : ℕ) (book : PlayBook) (runs : List Run) → IsDevice device → is_started book.state ≡ false → PlayIsSafe (play_rate_at device book) book → SlotIsValid device mixed book runs
     → SlotIsPlaced device mixed book runs → IsPlacedAt device mixed n book book (playing device mixed n book runs)
 placed_idle device mixed n book runs d idle safe v p =
     subst (IsPlacedAt device mixed n book book) (sym (played_idle device mixed n book runs (ap (λ (b : Bool). b && nat_lt 0 n) idle)))
     (idle-later device mixed (mixed + n) book (marking mixed (Intr n) book book runs) (omega arith) idle (placed_same device mixed n book runs d safe v p))
 
 -- the pieces of a run that goes on, once an interrupt of n frames got all of them
-going_on : (device : DeviceSeen) (mixed n : ℕ) (old new : Book) (run : Run) → new.given ≡ old.given + giving (rate_at device old) n old
-    → (IsUnbroken (played_run device mixed n old run) → giving (rate_at device old) n old ≡ n) → IsGoing mixed old run → IsGoing (mixed + n) new (played_run device mixed n old run)
+going_on : (device : DeviceSeen) (mixed n : ℕ) (old new : PlayBook) (run : Run) → new.given ≡ old.given + giving (play_rate_at device old) n old
+    → (IsUnbroken (played_run device mixed n old run) → giving (play_rate_at device old) n old ≡ n) → IsGoing mixed old run → IsGoing (mixed + n) new (played_run device mixed n old run)
 going_on device mixed n old new run given all g = record {
   start = g.start;
   started = g.started;
@@ -63,8 +63,8 @@ going_on device mixed n old new run given all g = record {
 }
 
 -- a slot whose run goes on
-placed_going : (device : DeviceSeen) (mixed n : ℕ) (old new : Book) (run : Run) (runs : List Run) → 0 < n → is_started old.state ≡ true → is_started new.state ≡ true → 0 < new.written
-    → new.given ≡ old.given + giving (rate_at device old) n old → (IsUnbroken (played_run device mixed n old run) → giving (rate_at device old) n old ≡ n)
+placed_going : (device : DeviceSeen) (mixed n : ℕ) (old new : PlayBook) (run : Run) (runs : List Run) → 0 < n → is_started old.state ≡ true → is_started new.state ≡ true → 0 < new.written
+    → new.given ≡ old.given + giving (play_rate_at device old) n old → (IsUnbroken (played_run device mixed n old run) → giving (play_rate_at device old) n old ≡ n)
     → All (IsOver device mixed) runs → IsCounted mixed old run → IsPlacedAt device mixed n old new (played_run device mixed n old run ∷ runs)
 placed_going device mixed n old new run runs some before after written given all over c = (
   over-all device mixed (mixed + n) runs (omega arith) over,
@@ -85,21 +85,21 @@ placed_going device mixed n old new run runs some before after written given all
     }
 
 -- a running slot: an interrupt that gets fewer frames leaves a piece that is short
-placed_running : (device : DeviceSeen) (mixed n : ℕ) (book : Book) (runs : List Run) → 0 < n → SlotIsValid device mixed (record book { state = Running }) runs → SlotIsPlaced device mixed (record book { state = Running }) runs
-    → IsPlacedAt device mixed n (record book { state = Running }) (refilled (rate_at device book) n (record book { state = Running })) (playing device mixed n (record book { state = Running }) runs)
+placed_running : (device : DeviceSeen) (mixed n : ℕ) (book : PlayBook) (runs : List Run) → 0 < n → SlotIsValid device mixed (record book { state = Running }) runs → SlotIsPlaced device mixed (record book { state = Running }) runs
+    → IsPlacedAt device mixed n (record book { state = Running }) (refilled (play_rate_at device book) n (record book { state = Running })) (playing device mixed n (record book { state = Running }) runs)
 placed_running device mixed n book [] some v p = tt
 placed_running device mixed n book (run ∷ runs) some v p =
-    let old : Book = record book { state = Running } in
-    let new : Book = refilled (rate_at device book) n old in
+    let old : PlayBook = record book { state = Running } in
+    let new : PlayBook = refilled (play_rate_at device book) n old in
     let above = v.started refl in
     subst (IsPlacedAt device mixed n old new) (sym (played_started device mixed n old run runs (grind (arith, nat_tests))))
     (placed_going device mixed n old new run runs some refl refl above refl
-    (λ unbroken. let short : n - giving (rate_at device book) n old ≡ 0 = All-head (λ (piece : Piece). piece.short ≡ 0) (piece_of device mixed n old) run.pieces unbroken in omega arith)
+    (λ unbroken. let short : n - giving (play_rate_at device book) n old ≡ 0 = All-head (λ (piece : Piece). piece.short ≡ 0) (piece_of device mixed n old) run.pieces unbroken in omega arith)
     p.0 (p.2 above))
 
 -- a draining slot whose run is over now: it lasted as long as its pieces
-settled_over : (device : DeviceSeen) (mixed n : ℕ) (old new : Book) (run : Run) (runs : List Run) → is_started old.state ≡ true → is_started new.state ≡ false → is_draining new.state ≡ false → IsNewest old (run ∷ runs)
-    → old.given + giving (rate_at device old) n old ≡ len (rate_at device old) (frames_written old) → IsCounted mixed old run
+settled_over : (device : DeviceSeen) (mixed n : ℕ) (old new : PlayBook) (run : Run) (runs : List Run) → is_started old.state ≡ true → is_started new.state ≡ false → is_draining new.state ≡ false → IsNewest old (run ∷ runs)
+    → old.given + giving (play_rate_at device old) n old ≡ len (play_rate_at device old) (frames_written old) → IsCounted mixed old run
     → IsOver device (mixed + n) (marked mixed (Intr n) old new (played_run device mixed n old run))
 settled_over device mixed n old new run runs before after undrains newest all c = over (is_started old.state) (is_started new.state) (is_draining new.state) before after undrains
   where
@@ -116,49 +116,49 @@ settled_over device mixed n old new run runs before after undrains newest all c 
         let f = g.follow (All-tail (λ (piece : Piece). piece.short ≡ 0) (piece_of device mixed n old) run.pieces unbroken) in
         let sum = f.1 in
         record {
-          count = old.given + giving (rate_at device old) n old;
+          count = old.given + giving (play_rate_at device old) n old;
           follow = (omega arith, refl, f.0);
           past = omega arith;
           end = λ until l. lasted_end now.drained run.dropped g.start (lasting device run) until (drained_now run.drained draining) c.dropped (omega arith) ∙ ap (λ lasted. g.start + lasted) (lasts ∙ sym all);
         })
 
 -- a draining slot, which gets all frames or those that are left
-placed_settled : (b closed : Bool) (device : DeviceSeen) (mixed n : ℕ) (book : Book) (run : Run) (runs : List Run) → 0 < n
-    → let old : Book = record book { state = Draining closed } in
-    let given : Book = gives (rate_at device book) n old in
-    eqb given.given (len (rate_at device book) (frames_written given)) ≡ b
-    → BookIsSafe (rate_at device book) old → SlotIsValid device mixed old (run ∷ runs) → SlotIsPlaced device mixed old (run ∷ runs)
+placed_settled : (b closed : Bool) (device : DeviceSeen) (mixed n : ℕ) (book : PlayBook) (run : Run) (runs : List Run) → 0 < n
+    → let old : PlayBook = record book { state = Draining closed } in
+    let given : PlayBook = gives (play_rate_at device book) n old in
+    eqb given.given (len (play_rate_at device book) (frames_written given)) ≡ b
+    → PlayIsSafe (play_rate_at device book) old → SlotIsValid device mixed old (run ∷ runs) → SlotIsPlaced device mixed old (run ∷ runs)
     → IsPlacedAt device mixed n old (cond b (finished (cond closed Free Setup) given) given) (played_run device mixed n old run ∷ runs)
 placed_settled true closed device mixed n book run runs some e safe v p =
-    let old : Book = record book { state = Draining closed } in
-    let given : Book = gives (rate_at device book) n old in
+    let old : PlayBook = record book { state = Draining closed } in
+    let given : PlayBook = gives (play_rate_at device book) n old in
     let above = v.started refl in
     let stopped : is_started (cond closed Free Setup) ≡ false = elim closed as (λ (b : Bool). is_started (cond b Free Setup) ≡ false) [ true ↦ refl | false ↦ refl ] in (
       over-all device mixed (mixed + n) runs (omega arith) p.0,
       λ none. settled_over device mixed n old (finished (cond closed Free Setup) given) run runs refl stopped (idle_undrained (cond closed Free Setup) stopped) (v.newest above)
-          (eqb-true given.given (len (rate_at device book) (frames_written given)) e) (p.2 above),
+          (eqb-true given.given (len (play_rate_at device book) (frames_written given)) e) (p.2 above),
       λ more. absurd (omega arith),
     )
 placed_settled false closed device mixed n book run runs some e safe v p =
-    let old : Book = record book { state = Draining closed } in
-    let given : Book = gives (rate_at device book) n old in
+    let old : PlayBook = record book { state = Draining closed } in
+    let given : PlayBook = gives (play_rate_at device book) n old in
     let above = v.started refl in
     let left = safe.order.left in
     placed_going device mixed n old given run runs some refl refl above refl (λ unbroken. grind (arith, nat_tests)) p.0 (p.2 above)
 
-placed_draining : (closed : Bool) (device : DeviceSeen) (mixed n : ℕ) (book : Book) (runs : List Run) → 0 < n → BookIsSafe (rate_at device book) (record book { state = Draining closed })
+placed_draining : (closed : Bool) (device : DeviceSeen) (mixed n : ℕ) (book : PlayBook) (runs : List Run) → 0 < n → PlayIsSafe (play_rate_at device book) (record book { state = Draining closed })
     → SlotIsValid device mixed (record book { state = Draining closed }) runs → SlotIsPlaced device mixed (record book { state = Draining closed }) runs
-    → IsPlacedAt device mixed n (record book { state = Draining closed }) (refilled (rate_at device book) n (record book { state = Draining closed })) (playing device mixed n (record book { state = Draining closed }) runs)
+    → IsPlacedAt device mixed n (record book { state = Draining closed }) (refilled (play_rate_at device book) n (record book { state = Draining closed })) (playing device mixed n (record book { state = Draining closed }) runs)
 placed_draining closed device mixed n book [] some safe v p = tt
 placed_draining closed device mixed n book (run ∷ runs) some safe v p =
-    let old : Book = record book { state = Draining closed } in
-    let given : Book = gives (rate_at device book) n old in
-    subst (IsPlacedAt device mixed n old (refilled (rate_at device book) n old)) (sym (played_started device mixed n old run runs (grind (arith, nat_tests))))
-    (placed_settled (eqb given.given (len (rate_at device book) (frames_written given))) closed device mixed n book run runs some refl safe v p)
+    let old : PlayBook = record book { state = Draining closed } in
+    let given : PlayBook = gives (play_rate_at device book) n old in
+    subst (IsPlacedAt device mixed n old (refilled (play_rate_at device book) n old)) (sym (played_started device mixed n old run runs (grind (arith, nat_tests))))
+    (placed_settled (eqb given.given (len (play_rate_at device book) (frames_written given))) closed device mixed n book run runs some refl safe v p)
 
-placed_refilled_at : (state : State) (device : DeviceSeen) (mixed n : ℕ) (book : Book) (runs : List Run) → 0 < n → IsDevice device → BookIsSafe (rate_at device book) (record book { state = state })
+placed_refilled_at : (state : PlayState) (device : DeviceSeen) (mixed n : ℕ) (book : PlayBook) (runs : List Run) → 0 < n → IsDevice device → PlayIsSafe (play_rate_at device book) (record book { state = state })
     → SlotIsValid device mixed (record book { state = state }) runs → SlotIsPlaced device mixed (record book { state = state }) runs
-    → IsPlacedAt device mixed n (record book { state = state }) (refilled (rate_at device book) n (record book { state = state })) (playing device mixed n (record book { state = state }) runs)
+    → IsPlacedAt device mixed n (record book { state = state }) (refilled (play_rate_at device book) n (record book { state = state })) (playing device mixed n (record book { state = state }) runs)
 placed_refilled_at Free device mixed n book runs some d safe v p = placed_idle device mixed n (record book { state = Free }) runs d refl safe v p
 placed_refilled_at Setup device mixed n book runs some d safe v p = placed_idle device mixed n (record book { state = Setup }) runs d refl safe v p
 placed_refilled_at Primed device mixed n book runs some d safe v p = placed_idle device mixed n (record book { state = Primed }) runs d refl safe v p
@@ -170,7 +170,7 @@ no_frames true = refl
 no_frames false = refl
 
 -- the pieces of a slot stay in their places through an interrupt
-pub placed-mixing : (device : DeviceSeen) (mixed n : ℕ) (book : Book) (runs : List Run) → IsDevice device → BookIsSafe (rate_at device book) book → SlotIsValid device mixed book runs → SlotIsPlaced device mixed book runs
+pub placed-mixing : (device : DeviceSeen) (mixed n : ℕ) (book : PlayBook) (runs : List Run) → IsDevice device → PlayIsSafe (play_rate_at device book) book → SlotIsValid device mixed book runs → SlotIsPlaced device mixed book runs
     → SlotIsPlaced device (mixed + n) (mixing device n book) (marking mixed (Intr n) book (mixing device n book) (playing device mixed n book runs))
 placed-mixing device mixed zero book runs d safe v p =
     subst (IsPlacedAt device mixed 0 book book) (sym (played_idle device mixed 0 book runs (no_frames (is_started book.state))))

@@ -7,25 +7,26 @@ use Rattle.pcm_format.specs.declared.settings.Settings.{Settings}
 use Rattle.pcm_oss.specs.declared.event.Event.{Event}
 use Rattle.pcm_oss.specs.declared.event.Event.TheVariants.{Open, Write, Read, Ioctl, Close, Intr}
 use Rattle.pcm_oss.specs.declared.event.Way.{Way}
-use Rattle.pcm_oss.specs.declared.event.Way.TheVariants.{Play, Rec}
+use Rattle.pcm_oss.specs.declared.event.Way.TheVariants.{Play, Record}
 use Rattle.pcm_oss.specs.declared.reply.Answer.TheVariants.{Got}
 use Rattle.pcm_oss.specs.declared.reply.Errno.TheVariants.{Again}
 use Rattle.pcm_oss.specs.Replies.{Reply}
 use Rattle.pcm_wave.specs.declared.pool.Pool.{Pool}
 use Rattle.pcm_wave.specs.Pools.{capture_frames}
-use Rattle.pcm_desk.specs.declared.book.Book.{Book}
+use Rattle.pcm_desk.specs.declared.turn.Turn.{Turn}
+use Rattle.pcm_desk.specs.declared.play_book.PlayBook.{PlayBook}
 use Rattle.pcm_desk.specs.declared.device.Held.{Held}
 use Rattle.pcm_desk.specs.declared.record_book.RecordBook.{RecordBook}
 use Rattle.pcm_desk.specs.declared.record_book.RecordState.{RecordState}
 use Rattle.pcm_desk.specs.declared.record_book.RecordState.TheVariants.{Free, Setup, Running}
 use Rattle.pcm_desk.specs.Device.{DeviceSeen, record_rate_between}
 use Rattle.pcm_desk.specs.RecordBooks as records
-use Rattle.pcm_desk.specs.RecordBooks.{captured, fill_of, is_running, read_turn}
-use Rattle.pcm_desk.specs.RecordRequests as record_requests
+use Rattle.pcm_desk.specs.RecordBooks.{captured, is_running, read_turn, record_fill_of}
+use Rattle.pcm_desk.specs.RecordRequests.{record_ask}
 use Rattle.pcm_desk.specs.RecordSafe.{RecordIsSafe}
 use Rattle.pcm_desk.specs.Desk.{by_way, capturing, held_by, record_rate_at}
 use Rattle.pcm_desk.specs.Events.{frames_taken}
-use Rattle.pcm_desk.specs.Own.{Channel, ChannelTurn, HoldApart, Playing, Recording, channel_at, own_turn}
+use Rattle.pcm_desk.specs.Own.{Channel, HoldApart, Playing, Recording, channel_at, own_turn}
 use Rattle.pcm_desk.specs.OwnEvents.{Opens, channel_begun, closes, concerns, own_events, unnamed}
 use Rattle.pcm_desk.proofs.Apart.{apart-after}
 use Rattle.pcm_desk.proofs.OwnEvents.{IsMine, begun-own, mine-turns, other-stays}
@@ -35,7 +36,7 @@ use Rattle.pcm_desk.proofs.Turning.{handed-taken}
 use Rattle.pcm_sound.specs.OwnReplies.{client_replies}
 use Rattle.pcm_sound.specs.Recordings as recordings
 use Rattle.pcm_sound.specs.Recordings.{going_on, read_bytes, recording_from, starts_recording}
-use Rattle.pcm_sound.specs.Replies.{bytes_got, bytes_to, reply_to}
+use Rattle.pcm_sound.specs.StoryReplies.{bytes_got, bytes_to, reply_to}
 use Rattle.pcm_sound.specs.Story.{Story, told}
 use Rattle.pcm_sound.proofs.Pools.{going-alike}
 use Rattle.pcm_sound.proofs.Recorded.{idle-unstarted}
@@ -67,7 +68,7 @@ abbrev own_told : DeviceSeen → Pool → Channel → recordings.Recording → �
 own_told device pool channel recording handed [] = []
 own_told device pool channel recording handed (event ∷ events) =
     record { result = (own_turn device event channel).reply; bytes = own_bytes event channel recording }
-    ∷ own_told device pool (own_turn device event channel).channel (next_recording device pool handed event channel (own_turn device event channel).channel recording) (handed + frames_taken event) events
+    ∷ own_told device pool (own_turn device event channel).book (next_recording device pool handed event channel (own_turn device event channel).book recording) (handed + frames_taken event) events
 
 -- the recording of what a descriptor holds
 abbrev own_recording : Story → Held → recordings.Recording
@@ -80,7 +81,7 @@ next_told : (device : DeviceSeen) (pool : Pool) (story : Story) (event : Event) 
     → let held : Held = record { way = way; slot = slot } in let new : Story = told device pool story event in
     own_recording new held ≡ next_recording device pool story.desk.handed event (channel_at device story.desk held) (channel_at device new.desk held) (own_recording story held)
 next_told device pool story event Play slot = refl
-next_told device pool story event Rec slot = refl
+next_told device pool story event Record slot = refl
 
 -- an event of another descriptor leaves it
 unread : (book : RecordBook) (recording : recordings.Recording) → recordings.handing book book recording ≡ recording
@@ -117,7 +118,7 @@ takes_none (Intr frames) fd n = cc
 read_own : (device : DeviceSeen) (story : Story) (count : ℕ) (way : Way) (slot : ℕ)
     → let held : Held = record { way = way; slot = slot } in bytes_got device story count (Some held) ≡ read_of count (channel_at device story.desk held) (own_recording story held)
 read_own device story count Play slot = refl
-read_own device story count Rec slot = refl
+read_own device story count Record slot = refl
 
 -- the bytes of a reply to an event of its own, or to an interrupt
 bytes_own : (device : DeviceSeen) (pool : Pool) (story : Story) (event : Event) (fd : ℕ) (held : Held) → concerns fd event ≡ true → held_by story.desk fd ≡ Some held
@@ -175,7 +176,7 @@ told_step device pool story event events fd held true closing o c h m rest =
 
     -- from the story's own channel to the channel by itself
     goes_on : (more : List Event) → told_by device pool new held more
-        ≡ own_told device pool (own_turn device event channel).channel (next_recording device pool story.desk.handed event channel (own_turn device event channel).channel recording) (story.desk.handed + frames_taken event) more
+        ≡ own_told device pool (own_turn device event channel).book (next_recording device pool story.desk.handed event channel (own_turn device event channel).book recording) (story.desk.handed + frames_taken event) more
     goes_on more =
         ap (λ (r : recordings.Recording). own_told device pool (channel_at device new.desk held) r new.desk.handed more) (next_told device pool story event held.way held.slot)
         ∙ ap (λ (n : ℕ). own_told device pool (channel_at device new.desk held) (next_recording device pool story.desk.handed event channel (channel_at device new.desk held) recording) n more) (handed-taken device story.desk event)
@@ -220,20 +221,20 @@ abbrev runs : Channel → Bool
 runs (Playing book) = false
 runs (Recording book) = is_running book.state
 
-captured_settings : (state : RecordState) (device : DeviceSeen) (n : ℕ) (book : RecordBook) → (records.captured_in (record_rate_at device book) state n book).settings ≡ book.settings
+captured_settings : (state : RecordState) (device : DeviceSeen) (n : ℕ) (book : RecordBook) → (records.captured_in (record_rate_at device book) state n book).opening.settings ≡ book.opening.settings
 captured_settings Free device n book = refl
 captured_settings Setup device n book = refl
 captured_settings Running device n book = refl
 
-read_in : (b : Bool) (count : ℕ) (book : RecordBook) → (cond {A = records.RecordTurn} b (record { book = book; reply = Err Again }) (record { book = record book { read = book.read + min count (fill_of book) }; reply = Ok (Got (min count (fill_of book))) })).book.settings ≡ book.settings
+read_in : (b : Bool) (count : ℕ) (book : RecordBook) → (cond {A = Turn RecordBook} b (record { book = book; reply = Err Again }) (record { book = record book { read = book.read + min count (record_fill_of book) }; reply = Ok (Got (min count (record_fill_of book))) })).book.opening.settings ≡ book.opening.settings
 read_in true count book = refl
 read_in false count book = refl
 
-read_settings : (count : ℕ) (book : RecordBook) → (read_turn count book).book.settings ≡ book.settings
-read_settings count book = read_in (nat_lt 0 count && eqb (fill_of book) 0) count book
+read_settings : (count : ℕ) (book : RecordBook) → (read_turn count book).book.opening.settings ≡ book.opening.settings
+read_settings count book = read_in (nat_lt 0 count && eqb (record_fill_of book) 0) count book
 
 -- it stays in order
-safe_own : (device : DeviceSeen) (event : Event) (channel : Channel) → IsSafe device channel → IsSafe device (own_turn device event channel).channel
+safe_own : (device : DeviceSeen) (event : Event) (channel : Channel) → IsSafe device channel → IsSafe device (own_turn device event channel).book
 safe_own device (Open fd way settings) channel s = s
 safe_own device (Write fd source at count) (Playing book) s = tt
 safe_own device (Write fd source at count) (Recording book) s = s
@@ -242,7 +243,7 @@ safe_own device (Read fd count) (Recording book) s =
     subst (λ (settings : Settings). RecordIsSafe (record_rate_between device settings) (read_turn count book).book) (sym (read_settings count book)) (record-safe-read (record_rate_at device book) count book s)
 safe_own device (Ioctl fd request) (Playing book) s = tt
 safe_own device (Ioctl fd request) (Recording book) s =
-    let new : RecordBook = (record_requests.ask_turn request book).book in
+    let new : RecordBook = (record_ask request book).book in
     record-safe-ask (record_rate_at device book) (record_rate_at device new) request book (λ e. ap (λ (settings : Settings). record_rate_between device settings) (record-ask-settings request book e)) s
 safe_own device (Close fd) (Playing book) s = tt
 safe_own device (Close fd) (Recording book) s = record-safe-closed (record_rate_at device book) book s
@@ -259,7 +260,7 @@ read_alike device count (Recording book) one other s same = at (is_running book.
     at true e = ap (read_bytes count book) (same e)
     at false e =
         let none = idle-unstarted book.state book e s.order in
-        let empty : min count (fill_of book) ≡ 0 = omega (arith, none.kept_none) in
+        let empty : min count (record_fill_of book) ≡ 0 = omega (arith, none.kept_none) in
         rw empty refl
 
 bytes_alike : (device : DeviceSeen) (event : Event) (channel : Channel) (one other : recordings.Recording) → IsSafe device channel → (runs channel ≡ true → other ≡ one) → own_bytes event channel other ≡ own_bytes event channel one
@@ -271,7 +272,7 @@ bytes_alike device (Close fd) channel one other s same = refl
 bytes_alike device (Intr n) channel one other s same = refl
 
 -- a channel that plays never records
-plays_on : (device : DeviceSeen) (event : Event) (book : Book) → runs (own_turn device event (Playing book)).channel ≡ false
+plays_on : (device : DeviceSeen) (event : Event) (book : PlayBook) → runs (own_turn device event (Playing book)).book ≡ false
 plays_on device (Open fd way settings) book = refl
 plays_on device (Write fd source at count) book = refl
 plays_on device (Read fd count) book = refl
@@ -292,31 +293,31 @@ going_same device pool more handed event old (Recording new) one other frames sa
     at true e is running = ap (going_on device more event old new) (same e) ∙ going-alike device pool more event old new one frames
 
 next_alike : (device : DeviceSeen) (pool more : Pool) (handed : ℕ) (event : Event) (channel : Channel) (one other : recordings.Recording) → capture_frames more ≡ capture_frames pool → (runs channel ≡ true → other ≡ one)
-    → let new : Channel = (own_turn device event channel).channel in
+    → let new : Channel = (own_turn device event channel).book in
     runs new ≡ true → next_recording device more handed event channel new other ≡ next_recording device pool handed event channel new one
 next_alike device pool more handed event (Playing book) one other frames same running = absurd (let clash : true ≡ false = sym running ∙ plays_on device event book in cc)
-next_alike device pool more handed event (Recording book) one other frames same running = going_same device pool more handed event book (own_turn device event (Recording book)).channel one other frames same running
+next_alike device pool more handed event (Recording book) one other frames same running = going_same device pool more handed event book (own_turn device event (Recording book)).book one other frames same running
 
 told_alike : (device : DeviceSeen) (pool more : Pool) (channel : Channel) (one other : recordings.Recording) (handed : ℕ) (events : List Event) → capture_frames more ≡ capture_frames pool → IsSafe device channel → (runs channel ≡ true → other ≡ one)
     → own_told device more channel other handed events ≡ own_told device pool channel one handed events
 told_alike device pool more channel one other handed [] frames s same = refl
 told_alike device pool more channel one other handed (event ∷ events) frames s same =
-    let turn : ChannelTurn = own_turn device event channel in
-    let next : recordings.Recording = next_recording device more handed event channel turn.channel other in
-    ap (λ (bytes : List ℕ). record { result = turn.reply; bytes = bytes } ∷ own_told device more turn.channel next (handed + frames_taken event) events) (bytes_alike device event channel one other s same)
+    let turn : Turn Channel = own_turn device event channel in
+    let next : recordings.Recording = next_recording device more handed event channel turn.book other in
+    ap (λ (bytes : List ℕ). record { result = turn.reply; bytes = bytes } ∷ own_told device more turn.book next (handed + frames_taken event) events) (bytes_alike device event channel one other s same)
     ∙ ap (λ (list : List Reply). record { result = turn.reply; bytes = own_bytes event channel one } ∷ list)
-    (told_alike device pool more turn.channel (next_recording device pool handed event channel turn.channel one) next (handed + frames_taken event) events frames (safe_own device event channel s)
+    (told_alike device pool more turn.book (next_recording device pool handed event channel turn.book one) next (handed + frames_taken event) events frames (safe_own device event channel s)
     (λ running. next_alike device pool more handed event channel one other frames same running))
 
 -- ---- two openings
 
 begun_safe : (device : DeviceSeen) (way : Way) (settings : Settings) → IsSafe device (channel_begun way settings)
 begun_safe device Play settings = tt
-begun_safe device Rec settings = record-safe-begun (record_rate_between device settings) settings
+begun_safe device Record settings = record-safe-begun (record_rate_between device settings) settings
 
 begun_idle : (way : Way) (settings : Settings) → runs (channel_begun way settings) ≡ false
 begun_idle Play settings = refl
-begun_idle Rec settings = refl
+begun_idle Record settings = refl
 
 -- what an opening is told
 opening_told : (device : DeviceSeen) (pool : Pool) (fd : ℕ) (way : Way) (settings : Settings) (held : Held) (story : Story) (events : List Event) → HoldApart story.desk

@@ -10,14 +10,14 @@ use Rattle.pcm_format.proofs.Streams.{length-frames}
 use Rattle.pcm_rate.specs.declared.rate.Rate.{Rate}
 use Rattle.pcm_rate.specs.Rates.{IsRatio, len}
 use Rattle.pcm_feeder.specs.Limits.{IsRate}
-use Rattle.pcm_desk.specs.declared.book.Book.{Book}
-use Rattle.pcm_desk.specs.declared.book.State.{State}
-use Rattle.pcm_desk.specs.declared.book.State.TheVariants.{Free, Setup, Primed, Running, Draining}
-use Rattle.pcm_desk.specs.Device.{DeviceSeen, IsDevice, rate_between}
-use Rattle.pcm_desk.specs.Books.{frames_written, is_draining, is_started}
-use Rattle.pcm_desk.specs.Safe.{BookIsSafe, IsInOrder}
-use Rattle.pcm_desk.specs.Desk.{rate_at}
-use Rattle.pcm_desk.proofs.Safe.{allowed-lasts, given-allowed}
+use Rattle.pcm_desk.specs.declared.play_book.PlayBook.{PlayBook}
+use Rattle.pcm_desk.specs.declared.play_book.PlayState.{PlayState}
+use Rattle.pcm_desk.specs.declared.play_book.PlayState.TheVariants.{Free, Setup, Primed, Running, Draining}
+use Rattle.pcm_desk.specs.Device.{DeviceSeen, IsDevice, play_rate_between}
+use Rattle.pcm_desk.specs.PlayBooks.{frames_written, is_draining, is_started}
+use Rattle.pcm_desk.specs.PlaySafe.{IsPlayInOrder, PlayIsSafe}
+use Rattle.pcm_desk.specs.Desk.{play_rate_at}
+use Rattle.pcm_desk.proofs.PlaySafe.{allowed-lasts, given-allowed}
 use Rattle.pcm_desk.proofs.Ratios.{ratio-between}
 use Rattle.pcm_sound.specs.Runs.{Piece, Run, begun_run, taking, drops, marked, marking, run_frames}
 use Rattle.pcm_sound.specs.Plain.{drop_end, run_end}
@@ -43,7 +43,7 @@ pub over-all : (device : DeviceSeen) (mixed later : ℕ) (runs : List Run) → m
 over-all device mixed later runs h over = All-weaker (IsOver device mixed) (IsOver device later) (λ run o. over-later device mixed later run h o) runs over
 
 -- and those of a slot that hasn't started stay in their places
-pub idle-later : (device : DeviceSeen) (mixed later : ℕ) (book : Book) (runs : List Run) → mixed ≤ later → is_started book.state ≡ false → SlotIsPlaced device mixed book runs → SlotIsPlaced device later book runs
+pub idle-later : (device : DeviceSeen) (mixed later : ℕ) (book : PlayBook) (runs : List Run) → mixed ≤ later → is_started book.state ≡ false → SlotIsPlaced device mixed book runs → SlotIsPlaced device later book runs
 idle-later device mixed later book [] h idle p = p
 idle-later device mixed later book (run ∷ runs) h idle p = (
   over-all device mixed later runs h p.0,
@@ -54,18 +54,18 @@ idle-later device mixed later book (run ∷ runs) h idle p = (
 -- ---- where a run ends
 
 -- a started book has given no more than it lasts for
-pub given-lasts : (rate : Rate) (book : Book) → IsRatio rate → is_started book.state ≡ true → BookIsSafe rate book → book.given ≤ len rate (frames_written book)
+pub given-lasts : (rate : Rate) (book : PlayBook) → IsRatio rate → is_started book.state ≡ true → PlayIsSafe rate book → book.given ≤ len rate (frames_written book)
 given-lasts rate book r started safe =
     let allowed = given-allowed book.state rate book r started safe.order in
     let lasts = allowed-lasts book.state rate book r in
     omega arith
 
 -- the newest run lasts as long as its book
-pub lasts-newest : (device : DeviceSeen) (book : Book) (run : Run) (runs : List Run) → IsNewest book (run ∷ runs) → len (rate_between device run.settings) (length (run_frames run)) ≡ len (rate_at device book) (frames_written book)
+pub lasts-newest : (device : DeviceSeen) (book : PlayBook) (run : Run) (runs : List Run) → IsNewest book (run ∷ runs) → len (play_rate_between device run.settings) (length (run_frames run)) ≡ len (play_rate_at device book) (frames_written book)
 lasts-newest device book run runs newest =
-    ap (len (rate_between device run.settings)) (length-frames run.settings run.bytes)
-    ∙ ap (λ (settings : Settings). len (rate_between device settings) (whole_frames settings (length run.bytes))) newest.0
-    ∙ ap (λ bytes. len (rate_at device book) (whole_frames book.settings bytes)) newest.1
+    ap (len (play_rate_between device run.settings)) (length-frames run.settings run.bytes)
+    ∙ ap (λ (settings : Settings). len (play_rate_between device settings) (whole_frames settings (length run.bytes))) newest.0
+    ∙ ap (λ bytes. len (play_rate_at device book) (whole_frames book.opening.settings bytes)) newest.1
 
 -- a run that was dropped where its pieces ended, before more than it lasts for
 dropped_end : (drained : Bool) (lasts start mixed until : ℕ) → mixed ≤ start + lasts → mixed ≤ until → min (cond drained (start + lasts) until) (min mixed until) ≡ mixed
@@ -83,7 +83,7 @@ lasted_end false dropped start lasts until d e l = cc
 
 -- how many frames of the mix a run lasts for
 abbrev pub lasting : DeviceSeen → Run → ℕ
-lasting device run = len (rate_between device run.settings) (length (run_frames run))
+lasting device run = len (play_rate_between device run.settings) (length (run_frames run))
 
 -- a run with the marks of an event, from whether its book was started before and after it, drains, and is dropped
 abbrev pub told_run : Bool → Bool → Bool → Bool → ℕ → Run → Run
@@ -117,7 +117,7 @@ waiting_over : (device : DeviceSeen) (mixed : ℕ) (run : Run) → IsWaiting run
 waiting_over device mixed run w = subst (λ (start : Option ℕ). IsOverFrom device mixed run start) (sym w.start) w.pieces
 
 -- a run that was going, once it is over
-going_over : (device : DeviceSeen) (mixed : ℕ) (book : Book) (was run : Run) → run.start ≡ was.start → run.pieces ≡ was.pieces → IsGoing mixed book was
+going_over : (device : DeviceSeen) (mixed : ℕ) (book : PlayBook) (was run : Run) → run.start ≡ was.start → run.pieces ≡ was.pieces → IsGoing mixed book was
     → ((start : ℕ) → start + book.given ≡ mixed → (until : ℕ) → mixed ≤ until → run_end device until start run ≡ mixed) → IsOver device mixed run
 going_over device mixed book was run start pieces g end =
     subst (λ (s : Option ℕ). IsOverFrom device mixed run s) (sym (start ∙ g.started)) (λ unbroken.
@@ -131,7 +131,7 @@ going_over device mixed book was run start pieces g end =
     })
 
 -- a run that its book counted, once nothing of it is left
-over_counted : (before after draining dropping : Bool) (device : DeviceSeen) (mixed : ℕ) (old : Book) (run : Run) → is_started old.state ≡ before → after ≡ false
+over_counted : (before after draining dropping : Bool) (device : DeviceSeen) (mixed : ℕ) (old : PlayBook) (run : Run) → is_started old.state ≡ before → after ≡ false
     → (before ≡ true → old.given ≤ lasting device run) → (before ≡ true → dropping ≡ false → old.given ≡ lasting device run) → IsCounted mixed old run
     → IsOver device mixed (told_run before after draining dropping mixed run)
 over_counted before true draining dropping device mixed old run b a most whole c = cc
@@ -149,7 +149,7 @@ over_counted true false draining false device mixed old run b a most whole c =
     lasted_end now.drained run.dropped start (lasting device run) until (drained_now run.drained draining) c.dropped (omega arith) ∙ ap (λ lasted. start + lasted) (sym all) ∙ sum)
 
 -- a run that its book goes on to count
-counted_told : (before after draining dropping : Bool) (mixed : ℕ) (old new : Book) (run : Run) → is_started old.state ≡ before → is_started new.state ≡ after → (before ≡ true → after ≡ true)
+counted_told : (before after draining dropping : Bool) (mixed : ℕ) (old new : PlayBook) (run : Run) → is_started old.state ≡ before → is_started new.state ≡ after → (before ≡ true → after ≡ true)
     → (before ≡ false → old.given ≡ 0) → new.given ≡ old.given → IsCounted mixed old run → IsCounted mixed new (told_run before after draining dropping mixed run)
 counted_told false false draining dropping mixed old new run b a plays none given c = record {
   dropped = c.dropped;
@@ -176,17 +176,17 @@ counted_told true true draining dropping mixed old new run b a plays none given 
 
 -- What an event that takes no frames does to a book, which counts so many bytes before its newest run is told of it: the book goes on
 -- with what it gave, or nothing of its run is left.
-pub record Moves (device : DeviceSeen) (event : Event) (old new : Book) (counts : ℕ) (runs : List Run) : Type 0 where
+pub record Moves (device : DeviceSeen) (event : Event) (old new : PlayBook) (counts : ℕ) (runs : List Run) : Type 0 where
   pub idle : counts ≡ 0 → is_started old.state ≡ false
   pub started : is_started new.state ≡ true → 0 < new.written
   pub plays : 0 < new.written → is_started old.state ≡ true → is_started new.state ≡ true
   pub written : 0 < new.written → 0 < counts
   pub given : 0 < new.written → new.given ≡ old.given
   pub newest : new.written ≡ 0 → 0 < counts → IsNewest old runs
-  pub whole : EndsWhole (rate_at device old) (drops event) old new
+  pub whole : EndsWhole (play_rate_at device old) (drops event) old new
 
 -- a book that hasn't started gave nothing
-idle_given : (state : State) (rate : Rate) (book : Book) → is_started state ≡ false → IsInOrder rate state book → book.given ≡ 0
+idle_given : (state : PlayState) (rate : Rate) (book : PlayBook) → is_started state ≡ false → IsPlayInOrder rate state book → book.given ≡ 0
 idle_given Free rate book e o = o.given_none
 idle_given Setup rate book e o = o.1.given_none
 idle_given Primed rate book e o = o.1.given_none
@@ -194,7 +194,7 @@ idle_given Running rate book e o = cc
 idle_given (Draining closed) rate book e o = cc
 
 -- nor does it drain
-pub idle_undrained : (state : State) → is_started state ≡ false → is_draining state ≡ false
+pub idle_undrained : (state : PlayState) → is_started state ≡ false → is_draining state ≡ false
 idle_undrained Free e = refl
 idle_undrained Setup e = refl
 idle_undrained Primed e = refl
@@ -207,7 +207,7 @@ not_true true h = absurd (h refl)
 not_true false h = refl
 
 -- the newest run of a book with nothing written is over once the event was told of it
-over_marked : (device : DeviceSeen) (mixed : ℕ) (event : Event) (old new : Book) (written : ℕ) (run : Run) (runs : List Run) → IsDevice device → IsRate old.settings.rate → BookIsSafe (rate_at device old) old
+over_marked : (device : DeviceSeen) (mixed : ℕ) (event : Event) (old new : PlayBook) (written : ℕ) (run : Run) (runs : List Run) → IsDevice device → IsRate old.opening.settings.rate → PlayIsSafe (play_rate_at device old) old
     → Moves device event old new written (run ∷ runs) → ArePlaced device mixed old written (run ∷ runs) → new.written ≡ 0 → IsOver device mixed (marked mixed event old new run)
 over_marked device mixed event old new zero run runs d s safe m p none =
     let stopped : is_started new.state ≡ false = not_true (is_started new.state) (λ e. let some = m.started e in omega arith) in
@@ -216,24 +216,24 @@ over_marked device mixed event old new (suc more) run runs d s safe m p none =
     let stopped : is_started new.state ≡ false = not_true (is_started new.state) (λ e. let some = m.started e in omega arith) in
     let lasts = lasts-newest device old run runs (m.newest none (omega arith)) in
     over_counted (is_started old.state) (is_started new.state) (is_draining new.state) (drops event) device mixed old run refl stopped
-    (λ e. let most = given-lasts (rate_at device old) old (ratio-between device old.settings d s) e safe in omega arith)
+    (λ e. let most = given-lasts (play_rate_at device old) old (ratio-between device old.opening.settings d s) e safe in omega arith)
     (λ e keeps. m.whole e stopped keeps ∙ sym lasts)
     (p.2 (omega arith))
 
 -- the pieces of a slot stay in their places once an event was told of its newest run
-pub placed-marking : (device : DeviceSeen) (mixed : ℕ) (event : Event) (old new : Book) (written : ℕ) (runs : List Run) → IsDevice device → IsRate old.settings.rate → BookIsSafe (rate_at device old) old
+pub placed-marking : (device : DeviceSeen) (mixed : ℕ) (event : Event) (old new : PlayBook) (written : ℕ) (runs : List Run) → IsDevice device → IsRate old.opening.settings.rate → PlayIsSafe (play_rate_at device old) old
     → Moves device event old new written runs → ArePlaced device mixed old written runs → SlotIsPlaced device mixed new (marking mixed event old new runs)
 placed-marking device mixed event old new written [] d s safe m p = tt
 placed-marking device mixed event old new written (run ∷ runs) d s safe m p = (
   p.0,
   λ none. over_marked device mixed event old new written run runs d s safe m p none,
   λ some. counted_told (is_started old.state) (is_started new.state) (is_draining new.state) (drops event) mixed old new run refl refl (m.plays some)
-      (λ e. idle_given old.state (rate_at device old) old e safe.order) (m.given some) (p.2 (m.written some)),
+      (λ e. idle_given old.state (play_rate_at device old) old e safe.order) (m.given some) (p.2 (m.written some)),
 )
 
 -- through an event that brings no bytes
-pub placed-left : (device : DeviceSeen) (mixed : ℕ) (event : Event) (old new : Book) (runs : List Run) → IsDevice device → BookIsSafe (rate_at device old) old → SlotIsValid device mixed old runs
-    → KeepsGiven (rate_at device old) (drops event) old new → IsUntold device mixed old new runs → SlotIsPlaced device mixed old runs → SlotIsPlaced device mixed new (marking mixed event old new runs)
+pub placed-left : (device : DeviceSeen) (mixed : ℕ) (event : Event) (old new : PlayBook) (runs : List Run) → IsDevice device → PlayIsSafe (play_rate_at device old) old → SlotIsValid device mixed old runs
+    → KeepsGiven (play_rate_at device old) (drops event) old new → IsUntold device mixed old new runs → SlotIsPlaced device mixed old runs → SlotIsPlaced device mixed new (marking mixed event old new runs)
 placed-left device mixed event old new runs d safe v k u p =
     placed-marking device mixed event old new old.written runs d v.settings safe (record {
       idle = λ none. not_true (is_started old.state) (λ e. let some = v.started e in omega arith);
@@ -248,7 +248,7 @@ placed-left device mixed event old new runs d safe v k u p =
 -- ---- a write
 
 -- a run that its book counts with more bytes
-counted_more : (mixed : ℕ) (book : Book) (run : Run) (more : List ℕ) → IsCounted mixed book run → IsCounted mixed book (record run { bytes = run.bytes ++ more })
+counted_more : (mixed : ℕ) (book : PlayBook) (run : Run) (more : List ℕ) → IsCounted mixed book run → IsCounted mixed book (record run { bytes = run.bytes ++ more })
 counted_more mixed book run more c = record {
   dropped = c.dropped;
   waits = λ e. let w = c.waits e in record { start = w.start; pieces = w.pieces };
@@ -256,14 +256,14 @@ counted_more mixed book run more c = record {
 }
 
 -- a run that begins
-counted_begun : (mixed : ℕ) (book : Book) (bytes : List ℕ) → is_started book.state ≡ false → IsCounted mixed book (begun_run book bytes)
+counted_begun : (mixed : ℕ) (book : PlayBook) (bytes : List ℕ) → is_started book.state ≡ false → IsCounted mixed book (begun_run book bytes)
 counted_begun mixed book bytes idle = record {
   dropped = refl;
   waits = λ e. record { start = refl; pieces = refl };
   goes = λ e. absurd (let not_so : true ≡ false = sym e ∙ idle in cc);
 }
 
-placed_taking_at : (b : Bool) (device : DeviceSeen) (mixed byte : ℕ) (bytes : List ℕ) (old : Book) (written : ℕ) (run : Run) (runs : List Run) → eqb old.written 0 ≡ b → 0 < written → (old.written ≡ 0 → is_started old.state ≡ false)
+placed_taking_at : (b : Bool) (device : DeviceSeen) (mixed byte : ℕ) (bytes : List ℕ) (old : PlayBook) (written : ℕ) (run : Run) (runs : List Run) → eqb old.written 0 ≡ b → 0 < written → (old.written ≡ 0 → is_started old.state ≡ false)
     → SlotIsPlaced device mixed old (run ∷ runs)
     → ArePlaced device mixed old written (cond b (begun_run old (byte ∷ bytes) ∷ run ∷ runs) (record run { bytes = run.bytes ++ byte ∷ bytes } ∷ runs))
 placed_taking_at true device mixed byte bytes old written run runs e some idle p =
@@ -274,7 +274,7 @@ placed_taking_at false device mixed byte bytes old written run runs e some idle 
     (p.0, λ h. absurd (omega arith), λ h. counted_more mixed old run (byte ∷ bytes) (p.2 above))
 
 -- the pieces of a slot stand where they did once more bytes came
-placed_taking : (device : DeviceSeen) (mixed : ℕ) (bytes : List ℕ) (old new : Book) (runs : List Run) → Accepts (length bytes) old new → (old.written ≡ 0 → is_started old.state ≡ false) → (0 < old.written → IsNewest old runs)
+placed_taking : (device : DeviceSeen) (mixed : ℕ) (bytes : List ℕ) (old new : PlayBook) (runs : List Run) → Accepts (length bytes) old new → (old.written ≡ 0 → is_started old.state ≡ false) → (0 < old.written → IsNewest old runs)
     → SlotIsPlaced device mixed old runs → ArePlaced device mixed old new.written (taking bytes old runs)
 placed_taking device mixed [] old new [] a idle newest p = p
 placed_taking device mixed [] old new (run ∷ runs) a idle newest p = let w = a.written in (p.0, λ h. p.1 (omega arith), λ h. p.2 (omega arith))
@@ -286,7 +286,7 @@ placed_taking device mixed (byte ∷ bytes) old new (run ∷ runs) a idle newest
     placed_taking_at (eqb old.written 0) device mixed byte bytes old new.written run runs refl (omega arith) idle p
 
 -- through a write
-pub placed-taken : (device : DeviceSeen) (mixed : ℕ) (event : Event) (bytes : List ℕ) (old new : Book) (runs : List Run) → IsDevice device → BookIsSafe (rate_at device old) old → SlotIsValid device mixed old runs
+pub placed-taken : (device : DeviceSeen) (mixed : ℕ) (event : Event) (bytes : List ℕ) (old new : PlayBook) (runs : List Run) → IsDevice device → PlayIsSafe (play_rate_at device old) old → SlotIsValid device mixed old runs
     → Accepts (length bytes) old new → SlotIsPlaced device mixed old runs → SlotIsPlaced device mixed new (marking mixed event old new (taking bytes old runs))
 placed-taken device mixed event bytes old new runs d safe v a p =
     let idle : old.written ≡ 0 → is_started old.state ≡ false = λ none. not_true (is_started old.state) (λ e. let some = v.started e in omega arith) in

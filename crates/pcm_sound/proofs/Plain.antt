@@ -9,8 +9,8 @@ use Rattle.std.proofs.lemmas.List.Elements.{All-weaker}
 use Rattle.std.proofs.lemmas.List.FromFn.{length-range_with_len}
 use Rattle.pcm_format.specs.Frames.{Frame, spelled_frames}
 use Rattle.pcm_feeder.specs.declared.stage.Gain.{Gain}
-use Rattle.pcm_desk.specs.Device.{DeviceSeen, device_frame_bytes, device_settings, mix_settings, ring_frames}
-use Rattle.pcm_desk.specs.Desk.{book_at}
+use Rattle.pcm_desk.specs.Device.{DeviceSeen, device_frame_bytes, device_settings, ring_frames}
+use Rattle.pcm_desk.specs.Desk.{play_at}
 use Rattle.pcm_sound.specs.Gains.{last_gain}
 use Rattle.pcm_sound.specs.Runs.{Run}
 use Rattle.pcm_sound.specs.Story.{Story}
@@ -25,7 +25,7 @@ use Rattle.pcm_sound.proofs.Heard.{RunIsHeard, heard-in_place, runs-heard, sound
 
 -- each run of a valid story is heard from its start to its end, unless a piece is short
 story_heard : (device : DeviceSeen) (story : Story) (slot : ℕ) → StoryIsValid device story → All (RunIsHeard device story.desk.mixed) (story.runs slot)
-story_heard device story slot v = runs-heard device story.desk.mixed (book_at device story.desk slot) (story.runs slot) v.limits (v.safe slot) (v.slots slot) (v.placed slot)
+story_heard device story slot v = runs-heard device story.desk.mixed (play_at device story.desk slot) (story.runs slot) v.limits (v.safe slot) (v.slots slot) (v.placed slot)
 
 -- and stands in its place
 pub story-in_place : (device : DeviceSeen) (story : Story) (slot : ℕ) → StoryIsValid device story → All (λ (run : Run). IsUnbroken run → IsInPlace device story.desk.mixed run) (story.runs slot)
@@ -66,9 +66,9 @@ alike_tables device until one other first second v w unbroken whole alike slot p
 
 length-device_list : (device : DeviceSeen) (table : Table) (count : ℕ) → length (device_list device table count) ≡ ring_frames device + count
 length-device_list device table count =
-    let ring = length-replicate (ring_frames device) (silence_in (mix_settings device)) in
+    let ring = length-replicate (ring_frames device) (silence_in (device_settings device)) in
     let frames : length (map (device_frame device (mix_at device table)) (range_with_len 0 count)) ≡ count = length-map (range_with_len 0 count) (device_frame device (mix_at device table)) ∙ length-range_with_len 0 count in
-    length-append (replicate (ring_frames device) (silence_in (mix_settings device))) (map (device_frame device (mix_at device table)) (range_with_len 0 count)) ∙ omega arith
+    length-append (replicate (ring_frames device) (silence_in (device_settings device))) (map (device_frame device (mix_at device table)) (range_with_len 0 count)) ∙ omega arith
 
 -- the front of the device's frames is there once as many were handed over
 list_front : (device : DeviceSeen) (table : Table) (until count : ℕ) → until ≤ count → take until (device_list device table count) ≡ take until (device_list device table until)
@@ -108,7 +108,7 @@ body_front device story count v =
     ap (take (count * size)) (device_body-bytes device story v)
     ∙ take_both (story.desk.handed * size) (count * size) (device_bytes device story)
     ∙ ap (λ bytes. take bytes (device_bytes device story)) (min_times story.desk.handed count size)
-    ∙ sym (spelled_frames-take device (min story.desk.handed count) list (device_list-frames device (table_of device story) story.desk.handed (table-frames device story v)))
+    ∙ sym (spelled_frames-take device (min story.desk.handed count) list v.limits (device_list-frames device (table_of device story) story.desk.handed v.limits (table-frames device story v)))
 
 -- how long it is
 pub length-device_body : (device : DeviceSeen) (story : Story) → StoryIsValid device story → length (device_body device story) ≡ story.desk.handed * device_frame_bytes device

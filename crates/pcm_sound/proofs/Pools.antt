@@ -10,14 +10,14 @@ use Rattle.pcm_wave.specs.declared.pool.Pool.{Pool}
 use Rattle.pcm_wave.specs.declared.pool.Source.{Source}
 use Rattle.pcm_wave.specs.declared.pool.Source.TheVariants.{Inline, File}
 use Rattle.pcm_wave.specs.Pools.{HasBytes, body_in, bytes_at, capture_frames, file_at, frames_in, source_bytes}
-use Rattle.pcm_desk.specs.declared.book.Book.{Book}
+use Rattle.pcm_desk.specs.declared.play_book.PlayBook.{PlayBook}
 use Rattle.pcm_desk.specs.declared.record_book.RecordBook.{RecordBook}
 use Rattle.pcm_desk.specs.Device.{DeviceSeen}
 use Rattle.pcm_desk.specs.RecordBooks.{is_running, keeping}
-use Rattle.pcm_desk.specs.Desk.{Desk, after, book_at, held_by, record_at, record_rate_at}
+use Rattle.pcm_desk.specs.Desk.{Desk, after, play_at, held_by, record_at, record_rate_at}
 use Rattle.pcm_desk.specs.Events.{Fits}
 use Rattle.pcm_sound.specs.Gains.{gains_after}
-use Rattle.pcm_sound.specs.Plans.{recorded_bytes}
+use Rattle.pcm_sound.specs.Given.{recorded_bytes}
 use Rattle.pcm_sound.specs.Pools.{AreAlike, BringsAlike, IsLonger}
 use Rattle.pcm_sound.specs.Recordings.{Recording, going_on, loses, recording_from, starts_recording}
 use Rattle.pcm_sound.specs.Runs.{Run, marking, runs_after, taking}
@@ -34,17 +34,17 @@ bytes_alike one other source at count less same within =
     sym (take-take less count (drop at (source_bytes other source)) within) ∙ ap (take less) same ∙ take-take less count (drop at (source_bytes one source)) within
 
 -- a book grows by no more than a write has
-grows_within : (count : ℕ) (old new : Book) → WritesSome count old new → new.written - old.written ≤ count
+grows_within : (count : ℕ) (old new : PlayBook) → WritesSome count old new → new.written - old.written ≤ count
 grows_within count old new w = let within = w.within in let written = w.accepts.written in omega arith
 
 -- the runs of a slot
 runs_alike : (device : DeviceSeen) (one other : Pool) (desk : Desk) (event : Event) (slot : ℕ) (runs : List Run) → BringsAlike one other event
-    → let old : Book = book_at device desk slot in let new : Book = book_at device (after device desk event).desk slot in
+    → let old : PlayBook = play_at device desk slot in let new : PlayBook = play_at device (after device desk event).desk slot in
     runs_after device other desk event old new runs ≡ runs_after device one desk event old new runs
 runs_alike device one other desk (Open fd way settings) slot runs same = refl
 runs_alike device one other desk (Write fd source at count) slot runs same =
-    let old : Book = book_at device desk slot in
-    let new : Book = book_at device (after device desk (Write fd source at count)).desk slot in
+    let old : PlayBook = play_at device desk slot in
+    let new : PlayBook = play_at device (after device desk (Write fd source at count)).desk slot in
     ap (λ (bytes : List ℕ). marking desk.mixed (Write fd source at count) old new (taking bytes old runs))
     (bytes_alike one other source at count (new.written - old.written) same (grows_within count old new ((writes-write_on device (held_by desk fd) desk count).slots slot)))
 runs_alike device one other desk (Read fd count) slot runs same = refl
@@ -61,7 +61,7 @@ going-alike device one other (Ioctl fd request) old new recording same = refl
 going-alike device one other (Close fd) old new recording same = refl
 going-alike device one other (Intr n) old new recording same =
     ap (λ (captured : List Frame). cond (is_running old.state) (record recording {
-      kept = recording.kept ++ recorded_bytes device old.settings (drop recording.start captured) old.given (keeping (record_rate_at device old) n old);
+      kept = recording.kept ++ recorded_bytes device old.opening.settings (drop recording.start captured) old.given (keeping (record_rate_at device old) n old);
       whole = recording.whole && not (loses device n old);
     }) recording) same
 
@@ -70,7 +70,7 @@ told-alike : (device : DeviceSeen) (one other : Pool) (story : Story) (event : E
 told-alike device one other story event brings captured = λ i. record {
   desk = (after device story.desk event).desk;
   runs = λ slot. runs_alike device one other story.desk event slot (story.runs slot) brings i;
-  gains = λ slot. gains_after story.desk.mixed (book_at device story.desk slot) (book_at device (after device story.desk event).desk slot) (story.gains slot);
+  gains = λ slot. gains_after story.desk.mixed (play_at device story.desk slot) (play_at device (after device story.desk event).desk slot) (story.gains slot);
   recordings = λ slot. (
       let old : RecordBook = record_at device story.desk slot in
       let new : RecordBook = record_at device (after device story.desk event).desk slot in
@@ -103,7 +103,7 @@ recordings-alike device one other story captured v slot =
             kept = r.kept;
             got = r.got;
             place = r.place;
-            whole = λ whole. r.whole whole ∙ ap (λ (list : List Frame). recorded_bytes device book.settings (drop recording.start list) 0 book.given) (sym captured);
+            whole = λ whole. r.whole whole ∙ ap (λ (list : List Frame). recorded_bytes device book.opening.settings (drop recording.start list) 0 book.given) (sym captured);
           });
     }
 

@@ -8,7 +8,7 @@ use Rattle.pcm_format.specs.declared.settings.Settings.{Settings}
 use Rattle.pcm_oss.specs.declared.event.Event.{Event}
 use Rattle.pcm_oss.specs.declared.event.Event.TheVariants.{Open, Write, Read, Ioctl, Close, Intr}
 use Rattle.pcm_oss.specs.declared.event.Way.{Way}
-use Rattle.pcm_oss.specs.declared.event.Way.TheVariants.{Play, Rec}
+use Rattle.pcm_oss.specs.declared.event.Way.TheVariants.{Play, Record}
 use Rattle.pcm_oss.specs.declared.reply.Answer.TheVariants.{Got}
 use Rattle.pcm_oss.specs.declared.reply.Errno.TheVariants.{Again, Exist, Inval}
 use Rattle.pcm_oss.specs.declared.request.Request.{Request}
@@ -16,17 +16,18 @@ use Rattle.pcm_wave.specs.declared.pool.Pool.{Pool}
 use Rattle.pcm_wave.specs.Pools.{IsCaptureIn}
 use Rattle.pcm_feeder.specs.Limits.{IsRate}
 use Rattle.pcm_rate.specs.Rates.{can}
+use Rattle.pcm_desk.specs.declared.turn.Turn.{Turn}
 use Rattle.pcm_desk.specs.declared.device.Held.{Held}
 use Rattle.pcm_desk.specs.declared.record_book.RecordBook.{RecordBook}
 use Rattle.pcm_desk.specs.declared.record_book.RecordState.{RecordState}
 use Rattle.pcm_desk.specs.declared.record_book.RecordState.TheVariants.{Free, Setup, Running}
 use Rattle.pcm_desk.specs.Device.{DeviceSeen, IsDevice, device_settings, record_rate_between, record_slots}
-use Rattle.pcm_desk.specs.Books.{write_turn}
+use Rattle.pcm_desk.specs.PlayBooks.{write_turn}
 use Rattle.pcm_desk.specs.RecordBooks as records
-use Rattle.pcm_desk.specs.RecordBooks.{captures, fill_of, is_running, read_turn}
-use Rattle.pcm_desk.specs.RecordRequests as record_requests
-use Rattle.pcm_desk.specs.RecordSafe.{IsInOrder, IsUnstarted, RecordIsSafe}
-use Rattle.pcm_desk.specs.Desk.{Desk, DeskTurn, after, asking, by_way, close_on, close_play, close_record, held_by, interrupt_turn, ioctl_on, least_free, least_free_record, open_play, open_record, open_turn, play_turn, read_on, record_at, record_rate_at, record_turn, record_unopened, refusing, turning, with_record, write_on}
+use Rattle.pcm_desk.specs.RecordBooks.{captures, is_running, read_turn, record_begun, record_fill_of}
+use Rattle.pcm_desk.specs.RecordRequests.{record_ask}
+use Rattle.pcm_desk.specs.RecordSafe.{IsRecordInOrder, IsRecordUnstarted, RecordIsSafe}
+use Rattle.pcm_desk.specs.Desk.{Desk, DeskTurn, after, asking, by_way, close_on, close_play, close_record, held_by, interrupt_turn, ioctl_on, least_free_play, least_free_record, open_play, open_record, open_turn, play_turn, read_on, record_at, record_rate_at, record_turn, record_unopened, refusing, turning, with_record, write_on}
 use Rattle.pcm_desk.specs.Events.{Fits, frames_taken}
 use Rattle.pcm_desk.proofs.RecordAsking.{record-ask-rate, record-ask-settings}
 use Rattle.pcm_desk.proofs.RecordLeaves.{Ends, Stays, record-ask-leaves}
@@ -34,7 +35,7 @@ use Rattle.pcm_desk.proofs.RecordSafe.{can-none, record-safe-ask, record-safe-be
 use Rattle.pcm_desk.proofs.Slots.{record_at-capturing, record_at-with}
 use Rattle.pcm_desk.proofs.Turning.{handed-taken}
 use Rattle.pcm_oss.proofs.Limits.{usual-fragments}
-use Rattle.pcm_sound.specs.Plans.{recorded_bytes}
+use Rattle.pcm_sound.specs.Given.{recorded_bytes}
 use Rattle.pcm_sound.specs.Recordings.{Recording, going_on, handing, recorded_frames, recording_after, recording_from, starts_recording}
 use Rattle.pcm_sound.specs.Recordings as recordings
 use Rattle.pcm_sound.specs.Story.{Story, story_at_start, story_of, told, told_all}
@@ -46,12 +47,12 @@ use Rattle.pcm_sound.proofs.Stories.{get_or-same}
 
 -- what an event that brings no frames and gets no bytes leaves of a record book: its counts, or nothing of its run
 pub record Turned (device : DeviceSeen) (old new : RecordBook) : Type 0 where
-  pub rate : IsRate new.settings.rate
+  pub rate : IsRate new.opening.settings.rate
   pub safe : RecordIsSafe (record_rate_at device new) new
   pub counts : Stays old new ⊎ Ends old new
 
 -- a book that stays
-pub turned-same : (device : DeviceSeen) (book : RecordBook) → IsRate book.settings.rate → RecordIsSafe (record_rate_at device book) book → Turned device book book
+pub turned-same : (device : DeviceSeen) (book : RecordBook) → IsRate book.opening.settings.rate → RecordIsSafe (record_rate_at device book) book → Turned device book book
 turned-same device book rate safe = record {
   rate = rate;
   safe = safe;
@@ -59,7 +60,7 @@ turned-same device book rate safe = record {
 }
 
 -- a channel that hadn't started counts nothing
-pub idle-unstarted : (state : RecordState) (book : RecordBook) → is_running state ≡ false → IsInOrder state book → IsUnstarted book
+pub idle-unstarted : (state : RecordState) (book : RecordBook) → is_running state ≡ false → IsRecordInOrder state book → IsRecordUnstarted book
 idle-unstarted Free book idle o = o
 idle-unstarted Setup book idle o = o
 idle-unstarted Running book idle o = cc
@@ -70,7 +71,7 @@ recorded-none device pool handed book captured given kept read = record {
   kept = sym kept;
   got = ap (λ n. take n []) (sym read);
   place = omega (arith, captured);
-  whole = λ all. sym (ap (recorded_bytes device book.settings (recorded_frames pool handed) 0) given);
+  whole = λ all. sym (ap (recorded_bytes device book.opening.settings (recorded_frames pool handed) 0) given);
 }
 
 -- what is recorded by a book is so by one that counts the same
@@ -79,7 +80,7 @@ recorded-stays device pool handed old new recording s r = record {
   kept = r.kept ∙ sym s.kept;
   got = r.got ∙ ap (λ n. take n recording.kept) (sym s.read);
   place = ap (λ n. recording.start + n) s.captured ∙ r.place;
-  whole = λ all. r.whole all ∙ ap (λ n. recorded_bytes device old.settings (recorded_frames pool recording.start) 0 n) (sym s.given)
+  whole = λ all. r.whole all ∙ ap (λ n. recorded_bytes device old.opening.settings (recorded_frames pool recording.start) 0 n) (sym s.given)
       ∙ ap (λ (settings : Settings). recorded_bytes device settings (recorded_frames pool recording.start) 0 new.given) (sym s.settings);
 }
 
@@ -113,11 +114,11 @@ valid-turned device pool desk event old new recording same t v = record {
 
 -- after a read
 read_at : (device : DeviceSeen) (pool : Pool) (handed fd count : ℕ) (book : RecordBook) (recording : Recording) → RecordingIsValid device pool handed book recording
-    → let new : RecordBook = record book { read = book.read + min count (fill_of book) } in
+    → let new : RecordBook = record book { read = book.read + min count (record_fill_of book) } in
     (running : is_running book.state ≡ true) → IsRecorded device pool handed new (handing book new recording)
 read_at device pool handed fd count book recording v running =
     let r = v.running running in
-    let m : ℕ = min count (fill_of book) in
+    let m : ℕ = min count (record_fill_of book) in
     let more : book.read + m - book.read ≡ m = omega arith in
     record {
       kept = r.kept;
@@ -132,7 +133,7 @@ read_at device pool handed fd count book recording v running =
 
 -- a record book that is within its limits and in order
 pub record IsGood (device : DeviceSeen) (book : RecordBook) : Type 0 where
-  pub rate : IsRate book.settings.rate
+  pub rate : IsRate book.opening.settings.rate
   pub safe : RecordIsSafe (record_rate_at device book) book
 
 -- an event that brings no frames and gets no bytes turns each record book so
@@ -152,7 +153,7 @@ all-with device desk at book turned slot g =
       | inr same ↦ subst (λ (b : RecordBook). Turned device (record_at device desk slot) b) (sym same) (turned-same device (record_at device desk slot) g.rate g.safe)
     ]
 
-turned-begun : (device : DeviceSeen) (old : RecordBook) (settings : Settings) → IsRate settings.rate → Turned device old (records.begun settings)
+turned-begun : (device : DeviceSeen) (old : RecordBook) (settings : Settings) → IsRate settings.rate → Turned device old (record_begun settings)
 turned-begun device old settings rate = record {
   rate = rate;
   safe = record-safe-begun (record_rate_between device settings) settings;
@@ -166,9 +167,9 @@ turned-closed device book g = record {
   counts = inr (record { captured = refl; given = refl; kept = refl; read = refl; stopped = refl });
 }
 
-turned-asked : (device : DeviceSeen) (request : Request) (book : RecordBook) → IsGood device book → Turned device book (record_requests.ask_turn request book).book
+turned-asked : (device : DeviceSeen) (request : Request) (book : RecordBook) → IsGood device book → Turned device book (record_ask request book).book
 turned-asked device request book g =
-    let new : RecordBook = (record_requests.ask_turn request book).book in
+    let new : RecordBook = (record_ask request book).book in
     record {
       rate = record-ask-rate request book g.rate;
       safe = record-safe-ask (record_rate_at device book) (record_rate_at device new) request book (λ e. ap (λ (s : Settings). record_rate_between device s) (record-ask-settings request book e)) g.safe;
@@ -177,20 +178,20 @@ turned-asked device request book g =
 
 all-open_record : (device : DeviceSeen) (found : Option ℕ) (desk : Desk) (fd : ℕ) (settings : Settings) → IsRate settings.rate → AllTurned device desk (open_record found desk fd settings).desk
 all-open_record device None desk fd settings rate = all-same device desk desk refl
-all-open_record device (Some at) desk fd settings rate = all-with device desk at (records.begun settings) (λ g. turned-begun device (record_at device desk at) settings rate)
+all-open_record device (Some at) desk fd settings rate = all-with device desk at (record_begun settings) (λ g. turned-begun device (record_at device desk at) settings rate)
 
 all-open_play : (device : DeviceSeen) (found : Option ℕ) (desk : Desk) (fd : ℕ) (settings : Settings) → AllTurned device desk (open_play found desk fd settings).desk
 all-open_play device None desk fd settings = all-same device desk desk refl
 all-open_play device (Some at) desk fd settings = all-same device desk (open_play (Some at) desk fd settings).desk refl
 
 all-open_way : (device : DeviceSeen) (desk : Desk) (fd : ℕ) (way : Way) (settings : Settings) → IsRate settings.rate
-    → AllTurned device desk (by_way way (open_play (least_free desk.play) desk fd settings) (open_record (least_free_record desk.recording) desk fd settings)).desk
-all-open_way device desk fd Play settings rate = all-open_play device (least_free desk.play) desk fd settings
-all-open_way device desk fd Rec settings rate = all-open_record device (least_free_record desk.recording) desk fd settings rate
+    → AllTurned device desk (by_way way (open_play (least_free_play desk.play) desk fd settings) (open_record (least_free_record desk.recording) desk fd settings)).desk
+all-open_way device desk fd Play settings rate = all-open_play device (least_free_play desk.play) desk fd settings
+all-open_way device desk fd Record settings rate = all-open_record device (least_free_record desk.recording) desk fd settings rate
 
 pub all-open : (device : DeviceSeen) (desk : Desk) (fd : ℕ) (way : Way) (settings : Settings) → IsRate settings.rate → AllTurned device desk (open_turn desk fd way settings).desk
 all-open device desk fd way settings rate =
-    elim (is_some (held_by desk fd)) as (λ (b : Bool). AllTurned device desk (cond {A = DeskTurn} b (refusing desk Exist) (by_way way (open_play (least_free desk.play) desk fd settings) (open_record (least_free_record desk.recording) desk fd settings))).desk) [
+    elim (is_some (held_by desk fd)) as (λ (b : Bool). AllTurned device desk (cond {A = DeskTurn} b (refusing desk Exist) (by_way way (open_play (least_free_play desk.play) desk fd settings) (open_record (least_free_record desk.recording) desk fd settings))).desk) [
       | true ↦ all-same device desk desk refl
       | false ↦ all-open_way device desk fd way settings rate
     ]
@@ -202,7 +203,7 @@ all-turning device desk play recording None p r = all-same device desk desk refl
 all-turning device desk play recording (Some held) p r =
     elim held.way as (λ (way : Way). AllTurned device desk (by_way way (play held.slot) (recording held.slot)).desk) [
       | Play ↦ p held.slot
-      | Rec ↦ r held.slot
+      | Record ↦ r held.slot
     ]
 
 pub all-write : (device : DeviceSeen) (held : Option Held) (desk : Desk) (count : ℕ) → AllTurned device desk (write_on device held desk count).desk
@@ -212,9 +213,9 @@ all-write device held desk count =
 
 pub all-ioctl : (device : DeviceSeen) (held : Option Held) (desk : Desk) (request : Request) → AllTurned device desk (ioctl_on device held desk request).desk
 all-ioctl device held desk request =
-    all-turning device desk (play_turn device (asking device request) desk) (record_turn device (record_requests.ask_turn request) desk) held
+    all-turning device desk (play_turn device (asking device request) desk) (record_turn device (record_ask request) desk) held
     (λ slot. all-same device desk (play_turn device (asking device request) desk slot).desk refl)
-    (λ slot. all-with device desk slot (record_requests.ask_turn request (record_at device desk slot)).book (turned-asked device request (record_at device desk slot)))
+    (λ slot. all-with device desk slot (record_ask request (record_at device desk slot)).book (turned-asked device request (record_at device desk slot)))
 
 pub all-close : (device : DeviceSeen) (held : Option Held) (desk : Desk) (fd : ℕ) → AllTurned device desk (close_on device held desk fd).desk
 all-close device held desk fd =
@@ -253,7 +254,7 @@ read-same device pool handed fd count book recording v = record {
 
 -- a read by its own channel
 read-own : (device : DeviceSeen) (pool : Pool) (handed fd count : ℕ) (empty : Bool) (book : RecordBook) (recording : Recording) → RecordingIsValid device pool handed book recording
-    → let new : RecordBook = (cond {A = records.RecordTurn} empty (record { book = book; reply = Err Again }) (record { book = record book { read = book.read + min count (fill_of book) }; reply = Ok (Got (min count (fill_of book))) })).book in
+    → let new : RecordBook = (cond {A = Turn RecordBook} empty (record { book = book; reply = Err Again }) (record { book = record book { read = book.read + min count (record_fill_of book) }; reply = Ok (Got (min count (record_fill_of book))) })).book in
     RecordIsSafe (record_rate_at device book) new
     → RecordingIsValid device pool handed new (cond (starts_recording book new) (recording_from handed) (handing book new recording))
 read-own device pool handed fd count true book recording v safe = read-same device pool handed fd count book recording v
@@ -274,7 +275,7 @@ read_desk device pool desk fd count at slot recording v =
     elim (record_at-with device desk at slot book) [
       | inl here ↦ subst Valid (sym here.1)
           (subst (λ (k : ℕ). Valid (read_turn count (record_at device desk k)).book) here.0
-          (read-own device pool desk.handed fd count (nat_lt 0 count && eqb (fill_of old) 0) old recording v (record-safe-read (record_rate_at device old) count old v.safe)))
+          (read-own device pool desk.handed fd count (nat_lt 0 count && eqb (record_fill_of old) 0) old recording v (record-safe-read (record_rate_at device old) count old v.safe)))
       | inr same ↦ subst Valid (sym same) (read-same device pool desk.handed fd count old recording v)
     ]
 
@@ -287,7 +288,7 @@ read_on_desk device pool (Some held) desk fd count slot recording v =
     let new : RecordBook = record_at device (by_way way (refusing desk Inval) (record_turn device (read_turn count) desk held.slot)).desk slot in
     RecordingIsValid device pool desk.handed new (recording_after device pool desk (Read fd count) (record_at device desk slot) new recording)) [
       | Play ↦ read-same device pool desk.handed fd count (record_at device desk slot) recording v
-      | Rec ↦ read_desk device pool desk fd count held.slot slot recording v
+      | Record ↦ read_desk device pool desk fd count held.slot slot recording v
     ]
 
 captured_at : (device : DeviceSeen) (pool : Pool) (handed n : ℕ) (state : RecordState) (book : RecordBook) (recording : Recording) → book.state ≡ state → IsDevice device → IsCaptureIn (device_settings device).layout pool
@@ -360,7 +361,7 @@ pub reads-front : (device : DeviceSeen) (pool : Pool) (events : List Event) (slo
     let book : RecordBook = record_at device story.desk slot in
     let recording : Recording = story.recordings slot in
     is_running book.state ≡ true → recording.whole ≡ true
-    → recording.got ≡ take book.read (recorded_bytes device book.settings (recorded_frames pool recording.start) 0 book.given)
+    → recording.got ≡ take book.read (recorded_bytes device book.opening.settings (recorded_frames pool recording.start) 0 book.given)
 reads-front device pool events slot d is fit running whole =
     let v = recordings_told_all device pool (story_at_start device) events d is fit (recordings-start device pool d) slot in
     let r = v.running running in

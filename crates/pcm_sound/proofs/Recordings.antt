@@ -38,7 +38,7 @@ use Rattle.pcm_desk.proofs.Ratios.{record-plan-between-fits}
 use Rattle.pcm_desk.specs.declared.record_book.RecordBook.{RecordBook}
 use Rattle.pcm_desk.specs.RecordBooks.{captures, coming, keeping}
 use Rattle.pcm_desk.specs.Desk.{record_rate_at}
-use Rattle.pcm_sound.specs.Plans.{recorded_bytes}
+use Rattle.pcm_sound.specs.Given.{recorded_bytes}
 use Rattle.pcm_sound.specs.Recordings.{Recording, keeps, loses, recorded_frames}
 use Rattle.pcm_sound.specs.Valid.{IsRecorded}
 use Rattle.pcm_sound.proofs.DeviceLists.{frames-channels}
@@ -129,15 +129,15 @@ recorded_frames-channels layout pool start is = All-drop (λ (frame : Frame). le
 -- ---- an interrupt
 
 -- an interrupt keeps what its book counts
-pub recorded-interrupt : (device : DeviceSeen) (pool : Pool) (handed n : ℕ) (book : RecordBook) (recording : Recording) → IsDevice device → IsRate book.settings.rate → IsCaptureIn (device_settings device).layout pool
+pub recorded-interrupt : (device : DeviceSeen) (pool : Pool) (handed n : ℕ) (book : RecordBook) (recording : Recording) → IsDevice device → IsRate book.opening.settings.rate → IsCaptureIn (device_settings device).layout pool
     → book.read ≤ book.kept → IsRecorded device pool handed book recording
     → IsRecorded device pool (handed + n) (captures (record_rate_at device book) n book) (keeps device pool n book recording)
 recorded-interrupt device pool handed n book recording d s is within v =
     let rate : Rate = record_rate_at device book in
     let x : List Frame = recorded_frames pool recording.start in
     let count : ℕ = keeping rate n book in
-    let more : List ℕ = recorded_bytes device book.settings x book.given count in
-    let long = length-recorded device book.settings x book.given count d s (recorded_frames-channels (device_settings device).layout pool recording.start is) in
+    let more : List ℕ = recorded_bytes device book.opening.settings x book.given count in
+    let long = length-recorded device book.opening.settings x book.given count d s (recorded_frames-channels (device_settings device).layout pool recording.start is) in
     record {
       kept = omega (arith, length-append recording.kept more, v.kept);
       got = v.got ∙ sym (take-append-le book.read recording.kept more (omega (arith, v.kept)));
@@ -147,7 +147,7 @@ recorded-interrupt device pool handed n book recording d s is within v =
           let some : coming rate n book ≤ count = grind (arith, nat_tests, both.1) in
           let same : count ≡ coming rate n book = omega arith in
           ap (λ front. front ++ more) (v.whole both.0)
-          ∙ ap (λ at. recorded_bytes device book.settings x 0 book.given ++ recorded_bytes device book.settings x at count) (sym (zero-add book.given))
-          ∙ sym (recorded-add device book.settings x 0 book.given count)
-          ∙ ap (λ k. recorded_bytes device book.settings x 0 (book.given + k)) same;
+          ∙ ap (λ at. recorded_bytes device book.opening.settings x 0 book.given ++ recorded_bytes device book.opening.settings x at count) (sym (zero-add book.given))
+          ∙ sym (recorded-add device book.opening.settings x 0 book.given count)
+          ∙ ap (λ k. recorded_bytes device book.opening.settings x 0 (book.given + k)) same;
     }

@@ -15,15 +15,17 @@ use Rattle.pcm_rate.specs.declared.rate.Rate.{Rate}
 use Rattle.pcm_rate.specs.Rates.{IsRatio, can, len}
 use Rattle.pcm_rate.proofs.Counts.{can-le-len, len_grows}
 use Rattle.pcm_feeder.specs.Limits.{IsRate}
-use Rattle.pcm_desk.specs.declared.book.Book.{Book}
-use Rattle.pcm_desk.specs.declared.book.State.{State}
-use Rattle.pcm_desk.specs.declared.book.State.TheVariants.{Free, Setup, Primed, Running, Draining}
-use Rattle.pcm_desk.specs.Device.{DeviceSeen, IsDevice, rate_between}
-use Rattle.pcm_desk.specs.Books.{BookTurn, is_draining, is_started, allowed_in, free_of, fragment_bytes, frames_written, fill_of, giving, gives, finished, accepting, started_in, write_turn, refilled}
-use Rattle.pcm_desk.specs.Safe.{BookIsSafe}
-use Rattle.pcm_desk.specs.Desk.{mixing, rate_at}
-use Rattle.pcm_desk.proofs.Safe.{full_at, grown, given-allowed}
-use Rattle.pcm_desk.proofs.Leaves.{Leaves, Stays, stays-same}
+use Rattle.pcm_desk.specs.declared.turn.Turn.{Turn}
+use Rattle.pcm_desk.specs.declared.play_book.PlayBook.{PlayBook}
+use Rattle.pcm_desk.specs.declared.play_book.PlayState.{PlayState}
+use Rattle.pcm_desk.specs.declared.play_book.PlayState.TheVariants.{Free, Setup, Primed, Running, Draining}
+use Rattle.pcm_desk.specs.Device.{DeviceSeen, IsDevice, play_rate_between}
+use Rattle.pcm_desk.specs.Openings.{fragment_bytes}
+use Rattle.pcm_desk.specs.PlayBooks.{accepting, allowed_in, finished, frames_written, gives, giving, is_draining, is_started, play_fill_of, play_free_of, refilled, started_in, write_turn}
+use Rattle.pcm_desk.specs.PlaySafe.{PlayIsSafe}
+use Rattle.pcm_desk.specs.Desk.{mixing, play_rate_at}
+use Rattle.pcm_desk.proofs.PlaySafe.{full_at, grown, given-allowed}
+use Rattle.pcm_desk.proofs.PlayLeaves.{Leaves, Stays, stays-same}
 use Rattle.pcm_desk.proofs.Ratios.{ratio-between}
 use Rattle.pcm_sound.specs.Runs.{Piece, Run, begun_run, piece_of, taking, playing, drops, ends, marked, marking, newest_bytes}
 use Rattle.pcm_sound.specs.Valid.{PieceIsValid, RunIsValid, HasRate, IsNewest, SlotIsValid, frames_given, given_in}
@@ -31,29 +33,29 @@ use Rattle.pcm_sound.specs.Valid.{PieceIsValid, RunIsValid, HasRate, IsNewest, S
 -- ---- what events do to a book that has something written
 
 -- once started a book stays so, and so it does once draining
-pub record GoesOn (old new : Book) : Type 0 where
+pub record GoesOn (old new : PlayBook) : Type 0 where
   pub plays : is_started old.state ≡ true → is_started new.state ≡ true
   pub drains : is_draining old.state ≡ true → is_draining new.state ≡ true
 
-goes_on_same : (old new : Book) → new.state ≡ old.state → GoesOn old new
+goes_on_same : (old new : PlayBook) → new.state ≡ old.state → GoesOn old new
 goes_on_same old new e = record { plays = λ h. ap is_started e ∙ h; drains = λ h. ap is_draining e ∙ h }
 
-draining_started : (state : State) → is_draining state ≡ true → is_started state ≡ true
+draining_started : (state : PlayState) → is_draining state ≡ true → is_started state ≡ true
 draining_started Free e = cc
 draining_started Setup e = cc
 draining_started Primed e = cc
 draining_started Running e = refl
 draining_started (Draining closed) e = refl
 
-goes_on_unstarted : (old new : Book) → is_started old.state ≡ false → GoesOn old new
+goes_on_unstarted : (old new : PlayBook) → is_started old.state ≡ false → GoesOn old new
 goes_on_unstarted old new e = record {
   plays = λ h. absurd (let not_so : true ≡ false = sym h ∙ e in cc);
   drains = λ h. absurd (let not_so : true ≡ false = sym (draining_started old.state h) ∙ e in cc);
 }
 
 -- what a write leaves of a book: `accepted` more bytes
-pub record Accepts (accepted : ℕ) (old new : Book) : Type 0 where
-  pub settings : new.settings ≡ old.settings
+pub record Accepts (accepted : ℕ) (old new : PlayBook) : Type 0 where
+  pub settings : new.opening.settings ≡ old.opening.settings
   pub eaten : new.eaten ≡ old.eaten
   pub given : new.given ≤ old.given
   pub given_same : old.given ≤ new.given
@@ -61,68 +63,68 @@ pub record Accepts (accepted : ℕ) (old new : Book) : Type 0 where
   pub started : (is_started old.state ≡ true → 0 < old.written) → is_started new.state ≡ true → 0 < new.written
   pub goes_on : GoesOn old new
 
-accepts_grown : (accepted : ℕ) (state : State) (old : Book) → ((is_started old.state ≡ true → 0 < old.written) → is_started state ≡ true → 0 < old.written + accepted) → GoesOn old (grown accepted state old)
+accepts_grown : (accepted : ℕ) (state : PlayState) (old : PlayBook) → ((is_started old.state ≡ true → 0 < old.written) → is_started state ≡ true → 0 < old.written + accepted) → GoesOn old (grown accepted state old)
     → Accepts accepted old (grown accepted state old)
 accepts_grown accepted state old h on = record { settings = refl; eaten = refl; given = omega arith; given_same = omega arith; written = refl; started = h; goes_on = on }
 
 -- a fragment that waits was written, and no fragment is empty
-filled : (book : Book) → nat_le (fragment_bytes book) (fill_of book) ≡ true → 0 < book.written
-filled book e = let some = pow_pos book.fragments.log in grind (arith, nat_tests)
+filled : (book : PlayBook) → nat_le (fragment_bytes book.opening) (play_fill_of book) ≡ true → 0 < book.written
+filled book e = let some = pow_pos book.opening.fragments.log in grind (arith, nat_tests)
 
-accepts_primed : (b : Bool) (accepted : ℕ) (old : Book) → is_started old.state ≡ false → full_at accepted old ≡ b
+accepts_primed : (b : Bool) (accepted : ℕ) (old : PlayBook) → is_started old.state ≡ false → full_at accepted old ≡ b
     → Accepts accepted old (cond b (grown accepted Running old) (grown accepted Primed old))
 accepts_primed true accepted old stopped e =
-    let more : Book = grown accepted Primed old in
-    let full = and_parts old.trigger (nat_le (fragment_bytes more) (fill_of more)) e in
+    let more : PlayBook = grown accepted Primed old in
+    let full = and_parts old.opening.trigger (nat_le (fragment_bytes more.opening) (play_fill_of more)) e in
     accepts_grown accepted Running old (λ h s. filled more full.1) (goes_on_unstarted old (grown accepted Running old) stopped)
 accepts_primed false accepted old stopped e = accepts_grown accepted Primed old (λ h s. cc) (goes_on_unstarted old (grown accepted Primed old) stopped)
 
-accepts_setup : (b : Bool) (accepted : ℕ) (old : Book) → is_started old.state ≡ false
-    → Accepts accepted old (let primed : Book = cond b (grown accepted Primed old) (grown accepted Setup old) in started_in primed.state primed)
+accepts_setup : (b : Bool) (accepted : ℕ) (old : PlayBook) → is_started old.state ≡ false
+    → Accepts accepted old (let primed : PlayBook = cond b (grown accepted Primed old) (grown accepted Setup old) in started_in primed.state primed)
 accepts_setup true accepted old stopped = accepts_primed (full_at accepted old) accepted old stopped refl
 accepts_setup false accepted old stopped = accepts_grown accepted Setup old (λ h s. cc) (goes_on_unstarted old (grown accepted Setup old) stopped)
 
-accepts_at : (accepted : ℕ) (state : State) (book : Book) → Accepts accepted (record book { state = state }) (accepting accepted (record book { state = state }))
-accepts_at accepted Free book = let old : Book = record book { state = Free } in accepts_grown accepted Free old (λ h s. cc) (goes_on_same old (grown accepted Free old) refl)
+accepts_at : (accepted : ℕ) (state : PlayState) (book : PlayBook) → Accepts accepted (record book { state = state }) (accepting accepted (record book { state = state }))
+accepts_at accepted Free book = let old : PlayBook = record book { state = Free } in accepts_grown accepted Free old (λ h s. cc) (goes_on_same old (grown accepted Free old) refl)
 accepts_at accepted Setup book = accepts_setup (nat_lt 0 (book.written + accepted)) accepted (record book { state = Setup }) refl
 accepts_at accepted Primed book = accepts_primed (full_at accepted (record book { state = Primed })) accepted (record book { state = Primed }) refl refl
 accepts_at accepted Running book =
-    let old : Book = record book { state = Running } in
+    let old : PlayBook = record book { state = Running } in
     accepts_grown accepted Running old (λ h s. let p = h refl in omega arith) (goes_on_same old (grown accepted Running old) refl)
 accepts_at accepted (Draining closed) book =
-    let old : Book = record book { state = Draining closed } in
+    let old : PlayBook = record book { state = Draining closed } in
     accepts_grown accepted (Draining closed) old (λ h s. let p = h refl in omega arith) (goes_on_same old (grown accepted (Draining closed) old) refl)
 
 -- an accepted write adds its bytes
-pub accepts : (accepted : ℕ) (book : Book) → Accepts accepted book (accepting accepted book)
+pub accepts : (accepted : ℕ) (book : PlayBook) → Accepts accepted book (accepting accepted book)
 accepts accepted book = accepts_at accepted book.state book
 
 -- nothing accepted leaves the book
-pub accepts_none : (book : Book) → Accepts 0 book book
+pub accepts_none : (book : PlayBook) → Accepts 0 book book
 accepts_none book = record { settings = refl; eaten = refl; given = omega arith; given_same = omega arith; written = omega arith; started = λ h s. h s; goes_on = goes_on_same book book refl }
 
 -- a write adds what it accepts, which is no more than it has, and nothing while the book drains
-pub record WritesSome (length : ℕ) (old new : Book) : Type 0 where
+pub record WritesSome (length : ℕ) (old new : PlayBook) : Type 0 where
   pub accepted : ℕ
   pub within : accepted ≤ length
   pub undrained : 0 < accepted → is_draining old.state ≡ false
   pub accepts : Accepts accepted old new
 
-pub writes-nothing : (length : ℕ) (book : Book) → WritesSome length book book
+pub writes-nothing : (length : ℕ) (book : PlayBook) → WritesSome length book book
 writes-nothing length book = record { accepted = 0; within = omega arith; undrained = λ h. absurd (omega arith); accepts = accepts_none book }
 
 -- a write to a book that doesn't drain
-write_undrained : (full : Bool) (length : ℕ) (book : Book) → is_draining book.state ≡ false
-    → WritesSome length book (cond {A = BookTurn} full (record { book = book; reply = Err Again }) (record { book = accepting (min length (free_of book)) book; reply = Ok (Number (min length (free_of book))) })).book
+write_undrained : (full : Bool) (length : ℕ) (book : PlayBook) → is_draining book.state ≡ false
+    → WritesSome length book (cond {A = Turn PlayBook} full (record { book = book; reply = Err Again }) (record { book = accepting (min length (play_free_of book)) book; reply = Ok (Number (min length (play_free_of book))) })).book
 write_undrained true length book more = writes-nothing length book
-write_undrained false length book more = record { accepted = min length (free_of book); within = omega arith; undrained = λ h. more; accepts = accepts (min length (free_of book)) book }
+write_undrained false length book more = record { accepted = min length (play_free_of book); within = omega arith; undrained = λ h. more; accepts = accepts (min length (play_free_of book)) book }
 
-write_turn-writes_at : (busy : Bool) (length : ℕ) (book : Book) → is_draining book.state ≡ busy
-    → WritesSome length book (cond {A = BookTurn} busy (record { book = book; reply = Err Busy }) (cond {A = BookTurn} (nat_lt 0 length && eqb (free_of book) 0) (record { book = book; reply = Err Again }) (record { book = accepting (min length (free_of book)) book; reply = Ok (Number (min length (free_of book))) }))).book
+write_turn-writes_at : (busy : Bool) (length : ℕ) (book : PlayBook) → is_draining book.state ≡ busy
+    → WritesSome length book (cond {A = Turn PlayBook} busy (record { book = book; reply = Err Busy }) (cond {A = Turn PlayBook} (nat_lt 0 length && eqb (play_free_of book) 0) (record { book = book; reply = Err Again }) (record { book = accepting (min length (play_free_of book)) book; reply = Ok (Number (min length (play_free_of book))) }))).book
 write_turn-writes_at true length book e = writes-nothing length book
-write_turn-writes_at false length book e = write_undrained (nat_lt 0 length && eqb (free_of book) 0) length book e
+write_turn-writes_at false length book e = write_undrained (nat_lt 0 length && eqb (play_free_of book) 0) length book e
 
-pub write_turn-writes : (length : ℕ) (book : Book) → WritesSome length book (write_turn length book).book
+pub write_turn-writes : (length : ℕ) (book : PlayBook) → WritesSome length book (write_turn length book).book
 write_turn-writes length book = write_turn-writes_at (is_draining book.state) length book refl
 
 -- ---- how many frames a run gives
@@ -143,7 +145,7 @@ frames_given-drained rate false true n r h = can-le-len rate n r.src
 frames_given-drained rate false false n r h = omega arith
 
 -- what a started book allows is what its run gives
-frames_given-allowed : (state : State) (rate : Rate) (book : Book) → is_started state ≡ true → allowed_in rate state book ≡ frames_given rate (is_draining state) (frames_written book)
+frames_given-allowed : (state : PlayState) (rate : Rate) (book : PlayBook) → is_started state ≡ true → allowed_in rate state book ≡ frames_given rate (is_draining state) (frames_written book)
 frames_given-allowed Free rate book e = cc
 frames_given-allowed Setup rate book e = cc
 frames_given-allowed Primed rate book e = cc
@@ -163,25 +165,25 @@ later_pieces mixed later most more pieces h g v = All-weaker (PieceIsValid mixed
 -- ---- the runs of a slot, before an event is told of them
 
 -- the newest run has the bytes that a book counts, and is marked as drained or not
-abbrev pub IsCarried : Bool → Book → List Run → Type 0
+abbrev pub IsCarried : Bool → PlayBook → List Run → Type 0
 IsCarried drained book [] = ⊥
-IsCarried drained book (run ∷ runs) = (run.settings ≡ book.settings) × (length run.bytes ≡ book.written) × (run.drained ≡ drained)
+IsCarried drained book (run ∷ runs) = (run.settings ≡ book.opening.settings) × (length run.bytes ≡ book.written) × (run.drained ≡ drained)
 
 -- A slot's book after an event, and its runs before the event is told of them: the newest is marked as the old book was.
-pub record IsUntold (device : DeviceSeen) (mixed : ℕ) (old new : Book) (runs : List Run) : Type 0 where
-  pub settings : IsRate new.settings.rate
+pub record IsUntold (device : DeviceSeen) (mixed : ℕ) (old new : PlayBook) (runs : List Run) : Type 0 where
+  pub settings : IsRate new.opening.settings.rate
   pub started : is_started new.state ≡ true → 0 < new.written
   pub goes_on : 0 < new.written → GoesOn old new
   pub newest : 0 < new.written → IsCarried (is_draining old.state) new runs
   pub pieces : All (RunIsValid device mixed) runs
   pub own : All HasRate runs
 
-carried_newest : (old new : Book) (runs : List Run) → new.settings ≡ old.settings → new.written ≡ old.written → IsNewest old runs → IsCarried (is_draining old.state) new runs
+carried_newest : (old new : PlayBook) (runs : List Run) → new.opening.settings ≡ old.opening.settings → new.written ≡ old.written → IsNewest old runs → IsCarried (is_draining old.state) new runs
 carried_newest old new [] settings written h = h
 carried_newest old new (run ∷ runs) settings written h = (h.0 ∙ sym settings, h.1 ∙ sym written, h.2)
 
 -- a book whose counts stay
-untold_stays : (device : DeviceSeen) (mixed : ℕ) (old new : Book) (runs : List Run) → Stays old new → IsRate new.settings.rate → SlotIsValid device mixed old runs → IsUntold device mixed old new runs
+untold_stays : (device : DeviceSeen) (mixed : ℕ) (old new : PlayBook) (runs : List Run) → Stays old new → IsRate new.opening.settings.rate → SlotIsValid device mixed old runs → IsUntold device mixed old new runs
 untold_stays device mixed old new runs s rate v = record {
   settings = rate;
   started = s.starts v.started;
@@ -192,11 +194,11 @@ untold_stays device mixed old new runs s rate v = record {
 }
 
 -- an event that leaves the book
-pub untold-same : (device : DeviceSeen) (mixed : ℕ) (book : Book) (runs : List Run) → SlotIsValid device mixed book runs → IsUntold device mixed book book runs
+pub untold-same : (device : DeviceSeen) (mixed : ℕ) (book : PlayBook) (runs : List Run) → SlotIsValid device mixed book runs → IsUntold device mixed book book runs
 untold-same device mixed book runs v = untold_stays device mixed book book runs (stays-same book) v.settings v
 
 -- a book with nothing written is valid over any runs of the past
-pub untold-empty : (device : DeviceSeen) (mixed : ℕ) (old new : Book) (runs : List Run) → new.written ≡ 0 → is_started new.state ≡ false → IsRate new.settings.rate → All (RunIsValid device mixed) runs → All HasRate runs
+pub untold-empty : (device : DeviceSeen) (mixed : ℕ) (old new : PlayBook) (runs : List Run) → new.written ≡ 0 → is_started new.state ≡ false → IsRate new.opening.settings.rate → All (RunIsValid device mixed) runs → All HasRate runs
     → IsUntold device mixed old new runs
 untold-empty device mixed old new runs none stopped settings pieces own = record {
   settings = settings;
@@ -222,18 +224,18 @@ still_drained : (drained a b : Bool) → drained ≡ true → (drained || a || b
 still_drained true a b e = refl
 still_drained false a b e = cc
 
-marked_pieces : (device : DeviceSeen) (mixed position : ℕ) (event : Event) (old new : Book) (run : Run) → IsDevice device → HasRate run → RunIsValid device mixed run → RunIsValid device mixed (marked position event old new run)
+marked_pieces : (device : DeviceSeen) (mixed position : ℕ) (event : Event) (old new : PlayBook) (run : Run) → IsDevice device → HasRate run → RunIsValid device mixed run → RunIsValid device mixed (marked position event old new run)
 marked_pieces device mixed position event old new run d s v =
     later_pieces mixed mixed (given_in device run) (given_in device (marked position event old new run)) run.pieces (omega arith)
-    (frames_given-drained (rate_between device run.settings) run.drained (marked position event old new run).drained (whole_frames run.settings (length run.bytes)) (ratio-between device run.settings d s)
+    (frames_given-drained (play_rate_between device run.settings) run.drained (marked position event old new run).drained (whole_frames run.settings (length run.bytes)) (ratio-between device run.settings d s)
     (still_drained run.drained (is_draining new.state) (ends old new && not (drops event)))) v
 
-marked_newest : (position : ℕ) (event : Event) (old new : Book) (run : Run) (runs : List Run) → GoesOn old new → IsCarried (is_draining old.state) new (run ∷ runs) → IsNewest new (marked position event old new run ∷ runs)
+marked_newest : (position : ℕ) (event : Event) (old new : PlayBook) (run : Run) (runs : List Run) → GoesOn old new → IsCarried (is_draining old.state) new (run ∷ runs) → IsNewest new (marked position event old new run ∷ runs)
 marked_newest position event old new run runs on c =
     (c.0, c.1, marked_drained run.drained (is_draining new.state) (is_started old.state) (is_started new.state) (not (drops event)) (λ e. on.drains (sym c.2 ∙ e)) on.plays)
 
 -- a slot is valid once the event was told of its newest run
-pub valid-marking : (device : DeviceSeen) (mixed position : ℕ) (event : Event) (old new : Book) (runs : List Run) → IsDevice device → IsUntold device mixed old new runs → SlotIsValid device mixed new (marking position event old new runs)
+pub valid-marking : (device : DeviceSeen) (mixed position : ℕ) (event : Event) (old new : PlayBook) (runs : List Run) → IsDevice device → IsUntold device mixed old new runs → SlotIsValid device mixed new (marking position event old new runs)
 valid-marking device mixed position event old new [] d u = record {
   settings = u.settings;
   started = u.started;
@@ -256,18 +258,18 @@ valid-marking device mixed position event old new (run ∷ runs) d u =
 
 given_in-longer : (device : DeviceSeen) (run : Run) (more : List ℕ) → IsDevice device → HasRate run → given_in device run ≤ given_in device (record run { bytes = run.bytes ++ more })
 given_in-longer device run more d s =
-    frames_given-grows (rate_between device run.settings) run.drained (whole_frames run.settings (length run.bytes)) (whole_frames run.settings (length (run.bytes ++ more))) (ratio-between device run.settings d s)
+    frames_given-grows (play_rate_between device run.settings) run.drained (whole_frames run.settings (length run.bytes)) (whole_frames run.settings (length (run.bytes ++ more))) (ratio-between device run.settings d s)
     (whole_frames-mono run.settings (length run.bytes) (length (run.bytes ++ more)) (omega (arith, length-append run.bytes more)))
 
 longer : (device : DeviceSeen) (mixed : ℕ) (run : Run) (more : List ℕ) → IsDevice device → HasRate run → RunIsValid device mixed run → RunIsValid device mixed (record run { bytes = run.bytes ++ more })
 longer device mixed run more d s v =
     later_pieces mixed mixed (given_in device run) (given_in device (record run { bytes = run.bytes ++ more })) run.pieces (omega arith) (given_in-longer device run more d s) v
 
-no_pieces : (device : DeviceSeen) (mixed : ℕ) (book : Book) (bytes : List ℕ) → RunIsValid device mixed (begun_run book bytes)
+no_pieces : (device : DeviceSeen) (mixed : ℕ) (book : PlayBook) (bytes : List ℕ) → RunIsValid device mixed (begun_run book bytes)
 no_pieces device mixed book bytes = All-nil (PieceIsValid mixed (given_in device (begun_run book bytes)))
 
 -- the pieces of a slot stay valid once more bytes came
-pub taking-pieces : (device : DeviceSeen) (mixed : ℕ) (bytes : List ℕ) (book : Book) (runs : List Run) → IsDevice device → All HasRate runs → All (RunIsValid device mixed) runs → All (RunIsValid device mixed) (taking bytes book runs)
+pub taking-pieces : (device : DeviceSeen) (mixed : ℕ) (bytes : List ℕ) (book : PlayBook) (runs : List Run) → IsDevice device → All HasRate runs → All (RunIsValid device mixed) runs → All (RunIsValid device mixed) (taking bytes book runs)
 taking-pieces device mixed [] book runs d s v = v
 taking-pieces device mixed (byte ∷ bytes) book [] d s v = All-cons (RunIsValid device mixed) _ [] (no_pieces device mixed book (byte ∷ bytes)) v
 taking-pieces device mixed (byte ∷ bytes) book (run ∷ runs) d s v =
@@ -282,7 +284,7 @@ pub none_above : (n : ℕ) → (0 < n → ⊥) → n ≡ 0
 none_above zero h = refl
 none_above (suc n) h = absurd (h (omega arith))
 
-newest_at : (b : Bool) (byte : ℕ) (bytes : List ℕ) (old new : Book) (run : Run) (runs : List Run) → eqb old.written 0 ≡ b → Accepts (length (byte ∷ bytes)) old new → is_draining old.state ≡ false
+newest_at : (b : Bool) (byte : ℕ) (bytes : List ℕ) (old new : PlayBook) (run : Run) (runs : List Run) → eqb old.written 0 ≡ b → Accepts (length (byte ∷ bytes)) old new → is_draining old.state ≡ false
     → (0 < old.written → IsNewest old (run ∷ runs))
     → IsCarried (is_draining old.state) new (cond b (begun_run old (byte ∷ bytes) ∷ run ∷ runs) (record run { bytes = run.bytes ++ byte ∷ bytes } ∷ runs))
 newest_at true byte bytes old new run runs e a more newest = let w = a.written in (sym a.settings, grind (arith, nat_tests), sym more)
@@ -293,7 +295,7 @@ newest_at false byte bytes old new run runs e a more newest =
     (n.0 ∙ sym a.settings, omega (arith, n.1, length-append run.bytes (byte ∷ bytes)), n.2)
 
 -- the newest run has the bytes that were written
-pub taking-newest : (bytes : List ℕ) (old new : Book) (runs : List Run) → Accepts (length bytes) old new → (0 < length bytes → is_draining old.state ≡ false) → (0 < old.written → IsNewest old runs) → 0 < new.written
+pub taking-newest : (bytes : List ℕ) (old new : PlayBook) (runs : List Run) → Accepts (length bytes) old new → (0 < length bytes → is_draining old.state ≡ false) → (0 < old.written → IsNewest old runs) → 0 < new.written
     → IsCarried (is_draining old.state) new (taking bytes old runs)
 taking-newest [] old new [] a more newest h = let w = a.written in newest (omega arith)
 taking-newest [] old new (run ∷ runs) a more newest h =
@@ -307,7 +309,7 @@ taking-newest (byte ∷ bytes) old new [] a more newest h =
 taking-newest (byte ∷ bytes) old new (run ∷ runs) a more newest h = newest_at (eqb old.written 0) byte bytes old new run runs refl a (more (omega arith)) newest
 
 -- the runs of a slot keep their rates
-pub taking-own : (bytes : List ℕ) (book : Book) (runs : List Run) → IsRate book.settings.rate → All HasRate runs → All HasRate (taking bytes book runs)
+pub taking-own : (bytes : List ℕ) (book : PlayBook) (runs : List Run) → IsRate book.opening.settings.rate → All HasRate runs → All HasRate (taking bytes book runs)
 taking-own [] book runs s v = v
 taking-own (byte ∷ bytes) book [] s v = All-cons HasRate (begun_run book (byte ∷ bytes)) [] s v
 taking-own (byte ∷ bytes) book (run ∷ runs) s v =
@@ -317,7 +319,7 @@ taking-own (byte ∷ bytes) book (run ∷ runs) s v =
     ]
 
 -- a slot stays valid when its book accepts bytes
-pub untold-taking : (device : DeviceSeen) (mixed : ℕ) (bytes : List ℕ) (old new : Book) (runs : List Run) → IsDevice device → Accepts (length bytes) old new → (0 < length bytes → is_draining old.state ≡ false)
+pub untold-taking : (device : DeviceSeen) (mixed : ℕ) (bytes : List ℕ) (old new : PlayBook) (runs : List Run) → IsDevice device → Accepts (length bytes) old new → (0 < length bytes → is_draining old.state ≡ false)
     → SlotIsValid device mixed old runs → IsUntold device mixed old new (taking bytes old runs)
 untold-taking device mixed bytes old new runs d a more v = record {
   settings = subst (λ (settings : Settings). IsRate settings.rate) (sym a.settings) v.settings;
@@ -331,7 +333,7 @@ untold-taking device mixed bytes old new runs d a more v = record {
 -- ---- a close, a request
 
 -- a slot stays valid where the counts of its book stay, or nothing of its run
-pub untold-leaves : (device : DeviceSeen) (mixed : ℕ) (old new : Book) (runs : List Run) → Leaves old new → IsRate new.settings.rate → SlotIsValid device mixed old runs → IsUntold device mixed old new runs
+pub untold-leaves : (device : DeviceSeen) (mixed : ℕ) (old new : PlayBook) (runs : List Run) → Leaves old new → IsRate new.opening.settings.rate → SlotIsValid device mixed old runs → IsUntold device mixed old new runs
 untold-leaves device mixed old new runs l rate v =
     elim l.counts [
       | inl kept ↦ untold_stays device mixed old new runs kept rate v
@@ -341,23 +343,23 @@ untold-leaves device mixed old new runs l rate v =
 -- ---- an interrupt
 
 -- the newest run gives what its book allows
-given_in-newest : (device : DeviceSeen) (book : Book) (run : Run) (runs : List Run) → IsNewest book (run ∷ runs) → given_in device run ≡ frames_given (rate_at device book) (is_draining book.state) (frames_written book)
+given_in-newest : (device : DeviceSeen) (book : PlayBook) (run : Run) (runs : List Run) → IsNewest book (run ∷ runs) → given_in device run ≡ frames_given (play_rate_at device book) (is_draining book.state) (frames_written book)
 given_in-newest device book run runs newest =
-    ap (λ (settings : Settings). frames_given (rate_between device settings) run.drained (whole_frames settings (length run.bytes))) newest.0
-    ∙ ap (λ bytes. frames_given (rate_at device book) run.drained (whole_frames book.settings bytes)) newest.1
-    ∙ ap (λ (drained : Bool). frames_given (rate_at device book) drained (frames_written book)) newest.2
+    ap (λ (settings : Settings). frames_given (play_rate_between device settings) run.drained (whole_frames settings (length run.bytes))) newest.0
+    ∙ ap (λ bytes. frames_given (play_rate_at device book) run.drained (whole_frames book.opening.settings bytes)) newest.1
+    ∙ ap (λ (drained : Bool). frames_given (play_rate_at device book) drained (frames_written book)) newest.2
 
 given_within : (given n most : ℕ) → given ≤ most → given + min n (most - given) ≤ most
 given_within given n most h = omega arith
 
-piece-valid : (device : DeviceSeen) (mixed n : ℕ) (book : Book) (run : Run) (runs : List Run) → IsDevice device → is_started book.state ≡ true → BookIsSafe (rate_at device book) book → SlotIsValid device mixed book (run ∷ runs)
+piece-valid : (device : DeviceSeen) (mixed n : ℕ) (book : PlayBook) (run : Run) (runs : List Run) → IsDevice device → is_started book.state ≡ true → PlayIsSafe (play_rate_at device book) book → SlotIsValid device mixed book (run ∷ runs)
     → PieceIsValid (mixed + n) (given_in device run) (piece_of device mixed n book)
 piece-valid device mixed n book run runs d e safe v =
-    let rate : Rate = rate_at device book in
+    let rate : Rate = play_rate_at device book in
     let count : ℕ = giving rate n book in
     let same : given_in device run ≡ allowed_in rate book.state book =
     given_in-newest device book run runs (v.newest (v.started e)) ∙ sym (frames_given-allowed book.state rate book e) in
-    let gave = given-allowed book.state rate book (ratio-between device book.settings d v.settings) e safe.order in
+    let gave = given-allowed book.state rate book (ratio-between device book.opening.settings d v.settings) e safe.order in
     record {
       past = omega arith;
       inside = subst (λ most. book.given + count ≤ most) (sym same) (given_within book.given n (allowed_in rate book.state book) gave);
@@ -367,7 +369,7 @@ later_runs : (device : DeviceSeen) (mixed n : ℕ) (runs : List Run) → All (Ru
 later_runs device mixed n runs v =
     All-weaker (RunIsValid device mixed) (RunIsValid device (mixed + n)) (λ run r. later_pieces mixed (mixed + n) (given_in device run) (given_in device run) run.pieces (omega arith) (omega arith) r) runs v
 
-playing-pieces_at : (b : Bool) (device : DeviceSeen) (mixed n : ℕ) (book : Book) (run : Run) (runs : List Run) → IsDevice device → (b ≡ true → is_started book.state ≡ true) → BookIsSafe (rate_at device book) book → SlotIsValid device mixed book (run ∷ runs)
+playing-pieces_at : (b : Bool) (device : DeviceSeen) (mixed n : ℕ) (book : PlayBook) (run : Run) (runs : List Run) → IsDevice device → (b ≡ true → is_started book.state ≡ true) → PlayIsSafe (play_rate_at device book) book → SlotIsValid device mixed book (run ∷ runs)
     → All (RunIsValid device (mixed + n)) (cond b (record run { pieces = piece_of device mixed n book ∷ run.pieces } ∷ runs) (run ∷ runs))
 playing-pieces_at true device mixed n book run runs d e safe v =
     let later = later_runs device mixed n (run ∷ runs) v.pieces in
@@ -377,14 +379,14 @@ playing-pieces_at true device mixed n book run runs d e safe v =
 playing-pieces_at false device mixed n book run runs d e safe v = later_runs device mixed n (run ∷ runs) v.pieces
 
 -- the pieces of a slot stay valid through an interrupt
-pub playing-pieces : (device : DeviceSeen) (mixed n : ℕ) (book : Book) (runs : List Run) → IsDevice device → BookIsSafe (rate_at device book) book → SlotIsValid device mixed book runs
+pub playing-pieces : (device : DeviceSeen) (mixed n : ℕ) (book : PlayBook) (runs : List Run) → IsDevice device → PlayIsSafe (play_rate_at device book) book → SlotIsValid device mixed book runs
     → All (RunIsValid device (mixed + n)) (playing device mixed n book runs)
 playing-pieces device mixed n book [] d safe v = All-nil (RunIsValid device (mixed + n))
 playing-pieces device mixed n book (run ∷ runs) d safe v =
     playing-pieces_at (is_started book.state && nat_lt 0 n) device mixed n book run runs d (λ e. (and_parts (is_started book.state) (nat_lt 0 n) e).0) safe v
 
 -- the runs of a slot keep their rates through an interrupt
-pub playing-own : (device : DeviceSeen) (mixed n : ℕ) (book : Book) (runs : List Run) → All HasRate runs → All HasRate (playing device mixed n book runs)
+pub playing-own : (device : DeviceSeen) (mixed n : ℕ) (book : PlayBook) (runs : List Run) → All HasRate runs → All HasRate (playing device mixed n book runs)
 playing-own device mixed n book [] v = v
 playing-own device mixed n book (run ∷ runs) v =
     elim (is_started book.state && nat_lt 0 n) as (λ (b : Bool). All HasRate (cond b (record run { pieces = piece_of device mixed n book ∷ run.pieces } ∷ runs) (run ∷ runs))) [
@@ -393,7 +395,7 @@ playing-own device mixed n book (run ∷ runs) v =
     ]
 
 -- the newest run keeps its bytes and marks through an interrupt
-pub playing-newest : (device : DeviceSeen) (mixed n : ℕ) (old new : Book) (runs : List Run) → new.settings ≡ old.settings → new.written ≡ old.written → IsNewest old runs
+pub playing-newest : (device : DeviceSeen) (mixed n : ℕ) (old new : PlayBook) (runs : List Run) → new.opening.settings ≡ old.opening.settings → new.written ≡ old.written → IsNewest old runs
     → IsCarried (is_draining old.state) new (playing device mixed n old runs)
 playing-newest device mixed n old new [] s w h = h
 playing-newest device mixed n old new (run ∷ runs) s w h =
@@ -403,8 +405,8 @@ playing-newest device mixed n old new (run ∷ runs) s w h =
     ]
 
 -- a book with other counts is valid over the runs of an interrupt
-untold_played : (device : DeviceSeen) (mixed n : ℕ) (old new : Book) (runs : List Run) → IsDevice device → BookIsSafe (rate_at device old) old → SlotIsValid device mixed old runs
-    → new.settings ≡ old.settings → new.written ≡ old.written → (is_started new.state ≡ true → 0 < new.written) → GoesOn old new → IsUntold device (mixed + n) old new (playing device mixed n old runs)
+untold_played : (device : DeviceSeen) (mixed n : ℕ) (old new : PlayBook) (runs : List Run) → IsDevice device → PlayIsSafe (play_rate_at device old) old → SlotIsValid device mixed old runs
+    → new.opening.settings ≡ old.opening.settings → new.written ≡ old.written → (is_started new.state ≡ true → 0 < new.written) → GoesOn old new → IsUntold device (mixed + n) old new (playing device mixed n old runs)
 untold_played device mixed n old new runs d safe v settings written started on = record {
   settings = subst (λ (s : Settings). IsRate s.rate) (sym settings) v.settings;
   started = started;
@@ -415,45 +417,45 @@ untold_played device mixed n old new runs d safe v settings written started on =
 }
 
 -- with nothing written
-untold_ended : (device : DeviceSeen) (mixed n : ℕ) (old new : Book) (runs : List Run) → IsDevice device → BookIsSafe (rate_at device old) old → SlotIsValid device mixed old runs
-    → new.settings ≡ old.settings → new.written ≡ 0 → is_started new.state ≡ false → IsUntold device (mixed + n) old new (playing device mixed n old runs)
+untold_ended : (device : DeviceSeen) (mixed n : ℕ) (old new : PlayBook) (runs : List Run) → IsDevice device → PlayIsSafe (play_rate_at device old) old → SlotIsValid device mixed old runs
+    → new.opening.settings ≡ old.opening.settings → new.written ≡ 0 → is_started new.state ≡ false → IsUntold device (mixed + n) old new (playing device mixed n old runs)
 untold_ended device mixed n old new runs d safe v settings none stopped =
     untold-empty device (mixed + n) old new (playing device mixed n old runs) none stopped (subst (λ (s : Settings). IsRate s.rate) (sym settings) v.settings)
     (playing-pieces device mixed n old runs d safe v) (playing-own device mixed n old runs v.own)
 
-untold_refilled_draining : (b closed : Bool) (device : DeviceSeen) (mixed n : ℕ) (book : Book) (runs : List Run) → IsDevice device → BookIsSafe (rate_at device book) (record book { state = Draining closed })
+untold_refilled_draining : (b closed : Bool) (device : DeviceSeen) (mixed n : ℕ) (book : PlayBook) (runs : List Run) → IsDevice device → PlayIsSafe (play_rate_at device book) (record book { state = Draining closed })
     → SlotIsValid device mixed (record book { state = Draining closed }) runs
-    → (let old : Book = record book { state = Draining closed } in let given : Book = gives (rate_at device book) n old in
+    → (let old : PlayBook = record book { state = Draining closed } in let given : PlayBook = gives (play_rate_at device book) n old in
     IsUntold device (mixed + n) old (cond b (finished (cond closed Free Setup) given) given) (playing device mixed n old runs))
 untold_refilled_draining true true device mixed n book runs d safe v =
-    let old : Book = record book { state = Draining true } in
-    untold_ended device mixed n old (finished Free (gives (rate_at device book) n old)) runs d safe v refl refl refl
+    let old : PlayBook = record book { state = Draining true } in
+    untold_ended device mixed n old (finished Free (gives (play_rate_at device book) n old)) runs d safe v refl refl refl
 untold_refilled_draining true false device mixed n book runs d safe v =
-    let old : Book = record book { state = Draining false } in
-    untold_ended device mixed n old (finished Setup (gives (rate_at device book) n old)) runs d safe v refl refl refl
+    let old : PlayBook = record book { state = Draining false } in
+    untold_ended device mixed n old (finished Setup (gives (play_rate_at device book) n old)) runs d safe v refl refl refl
 untold_refilled_draining false closed device mixed n book runs d safe v =
-    let old : Book = record book { state = Draining closed } in
-    let given : Book = gives (rate_at device book) n old in
+    let old : PlayBook = record book { state = Draining closed } in
+    let given : PlayBook = gives (play_rate_at device book) n old in
     untold_played device mixed n old given runs d safe v refl refl (λ e. v.started refl) (goes_on_same old given refl)
 
-untold_refilled_at : (state : State) (device : DeviceSeen) (mixed n : ℕ) (book : Book) (runs : List Run) → IsDevice device → BookIsSafe (rate_at device book) (record book { state = state }) → SlotIsValid device mixed (record book { state = state }) runs
-    → IsUntold device (mixed + n) (record book { state = state }) (refilled (rate_at device book) n (record book { state = state })) (playing device mixed n (record book { state = state }) runs)
+untold_refilled_at : (state : PlayState) (device : DeviceSeen) (mixed n : ℕ) (book : PlayBook) (runs : List Run) → IsDevice device → PlayIsSafe (play_rate_at device book) (record book { state = state }) → SlotIsValid device mixed (record book { state = state }) runs
+    → IsUntold device (mixed + n) (record book { state = state }) (refilled (play_rate_at device book) n (record book { state = state })) (playing device mixed n (record book { state = state }) runs)
 untold_refilled_at Free device mixed n book runs d safe v =
-    let old : Book = record book { state = Free } in untold_played device mixed n old old runs d safe v refl refl (λ e. cc) (goes_on_same old old refl)
+    let old : PlayBook = record book { state = Free } in untold_played device mixed n old old runs d safe v refl refl (λ e. cc) (goes_on_same old old refl)
 untold_refilled_at Setup device mixed n book runs d safe v =
-    let old : Book = record book { state = Setup } in untold_played device mixed n old old runs d safe v refl refl (λ e. cc) (goes_on_same old old refl)
+    let old : PlayBook = record book { state = Setup } in untold_played device mixed n old old runs d safe v refl refl (λ e. cc) (goes_on_same old old refl)
 untold_refilled_at Primed device mixed n book runs d safe v =
-    let old : Book = record book { state = Primed } in untold_played device mixed n old old runs d safe v refl refl (λ e. cc) (goes_on_same old old refl)
+    let old : PlayBook = record book { state = Primed } in untold_played device mixed n old old runs d safe v refl refl (λ e. cc) (goes_on_same old old refl)
 untold_refilled_at Running device mixed n book runs d safe v =
-    let old : Book = record book { state = Running } in
-    let new : Book = refilled (rate_at device book) n old in
+    let old : PlayBook = record book { state = Running } in
+    let new : PlayBook = refilled (play_rate_at device book) n old in
     untold_played device mixed n old new runs d safe v refl refl (λ e. v.started refl) (goes_on_same old new refl)
 untold_refilled_at (Draining closed) device mixed n book runs d safe v =
-    let given : Book = gives (rate_at device book) n (record book { state = Draining closed }) in
-    untold_refilled_draining (eqb given.given (len (rate_at device book) (frames_written given))) closed device mixed n book runs d safe v
+    let given : PlayBook = gives (play_rate_at device book) n (record book { state = Draining closed }) in
+    untold_refilled_draining (eqb given.given (len (play_rate_at device book) (frames_written given))) closed device mixed n book runs d safe v
 
 -- a slot stays valid through an interrupt
-pub untold-mixing : (device : DeviceSeen) (mixed n : ℕ) (book : Book) (runs : List Run) → IsDevice device → BookIsSafe (rate_at device book) book → SlotIsValid device mixed book runs
+pub untold-mixing : (device : DeviceSeen) (mixed n : ℕ) (book : PlayBook) (runs : List Run) → IsDevice device → PlayIsSafe (play_rate_at device book) book → SlotIsValid device mixed book runs
     → IsUntold device (mixed + n) book (mixing device n book) (playing device mixed n book runs)
 untold-mixing device mixed zero book runs d safe v = untold_played device mixed 0 book book runs d safe v refl refl v.started (goes_on_same book book refl)
 untold-mixing device mixed (suc n) book runs d safe v = untold_refilled_at book.state device mixed (suc n) book runs d safe v
@@ -461,12 +463,12 @@ untold-mixing device mixed (suc n) book runs d safe v = untold_refilled_at book.
 -- ---- the bytes of the newest run
 
 -- marks keep them
-pub newest_bytes-marking : (position : ℕ) (event : Event) (old new : Book) (runs : List Run) → newest_bytes (marking position event old new runs) ≡ newest_bytes runs
+pub newest_bytes-marking : (position : ℕ) (event : Event) (old new : PlayBook) (runs : List Run) → newest_bytes (marking position event old new runs) ≡ newest_bytes runs
 newest_bytes-marking position event old new [] = refl
 newest_bytes-marking position event old new (run ∷ runs) = refl
 
 -- and so does an interrupt
-pub newest_bytes-playing : (device : DeviceSeen) (position n : ℕ) (book : Book) (runs : List Run) → newest_bytes (playing device position n book runs) ≡ newest_bytes runs
+pub newest_bytes-playing : (device : DeviceSeen) (position n : ℕ) (book : PlayBook) (runs : List Run) → newest_bytes (playing device position n book runs) ≡ newest_bytes runs
 newest_bytes-playing device position n book [] = refl
 newest_bytes-playing device position n book (run ∷ runs) =
     elim (is_started book.state && nat_lt 0 n) as (λ (b : Bool). newest_bytes (cond b (record run { pieces = piece_of device position n book ∷ run.pieces } ∷ runs) (run ∷ runs)) ≡ run.bytes) [ true ↦ refl | false ↦ refl ]

@@ -15,11 +15,11 @@ use Rattle.pcm_feeder.specs.declared.stage.Gain.{Gain}
 use Rattle.pcm_feeder.specs.Limits.{IsRate}
 use Rattle.pcm_plan.proofs.Through.{out-append}
 use Rattle.pcm_desk.proofs.Ratios.{plan-between-fits}
-use Rattle.pcm_desk.specs.declared.book.Book.{Book}
-use Rattle.pcm_desk.specs.Device.{DeviceSeen, IsDevice, filters_of, plan_between, rate_between}
-use Rattle.pcm_desk.specs.Books.{giving, is_draining, is_started}
-use Rattle.pcm_desk.specs.Desk.{rate_at}
-use Rattle.pcm_sound.specs.Plans.{given_frame}
+use Rattle.pcm_desk.specs.declared.play_book.PlayBook.{PlayBook}
+use Rattle.pcm_desk.specs.Device.{DeviceSeen, IsDevice, filters_of, play_plan_between, play_rate_between}
+use Rattle.pcm_desk.specs.PlayBooks.{giving, is_draining, is_started}
+use Rattle.pcm_desk.specs.Desk.{play_rate_at}
+use Rattle.pcm_sound.specs.Given.{given_frame}
 use Rattle.pcm_sound.specs.Gains.{GainSet, book_gain, gains_after, last_gain, sets_volume}
 use Rattle.pcm_sound.specs.Runs.{Piece, Run, begun_run, piece_of, taking, playing, marking, covers, run_frames, piece_frame, first_of, sounding}
 use Rattle.pcm_sound.specs.Valid.{PieceIsValid, RunIsValid, SlotIsValid, HasRate, frames_given, given_in}
@@ -50,12 +50,12 @@ frames-append settings bytes more =
 
 -- what whole frames gave stays once more bytes came, where it was allowed without these
 pub given_frame-append : (device : DeviceSeen) (gain : Gain) (settings : Settings) (bytes more : List ℕ) (k : ℕ) → IsDevice device → IsRate settings.rate
-    → k < can (rate_between device settings) (whole_frames settings (length bytes))
+    → k < can (play_rate_between device settings) (whole_frames settings (length bytes))
     → given_frame device settings (frames settings (bytes ++ more)) k gain ≡ given_frame device settings (frames settings bytes) k gain
 given_frame-append device gain settings bytes more k d s h =
     ap (λ (list : List Frame). given_frame device settings list k gain) (frames-append settings bytes more)
-    ∙ out-append (plan_between device settings) (filters_of device) (frames settings bytes) (frames_added settings bytes more) k gain (plan-between-fits device settings d s)
-    (subst (λ n. k < can (rate_between device settings) n) (sym (length-frames settings bytes)) h)
+    ∙ out-append (play_plan_between device settings) (filters_of device) (frames settings bytes) (frames_added settings bytes more) k gain (plan-between-fits device settings d s)
+    (subst (λ n. k < can (play_rate_between device settings) n) (sym (length-frames settings bytes)) h)
 
 -- a piece of the past doesn't cover a position from now on
 pub covers_not-past : (mixed most p : ℕ) (piece : Piece) → PieceIsValid mixed most piece → mixed ≤ p → covers p piece ≡ false
@@ -87,7 +87,7 @@ covered_index mixed most p piece v e =
 
 -- what a run gives while more may come
 abbrev IsAllowed : DeviceSeen → ℕ → Settings → List ℕ → Piece → Type 0
-IsAllowed device mixed settings bytes = PieceIsValid mixed (can (rate_between device settings) (whole_frames settings (length bytes)))
+IsAllowed device mixed settings bytes = PieceIsValid mixed (can (play_rate_between device settings) (whole_frames settings (length bytes)))
 
 -- what a run gave at a position stays once more bytes came
 abbrev StaysAt : DeviceSeen → Gain → ℕ → Settings → List ℕ → List ℕ → Option Piece → Type 0
@@ -100,7 +100,7 @@ piece_frame-append_at : (device : DeviceSeen) (gain : Gain) (mixed p : ℕ) (set
 piece_frame-append_at device gain mixed p settings bytes more piece found true d s e v same =
     ap (λ (frame : Frame). Some frame)
     (given_frame-append device gain settings bytes more (piece.index + (p - piece.position)) d s
-    (covered_index mixed (can (rate_between device settings) (whole_frames settings (length bytes))) p piece v e))
+    (covered_index mixed (can (play_rate_between device settings) (whole_frames settings (length bytes))) p piece v e))
 piece_frame-append_at device gain mixed p settings bytes more piece found false d s e v same = same
 
 pub piece_frame-append : (device : DeviceSeen) (gain : Gain) (mixed p : ℕ) (settings : Settings) (bytes more : List ℕ) (pieces : List Piece)
@@ -114,9 +114,9 @@ piece_frame-append device gain mixed p settings bytes more (piece ∷ pieces) d 
 -- the pieces of a run that may still grow lie among the frames that its bytes allow
 open_pieces : (device : DeviceSeen) (mixed : ℕ) (run : Run) → run.drained ≡ false → RunIsValid device mixed run → All (IsAllowed device mixed run.settings run.bytes) run.pieces
 open_pieces device mixed run more v =
-    subst (λ (drained : Bool). All (PieceIsValid mixed (frames_given (rate_between device run.settings) drained (whole_frames run.settings (length run.bytes)))) run.pieces) more v
+    subst (λ (drained : Bool). All (PieceIsValid mixed (frames_given (play_rate_between device run.settings) drained (whole_frames run.settings (length run.bytes)))) run.pieces) more v
 
-sounding-taking_at : (b : Bool) (device : DeviceSeen) (gain : Gain) (mixed p byte : ℕ) (bytes : List ℕ) (book : Book) (run : Run) (runs : List Run) → eqb book.written 0 ≡ b → IsDevice device
+sounding-taking_at : (b : Bool) (device : DeviceSeen) (gain : Gain) (mixed p byte : ℕ) (bytes : List ℕ) (book : PlayBook) (run : Run) (runs : List Run) → eqb book.written 0 ≡ b → IsDevice device
     → SlotIsValid device mixed book (run ∷ runs) → is_draining book.state ≡ false
     → sounding device gain (cond b (begun_run book (byte ∷ bytes) ∷ run ∷ runs) (record run { bytes = run.bytes ++ byte ∷ bytes } ∷ runs)) p ≡ sounding device gain (run ∷ runs) p
 sounding-taking_at true device gain mixed p byte bytes book run runs e d v more = refl
@@ -128,7 +128,7 @@ sounding-taking_at false device gain mixed p byte bytes book run runs e d v more
     (open_pieces device mixed run (newest.2 ∙ more) (All-head (RunIsValid device mixed) run runs v.pieces)))
 
 -- what a slot gave stays once more bytes came, which only come while its book doesn't drain
-pub sounding-taking : (device : DeviceSeen) (gain : Gain) (mixed p : ℕ) (bytes : List ℕ) (book : Book) (runs : List Run) → IsDevice device → SlotIsValid device mixed book runs
+pub sounding-taking : (device : DeviceSeen) (gain : Gain) (mixed p : ℕ) (bytes : List ℕ) (book : PlayBook) (runs : List Run) → IsDevice device → SlotIsValid device mixed book runs
     → (0 < length bytes → is_draining book.state ≡ false)
     → sounding device gain (taking bytes book runs) p ≡ sounding device gain runs p
 sounding-taking device gain mixed p [] book runs d v more = refl
@@ -137,7 +137,7 @@ sounding-taking device gain mixed p (byte ∷ bytes) book (run ∷ runs) d v mor
     sounding-taking_at (eqb book.written 0) device gain mixed p byte bytes book run runs refl d v (more (omega arith))
 
 -- what a slot gave stays at the next interrupt
-pub sounding-playing : (device : DeviceSeen) (gain : Gain) (position n p : ℕ) (book : Book) (runs : List Run) → p < position
+pub sounding-playing : (device : DeviceSeen) (gain : Gain) (position n p : ℕ) (book : PlayBook) (runs : List Run) → p < position
     → sounding device gain (playing device position n book runs) p ≡ sounding device gain runs p
 sounding-playing device gain position n p book [] h = refl
 sounding-playing device gain position n p book (run ∷ runs) h =
@@ -147,13 +147,13 @@ sounding-playing device gain position n p book (run ∷ runs) h =
     ]
 
 -- what an event tells of a run beside its bytes and pieces isn't heard
-pub sounding-marking : (device : DeviceSeen) (gain : Gain) (position : ℕ) (event : Event) (old new : Book) (runs : List Run) (p : ℕ)
+pub sounding-marking : (device : DeviceSeen) (gain : Gain) (position : ℕ) (event : Event) (old new : PlayBook) (runs : List Run) (p : ℕ)
     → sounding device gain (marking position event old new runs) p ≡ sounding device gain runs p
 sounding-marking device gain position event old new [] p = refl
 sounding-marking device gain position event old new (run ∷ runs) p = refl
 
 -- what a started run gives at the positions of an interrupt
-pub sounding-playing_given : (device : DeviceSeen) (gain : Gain) (position n k : ℕ) (book : Book) (run : Run) (runs : List Run) → is_started book.state ≡ true → k < giving (rate_at device book) n book
+pub sounding-playing_given : (device : DeviceSeen) (gain : Gain) (position n k : ℕ) (book : PlayBook) (run : Run) (runs : List Run) → is_started book.state ≡ true → k < giving (play_rate_at device book) n book
     → sounding device gain (playing device position n book (run ∷ runs)) (position + k) ≡ Some (given_frame device run.settings (run_frames run) (book.given + k) gain)
 sounding-playing_given device gain position n k book run runs started h =
     let piece : Piece = piece_of device position n book in
@@ -163,7 +163,7 @@ sounding-playing_given device gain position n k book run runs started h =
     rw (started, some, here, index) refl
 
 -- past its last frame a slot gives nothing at the positions of an interrupt
-pub sounding-playing_none : (device : DeviceSeen) (gain : Gain) (position n k : ℕ) (book : Book) (runs : List Run) → All (RunIsValid device position) runs → giving (rate_at device book) n book ≤ k
+pub sounding-playing_none : (device : DeviceSeen) (gain : Gain) (position n k : ℕ) (book : PlayBook) (runs : List Run) → All (RunIsValid device position) runs → giving (play_rate_at device book) n book ≤ k
     → sounding device gain (playing device position n book runs) (position + k) ≡ None
 sounding-playing_none device gain position n k book [] v h = refl
 sounding-playing_none device gain position n k book (run ∷ runs) v h =
@@ -175,7 +175,7 @@ sounding-playing_none device gain position n k book (run ∷ runs) v h =
     ]
 
 -- a gain that is set later doesn't count at a position of the past
-pub last_gain-later : (position p : ℕ) (old new : Book) (gains : List GainSet) → p < position → last_gain (gains_after position old new gains) p ≡ last_gain gains p
+pub last_gain-later : (position p : ℕ) (old new : PlayBook) (gains : List GainSet) → p < position → last_gain (gains_after position old new gains) p ≡ last_gain gains p
 last_gain-later position p old new gains h =
     let later : nat_le position p ≡ false = grind (arith, nat_tests) in
     elim (sets_volume old new) as (λ (b : Bool). last_gain (cond b (record { position = position; gain = book_gain new } ∷ gains) gains) p ≡ last_gain gains p) [

@@ -10,7 +10,7 @@ use Rattle.pcm_format.specs.declared.settings.Settings.{Settings}
 use Rattle.pcm_oss.specs.declared.event.Event.{Event}
 use Rattle.pcm_oss.specs.declared.event.Event.TheVariants.{Open, Write, Read, Ioctl, Close, Intr}
 use Rattle.pcm_oss.specs.declared.event.Way.{Way}
-use Rattle.pcm_oss.specs.declared.event.Way.TheVariants.{Play, Rec}
+use Rattle.pcm_oss.specs.declared.event.Way.TheVariants.{Play, Record}
 use Rattle.pcm_oss.specs.declared.request.Request.{Request}
 use Rattle.pcm_wave.specs.declared.pool.Pool.{Pool}
 use Rattle.pcm_oss.specs.declared.reply.Errno.TheVariants.{Exist, Inval}
@@ -20,21 +20,22 @@ use Rattle.pcm_wave.specs.declared.pool.Source.{Source}
 use Rattle.pcm_wave.specs.Pools.{bytes_at, source_bytes}
 use Rattle.pcm_feeder.specs.declared.stage.Gain.{Gain}
 use Rattle.pcm_feeder.specs.Limits.{IsRate}
-use Rattle.pcm_desk.specs.declared.book.Book.{Book}
+use Rattle.pcm_desk.specs.declared.play_book.PlayBook.{PlayBook}
 use Rattle.pcm_desk.specs.declared.device.Held.{Held}
 use Rattle.pcm_desk.specs.declared.record_book.RecordBook.{RecordBook}
 use Rattle.pcm_desk.specs.RecordBooks as records
-use Rattle.pcm_desk.specs.RecordRequests as record_requests
-use Rattle.pcm_desk.specs.Device.{DeviceSeen, IsDevice, play_slots, rate_between}
-use Rattle.pcm_desk.specs.Books.{begun, is_draining, is_free, write_turn}
-use Rattle.pcm_desk.specs.Safe.{BookIsSafe}
-use Rattle.pcm_desk.specs.Desk.{Desk, DeskTurn, unopened, held_by, least_free, least_free_record, book_at, record_at, by_way, with_book, with_record, with_descriptor, refusing, open_play, open_record, open_turn, play_turn, record_turn, turning, write_on, read_on, asking, ioctl_on, close_on, close_play, close_record, closing, mixing, after, rate_at}
+use Rattle.pcm_desk.specs.RecordBooks.{record_begun}
+use Rattle.pcm_desk.specs.RecordRequests.{record_ask}
+use Rattle.pcm_desk.specs.Device.{DeviceSeen, IsDevice, play_slots, play_rate_between}
+use Rattle.pcm_desk.specs.PlayBooks.{is_draining, is_play_free, play_begun, write_turn}
+use Rattle.pcm_desk.specs.PlaySafe.{PlayIsSafe}
+use Rattle.pcm_desk.specs.Desk.{Desk, DeskTurn, play_unopened, held_by, least_free_play, least_free_record, play_at, record_at, by_way, with_play, with_record, with_descriptor, refusing, open_play, open_record, open_turn, play_turn, record_turn, turning, write_on, read_on, asking, ioctl_on, close_on, close_play, close_record, closing, mixing, after, play_rate_at}
 use Rattle.pcm_desk.specs.Events.{Fits, frames_taken}
-use Rattle.pcm_desk.proofs.Safe.{unstarted, safe-begun, safe-write, safe-close, safe-refilled, settings-refilled}
-use Rattle.pcm_desk.proofs.Asking.{safe-ask}
-use Rattle.pcm_desk.proofs.Leaves.{ask-leaves, close-leaves, close-keeps}
+use Rattle.pcm_desk.proofs.PlaySafe.{unstarted, safe-begun, safe-write, safe-close, safe-refilled, settings-refilled}
+use Rattle.pcm_desk.proofs.PlaySafeAsking.{safe-ask}
+use Rattle.pcm_desk.proofs.PlayLeaves.{ask-leaves, close-leaves, close-keeps}
 use Rattle.pcm_desk.proofs.Ratios.{ratio-between}
-use Rattle.pcm_desk.proofs.Slots.{book_at-mixing, book_at-with}
+use Rattle.pcm_desk.proofs.Slots.{play_at-mixing, play_at-with}
 use Rattle.pcm_sound.specs.Gains.{GainSet, begins, book_gain, last_gain, sets_volume}
 use Rattle.pcm_sound.specs.Runs.{Run, asks_drop, drops, taking, playing, carrying, marking, sounding}
 use Rattle.pcm_sound.specs.Story.{Story, story_at_start, story_of, told, told_all}
@@ -51,108 +52,108 @@ use Rattle.pcm_sound.proofs.Interrupts.{placed-mixing}
 -- ---- the counts of a book
 
 -- the counts of a book are in order by the rate between it and the mix
-abbrev pub IsSafeAt : DeviceSeen → Book → Type 0
-IsSafeAt device book = BookIsSafe (rate_at device book) book
+abbrev pub IsSafeAt : DeviceSeen → PlayBook → Type 0
+IsSafeAt device book = PlayIsSafe (play_rate_at device book) book
 
-safe_settings : (device : DeviceSeen) (old new : Book) → new.settings ≡ old.settings → BookIsSafe (rate_at device old) new → IsSafeAt device new
-safe_settings device old new same safe = subst (λ (settings : Settings). BookIsSafe (rate_between device settings) new) (sym same) safe
+safe_settings : (device : DeviceSeen) (old new : PlayBook) → new.opening.settings ≡ old.opening.settings → PlayIsSafe (play_rate_at device old) new → IsSafeAt device new
+safe_settings device old new same safe = subst (λ (settings : Settings). PlayIsSafe (play_rate_between device settings) new) (sym same) safe
 
 -- a book stays safe through a write
-pub safe-written : (device : DeviceSeen) (length : ℕ) (book : Book) → IsDevice device → IsRate book.settings.rate → IsSafeAt device book → IsSafeAt device (write_turn length book).book
+pub safe-written : (device : DeviceSeen) (length : ℕ) (book : PlayBook) → IsDevice device → IsRate book.opening.settings.rate → IsSafeAt device book → IsSafeAt device (write_turn length book).book
 safe-written device length book d s safe =
     safe_settings device book (write_turn length book).book (write_turn-writes length book).accepts.settings
-    (safe-write (rate_at device book) length book (ratio-between device book.settings d s) safe)
+    (safe-write (play_rate_at device book) length book (ratio-between device book.opening.settings d s) safe)
 
 -- through a request, which may change the rate in Setup alone
-pub safe-asking : (device : DeviceSeen) (request : Request) (book : Book) → IsDevice device → IsRate book.settings.rate → IsSafeAt device book → IsSafeAt device (asking device request book).book
+pub safe-asking : (device : DeviceSeen) (request : Request) (book : PlayBook) → IsDevice device → IsRate book.opening.settings.rate → IsSafeAt device book → IsSafeAt device (asking device request book).book
 safe-asking device request book d s safe =
-    safe-ask (rate_at device book) (rate_at device (asking device request book).book) request book (ratio-between device book.settings d s) safe
-    (λ e. ap (rate_between device) (ask-settings (rate_at device book) request book s e))
+    safe-ask (play_rate_at device book) (play_rate_at device (asking device request book).book) request book (ratio-between device book.opening.settings d s) safe
+    (λ e. ap (play_rate_between device) (ask-settings (play_rate_at device book) request book s e))
 
 -- through a close
-pub safe-closing : (device : DeviceSeen) (book : Book) → IsDevice device → IsRate book.settings.rate → IsSafeAt device book → IsSafeAt device (closing device book)
+pub safe-closing : (device : DeviceSeen) (book : PlayBook) → IsDevice device → IsRate book.opening.settings.rate → IsSafeAt device book → IsSafeAt device (closing device book)
 safe-closing device book d s safe =
-    safe_settings device book (closing device book) (close-keeps (rate_at device book) book).settings
-    (safe-close (rate_at device book) book (ratio-between device book.settings d s) safe)
+    safe_settings device book (closing device book) (close-keeps (play_rate_at device book) book).settings
+    (safe-close (play_rate_at device book) book (ratio-between device book.opening.settings d s) safe)
 
 -- and through an interrupt
-pub safe-mixing : (device : DeviceSeen) (n : ℕ) (book : Book) → IsDevice device → IsRate book.settings.rate → IsSafeAt device book → IsSafeAt device (mixing device n book)
+pub safe-mixing : (device : DeviceSeen) (n : ℕ) (book : PlayBook) → IsDevice device → IsRate book.opening.settings.rate → IsSafeAt device book → IsSafeAt device (mixing device n book)
 safe-mixing device zero book d s safe = safe
 safe-mixing device (suc n) book d s safe =
-    safe_settings device book (mixing device (suc n) book) (settings-refilled (rate_at device book) (suc n) book)
-    (safe-refilled (rate_at device book) (suc n) book (ratio-between device book.settings d s) safe)
+    safe_settings device book (mixing device (suc n) book) (settings-refilled (play_rate_at device book) (suc n) book)
+    (safe-refilled (play_rate_at device book) (suc n) book (ratio-between device book.opening.settings d s) safe)
 
 -- ---- the desk
 
 -- the rate of each slot's book is within the limits
 abbrev pub HaveRates : DeviceSeen → Desk → Type 0
-HaveRates device desk = (slot : ℕ) → IsRate (book_at device desk slot).settings.rate
+HaveRates device desk = (slot : ℕ) → IsRate (play_at device desk slot).opening.settings.rate
 
 -- a safe book after a book was set at some slot: the new book where it is that one, else the old
-safe-with : (device : DeviceSeen) (desk : Desk) (at slot : ℕ) (book : Book) → IsSafeAt device (book_at device desk slot) → (slot ≡ at → IsSafeAt device book) → IsSafeAt device (book_at device (with_book desk at book) slot)
+safe-with : (device : DeviceSeen) (desk : Desk) (at slot : ℕ) (book : PlayBook) → IsSafeAt device (play_at device desk slot) → (slot ≡ at → IsSafeAt device book) → IsSafeAt device (play_at device (with_play desk at book) slot)
 safe-with device desk at slot book old new =
-    elim (book_at-with device desk at slot book) [
+    elim (play_at-with device desk at slot book) [
       | inl here ↦ subst (IsSafeAt device) (sym here.1) (new here.0)
       | inr same ↦ subst (IsSafeAt device) (sym same) old
     ]
 
 -- what an event at a desk leaves of a slot, before its newest run is told of it
 abbrev pub SlotIsUntold : DeviceSeen → ℕ → Desk → Desk → ℕ → List Run → Type 0
-SlotIsUntold device mixed old new slot runs = IsUntold device mixed (book_at device old slot) (book_at device new slot) runs
+SlotIsUntold device mixed old new slot runs = IsUntold device mixed (play_at device old slot) (play_at device new slot) runs
 
 -- the same of the slot's runs
-untold_with : (device : DeviceSeen) (mixed : ℕ) (desk : Desk) (at slot : ℕ) (book : Book) (runs : List Run)
-    → SlotIsValid device mixed (book_at device desk slot) runs → (slot ≡ at → IsUntold device mixed (book_at device desk slot) book runs)
-    → SlotIsUntold device mixed desk (with_book desk at book) slot runs
+untold_with : (device : DeviceSeen) (mixed : ℕ) (desk : Desk) (at slot : ℕ) (book : PlayBook) (runs : List Run)
+    → SlotIsValid device mixed (play_at device desk slot) runs → (slot ≡ at → IsUntold device mixed (play_at device desk slot) book runs)
+    → SlotIsUntold device mixed desk (with_play desk at book) slot runs
 untold_with device mixed desk at slot book runs old new =
-    elim (book_at-with device desk at slot book) [
-      | inl here ↦ subst (λ (b : Book). IsUntold device mixed (book_at device desk slot) b runs) (sym here.1) (new here.0)
-      | inr same ↦ subst (λ (b : Book). IsUntold device mixed (book_at device desk slot) b runs) (sym same) (untold-same device mixed (book_at device desk slot) runs old)
+    elim (play_at-with device desk at slot book) [
+      | inl here ↦ subst (λ (b : PlayBook). IsUntold device mixed (play_at device desk slot) b runs) (sym here.1) (new here.0)
+      | inr same ↦ subst (λ (b : PlayBook). IsUntold device mixed (play_at device desk slot) b runs) (sym same) (untold-same device mixed (play_at device desk slot) runs old)
     ]
 
 -- a book after an event that brings no bytes and takes no frames
-abbrev KeepsGivenAt : DeviceSeen → Bool → Book → Book → Type 0
-KeepsGivenAt device dropping old new = KeepsGiven (rate_at device old) dropping old new
+abbrev KeepsGivenAt : DeviceSeen → Bool → PlayBook → PlayBook → Type 0
+KeepsGivenAt device dropping old new = KeepsGiven (play_rate_at device old) dropping old new
 
 -- each slot's book after one book was set
-given_with : (device : DeviceSeen) (dropping : Bool) (desk : Desk) (at slot : ℕ) (book : Book) → (slot ≡ at → KeepsGivenAt device dropping (book_at device desk slot) book)
-    → KeepsGivenAt device dropping (book_at device desk slot) (book_at device (with_book desk at book) slot)
+given_with : (device : DeviceSeen) (dropping : Bool) (desk : Desk) (at slot : ℕ) (book : PlayBook) → (slot ≡ at → KeepsGivenAt device dropping (play_at device desk slot) book)
+    → KeepsGivenAt device dropping (play_at device desk slot) (play_at device (with_play desk at book) slot)
 given_with device dropping desk at slot book new =
-    let old : Book = book_at device desk slot in
-    elim (book_at-with device desk at slot book) [
+    let old : PlayBook = play_at device desk slot in
+    elim (play_at-with device desk at slot book) [
       | inl here ↦ subst (KeepsGivenAt device dropping old) (sym here.1) (new here.0)
-      | inr same ↦ subst (KeepsGivenAt device dropping old) (sym same) (given-same (rate_at device old) dropping old)
+      | inr same ↦ subst (KeepsGivenAt device dropping old) (sym same) (given-same (play_rate_at device old) dropping old)
     ]
 
 -- an event that brings no bytes and takes no frames leaves the slots valid, and the counts of the device
 pub record LeavesSlots (device : DeviceSeen) (mixed : ℕ) (dropping : Bool) (old new : Desk) : Type 0 where
-  pub safe : (slot : ℕ) → IsSafeAt device (book_at device old slot) → IsSafeAt device (book_at device new slot)
-  pub slots : (slot : ℕ) (runs : List Run) → IsSafeAt device (book_at device old slot) → SlotIsValid device mixed (book_at device old slot) runs → SlotIsUntold device mixed old new slot runs
-  pub given : (slot : ℕ) → IsSafeAt device (book_at device old slot) → KeepsGivenAt device dropping (book_at device old slot) (book_at device new slot)
+  pub safe : (slot : ℕ) → IsSafeAt device (play_at device old slot) → IsSafeAt device (play_at device new slot)
+  pub slots : (slot : ℕ) (runs : List Run) → IsSafeAt device (play_at device old slot) → SlotIsValid device mixed (play_at device old slot) runs → SlotIsUntold device mixed old new slot runs
+  pub given : (slot : ℕ) → IsSafeAt device (play_at device old slot) → KeepsGivenAt device dropping (play_at device old slot) (play_at device new slot)
   pub handed_same : new.handed ≡ old.handed
   pub mixed_same : new.mixed ≡ old.mixed
 
 stays : (device : DeviceSeen) (mixed : ℕ) (dropping : Bool) (desk : Desk) → LeavesSlots device mixed dropping desk desk
 stays device mixed dropping desk = record {
   safe = λ slot s. s;
-  slots = λ slot runs s v. untold-same device mixed (book_at device desk slot) runs v;
-  given = λ slot s. given-same (rate_at device (book_at device desk slot)) dropping (book_at device desk slot);
+  slots = λ slot runs s v. untold-same device mixed (play_at device desk slot) runs v;
+  given = λ slot s. given-same (play_rate_at device (play_at device desk slot)) dropping (play_at device desk slot);
   handed_same = refl;
   mixed_same = refl;
 }
 
 -- one book is set
-leaves-with : (device : DeviceSeen) (mixed : ℕ) (dropping : Bool) (desk : Desk) (at : ℕ) (book : Book) → (IsSafeAt device (book_at device desk at) → IsSafeAt device book)
-    → ((runs : List Run) → IsSafeAt device (book_at device desk at) → SlotIsValid device mixed (book_at device desk at) runs → IsUntold device mixed (book_at device desk at) book runs)
-    → (IsSafeAt device (book_at device desk at) → KeepsGivenAt device dropping (book_at device desk at) book)
-    → LeavesSlots device mixed dropping desk (with_book desk at book)
+leaves-with : (device : DeviceSeen) (mixed : ℕ) (dropping : Bool) (desk : Desk) (at : ℕ) (book : PlayBook) → (IsSafeAt device (play_at device desk at) → IsSafeAt device book)
+    → ((runs : List Run) → IsSafeAt device (play_at device desk at) → SlotIsValid device mixed (play_at device desk at) runs → IsUntold device mixed (play_at device desk at) book runs)
+    → (IsSafeAt device (play_at device desk at) → KeepsGivenAt device dropping (play_at device desk at) book)
+    → LeavesSlots device mixed dropping desk (with_play desk at book)
 leaves-with device mixed dropping desk at book safe valid given = record {
-  safe = λ slot s. safe-with device desk at slot book s (λ e. safe (subst (λ (k : ℕ). IsSafeAt device (book_at device desk k)) e s));
+  safe = λ slot s. safe-with device desk at slot book s (λ e. safe (subst (λ (k : ℕ). IsSafeAt device (play_at device desk k)) e s));
   slots = λ slot runs s v. untold_with device mixed desk at slot book runs v
-      (λ e. subst (λ (k : ℕ). IsUntold device mixed (book_at device desk k) book runs) (sym e)
-      (valid runs (subst (λ (k : ℕ). IsSafeAt device (book_at device desk k)) e s) (subst (λ (k : ℕ). SlotIsValid device mixed (book_at device desk k) runs) e v)));
+      (λ e. subst (λ (k : ℕ). IsUntold device mixed (play_at device desk k) book runs) (sym e)
+      (valid runs (subst (λ (k : ℕ). IsSafeAt device (play_at device desk k)) e s) (subst (λ (k : ℕ). SlotIsValid device mixed (play_at device desk k) runs) e v)));
   given = λ slot s. given_with device dropping desk at slot book
-      (λ e. subst (λ (k : ℕ). KeepsGivenAt device dropping (book_at device desk k) book) (sym e) (given (subst (λ (k : ℕ). IsSafeAt device (book_at device desk k)) e s)));
+      (λ e. subst (λ (k : ℕ). KeepsGivenAt device dropping (play_at device desk k) book) (sym e) (given (subst (λ (k : ℕ). IsSafeAt device (play_at device desk k)) e s)));
   handed_same = refl;
   mixed_same = refl;
 }
@@ -166,30 +167,30 @@ leaves-record : (device : DeviceSeen) (mixed : ℕ) (dropping : Bool) (desk : De
 leaves-record device mixed dropping desk at book = let l = stays device mixed dropping desk in record { safe = l.safe; slots = l.slots; given = l.given; handed_same = refl; mixed_same = refl }
 
 -- an open sets the book of the least free slot of its way
-leaves-open_play : (device : DeviceSeen) (mixed : ℕ) (found : Option ℕ) (desk : Desk) (fd : ℕ) (settings : Settings) → IsRate settings.rate → least_free desk.play ≡ found → LeavesSlots device mixed false desk (open_play found desk fd settings).desk
+leaves-open_play : (device : DeviceSeen) (mixed : ℕ) (found : Option ℕ) (desk : Desk) (fd : ℕ) (settings : Settings) → IsRate settings.rate → least_free_play desk.play ≡ found → LeavesSlots device mixed false desk (open_play found desk fd settings).desk
 leaves-open_play device mixed None desk fd settings rate e = stays device mixed false desk
 leaves-open_play device mixed (Some at) desk fd settings rate e =
-    let old : Book = book_at device desk at in
-    leaves-descriptor device mixed false desk (with_book desk at (begun settings)) fd (Some (record { way = Play; slot = at }))
-    (leaves-with device mixed false desk at (begun settings) (λ s. safe-begun (rate_between device settings) settings)
-    (λ runs s v. untold-empty device mixed old (begun settings) runs refl refl rate v.pieces v.own)
-    (λ s. given-begun (rate_at device old) old settings (position-Some (λ (book : Book). is_free book.state) desk.play at (unopened device) e).1))
+    let old : PlayBook = play_at device desk at in
+    leaves-descriptor device mixed false desk (with_play desk at (play_begun settings)) fd (Some (record { way = Play; slot = at }))
+    (leaves-with device mixed false desk at (play_begun settings) (λ s. safe-begun (play_rate_between device settings) settings)
+    (λ runs s v. untold-empty device mixed old (play_begun settings) runs refl refl rate v.pieces v.own)
+    (λ s. given-begun (play_rate_at device old) old settings (position-Some (λ (book : PlayBook). is_play_free book.state) desk.play at (play_unopened device) e).1))
 
 leaves-open_record : (device : DeviceSeen) (mixed : ℕ) (found : Option ℕ) (desk : Desk) (fd : ℕ) (settings : Settings) → LeavesSlots device mixed false desk (open_record found desk fd settings).desk
 leaves-open_record device mixed None desk fd settings = stays device mixed false desk
 leaves-open_record device mixed (Some at) desk fd settings =
-    leaves-descriptor device mixed false desk (with_record desk at (records.begun settings)) fd (Some (record { way = Rec; slot = at }))
-    (leaves-record device mixed false desk at (records.begun settings))
+    leaves-descriptor device mixed false desk (with_record desk at (record_begun settings)) fd (Some (record { way = Record; slot = at }))
+    (leaves-record device mixed false desk at (record_begun settings))
 
 leaves-open_way : (device : DeviceSeen) (mixed : ℕ) (desk : Desk) (fd : ℕ) (way : Way) (settings : Settings) → IsRate settings.rate
-    → LeavesSlots device mixed false desk (by_way way (open_play (least_free desk.play) desk fd settings) (open_record (least_free_record desk.recording) desk fd settings)).desk
-leaves-open_way device mixed desk fd Play settings rate = leaves-open_play device mixed (least_free desk.play) desk fd settings rate refl
-leaves-open_way device mixed desk fd Rec settings rate = leaves-open_record device mixed (least_free_record desk.recording) desk fd settings
+    → LeavesSlots device mixed false desk (by_way way (open_play (least_free_play desk.play) desk fd settings) (open_record (least_free_record desk.recording) desk fd settings)).desk
+leaves-open_way device mixed desk fd Play settings rate = leaves-open_play device mixed (least_free_play desk.play) desk fd settings rate refl
+leaves-open_way device mixed desk fd Record settings rate = leaves-open_record device mixed (least_free_record desk.recording) desk fd settings
 
 -- or is refused
 pub leaves-open_turn : (device : DeviceSeen) (mixed : ℕ) (desk : Desk) (fd : ℕ) (way : Way) (settings : Settings) → IsRate settings.rate → LeavesSlots device mixed false desk (open_turn desk fd way settings).desk
 leaves-open_turn device mixed desk fd way settings rate =
-    elim (is_some (held_by desk fd)) as (λ (b : Bool). LeavesSlots device mixed false desk (cond {A = DeskTurn} b (refusing desk Exist) (by_way way (open_play (least_free desk.play) desk fd settings) (open_record (least_free_record desk.recording) desk fd settings))).desk) [
+    elim (is_some (held_by desk fd)) as (λ (b : Bool). LeavesSlots device mixed false desk (cond {A = DeskTurn} b (refusing desk Exist) (by_way way (open_play (least_free_play desk.play) desk fd settings) (open_record (least_free_record desk.recording) desk fd settings))).desk) [
       | true ↦ stays device mixed false desk
       | false ↦ leaves-open_way device mixed desk fd way settings rate
     ]
@@ -201,7 +202,7 @@ leaves-turning device mixed dropping desk play recording None p r = stays device
 leaves-turning device mixed dropping desk play recording (Some held) p r =
     elim held.way as (λ (way : Way). LeavesSlots device mixed dropping desk (by_way way (play held.slot) (recording held.slot)).desk) [
       | Play ↦ p held.slot
-      | Rec ↦ r held.slot
+      | Record ↦ r held.slot
     ]
 
 -- a read leaves all slots that play
@@ -213,49 +214,49 @@ leaves-read_on device mixed held desk count =
 -- a request leaves the counts of its book, or nothing of its run
 pub leaves-ioctl_on : (device : DeviceSeen) (mixed : ℕ) (held : Option Held) (desk : Desk) (request : Request) → IsDevice device → HaveRates device desk → LeavesSlots device mixed (asks_drop request) desk (ioctl_on device held desk request).desk
 leaves-ioctl_on device mixed held desk request d rates =
-    leaves-turning device mixed (asks_drop request) desk (play_turn device (asking device request) desk) (record_turn device (record_requests.ask_turn request) desk) held
+    leaves-turning device mixed (asks_drop request) desk (play_turn device (asking device request) desk) (record_turn device (record_ask request) desk) held
     (λ slot.
-    let book : Book = book_at device desk slot in
-    let asked : Book = (asking device request book).book in
+    let book : PlayBook = play_at device desk slot in
+    let asked : PlayBook = (asking device request book).book in
     leaves-with device mixed (asks_drop request) desk slot asked (safe-asking device request book d (rates slot))
-    (λ runs s v. untold-leaves device mixed book asked runs (ask-leaves (rate_at device book) request book s) (ask-rate (rate_at device book) request book v.settings) v)
-    (λ s. given-ask (rate_at device book) request book s))
-    (λ slot. leaves-record device mixed (asks_drop request) desk slot (record_requests.ask_turn request (record_at device desk slot)).book)
+    (λ runs s v. untold-leaves device mixed book asked runs (ask-leaves (play_rate_at device book) request book s) (ask-rate (play_rate_at device book) request book v.settings) v)
+    (λ s. given-ask (play_rate_at device book) request book s))
+    (λ slot. leaves-record device mixed (asks_drop request) desk slot (record_ask request (record_at device desk slot)).book)
 
 -- and so does a close
 pub leaves-close_on : (device : DeviceSeen) (mixed : ℕ) (held : Option Held) (desk : Desk) (fd : ℕ) → IsDevice device → HaveRates device desk → LeavesSlots device mixed false desk (close_on device held desk fd).desk
 leaves-close_on device mixed held desk fd d rates =
     leaves-turning device mixed false desk (close_play device desk fd) (close_record device desk fd) held
     (λ slot.
-    let book : Book = book_at device desk slot in
-    let closed : Book = closing device book in
-    leaves-descriptor device mixed false desk (with_book desk slot closed) fd None
+    let book : PlayBook = play_at device desk slot in
+    let closed : PlayBook = closing device book in
+    leaves-descriptor device mixed false desk (with_play desk slot closed) fd None
     (leaves-with device mixed false desk slot closed (safe-closing device book d (rates slot))
-    (λ runs s v. untold-leaves device mixed book closed runs (close-leaves (rate_at device book) book)
-    (subst (λ (settings : Settings). IsRate settings.rate) (sym (close-keeps (rate_at device book) book).settings) v.settings) v)
-    (λ s. given-close (rate_at device book) book)))
+    (λ runs s v. untold-leaves device mixed book closed runs (close-leaves (play_rate_at device book) book)
+    (subst (λ (settings : Settings). IsRate settings.rate) (sym (close-keeps (play_rate_at device book) book).settings) v.settings) v)
+    (λ s. given-close (play_rate_at device book) book)))
     (λ slot.
     let closed : RecordBook = records.closed (record_at device desk slot) in
     leaves-descriptor device mixed false desk (with_record desk slot closed) fd None (leaves-record device mixed false desk slot closed))
 
 -- a write leaves each slot's book with some of its bytes, or as it was
 pub record Writes (device : DeviceSeen) (length : ℕ) (old new : Desk) : Type 0 where
-  pub slots : (slot : ℕ) → WritesSome length (book_at device old slot) (book_at device new slot)
+  pub slots : (slot : ℕ) → WritesSome length (play_at device old slot) (play_at device new slot)
   pub handed_same : new.handed ≡ old.handed
   pub mixed_same : new.mixed ≡ old.mixed
 
 writes_none : (device : DeviceSeen) (desk : Desk) (length : ℕ) → Writes device length desk desk
-writes_none device desk length = record { slots = λ slot. writes-nothing length (book_at device desk slot); handed_same = refl; mixed_same = refl }
+writes_none device desk length = record { slots = λ slot. writes-nothing length (play_at device desk slot); handed_same = refl; mixed_same = refl }
 
 writes_at : (device : DeviceSeen) (desk : Desk) (length at : ℕ) → Writes device length desk (play_turn device (write_turn length) desk at).desk
 writes_at device desk length at =
-    let before : Book = book_at device desk at in
-    let book : Book = (write_turn length before).book in
+    let before : PlayBook = play_at device desk at in
+    let book : PlayBook = (write_turn length before).book in
     record {
-      slots = λ slot. elim (book_at-with device desk at slot book) [
-        | inl here ↦ subst (λ (b : Book). WritesSome length (book_at device desk slot) b) (sym here.1)
-            (subst (λ (s : ℕ). WritesSome length (book_at device desk s) book) (sym here.0) (write_turn-writes length before))
-        | inr same ↦ subst (λ (b : Book). WritesSome length (book_at device desk slot) b) (sym same) (writes-nothing length (book_at device desk slot))
+      slots = λ slot. elim (play_at-with device desk at slot book) [
+        | inl here ↦ subst (λ (b : PlayBook). WritesSome length (play_at device desk slot) b) (sym here.1)
+            (subst (λ (s : ℕ). WritesSome length (play_at device desk s) book) (sym here.0) (write_turn-writes length before))
+        | inr same ↦ subst (λ (b : PlayBook). WritesSome length (play_at device desk slot) b) (sym same) (writes-nothing length (play_at device desk slot))
       ];
       handed_same = refl;
       mixed_same = refl;
@@ -266,24 +267,24 @@ writes-write_on device None desk length = writes_none device desk length
 writes-write_on device (Some held) desk length =
     elim held.way as (λ (way : Way). Writes device length desk (by_way way (play_turn device (write_turn length) desk held.slot) (refusing desk Inval)).desk) [
       | Play ↦ writes_at device desk length held.slot
-      | Rec ↦ writes_none device desk length
+      | Record ↦ writes_none device desk length
     ]
 
 -- and safe books
-safe_written_at : (device : DeviceSeen) (desk : Desk) (count at slot : ℕ) → IsDevice device → HaveRates device desk → IsSafeAt device (book_at device desk slot)
-    → IsSafeAt device (book_at device (play_turn device (write_turn count) desk at).desk slot)
+safe_written_at : (device : DeviceSeen) (desk : Desk) (count at slot : ℕ) → IsDevice device → HaveRates device desk → IsSafeAt device (play_at device desk slot)
+    → IsSafeAt device (play_at device (play_turn device (write_turn count) desk at).desk slot)
 safe_written_at device desk count at slot d rates s =
-    let book : Book = book_at device desk at in
+    let book : PlayBook = play_at device desk at in
     safe-with device desk at slot (write_turn count book).book s
-    (λ e. safe-written device count book d (rates at) (subst (λ (k : ℕ). IsSafeAt device (book_at device desk k)) e s))
+    (λ e. safe-written device count book d (rates at) (subst (λ (k : ℕ). IsSafeAt device (play_at device desk k)) e s))
 
-pub safe-write_on : (device : DeviceSeen) (held : Option Held) (desk : Desk) (count slot : ℕ) → IsDevice device → HaveRates device desk → IsSafeAt device (book_at device desk slot)
-    → IsSafeAt device (book_at device (write_on device held desk count).desk slot)
+pub safe-write_on : (device : DeviceSeen) (held : Option Held) (desk : Desk) (count slot : ℕ) → IsDevice device → HaveRates device desk → IsSafeAt device (play_at device desk slot)
+    → IsSafeAt device (play_at device (write_on device held desk count).desk slot)
 safe-write_on device None desk count slot d rates s = s
 safe-write_on device (Some held) desk count slot d rates s =
-    elim held.way as (λ (way : Way). IsSafeAt device (book_at device (by_way way (play_turn device (write_turn count) desk held.slot) (refusing desk Inval)).desk slot)) [
+    elim held.way as (λ (way : Way). IsSafeAt device (play_at device (by_way way (play_turn device (write_turn count) desk held.slot) (refusing desk Inval)).desk slot)) [
       | Play ↦ safe_written_at device desk count held.slot slot d rates s
-      | Rec ↦ s
+      | Record ↦ s
     ]
 
 -- as many bytes as are asked for are there
@@ -291,14 +292,14 @@ pub length-bytes_at : (pool : Pool) (source : Source) (at count : ℕ) → at + 
 length-bytes_at pool source at count h = omega (arith, length-take count (drop at (source_bytes pool source)), length-drop at (source_bytes pool source))
 
 -- bytes that a book grew by came while it didn't drain
-written_undrained : (pool : Pool) (source : Source) (at count : ℕ) (old new : Book) → WritesSome count old new → 0 < length (bytes_at pool source at (new.written - old.written)) → is_draining old.state ≡ false
+written_undrained : (pool : Pool) (source : Source) (at count : ℕ) (old new : PlayBook) → WritesSome count old new → 0 < length (bytes_at pool source at (new.written - old.written)) → is_draining old.state ≡ false
 written_undrained pool source at count old new w h =
     let written = w.accepts.written in
     let some = length-take (new.written - old.written) (drop at (source_bytes pool source)) in
     w.undrained (omega arith)
 
 -- a book accepts the bytes that it grew by
-written_accepts : (pool : Pool) (source : Source) (at count : ℕ) (old new : Book) → at + count ≤ length (source_bytes pool source) → WritesSome count old new
+written_accepts : (pool : Pool) (source : Source) (at count : ℕ) (old new : PlayBook) → at + count ≤ length (source_bytes pool source) → WritesSome count old new
     → Accepts (length (bytes_at pool source at (new.written - old.written))) old new
 written_accepts pool source at count old new h w =
     let written = w.accepts.written in
@@ -308,7 +309,7 @@ written_accepts pool source at count old new h w =
     subst (λ (n : ℕ). Accepts n old new) (sym length_is) w.accepts
 
 -- a slot stays valid through a write of bytes that are there
-untold_written : (device : DeviceSeen) (mixed : ℕ) (pool : Pool) (source : Source) (at count : ℕ) (old new : Book) (runs : List Run) → IsDevice device → at + count ≤ length (source_bytes pool source) → WritesSome count old new → SlotIsValid device mixed old runs
+untold_written : (device : DeviceSeen) (mixed : ℕ) (pool : Pool) (source : Source) (at count : ℕ) (old new : PlayBook) (runs : List Run) → IsDevice device → at + count ≤ length (source_bytes pool source) → WritesSome count old new → SlotIsValid device mixed old runs
     → IsUntold device mixed old new (taking (bytes_at pool source at (new.written - old.written)) old runs)
 untold_written device mixed pool source at count old new runs d h w v =
     untold-taking device mixed (bytes_at pool source at (new.written - old.written)) old new runs d (written_accepts pool source at count old new h w) (written_undrained pool source at count old new w) v
@@ -316,15 +317,15 @@ untold_written device mixed pool source at count old new runs d h w v =
 -- the runs of a slot after an event, before the newest is told of it
 abbrev pub carried_at : DeviceSeen → Pool → Story → Event → ℕ → List Run
 carried_at device pool story event slot =
-    carrying device pool story.desk event (book_at device story.desk slot) (book_at device (after device story.desk event).desk slot) (story.runs slot)
+    carrying device pool story.desk event (play_at device story.desk slot) (play_at device (after device story.desk event).desk slot) (story.runs slot)
 
 -- where the pieces of a slot stand after an event that takes no frames
 abbrev IsPlacedAt : DeviceSeen → Pool → Story → Event → ℕ → Type 0
-IsPlacedAt device pool story event slot = SlotIsPlaced device story.desk.mixed (book_at device (after device story.desk event).desk slot) ((told device pool story event).runs slot)
+IsPlacedAt device pool story event slot = SlotIsPlaced device story.desk.mixed (play_at device (after device story.desk event).desk slot) ((told device pool story event).runs slot)
 
 -- what an event that takes no frames leaves of a story: the device's counts, safe books, and valid slots whose pieces are in their places
 pub record Keeps (device : DeviceSeen) (pool : Pool) (story : Story) (event : Event) : Type 0 where
-  pub safe : (slot : ℕ) → IsSafeAt device (book_at device (after device story.desk event).desk slot)
+  pub safe : (slot : ℕ) → IsSafeAt device (play_at device (after device story.desk event).desk slot)
   pub slots : (slot : ℕ) → SlotIsUntold device story.desk.mixed story.desk (after device story.desk event).desk slot (carried_at device pool story event slot)
   pub placed : (slot : ℕ) → IsPlacedAt device pool story event slot
   pub handed_same : (after device story.desk event).desk.handed ≡ story.desk.handed
@@ -340,8 +341,8 @@ keeps-left device pool story event l same v = record {
   safe = λ slot. l.safe slot (v.safe slot);
   slots = λ slot. subst (SlotIsUntold device story.desk.mixed story.desk (after device story.desk event).desk slot) (same slot) (l.slots slot (story.runs slot) (v.safe slot) (v.slots slot));
   placed = λ slot.
-      let old : Book = book_at device story.desk slot in
-      let new : Book = book_at device (after device story.desk event).desk slot in
+      let old : PlayBook = play_at device story.desk slot in
+      let new : PlayBook = play_at device (after device story.desk event).desk slot in
       subst (λ (runs : List Run). SlotIsPlaced device story.desk.mixed new (marking story.desk.mixed event old new runs)) (same slot)
       (placed-left device story.desk.mixed event old new (story.runs slot) v.limits (v.safe slot) (v.slots slot) (l.given slot (v.safe slot)) (l.slots slot (story.runs slot) (v.safe slot) (v.slots slot)) (v.placed slot));
   handed_same = l.handed_same;
@@ -358,10 +359,10 @@ keeps-write device pool story fd source at count h v =
     let new : Desk = (write_on device (held_by story.desk fd) story.desk count).desk in
     record {
       safe = λ slot. safe-write_on device (held_by story.desk fd) story.desk count slot v.limits (rates_of device story v) (v.safe slot);
-      slots = λ slot. untold_written device story.desk.mixed pool source at count (book_at device story.desk slot) (book_at device new slot) (story.runs slot) v.limits h (w.slots slot) (v.slots slot);
+      slots = λ slot. untold_written device story.desk.mixed pool source at count (play_at device story.desk slot) (play_at device new slot) (story.runs slot) v.limits h (w.slots slot) (v.slots slot);
       placed = λ slot.
-          let old : Book = book_at device story.desk slot in
-          let now : Book = book_at device new slot in
+          let old : PlayBook = play_at device story.desk slot in
+          let now : PlayBook = play_at device new slot in
           placed-taken device story.desk.mixed (Write fd source at count) (bytes_at pool source at (now.written - old.written)) old now (story.runs slot) v.limits (v.safe slot) (v.slots slot)
           (written_accepts pool source at count old now h (w.slots slot)) (v.placed slot);
       handed_same = w.handed_same;
@@ -390,11 +391,11 @@ keeps device pool story (Close fd) fits none v = keeps-close device pool story f
 keeps device pool story (Intr n) fits none v = absurd (let some = fits.0 in omega arith)
 
 -- a volume that isn't set stays
-same_volume : (old new : Book) → sets_volume old new ≡ false → new.volume ≡ old.volume
+same_volume : (old new : PlayBook) → sets_volume old new ≡ false → new.volume ≡ old.volume
 same_volume old new e = eqb-true new.volume old.volume (not-false (eqb new.volume old.volume) (or_parts (begins old new) (not (eqb new.volume old.volume)) e).1)
 
 -- from its position on a gain counts that was set, else the last one
-gain_set : (b : Bool) (position p : ℕ) (old new : Book) (gains : List GainSet) → sets_volume old new ≡ b → position ≤ p → last_gain gains p ≡ book_gain old
+gain_set : (b : Bool) (position p : ℕ) (old new : PlayBook) (gains : List GainSet) → sets_volume old new ≡ b → position ≤ p → last_gain gains p ≡ book_gain old
     → last_gain (cond b (record { position = position; gain = book_gain new } ∷ gains) gains) p ≡ book_gain new
 gain_set true position p old new gains e later h = let here : nat_le position p ≡ true = grind (arith, nat_tests) in rw here refl
 gain_set false position p old new gains e later h = h ∙ ap gain_of (sym (same_volume old new e))
@@ -402,29 +403,29 @@ gain_set false position p old new gains e later h = h ∙ ap gain_of (sym (same_
 -- from now on each slot has the gain of its book's volume
 gains-told : (device : DeviceSeen) (pool : Pool) (story : Story) (event : Event) → story.desk.mixed ≤ (after device story.desk event).desk.mixed → StoryIsValid device story
     → (slot position : ℕ) → (after device story.desk event).desk.mixed ≤ position
-    → last_gain ((told device pool story event).gains slot) position ≡ book_gain (book_at device (after device story.desk event).desk slot)
+    → last_gain ((told device pool story event).gains slot) position ≡ book_gain (play_at device (after device story.desk event).desk slot)
 gains-told device pool story event grows v slot position later =
-    let old : Book = book_at device story.desk slot in
-    let new : Book = book_at device (after device story.desk event).desk slot in
+    let old : PlayBook = play_at device story.desk slot in
+    let new : PlayBook = play_at device (after device story.desk event).desk slot in
     gain_set (sets_volume old new) story.desk.mixed position old new (story.gains slot) refl (omega arith) (v.gains slot position (omega arith))
 
 -- a slot of the next desk is valid once its newest run was told of the event
 valid-at : (device : DeviceSeen) (pool : Pool) (story : Story) (event : Event) (mixed slot : ℕ) → IsDevice device → (after device story.desk event).desk.mixed ≡ mixed
     → SlotIsUntold device mixed story.desk (after device story.desk event).desk slot (carried_at device pool story event slot)
-    → SlotIsValid device (after device story.desk event).desk.mixed (book_at device (after device story.desk event).desk slot) ((told device pool story event).runs slot)
+    → SlotIsValid device (after device story.desk event).desk.mixed (play_at device (after device story.desk event).desk slot) ((told device pool story event).runs slot)
 valid-at device pool story event mixed slot d same u =
-    let old : Book = book_at device story.desk slot in
+    let old : PlayBook = play_at device story.desk slot in
     let new : Desk = (after device story.desk event).desk in
     let runs : List Run = carried_at device pool story event slot in
-    valid-marking device new.mixed story.desk.mixed event old (book_at device new slot) runs d
-    (subst (λ (m : ℕ). IsUntold device m old (book_at device new slot) runs) (sym same) u)
+    valid-marking device new.mixed story.desk.mixed event old (play_at device new slot) runs d
+    (subst (λ (m : ℕ). IsUntold device m old (play_at device new slot) runs) (sym same) u)
 
 valid-kept : (device : DeviceSeen) (pool : Pool) (story : Story) (event : Event) → Keeps device pool story event → StoryIsValid device story → StoryIsValid device (told device pool story event)
 valid-kept device pool story event k v = record {
   limits = v.limits;
   slots = λ slot. valid-at device pool story event story.desk.mixed slot v.limits k.mixed_same (k.slots slot);
   safe = k.safe;
-  placed = λ slot. subst (λ (mixed : ℕ). SlotIsPlaced device mixed (book_at device (after device story.desk event).desk slot) ((told device pool story event).runs slot)) (sym k.mixed_same) (k.placed slot);
+  placed = λ slot. subst (λ (mixed : ℕ). SlotIsPlaced device mixed (play_at device (after device story.desk event).desk slot) ((told device pool story event).runs slot)) (sym k.mixed_same) (k.placed slot);
   gains = gains-told device pool story event (let same = k.mixed_same in omega arith) v;
   mixed = k.mixed_same ∙ v.mixed ∙ sym k.handed_same;
 }
@@ -433,14 +434,14 @@ valid-interrupted : (device : DeviceSeen) (pool : Pool) (story : Story) (n : ℕ
 valid-interrupted device pool story n v = record {
   limits = v.limits;
   slots = λ slot.
-      let old : Book = book_at device story.desk slot in
+      let old : PlayBook = play_at device story.desk slot in
       valid-at device pool story (Intr n) (story.desk.mixed + n) slot v.limits refl
-      (subst (λ (b : Book). IsUntold device (story.desk.mixed + n) old b (playing device story.desk.mixed n old (story.runs slot))) (sym (book_at-mixing device story.desk n slot))
+      (subst (λ (b : PlayBook). IsUntold device (story.desk.mixed + n) old b (playing device story.desk.mixed n old (story.runs slot))) (sym (play_at-mixing device story.desk n slot))
       (untold-mixing device story.desk.mixed n old (story.runs slot) v.limits (v.safe slot) (v.slots slot)));
-  safe = λ slot. subst (IsSafeAt device) (sym (book_at-mixing device story.desk n slot)) (safe-mixing device n (book_at device story.desk slot) v.limits (v.slots slot).settings (v.safe slot));
+  safe = λ slot. subst (IsSafeAt device) (sym (play_at-mixing device story.desk n slot)) (safe-mixing device n (play_at device story.desk slot) v.limits (v.slots slot).settings (v.safe slot));
   placed = λ slot.
-      let old : Book = book_at device story.desk slot in
-      subst (λ (b : Book). SlotIsPlaced device (story.desk.mixed + n) b (marking story.desk.mixed (Intr n) old b (playing device story.desk.mixed n old (story.runs slot)))) (sym (book_at-mixing device story.desk n slot))
+      let old : PlayBook = play_at device story.desk slot in
+      subst (λ (b : PlayBook). SlotIsPlaced device (story.desk.mixed + n) b (marking story.desk.mixed (Intr n) old b (playing device story.desk.mixed n old (story.runs slot)))) (sym (play_at-mixing device story.desk n slot))
       (placed-mixing device story.desk.mixed n old (story.runs slot) v.limits (v.safe slot) (v.slots slot) (v.placed slot));
   gains = gains-told device pool story (Intr n) (omega arith) v;
   mixed = ap (λ frames. frames + n) v.mixed;
@@ -467,16 +468,16 @@ get_or-same n i x =
 pub valid-start : (device : DeviceSeen) → IsDevice device → StoryIsValid device (story_at_start device)
 valid-start device d = record {
   limits = d;
-  slots = λ slot. subst (λ (b : Book). SlotIsValid device 0 b []) (sym (get_or-same (play_slots device) slot (unopened device))) (record {
-    settings = d.rate;
+  slots = λ slot. subst (λ (b : PlayBook). SlotIsValid device 0 b []) (sym (get_or-same (play_slots device) slot (play_unopened device))) (record {
+    settings = d.mix_rate;
     started = λ e. cc;
     newest = λ h. absurd (omega arith);
     pieces = All-nil (RunIsValid device 0);
     own = All-nil HasRate;
   });
-  safe = λ slot. subst (IsSafeAt device) (sym (get_or-same (play_slots device) slot (unopened device))) (record { order = unstarted; fill = omega arith; fragments = usual-fragments; volume = refl; told = omega arith });
+  safe = λ slot. subst (IsSafeAt device) (sym (get_or-same (play_slots device) slot (play_unopened device))) (record { order = unstarted; fill = omega arith; fragments = usual-fragments; volume = refl; told = omega arith });
   placed = λ slot. tt;
-  gains = λ slot position l. ap book_gain (sym (get_or-same (play_slots device) slot (unopened device)));
+  gains = λ slot position l. ap book_gain (sym (get_or-same (play_slots device) slot (play_unopened device)));
   mixed = refl;
 }
 
@@ -495,20 +496,20 @@ sounding-carrying : (device : DeviceSeen) (pool : Pool) (story : Story) (event :
     → sounding device gain (carried_at device pool story event slot) position ≡ sounding device gain (story.runs slot) position
 sounding-carrying device pool story (Open fd way settings) gain slot position v h = refl
 sounding-carrying device pool story (Write fd source at count) gain slot position v h =
-    let old : Book = book_at device story.desk slot in
-    let new : Book = book_at device (after device story.desk (Write fd source at count)).desk slot in
+    let old : PlayBook = play_at device story.desk slot in
+    let new : PlayBook = play_at device (after device story.desk (Write fd source at count)).desk slot in
     sounding-taking device gain story.desk.mixed position (bytes_at pool source at (new.written - old.written)) old (story.runs slot) v.limits (v.slots slot)
     (written_undrained pool source at count old new ((writes-write_on device (held_by story.desk fd) story.desk count).slots slot))
 sounding-carrying device pool story (Read fd count) gain slot position v h = refl
 sounding-carrying device pool story (Ioctl fd request) gain slot position v h = refl
 sounding-carrying device pool story (Close fd) gain slot position v h = refl
-sounding-carrying device pool story (Intr n) gain slot position v h = sounding-playing device gain story.desk.mixed n position (book_at device story.desk slot) (story.runs slot) h
+sounding-carrying device pool story (Intr n) gain slot position v h = sounding-playing device gain story.desk.mixed n position (play_at device story.desk slot) (story.runs slot) h
 
 -- what was mixed stays as it was
 pub table_of-told : (device : DeviceSeen) (pool : Pool) (story : Story) (event : Event) (slot position : ℕ) → StoryIsValid device story → position < story.desk.mixed → table_of device (told device pool story event) slot position ≡ table_of device story slot position
 table_of-told device pool story event slot position v h =
-    let old : Book = book_at device story.desk slot in
-    let new : Book = book_at device (after device story.desk event).desk slot in
+    let old : PlayBook = play_at device story.desk slot in
+    let new : PlayBook = play_at device (after device story.desk event).desk slot in
     let carried : List Run = carried_at device pool story event slot in
     ap (λ (gain : Gain). sounding device gain (marking story.desk.mixed event old new carried) position) (last_gain-later story.desk.mixed position old new (story.gains slot) h)
     ∙ sounding-marking device (last_gain (story.gains slot) position) story.desk.mixed event old new carried position

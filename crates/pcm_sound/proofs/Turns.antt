@@ -9,16 +9,16 @@ use Rattle.pcm_format.specs.Frames.{Frame, frames}
 use Rattle.pcm_format.proofs.Ranges.{flat_map-range-shift}
 use Rattle.pcm_feeder.specs.declared.stage.Gain.{Gain}
 use Rattle.pcm_mix.specs.Mix.{mixed}
-use Rattle.pcm_desk.specs.declared.book.Book.{Book}
+use Rattle.pcm_desk.specs.declared.play_book.PlayBook.{PlayBook}
 use Rattle.pcm_desk.specs.Device.{DeviceSeen, IsDevice, mix_settings}
-use Rattle.pcm_desk.specs.Books.{giving, is_started}
-use Rattle.pcm_desk.specs.Desk.{rate_at}
-use Rattle.pcm_desk.proofs.Safe.{allowed-started}
+use Rattle.pcm_desk.specs.PlayBooks.{giving, is_started}
+use Rattle.pcm_desk.specs.Desk.{play_rate_at}
+use Rattle.pcm_desk.proofs.PlaySafe.{allowed-started}
 use Rattle.pcm_sound.specs.Gains.{book_gain}
-use Rattle.pcm_sound.specs.Plans.{given_frame, given_samples}
+use Rattle.pcm_sound.specs.Given.{given_frame, given_samples}
 use Rattle.pcm_sound.specs.Runs.{Run, run_frames, sounding, playing, newest_bytes}
 use Rattle.pcm_sound.specs.Mix.{adding}
-use Rattle.pcm_sound.specs.Blocks.{turned}
+use Rattle.pcm_sound.specs.Added.{turned}
 use Rattle.pcm_sound.specs.Valid.{SlotIsValid}
 use Rattle.pcm_sound.proofs.Sounding.{sounding-playing_given, sounding-playing_none}
 use Rattle.pcm_sound.proofs.DeviceLists.{IsDeviceFrame, length-given_frame}
@@ -38,12 +38,12 @@ given_samples-joined device gain settings bytes from count =
     ∙ sym (flat_map-elements given (range_with_len from count))
 
 -- the block of an interrupt with one slot more, which has the gain of its book's volume at all of its positions
-abbrev pub SlotTurn : DeviceSeen → ℕ → ℕ → Book → List Run → (ℕ → Gain) → List ℕ → (ℕ → Frame) → Type 0
+abbrev pub SlotTurn : DeviceSeen → ℕ → ℕ → PlayBook → List Run → (ℕ → Gain) → List ℕ → (ℕ → Frame) → Type 0
 SlotTurn device position n book runs gains bytes sum =
     flat_map (λ k. adding (bits_of (mix_settings device).format) (sum k) (sounding device (gains k) (playing device position n book runs) (position + k))) (range_with_len 0 n)
     ≡ turned device n book bytes (flat_map sum (range_with_len 0 n))
 
-turn-silent : (device : DeviceSeen) (position n : ℕ) (book : Book) (runs : List Run) (gains : ℕ → Gain) (bytes : List ℕ) (sum : ℕ → Frame) → giving (rate_at device book) n book ≡ 0 → SlotIsValid device position book runs
+turn-silent : (device : DeviceSeen) (position n : ℕ) (book : PlayBook) (runs : List Run) (gains : ℕ → Gain) (bytes : List ℕ) (sum : ℕ → Frame) → giving (play_rate_at device book) n book ≡ 0 → SlotIsValid device position book runs
     → ((k : ℕ) → k < n → IsDeviceFrame device (sum k)) → SlotTurn device position n book runs gains bytes sum
 turn-silent device position n book runs gains bytes sum none v s =
     let size : ℕ = channels_of (mix_settings device).layout in
@@ -53,41 +53,41 @@ turn-silent device position n book runs gains bytes sum none v s =
     (λ k l h. sounding-playing_none device (gains k) position n k book runs v.pieces (omega arith)) in
     rw none block
 
-turn-started : (device : DeviceSeen) (position n : ℕ) (book : Book) (run : Run) (runs : List Run) (gains : ℕ → Gain) (bytes : List ℕ) (sum : ℕ → Frame) → IsDevice device → is_started book.state ≡ true
+turn-started : (device : DeviceSeen) (position n : ℕ) (book : PlayBook) (run : Run) (runs : List Run) (gains : ℕ → Gain) (bytes : List ℕ) (sum : ℕ → Frame) → IsDevice device → is_started book.state ≡ true
     → SlotIsValid device position book (run ∷ runs) → bytes ≡ run.bytes → ((k : ℕ) → k < n → gains k ≡ book_gain book)
     → ((k : ℕ) → k < n → IsDeviceFrame device (sum k)) → SlotTurn device position n book (run ∷ runs) gains bytes sum
 turn-started device position n book run runs gains bytes sum d started v is one s =
     let size : ℕ = channels_of (mix_settings device).layout in
     let bits : ℕ = bits_of (mix_settings device).format in
-    let count : ℕ = giving (rate_at device book) n book in
+    let count : ℕ = giving (play_rate_at device book) n book in
     let newest = v.newest (v.started started) in
     let given : ℕ → Option Frame = λ k. sounding device (gains k) (playing device position n book (run ∷ runs)) (position + k) in
-    let add : ℕ → Frame = λ k. given_frame device book.settings (frames book.settings bytes) (book.given + k) (book_gain book) in
+    let add : ℕ → Frame = λ k. given_frame device book.opening.settings (frames book.opening.settings bytes) (book.given + k) (book_gain book) in
     let add_is : (k : ℕ) → k < count → given k ≡ Some (add k) = λ k l.
     sounding-playing_given device (gains k) position n k book run runs started l
     ∙ ap (λ (g : Gain). Some (given_frame device run.settings (run_frames run) (book.given + k) g)) (one k (omega arith))
     ∙ ap (λ (settings : Settings). Some (given_frame device settings (frames settings run.bytes) (book.given + k) (book_gain book))) newest.0
-    ∙ ap (λ (b : List ℕ). Some (given_frame device book.settings (frames book.settings b) (book.given + k) (book_gain book))) (sym is) in
+    ∙ ap (λ (b : List ℕ). Some (given_frame device book.opening.settings (frames book.opening.settings b) (book.given + k) (book_gain book))) (sym is) in
     let block = adding-block bits size count n sum given add (omega arith) s
-    (λ k l. length-given_frame device book.settings bytes (book.given + k) (book_gain book) d v.settings)
+    (λ k l. length-given_frame device book.opening.settings bytes (book.given + k) (book_gain book) d v.settings)
     add_is
     (λ k l h. sounding-playing_none device (gains k) position n k book (run ∷ runs) v.pieces l) in
     block
     ∙ ap (λ (xs : List ℤ). mixed bits (take (count * size) (flat_map sum (range_with_len 0 n))) xs ++ drop (count * size) (flat_map sum (range_with_len 0 n)))
-    (given_samples-joined device (book_gain book) book.settings bytes book.given count)
+    (given_samples-joined device (book_gain book) book.opening.settings bytes book.given count)
 
-turn-with : (device : DeviceSeen) (position n : ℕ) (book : Book) (runs : List Run) (gains : ℕ → Gain) (bytes : List ℕ) (sum : ℕ → Frame) → IsDevice device → is_started book.state ≡ true
+turn-with : (device : DeviceSeen) (position n : ℕ) (book : PlayBook) (runs : List Run) (gains : ℕ → Gain) (bytes : List ℕ) (sum : ℕ → Frame) → IsDevice device → is_started book.state ≡ true
     → SlotIsValid device position book runs → (0 < book.written → bytes ≡ newest_bytes runs) → ((k : ℕ) → k < n → gains k ≡ book_gain book)
     → ((k : ℕ) → k < n → IsDeviceFrame device (sum k)) → SlotTurn device position n book runs gains bytes sum
 turn-with device position n book [] gains bytes sum d started v is one s = absurd (v.newest (v.started started))
 turn-with device position n book (run ∷ runs) gains bytes sum d started v is one s = turn-started device position n book run runs gains bytes sum d started v (is (v.started started)) one s
 
 -- What a slot adds to the block of an interrupt is what its plan makes of the bytes of its run, and no more.
-pub turn : (device : DeviceSeen) (position n : ℕ) (book : Book) (runs : List Run) (gains : ℕ → Gain) (bytes : List ℕ) (sum : ℕ → Frame) → IsDevice device
+pub turn : (device : DeviceSeen) (position n : ℕ) (book : PlayBook) (runs : List Run) (gains : ℕ → Gain) (bytes : List ℕ) (sum : ℕ → Frame) → IsDevice device
     → SlotIsValid device position book runs → (0 < book.written → bytes ≡ newest_bytes runs) → ((k : ℕ) → k < n → gains k ≡ book_gain book)
     → ((k : ℕ) → k < n → IsDeviceFrame device (sum k)) → SlotTurn device position n book runs gains bytes sum
 turn device position n book runs gains bytes sum d v is one s =
-    elim (cases_lt 0 (giving (rate_at device book) n book)) [
-      | inl some ↦ turn-with device position n book runs gains bytes sum d (allowed-started book.state (rate_at device book) book (omega arith)) v is one s
+    elim (cases_lt 0 (giving (play_rate_at device book) n book)) [
+      | inl some ↦ turn-with device position n book runs gains bytes sum d (allowed-started book.state (play_rate_at device book) book (omega arith)) v is one s
       | inr none ↦ turn-silent device position n book runs gains bytes sum (omega arith) v s
     ]

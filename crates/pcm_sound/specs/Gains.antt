@@ -3,8 +3,8 @@ use Rattle.std.specs.Prelude.{ℕ, Bool, ◌&&◌, ◌||◌, not, nat_le, ◌==�
 use Rattle.pcm_feeder.specs.declared.stage.Gain.{Gain}
 use Rattle.pcm_feeder.specs.Layouts.{unity}
 use Rattle.pcm_oss.specs.Volumes.{gain_of}
-use Rattle.pcm_desk.specs.declared.book.Book.{Book}
-use Rattle.pcm_desk.specs.Books.{is_free}
+use Rattle.pcm_desk.specs.declared.play_book.PlayBook.{PlayBook}
+use Rattle.pcm_desk.specs.PlayBooks.{is_play_free}
 
 -- a gain, and how many frames were mixed when it was set
 pub record GainSet : Type 0 where
@@ -12,19 +12,19 @@ pub record GainSet : Type 0 where
   pub gain : Gain
 
 -- the gain of a book's volume
-abbrev pub book_gain : Book → Gain
+abbrev pub book_gain : PlayBook → Gain
 book_gain book = gain_of book.volume
 
 -- a slot that was free is open
-abbrev pub begins : Book → Book → Bool
-begins old new = is_free old.state && not (is_free new.state)
+abbrev pub begins : PlayBook → PlayBook → Bool
+begins old new = is_play_free old.state && not (is_play_free new.state)
 
 -- the volume of a slot is set: an opening begins with one, or it changes
-abbrev pub sets_volume : Book → Book → Bool
+abbrev pub sets_volume : PlayBook → PlayBook → Bool
 sets_volume old new = begins old new || not (new.volume == old.volume)
 
 -- the gains of a slot after an event, the newest first, from its book before and after
-abbrev pub gains_after : ℕ → Book → Book → List GainSet → List GainSet
+abbrev pub gains_after : ℕ → PlayBook → PlayBook → List GainSet → List GainSet
 gains_after position old new gains =
     if sets_volume old new then record { position = position; gain = book_gain new } ∷ gains else gains
 

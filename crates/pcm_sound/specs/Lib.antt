@@ -1,14 +1,14 @@
-pub mod Plans
+pub mod Given
 pub mod Gains
 pub mod Runs
 pub mod Recordings
 pub mod Story
-pub mod Replies
+pub mod StoryReplies
 pub mod Mix
 pub mod DeviceList
 pub mod Plain
 pub mod Places
-pub mod Blocks
+pub mod Added
 pub mod Valid
 pub mod Pools
 pub mod OwnReplies

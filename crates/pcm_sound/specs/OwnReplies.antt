@@ -5,7 +5,7 @@ use Rattle.pcm_oss.specs.Replies.{Reply}
 use Rattle.pcm_wave.specs.declared.pool.Pool.{Pool}
 use Rattle.pcm_desk.specs.Device.{DeviceSeen}
 use Rattle.pcm_desk.specs.OwnEvents.{closes, concerns}
-use Rattle.pcm_sound.specs.Replies.{reply_to}
+use Rattle.pcm_sound.specs.StoryReplies.{reply_to}
 use Rattle.pcm_sound.specs.Story.{Story, told}
 
 -- the replies to the events of a descriptor and to the interrupts between them, until it is closed

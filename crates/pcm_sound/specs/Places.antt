@@ -1,8 +1,8 @@
 -- Where the pieces of a run stand: they follow each other from its start on, and a run that is over ends behind the last of them.
 use Rattle.std.specs.Prelude.{◌≡◌, ℕ, ◌+◌, ◌<◌, ◌≤◌, true, false, List, [], ◌∷◌, All, Option, Some, None}
-use Rattle.pcm_desk.specs.declared.book.Book.{Book}
+use Rattle.pcm_desk.specs.declared.play_book.PlayBook.{PlayBook}
 use Rattle.pcm_desk.specs.Device.{DeviceSeen}
-use Rattle.pcm_desk.specs.Books.{is_started}
+use Rattle.pcm_desk.specs.PlayBooks.{is_started}
 use Rattle.pcm_sound.specs.Runs.{Piece, Run}
 use Rattle.pcm_sound.specs.Plain.{IsUnbroken, run_end}
 
@@ -35,23 +35,23 @@ pub record IsWaiting (run : Run) : Type 0 where
   pub pieces : run.pieces ≡ []
 
 -- a run whose book has: its pieces have all that the book gave, and reach to what is mixed next
-pub record IsGoing (mixed : ℕ) (book : Book) (run : Run) : Type 0 where
+pub record IsGoing (mixed : ℕ) (book : PlayBook) (run : Run) : Type 0 where
   pub start : ℕ
   pub started : run.start ≡ Some start
   pub follow : IsUnbroken run → FollowFrom start book.given run.pieces × (start + book.given ≡ mixed)
 
 -- a run that its book counts
-pub record IsCounted (mixed : ℕ) (book : Book) (run : Run) : Type 0 where
+pub record IsCounted (mixed : ℕ) (book : PlayBook) (run : Run) : Type 0 where
   pub dropped : run.dropped ≡ None
   pub waits : is_started book.state ≡ false → IsWaiting run
   pub goes : is_started book.state ≡ true → IsGoing mixed book run
 
 -- the runs of a slot, of which the book counts the newest if so many bytes were written; the others are over
-abbrev pub ArePlaced : DeviceSeen → ℕ → Book → ℕ → List Run → Type 0
+abbrev pub ArePlaced : DeviceSeen → ℕ → PlayBook → ℕ → List Run → Type 0
 ArePlaced device mixed book written [] = Unit {0}
 ArePlaced device mixed book written (run ∷ runs) =
     All (IsOver device mixed) runs × (written ≡ 0 → IsOver device mixed run) × (0 < written → IsCounted mixed book run)
 
 -- where the runs of a slot stand, before a position
-abbrev pub SlotIsPlaced : DeviceSeen → ℕ → Book → List Run → Type 0
+abbrev pub SlotIsPlaced : DeviceSeen → ℕ → PlayBook → List Run → Type 0
 SlotIsPlaced device mixed book runs = ArePlaced device mixed book book.written runs

@@ -8,7 +8,7 @@ use Rattle.pcm_rate.specs.Rates.{len}
 use Rattle.pcm_feeder.specs.declared.stage.Gain.{Gain}
 use Rattle.pcm_plan.specs.Plans.{PlanSeen}
 use Rattle.pcm_plan.specs.Through.{out}
-use Rattle.pcm_desk.specs.Device.{DeviceSeen, filters_of, plan_between, rate_between}
+use Rattle.pcm_desk.specs.Device.{DeviceSeen, filters_of, play_plan_between, play_rate_between}
 use Rattle.pcm_sound.specs.Gains.{last_gain}
 use Rattle.pcm_sound.specs.Runs.{Piece, Run, covers, run_frames}
 use Rattle.pcm_sound.specs.Story.{Story, story_of}
@@ -24,7 +24,7 @@ pub record Span : Type 0 where
 
 -- behind all that a run lasts for, once no more was to come
 abbrev pub drain_end : DeviceSeen → ℕ → ℕ → Run → ℕ
-drain_end device until start run = if run.drained then start + len (rate_between device run.settings) (length (run_frames run)) else until
+drain_end device until start run = if run.drained then start + len (play_rate_between device run.settings) (length (run_frames run)) else until
 
 -- where a run was dropped
 abbrev pub drop_end : ℕ → Option ℕ → ℕ
@@ -40,7 +40,7 @@ abbrev pub span_of : DeviceSeen → ℕ → Run → Option ℕ → List Span →
 span_of device until run None spans = spans
 span_of device until run (Some start) spans =
     if nat_lt start until
-    then record { plan = plan_between device run.settings; stream = run_frames run; start = start; end = run_end device until start run } ∷ spans
+    then record { plan = play_plan_between device run.settings; stream = run_frames run; start = start; end = run_end device until start run } ∷ spans
     else spans
 
 -- the runs of a slot as they are heard until a position, the newest first

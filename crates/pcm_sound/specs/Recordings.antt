@@ -7,9 +7,9 @@ use Rattle.pcm_wave.specs.Pools.{capture_frames}
 use Rattle.pcm_format.specs.Frames.{Frame}
 use Rattle.pcm_desk.specs.declared.record_book.RecordBook.{RecordBook}
 use Rattle.pcm_desk.specs.Device.{DeviceSeen}
-use Rattle.pcm_desk.specs.RecordBooks.{coming, fill_of, is_running, keeping}
+use Rattle.pcm_desk.specs.RecordBooks.{coming, is_running, keeping, record_fill_of}
 use Rattle.pcm_desk.specs.Desk.{Desk, record_rate_at}
-use Rattle.pcm_sound.specs.Plans.{recorded_bytes}
+use Rattle.pcm_sound.specs.Given.{recorded_bytes}
 
 pub record Recording : Type 0 where
   -- how many frames were handed over when it started
@@ -36,7 +36,7 @@ loses device n book = nat_lt (keeping (record_rate_at device book) n book) (comi
 -- an interrupt of n frames keeps the first of those that come
 abbrev pub keeps : DeviceSeen → Pool → ℕ → RecordBook → Recording → Recording
 keeps device pool n book recording = record recording {
-  kept = recording.kept ++ recorded_bytes device book.settings (recorded_frames pool recording.start)
+  kept = recording.kept ++ recorded_bytes device book.opening.settings (recorded_frames pool recording.start)
       book.given (keeping (record_rate_at device book) n book);
   whole = recording.whole && not (loses device n book);
 }
@@ -47,7 +47,7 @@ hearing device pool n book recording = if is_running book.state then keeps devic
 
 -- the bytes that a read of so many gets: the oldest that no read got
 abbrev pub read_bytes : ℕ → RecordBook → Recording → List ℕ
-read_bytes count book recording = take (min count (fill_of book)) (drop book.read recording.kept)
+read_bytes count book recording = take (min count (record_fill_of book)) (drop book.read recording.kept)
 
 -- a read moves the book on by what it got
 abbrev pub handing : RecordBook → RecordBook → Recording → Recording

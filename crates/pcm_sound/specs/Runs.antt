@@ -9,14 +9,14 @@ use Rattle.pcm_wave.specs.declared.pool.Pool.{Pool}
 use Rattle.pcm_format.specs.Frames.{Frame, frames}
 use Rattle.pcm_wave.specs.Pools.{bytes_at}
 use Rattle.pcm_feeder.specs.declared.stage.Gain.{Gain}
-use Rattle.pcm_desk.specs.declared.book.Book.{Book}
-use Rattle.pcm_desk.specs.declared.book.State.{State}
-use Rattle.pcm_desk.specs.declared.book.State.TheVariants.{Running}
+use Rattle.pcm_desk.specs.declared.play_book.PlayBook.{PlayBook}
+use Rattle.pcm_desk.specs.declared.play_book.PlayState.{PlayState}
+use Rattle.pcm_desk.specs.declared.play_book.PlayState.TheVariants.{Running}
 use Rattle.pcm_desk.specs.Device.{DeviceSeen}
-use Rattle.pcm_desk.specs.Books.{giving, is_draining, is_started}
-use Rattle.pcm_desk.specs.Requests.{has_play_bit}
-use Rattle.pcm_desk.specs.Desk.{Desk, mixed_by, rate_at}
-use Rattle.pcm_sound.specs.Plans.{given_frame}
+use Rattle.pcm_desk.specs.PlayBooks.{giving, is_draining, is_started}
+use Rattle.pcm_desk.specs.PlayRequests.{has_play_bit}
+use Rattle.pcm_desk.specs.Desk.{Desk, mixed_by, play_rate_at}
+use Rattle.pcm_sound.specs.Given.{given_frame}
 
 -- what one interrupt took of a run: `count` frames from `index` on, mixed from `position` on, and how many were missing
 pub record Piece : Type 0 where
@@ -39,11 +39,11 @@ pub record Run : Type 0 where
   pub pieces : List Piece
 
 -- a run of a book that begins with these bytes
-abbrev pub begun_run : Book → List ℕ → Run
-begun_run book bytes = record { settings = book.settings; bytes = bytes; start = None; drained = false; dropped = None; pieces = [] }
+abbrev pub begun_run : PlayBook → List ℕ → Run
+begun_run book bytes = record { settings = book.opening.settings; bytes = bytes; start = None; drained = false; dropped = None; pieces = [] }
 
 -- Bytes go to the newest run of a slot. They begin a new one where nothing was written since the last drain.
-abbrev pub taking : List ℕ → Book → List Run → List Run
+abbrev pub taking : List ℕ → PlayBook → List Run → List Run
 taking [] book runs = runs
 taking (byte ∷ bytes) book [] = begun_run book (byte ∷ bytes) ∷ []
 taking (byte ∷ bytes) book (run ∷ runs) =
@@ -51,32 +51,32 @@ taking (byte ∷ bytes) book (run ∷ runs) =
     else record run { bytes = run.bytes ++ byte ∷ bytes } ∷ runs
 
 -- the frames that an interrupt wanted of a started run and didn't get; a drain is never short
-abbrev pub missing_in : DeviceSeen → State → ℕ → Book → ℕ
-missing_in device Running n book = n - giving (rate_at device book) n book
+abbrev pub missing_in : DeviceSeen → PlayState → ℕ → PlayBook → ℕ
+missing_in device Running n book = n - giving (play_rate_at device book) n book
 missing_in device state n book = 0
 
 -- the piece of an interrupt that mixes n frames
-abbrev pub piece_of : DeviceSeen → ℕ → ℕ → Book → Piece
+abbrev pub piece_of : DeviceSeen → ℕ → ℕ → PlayBook → Piece
 piece_of device position n book = record {
   position = position;
   index = book.given;
-  count = giving (rate_at device book) n book;
+  count = giving (play_rate_at device book) n book;
   short = missing_in device book.state n book;
 }
 
 -- An interrupt takes a piece of the newest run of a slot that has started. Where nothing is mixed there is no piece.
-abbrev pub playing : DeviceSeen → ℕ → ℕ → Book → List Run → List Run
+abbrev pub playing : DeviceSeen → ℕ → ℕ → PlayBook → List Run → List Run
 playing device position n book [] = []
 playing device position n book (run ∷ runs) =
     if is_started book.state && nat_lt 0 n then record run { pieces = piece_of device position n book ∷ run.pieces } ∷ runs
     else run ∷ runs
 
 -- a slot that hadn't started has
-abbrev pub starts : Book → Book → Bool
+abbrev pub starts : PlayBook → PlayBook → Bool
 starts old new = not (is_started old.state) && is_started new.state
 
 -- a slot that had started has not
-abbrev pub ends : Book → Book → Bool
+abbrev pub ends : PlayBook → PlayBook → Bool
 ends old new = is_started old.state && not (is_started new.state)
 
 -- whether a request drops what it ends: a halt does, and a trigger that is set off
@@ -91,7 +91,7 @@ drops (Ioctl fd request) = asks_drop request
 drops event = false
 
 -- what an event tells of a run: where it starts, whether no more comes, and where it is dropped
-abbrev pub marked : ℕ → Event → Book → Book → Run → Run
+abbrev pub marked : ℕ → Event → PlayBook → PlayBook → Run → Run
 marked position event old new run = record run {
   start = if starts old new then Some position else run.start;
   drained = run.drained || is_draining new.state || ends old new && not (drops event);
@@ -99,18 +99,18 @@ marked position event old new run = record run {
 }
 
 -- what an event tells of the runs of a slot is told of the newest
-abbrev pub marking : ℕ → Event → Book → Book → List Run → List Run
+abbrev pub marking : ℕ → Event → PlayBook → PlayBook → List Run → List Run
 marking position event old new [] = []
 marking position event old new (run ∷ runs) = marked position event old new run ∷ runs
 
 -- The bytes and the pieces of a slot's runs after an event: what was written is what the book grew by.
-abbrev pub carrying : DeviceSeen → Pool → Desk → Event → Book → Book → List Run → List Run
+abbrev pub carrying : DeviceSeen → Pool → Desk → Event → PlayBook → PlayBook → List Run → List Run
 carrying device pool desk (Write fd source at count) old new runs = taking (bytes_at pool source at (new.written - old.written)) old runs
 carrying device pool desk (Intr n) old new runs = playing device desk.mixed (mixed_by device desk n) old runs
 carrying device pool desk event old new runs = runs
 
 -- the runs of a slot after an event at a desk, from its book before and after
-abbrev pub runs_after : DeviceSeen → Pool → Desk → Event → Book → Book → List Run → List Run
+abbrev pub runs_after : DeviceSeen → Pool → Desk → Event → PlayBook → PlayBook → List Run → List Run
 runs_after device pool desk event old new runs = marking desk.mixed event old new (carrying device pool desk event old new runs)
 
 -- the bytes of the newest run of a slot

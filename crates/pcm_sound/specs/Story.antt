@@ -3,7 +3,7 @@ use Rattle.std.specs.Prelude.{ℕ, List, [], ◌∷◌}
 use Rattle.pcm_oss.specs.declared.event.Event.{Event}
 use Rattle.pcm_wave.specs.declared.pool.Pool.{Pool}
 use Rattle.pcm_desk.specs.Device.{DeviceSeen}
-use Rattle.pcm_desk.specs.Desk.{Desk, desk_at_start, book_at, record_at, after}
+use Rattle.pcm_desk.specs.Desk.{Desk, desk_at_start, play_at, record_at, after}
 use Rattle.pcm_sound.specs.Gains.{GainSet, gains_after}
 use Rattle.pcm_sound.specs.Runs.{Run, runs_after}
 use Rattle.pcm_sound.specs.Recordings.{Recording, recording_after, recording_from}
@@ -27,8 +27,8 @@ told device pool story event =
     let new : Desk = (after device story.desk event).desk in
     record {
       desk = new;
-      runs = λ slot. runs_after device pool story.desk event (book_at device story.desk slot) (book_at device new slot) (story.runs slot);
-      gains = λ slot. gains_after story.desk.mixed (book_at device story.desk slot) (book_at device new slot) (story.gains slot);
+      runs = λ slot. runs_after device pool story.desk event (play_at device story.desk slot) (play_at device new slot) (story.runs slot);
+      gains = λ slot. gains_after story.desk.mixed (play_at device story.desk slot) (play_at device new slot) (story.gains slot);
       recordings = λ slot. recording_after device pool story.desk event (record_at device story.desk slot) (record_at device new slot) (story.recordings slot);
     }
 

@@ -5,18 +5,18 @@ use Rattle.pcm_format.specs.Frames.{whole_frames}
 use Rattle.pcm_rate.specs.declared.rate.Rate.{Rate}
 use Rattle.pcm_rate.specs.Rates.{can, len}
 use Rattle.pcm_feeder.specs.Limits.{IsRate}
-use Rattle.pcm_desk.specs.declared.book.Book.{Book}
-use Rattle.pcm_desk.specs.Device.{DeviceSeen, IsDevice, rate_between}
-use Rattle.pcm_desk.specs.Books.{is_draining, is_started}
-use Rattle.pcm_desk.specs.Safe.{BookIsSafe}
+use Rattle.pcm_desk.specs.declared.play_book.PlayBook.{PlayBook}
+use Rattle.pcm_desk.specs.Device.{DeviceSeen, IsDevice, play_rate_between}
+use Rattle.pcm_desk.specs.PlayBooks.{is_draining, is_started}
+use Rattle.pcm_desk.specs.PlaySafe.{PlayIsSafe}
 use Rattle.pcm_desk.specs.declared.record_book.RecordBook.{RecordBook}
 use Rattle.pcm_desk.specs.RecordBooks.{is_running}
 use Rattle.pcm_desk.specs.RecordSafe.{RecordIsSafe}
-use Rattle.pcm_desk.specs.Desk.{book_at, rate_at, record_at, record_rate_at}
+use Rattle.pcm_desk.specs.Desk.{play_at, play_rate_at, record_at, record_rate_at}
 use Rattle.pcm_wave.specs.declared.pool.Pool.{Pool}
 use Rattle.pcm_sound.specs.Gains.{book_gain, last_gain}
 use Rattle.pcm_sound.specs.Runs.{Piece, Run}
-use Rattle.pcm_sound.specs.Plans.{recorded_bytes}
+use Rattle.pcm_sound.specs.Given.{recorded_bytes}
 use Rattle.pcm_sound.specs.Recordings.{Recording, recorded_frames}
 use Rattle.pcm_sound.specs.Story.{Story}
 use Rattle.pcm_sound.specs.Places.{SlotIsPlaced}
@@ -27,7 +27,7 @@ frames_given rate drained frames = if drained then len rate frames else can rate
 
 -- how many frames of the mix a run gives
 abbrev pub given_in : DeviceSeen → Run → ℕ
-given_in device run = frames_given (rate_between device run.settings) run.drained (whole_frames run.settings (length run.bytes))
+given_in device run = frames_given (play_rate_between device run.settings) run.drained (whole_frames run.settings (length run.bytes))
 
 -- the frames of a piece were mixed before this position, and are among so many of its run
 pub record PieceIsValid (mixed most : ℕ) (piece : Piece) : Type 0 where
@@ -43,14 +43,14 @@ abbrev pub HasRate : Run → Type 0
 HasRate run = IsRate run.settings.rate
 
 -- the newest run has the bytes that its book counts, and more may come unless the book drains
-abbrev pub IsNewest : Book → List Run → Type 0
+abbrev pub IsNewest : PlayBook → List Run → Type 0
 IsNewest book [] = ⊥
 IsNewest book (run ∷ runs) =
-    (run.settings ≡ book.settings) × (length run.bytes ≡ book.written) × (run.drained ≡ is_draining book.state)
+    (run.settings ≡ book.opening.settings) × (length run.bytes ≡ book.written) × (run.drained ≡ is_draining book.state)
 
 -- a slot's book and its runs, before a position
-pub record SlotIsValid (device : DeviceSeen) (mixed : ℕ) (book : Book) (runs : List Run) : Type 0 where
-  pub settings : IsRate book.settings.rate
+pub record SlotIsValid (device : DeviceSeen) (mixed : ℕ) (book : PlayBook) (runs : List Run) : Type 0 where
+  pub settings : IsRate book.opening.settings.rate
   pub started : is_started book.state ≡ true → 0 < book.written
   pub newest : 0 < book.written → IsNewest book runs
   pub pieces : All (RunIsValid device mixed) runs
@@ -58,12 +58,12 @@ pub record SlotIsValid (device : DeviceSeen) (mixed : ℕ) (book : Book) (runs :
 
 pub record StoryIsValid (device : DeviceSeen) (story : Story) : Type 0 where
   pub limits : IsDevice device
-  pub slots : (slot : ℕ) → SlotIsValid device story.desk.mixed (book_at device story.desk slot) (story.runs slot)
-  pub safe : (slot : ℕ) → BookIsSafe (rate_at device (book_at device story.desk slot)) (book_at device story.desk slot)
+  pub slots : (slot : ℕ) → SlotIsValid device story.desk.mixed (play_at device story.desk slot) (story.runs slot)
+  pub safe : (slot : ℕ) → PlayIsSafe (play_rate_at device (play_at device story.desk slot)) (play_at device story.desk slot)
   -- the pieces of each run stand in their place
-  pub placed : (slot : ℕ) → SlotIsPlaced device story.desk.mixed (book_at device story.desk slot) (story.runs slot)
+  pub placed : (slot : ℕ) → SlotIsPlaced device story.desk.mixed (play_at device story.desk slot) (story.runs slot)
   -- from now on each slot has the gain of its book's volume
-  pub gains : (slot position : ℕ) → story.desk.mixed ≤ position → last_gain (story.gains slot) position ≡ book_gain (book_at device story.desk slot)
+  pub gains : (slot position : ℕ) → story.desk.mixed ≤ position → last_gain (story.gains slot) position ≡ book_gain (play_at device story.desk slot)
   -- what stands for all frames that were handed over is mixed
   pub mixed : story.desk.mixed ≡ story.desk.handed
 
@@ -74,11 +74,11 @@ pub record IsRecorded (device : DeviceSeen) (pool : Pool) (handed : ℕ) (book :
   pub got : recording.got ≡ take book.read recording.kept
   pub place : recording.start + book.captured ≡ handed
   pub whole : recording.whole ≡ true
-      → recording.kept ≡ recorded_bytes device book.settings (recorded_frames pool recording.start) 0 book.given
+      → recording.kept ≡ recorded_bytes device book.opening.settings (recorded_frames pool recording.start) 0 book.given
 
 -- a slot's record book and its recording, once so many frames were handed over
 pub record RecordingIsValid (device : DeviceSeen) (pool : Pool) (handed : ℕ) (book : RecordBook) (recording : Recording) : Type 0 where
-  pub settings : IsRate book.settings.rate
+  pub settings : IsRate book.opening.settings.rate
   pub safe : RecordIsSafe (record_rate_at device book) book
   pub running : is_running book.state ≡ true → IsRecorded device pool handed book recording
 

@@ -7,7 +7,7 @@ ghost use Rattle.pcm_oss.specs.declared.event.Event.TheVariants.{Open};
 ghost use Rattle.pcm_oss.specs.declared.event.Way.{Way};
 ghost use Rattle.pcm_wave.specs.declared.pool.Pool.{Pool};
 ghost use Rattle.pcm_wave.specs.Pools.{IsCaptureIn, capture_frames};
-ghost use Rattle.pcm_desk.specs.declared.book.Book.{Book};
+ghost use Rattle.pcm_desk.specs.declared.play_book.PlayBook.{PlayBook};
 ghost use Rattle.pcm_desk.specs.declared.device.Held.{Held};
 ghost use Rattle.pcm_desk.specs.Device.{DeviceSeen, IsDevice, device_settings};
 ghost use Rattle.pcm_desk.specs.Desk.{mixing, record_at};
@@ -18,7 +18,7 @@ ghost use Rattle.pcm_desk.specs.RecordBooks.{is_running};
 ghost use Rattle.pcm_sound.specs.DeviceList.{device_text};
 ghost use Rattle.pcm_sound.specs.OwnReplies.{client_replies};
 ghost use Rattle.pcm_sound.specs.Plain.{AgreeInCommon, HasNoShortage, IsInPlace, IsUnbroken, SoundAlike, plain_text};
-ghost use Rattle.pcm_sound.specs.Plans.{recorded_bytes};
+ghost use Rattle.pcm_sound.specs.Given.{recorded_bytes};
 ghost use Rattle.pcm_sound.specs.Pools.{AreAlike, IsLonger};
 ghost use Rattle.pcm_sound.specs.Recordings.{recorded_frames};
 ghost use Rattle.pcm_sound.specs.Runs.{piece_of};
@@ -34,7 +34,7 @@ pub fn reads_get_what_is_recorded()
         let recording = story.recordings slot in
         is_running book.state ≡ true → recording.whole ≡ true
         → recording.got ≡ take book.read
-        (recorded_bytes device book.settings (recorded_frames pool recording.start) 0 book.given) }
+        (recorded_bytes device book.opening.settings (recorded_frames pool recording.start) 0 book.given) }
 {}
 
 /// The pieces of a run without a shortage cover the positions from its start to its end, each once, and no other, and at each they
@@ -67,7 +67,7 @@ pub fn what_sounds_alike_has_equal_bytes()
 
 /// An interrupt leaves a run short exactly where it counts an underrun, as long as the count can rise: so answers tell of every shortage.
 pub fn shortages_are_counted()
-    ensures { (device : DeviceSeen) (position n : ℕ) (book : Book) → 0 < n → book.underruns < 2 ^ 32 - 1
+    ensures { (device : DeviceSeen) (position n : ℕ) (book : PlayBook) → 0 < n → book.underruns < 2 ^ 32 - 1
         → ((piece_of device position n book).short ≡ 0) ↔ ((mixing device n book).underruns ≡ book.underruns) }
 {}
 

@@ -2,45 +2,51 @@
 ghost use Rattle.std.specs.Prelude.{◌+◌, ◌<◌, ◌^◌};
 ghost use Rattle.pcm_rate.specs.Rates.{IsRatio};
 
-use pcm_desk::{Book, Device, State};
+use pcm_desk::{Device, PlayBook, PlayState};
 use pcm_rate::{Rate, UNCHANGED};
 
 // A state, frames of four bytes that were eaten, frames of the mix that were given for them, and bytes that wait.
-type Stage = (State, u16, u16, u16);
+type Stage = (PlayState, u16, u16, u16);
 
 // A book of the usual device's settings whose first run is at a stage, with so many shortages, behind so many bytes that
 // were played.
-fn book(stage: Stage, underruns: u32, done: u16) -> Book
+fn book(stage: Stage, underruns: u32, done: u16) -> PlayBook
     ensures written { result.done + result.written < 2 ^ 32 }
     ensures given { result.given < 2 ^ 32 }
 {
     let (state, eaten, given, waiting) = stage;
-    Book {
+    PlayBook {
         state,
         written: 4 * u64::from(eaten) + u64::from(waiting),
         eaten: u64::from(eaten),
         given: u64::from(given),
         underruns,
         done: u64::from(done),
-        ..Book::begun(Device::usual().settings)
+        ..PlayBook::begun(Device::usual().settings)
     }
 }
 
-const RUNNING: State = State::Running;
+const RUNNING: PlayState = PlayState::Running;
 
-const CLOSED: State = State::Draining { closed: true };
+const CLOSED: PlayState = PlayState::Draining { closed: true };
 
-const OPEN: State = State::Draining { closed: false };
+const OPEN: PlayState = PlayState::Draining { closed: false };
 
 // A stage, and frames wanted; then the stage, shortages, and the bytes of a run that is over.
 type Row = (Stage, u16, Stage, u32, u16);
 
 const AT_THE_RATE: [Row; 10] = [
-    ((State::Setup, 0, 0, 0), 4, (State::Setup, 0, 0, 0), 0, 0),
     (
-        (State::Primed, 0, 0, 4092),
+        (PlayState::Setup, 0, 0, 0),
         4,
-        (State::Primed, 0, 0, 4092),
+        (PlayState::Setup, 0, 0, 0),
+        0,
+        0,
+    ),
+    (
+        (PlayState::Primed, 0, 0, 4092),
+        4,
+        (PlayState::Primed, 0, 0, 4092),
         0,
         0,
     ),
@@ -49,9 +55,9 @@ const AT_THE_RATE: [Row; 10] = [
     ((RUNNING, 1024, 1024, 3), 4, (RUNNING, 1024, 1024, 3), 1, 0),
     ((RUNNING, 1024, 1024, 4), 1, (RUNNING, 1025, 1025, 0), 0, 0),
     ((CLOSED, 0, 0, 8), 1, (CLOSED, 1, 1, 4), 0, 0),
-    ((CLOSED, 1, 1, 4), 4, (State::Free, 0, 0, 0), 0, 8),
-    ((CLOSED, 1, 1, 7), 1, (State::Free, 0, 0, 0), 0, 8),
-    ((OPEN, 1, 1, 4), 1, (State::Setup, 0, 0, 0), 0, 8),
+    ((CLOSED, 1, 1, 4), 4, (PlayState::Free, 0, 0, 0), 0, 8),
+    ((CLOSED, 1, 1, 7), 1, (PlayState::Free, 0, 0, 0), 0, 8),
+    ((OPEN, 1, 1, 4), 1, (PlayState::Setup, 0, 0, 0), 0, 8),
 ];
 
 // By lines. Of two frames, two outputs are sure, and a drain gives four.
@@ -64,8 +70,8 @@ const AT_HALF_THE_RATE: [Row; 10] = [
     ((RUNNING, 2, 2, 7), 1, (RUNNING, 3, 3, 3), 0, 0),
     ((CLOSED, 2, 2, 0), 1, (CLOSED, 2, 3, 0), 0, 0),
     ((CLOSED, 0, 0, 8), 3, (CLOSED, 2, 3, 0), 0, 0),
-    ((CLOSED, 2, 3, 0), 4, (State::Free, 0, 0, 0), 0, 8),
-    ((OPEN, 2, 2, 3), 2, (State::Setup, 0, 0, 0), 0, 8),
+    ((CLOSED, 2, 3, 0), 4, (PlayState::Free, 0, 0, 0), 0, 8),
+    ((OPEN, 2, 2, 3), 2, (PlayState::Setup, 0, 0, 0), 0, 8),
 ];
 
 const HALF: Rate = Rate {

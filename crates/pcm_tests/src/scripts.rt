@@ -128,7 +128,7 @@ const TEXT: &[u8] = b"open 4 rec u24be 4 96000\n\
 const EVENTS: [Event; 7] = [
     Event::Open {
         fd: 4,
-        way: Way::Rec,
+        way: Way::Record,
         settings: Settings {
             format: Format::U24Be,
             layout: Layout::Four,

@@ -4,19 +4,19 @@ use Rattle.std.specs.List.{range_with_len}
 use Rattle.std.proofs.lemmas.List.{get_or_default}
 use Rattle.std.proofs.lemmas.List.Sums.{fold-append}
 use Rattle.pcm_format.proofs.Ranges.{range-add}
-use Rattle.pcm_desk.specs.declared.book.Book.{Book}
+use Rattle.pcm_desk.specs.declared.play_book.PlayBook.{PlayBook}
 use Rattle.pcm_desk.specs.Device.{DeviceSeen}
-use Rattle.pcm_desk.specs.Desk.{unopened}
-use Rattle.pcm_sound.specs.Blocks.{turned}
+use Rattle.pcm_desk.specs.Desk.{play_unopened}
+use Rattle.pcm_sound.specs.Added.{turned}
 use Rattle.pcm_play.specs.declared.channel.PlayChannelOf.{PlayChannelOf}
-use Rattle.pcm_vchan.specs.Slots.{books_of}
+use Rattle.pcm_vchan.specs.Slots.{play_books_of}
 use Rattle.pcm_vchan.specs.Blocks.{mixed_onto}
-use Rattle.pcm_vchan.proofs.Channels.{book_at-channel}
+use Rattle.pcm_vchan.proofs.Channels.{play_at-channel}
 
 -- a block of the mix once one slot more gave its frames
 pub mixed-more : {B : Type 0} (device : DeviceSeen) (n : ℕ) (channels : List (PlayChannelOf B)) (streams : ℕ → List ℕ) (slot : ℕ) (channel other : PlayChannelOf B) → slot < length channels → channel ≡ get_or channels slot other → (sum : List ℤ)
-    → turned device n channel.book (streams slot) (mixed_onto device n (books_of channels) streams slot sum) ≡ mixed_onto device n (books_of channels) streams (slot + 1) sum
+    → turned device n channel.book (streams slot) (mixed_onto device n (play_books_of channels) streams slot sum) ≡ mixed_onto device n (play_books_of channels) streams (slot + 1) sum
 mixed-more {B = B} device n channels streams slot channel other there is sum =
-    let onto : List ℤ → ℕ → List ℤ = λ sum at. turned device n (get_or (books_of channels) at (unopened device)) (streams at) sum in
-    ap (λ (book : Book). turned device n book (streams slot) (mixed_onto device n (books_of channels) streams slot sum)) (book_at-channel channels slot channel (unopened device) there (is ∙ get_or_default channels slot other channel there))
+    let onto : List ℤ → ℕ → List ℤ = λ sum at. turned device n (get_or (play_books_of channels) at (play_unopened device)) (streams at) sum in
+    ap (λ (book : PlayBook). turned device n book (streams slot) (mixed_onto device n (play_books_of channels) streams slot sum)) (play_at-channel channels slot channel (play_unopened device) there (is ∙ get_or_default channels slot other channel there))
     ∙ sym (ap (fold onto sum) (range-add 0 slot 1 ∙ ap (λ a. range_with_len 0 slot ++ a ∷ []) (zero-add slot)) ∙ fold-append onto sum (range_with_len 0 slot) (slot ∷ []))

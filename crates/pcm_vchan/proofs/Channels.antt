@@ -13,19 +13,19 @@ use Rattle.std.proofs.lemmas.Bool.{cases_eq}
 use Rattle.pcm_feeder.specs.declared.kind.Kind.{Kind}
 use Rattle.pcm_feeder.specs.Filters.{Filters}
 use Rattle.pcm_feeder.specs.Kept.{Kept}
-use Rattle.pcm_desk.specs.declared.book.Book.{Book}
+use Rattle.pcm_desk.specs.declared.play_book.PlayBook.{PlayBook}
 use Rattle.pcm_desk.specs.declared.device.Device.{Device}
 use Rattle.pcm_desk.specs.Device.{DeviceSeen}
-use Rattle.pcm_desk.specs.Books.{is_free}
+use Rattle.pcm_desk.specs.PlayBooks.{is_play_free}
 use Rattle.pcm_desk.specs.declared.record_book.RecordBook.{RecordBook}
-use Rattle.pcm_desk.specs.RecordBooks as records
-use Rattle.pcm_desk.specs.Desk.{capturing, least_free, least_free_record, mixing}
+use Rattle.pcm_desk.specs.RecordBooks.{is_record_free}
+use Rattle.pcm_desk.specs.Desk.{capturing, least_free_play, least_free_record, mixing}
 use Rattle.pcm_play.specs.declared.channel.PlayChannelOf.{PlayChannelOf}
 use Rattle.pcm_vchan.specs.declared.parent.ParentOf.{ParentOf}
-use Rattle.pcm_record.specs.declared.channel.RecChannelOf.{RecChannelOf}
+use Rattle.pcm_record.specs.declared.channel.RecordChannelOf.{RecordChannelOf}
 use Rattle.pcm_record.specs.Channels.{IsRecordReady, RecordMoves}
-use Rattle.pcm_vchan.specs.Slots.{books_of, Each, record_books_of}
-use Rattle.pcm_play.specs.Channels.{IsReady, Moves}
+use Rattle.pcm_vchan.specs.Slots.{play_books_of, Each, record_books_of}
+use Rattle.pcm_play.specs.Channels.{IsPlayReady, PlayMoves}
 
 prefix_len-map : {X Y : Type 0} (p : Y → Bool) (f : X → Y) (xs : List X) → prefix_len p (map f xs) ≡ prefix_len (λ x. p (f x)) xs
 prefix_len-map p f [] = refl
@@ -37,19 +37,19 @@ position-map p f xs =
     ∙ ap (λ (n : ℕ). cond (nat_lt (position_or_len (λ x. p (f x)) xs) n) (Some (position_or_len (λ x. p (f x)) xs)) None) (length-map xs f)
 
 -- the least free slot of books is that of their channels
-pub least_free-books : {B : Type 0} (channels : List (PlayChannelOf B)) → least_free (books_of channels) ≡ position (λ (channel : PlayChannelOf B). is_free channel.book.state) channels
-least_free-books {B = B} channels = position-map (λ (book : Book). is_free book.state) (λ (channel : PlayChannelOf B). channel.book) channels
+pub least_free_play-books : {B : Type 0} (channels : List (PlayChannelOf B)) → least_free_play (play_books_of channels) ≡ position (λ (channel : PlayChannelOf B). is_play_free channel.book.state) channels
+least_free_play-books {B = B} channels = position-map (λ (book : PlayBook). is_play_free book.state) (λ (channel : PlayChannelOf B). channel.book) channels
 
 -- the book of a channel
-pub book_at-channel : {B : Type 0} (channels : List (PlayChannelOf B)) (slot : ℕ) (old : PlayChannelOf B) (other : Book) → slot < length channels → old ≡ get_or channels slot old → old.book ≡ get_or (books_of channels) slot other
-book_at-channel {B = B} channels slot old other there is = ap (λ (channel : PlayChannelOf B). channel.book) is ∙ sym (get_or-map (λ (channel : PlayChannelOf B). channel.book) channels slot old other there)
+pub play_at-channel : {B : Type 0} (channels : List (PlayChannelOf B)) (slot : ℕ) (old : PlayChannelOf B) (other : PlayBook) → slot < length channels → old ≡ get_or channels slot old → old.book ≡ get_or (play_books_of channels) slot other
+play_at-channel {B = B} channels slot old other there is = ap (λ (channel : PlayChannelOf B). channel.book) is ∙ sym (get_or-map (λ (channel : PlayChannelOf B). channel.book) channels slot old other there)
 
 -- the books once one channel changed, whose book changed by `how`
-pub books_of-set : {B : Type 0} (how : Book → Book) (channels : List (PlayChannelOf B)) (slot : ℕ) (old new : PlayChannelOf B) (other : Book) → slot < length channels → old ≡ get_or channels slot old → new.book ≡ how old.book
-    → books_of (set channels slot new) ≡ set (books_of channels) slot (how (get_or (books_of channels) slot other))
-books_of-set {B = B} how channels slot old new other there is changed =
+pub play_books_of-set : {B : Type 0} (how : PlayBook → PlayBook) (channels : List (PlayChannelOf B)) (slot : ℕ) (old new : PlayChannelOf B) (other : PlayBook) → slot < length channels → old ≡ get_or channels slot old → new.book ≡ how old.book
+    → play_books_of (set channels slot new) ≡ set (play_books_of channels) slot (how (get_or (play_books_of channels) slot other))
+play_books_of-set {B = B} how channels slot old new other there is changed =
     map-set (λ (channel : PlayChannelOf B). channel.book) channels slot new
-    ∙ ap (set (books_of channels) slot) (changed ∙ ap how (book_at-channel channels slot old other there is))
+    ∙ ap (set (play_books_of channels) slot) (changed ∙ ap how (play_at-channel channels slot old other there is))
 
 -- what holds of each channel once one of them changed
 pub each_set : {X : Type 0} (how : X → X → Type 0) (channels : List X) (at : ℕ) (old new : X) → at < length channels → old ≡ get_or channels at old → how old new
@@ -71,15 +71,15 @@ own_set {X = X} own device channels at old new there is same all = λ slot other
     each_set How channels at old new there is (λ e. same ∙ e) (λ channel e. e) slot other before (all slot other before)
 
 -- so channels that were ready are ready after an event
-ready-moved : {B : Type 0} (kind : B → Kind) (kept : B → Kept) (filters : Filters) (more : List ℕ) (frames : ℕ) (old new : PlayChannelOf B) → Moves kind kept filters more frames old new → IsReady kind kept filters old → IsReady kind kept filters new
+ready-moved : {B : Type 0} (kind : B → Kind) (kept : B → Kept) (filters : Filters) (more : List ℕ) (frames : ℕ) (old new : PlayChannelOf B) → PlayMoves kind kept filters more frames old new → IsPlayReady kind kept filters old → IsPlayReady kind kept filters new
 ready-moved kind kept filters more frames old new m r = record {
   kinds = m.kinds r.kinds;
   planned = m.planned r.planned;
   stands = record { bytes = take new.book.written (r.stands.bytes ++ more); stands = m.stands r.stands.bytes r.stands.stands };
 }
 
-pub ready-after : {B : Type 0} (kind : B → Kind) (kept : B → Kept) (filters : Filters) (more : List ℕ) (frames : ℕ) (old new : List (PlayChannelOf B)) → length new ≡ length old → Each (Moves kind kept filters more frames) old new
-    → All (IsReady kind kept filters) old → All (IsReady kind kept filters) new
+pub ready-after : {B : Type 0} (kind : B → Kind) (kept : B → Kept) (filters : Filters) (more : List ℕ) (frames : ℕ) (old new : List (PlayChannelOf B)) → length new ≡ length old → Each (PlayMoves kind kept filters more frames) old new
+    → All (IsPlayReady kind kept filters) old → All (IsPlayReady kind kept filters) new
 ready-after kind kept filters more frames old new same each ready = λ slot other within.
     let there : slot < length old = omega arith in
     ready-moved kind kept filters more frames (get_or old slot other) (get_or new slot other) (each slot other there) (ready slot other there)
@@ -90,38 +90,38 @@ some_channel [] k h = absurd (omega arith)
 some_channel (channel ∷ channels) k h = channel
 
 -- the books after an interrupt
-pub books_of-mixed : {B : Type 0} (device : DeviceSeen) (n : ℕ) (old new : List (PlayChannelOf B)) → length new ≡ length old → Each (λ (o : PlayChannelOf B) (c : PlayChannelOf B). c.book ≡ mixing device n o.book) old new
-    → books_of new ≡ map (mixing device n) (books_of old)
-books_of-mixed {B = B} device n old new same each =
-    same_lists (books_of new) (map (mixing device n) (books_of old))
-    (length-map new (λ (c : PlayChannelOf B). c.book) ∙ same ∙ sym (length-map (books_of old) (mixing device n) ∙ length-map old (λ (c : PlayChannelOf B). c.book)))
+pub play_books_of-mixed : {B : Type 0} (device : DeviceSeen) (n : ℕ) (old new : List (PlayChannelOf B)) → length new ≡ length old → Each (λ (o : PlayChannelOf B) (c : PlayChannelOf B). c.book ≡ mixing device n o.book) old new
+    → play_books_of new ≡ map (mixing device n) (play_books_of old)
+play_books_of-mixed {B = B} device n old new same each =
+    same_lists (play_books_of new) (map (mixing device n) (play_books_of old))
+    (length-map new (λ (c : PlayChannelOf B). c.book) ∙ same ∙ sym (length-map (play_books_of old) (mixing device n) ∙ length-map old (λ (c : PlayChannelOf B). c.book)))
     (λ k d within.
     let there : k < length new = omega (arith, length-map new (λ (c : PlayChannelOf B). c.book)) in
     let before : k < length old = omega arith in
-    let listed : k < length (books_of old) = omega (arith, length-map old (λ (c : PlayChannelOf B). c.book)) in
+    let listed : k < length (play_books_of old) = omega (arith, length-map old (λ (c : PlayChannelOf B). c.book)) in
     let other : PlayChannelOf B = some_channel old k before in
     get_or-map (λ (c : PlayChannelOf B). c.book) new k other d there ∙ each k other before
-    ∙ ap (mixing device n) (sym (get_or-map (λ (c : PlayChannelOf B). c.book) old k other d before)) ∙ sym (get_or-map (mixing device n) (books_of old) k d d listed))
+    ∙ ap (mixing device n) (sym (get_or-map (λ (c : PlayChannelOf B). c.book) old k other d before)) ∙ sym (get_or-map (mixing device n) (play_books_of old) k d d listed))
 
 -- ---- channels that record
 
 -- the least free slot of record books is that of their channels
-pub least_free-records : {B : Type 0} (channels : List (RecChannelOf B)) → least_free_record (record_books_of channels) ≡ position (λ (channel : RecChannelOf B). records.is_free channel.book.state) channels
-least_free-records {B = B} channels = position-map (λ (book : RecordBook). records.is_free book.state) (λ (channel : RecChannelOf B). channel.book) channels
+pub least_free_play-records : {B : Type 0} (channels : List (RecordChannelOf B)) → least_free_record (record_books_of channels) ≡ position (λ (channel : RecordChannelOf B). is_record_free channel.book.state) channels
+least_free_play-records {B = B} channels = position-map (λ (book : RecordBook). is_record_free book.state) (λ (channel : RecordChannelOf B). channel.book) channels
 
 -- the book of a channel that records
-pub record_at-channel : {B : Type 0} (channels : List (RecChannelOf B)) (slot : ℕ) (old : RecChannelOf B) (other : RecordBook) → slot < length channels → old ≡ get_or channels slot old → old.book ≡ get_or (record_books_of channels) slot other
-record_at-channel {B = B} channels slot old other there is = ap (λ (channel : RecChannelOf B). channel.book) is ∙ sym (get_or-map (λ (channel : RecChannelOf B). channel.book) channels slot old other there)
+pub record_at-channel : {B : Type 0} (channels : List (RecordChannelOf B)) (slot : ℕ) (old : RecordChannelOf B) (other : RecordBook) → slot < length channels → old ≡ get_or channels slot old → old.book ≡ get_or (record_books_of channels) slot other
+record_at-channel {B = B} channels slot old other there is = ap (λ (channel : RecordChannelOf B). channel.book) is ∙ sym (get_or-map (λ (channel : RecordChannelOf B). channel.book) channels slot old other there)
 
 -- their books once one channel changed, whose book changed by `how`
-pub record_books_of-set : {B : Type 0} (how : RecordBook → RecordBook) (channels : List (RecChannelOf B)) (slot : ℕ) (old new : RecChannelOf B) (other : RecordBook) → slot < length channels → old ≡ get_or channels slot old → new.book ≡ how old.book
+pub record_books_of-set : {B : Type 0} (how : RecordBook → RecordBook) (channels : List (RecordChannelOf B)) (slot : ℕ) (old new : RecordChannelOf B) (other : RecordBook) → slot < length channels → old ≡ get_or channels slot old → new.book ≡ how old.book
     → record_books_of (set channels slot new) ≡ set (record_books_of channels) slot (how (get_or (record_books_of channels) slot other))
 record_books_of-set {B = B} how channels slot old new other there is changed =
-    map-set (λ (channel : RecChannelOf B). channel.book) channels slot new
+    map-set (λ (channel : RecordChannelOf B). channel.book) channels slot new
     ∙ ap (set (record_books_of channels) slot) (changed ∙ ap how (record_at-channel channels slot old other there is))
 
 -- a channel that moved is ready still
-pub record-ready-moved : {B : Type 0} (kind : B → Kind) (kept : B → Kept) (filters : Filters) (input : List Frame) (keeps : ℕ) (old new : RecChannelOf B) → RecordMoves kind kept filters input keeps old new → IsRecordReady kind kept filters old → IsRecordReady kind kept filters new
+pub record-ready-moved : {B : Type 0} (kind : B → Kind) (kept : B → Kept) (filters : Filters) (input : List Frame) (keeps : ℕ) (old new : RecordChannelOf B) → RecordMoves kind kept filters input keeps old new → IsRecordReady kind kept filters old → IsRecordReady kind kept filters new
 record-ready-moved kind kept filters input keeps old new m r = record {
   kinds = m.kinds r.kinds;
   planned = m.planned r.planned;
@@ -129,18 +129,18 @@ record-ready-moved kind kept filters input keeps old new m r = record {
 }
 
 -- their books after an interrupt
-pub record_books_of-captured : {B : Type 0} (device : DeviceSeen) (n : ℕ) (old new : List (RecChannelOf B)) → length new ≡ length old → Each (λ (o : RecChannelOf B) (c : RecChannelOf B). c.book ≡ capturing device n o.book) old new
+pub record_books_of-captured : {B : Type 0} (device : DeviceSeen) (n : ℕ) (old new : List (RecordChannelOf B)) → length new ≡ length old → Each (λ (o : RecordChannelOf B) (c : RecordChannelOf B). c.book ≡ capturing device n o.book) old new
     → record_books_of new ≡ map (capturing device n) (record_books_of old)
 record_books_of-captured {B = B} device n old new same each =
     same_lists (record_books_of new) (map (capturing device n) (record_books_of old))
-    (length-map new (λ (c : RecChannelOf B). c.book) ∙ same ∙ sym (length-map (record_books_of old) (capturing device n) ∙ length-map old (λ (c : RecChannelOf B). c.book)))
+    (length-map new (λ (c : RecordChannelOf B). c.book) ∙ same ∙ sym (length-map (record_books_of old) (capturing device n) ∙ length-map old (λ (c : RecordChannelOf B). c.book)))
     (λ k d within.
-    let there : k < length new = omega (arith, length-map new (λ (c : RecChannelOf B). c.book)) in
+    let there : k < length new = omega (arith, length-map new (λ (c : RecordChannelOf B). c.book)) in
     let before : k < length old = omega arith in
-    let listed : k < length (record_books_of old) = omega (arith, length-map old (λ (c : RecChannelOf B). c.book)) in
-    let other : RecChannelOf B = some_channel old k before in
-    get_or-map (λ (c : RecChannelOf B). c.book) new k other d there ∙ each k other before
-    ∙ ap (capturing device n) (sym (get_or-map (λ (c : RecChannelOf B). c.book) old k other d before)) ∙ sym (get_or-map (capturing device n) (record_books_of old) k d d listed))
+    let listed : k < length (record_books_of old) = omega (arith, length-map old (λ (c : RecordChannelOf B). c.book)) in
+    let other : RecordChannelOf B = some_channel old k before in
+    get_or-map (λ (c : RecordChannelOf B). c.book) new k other d there ∙ each k other before
+    ∙ ap (capturing device n) (sym (get_or-map (λ (c : RecordChannelOf B). c.book) old k other d before)) ∙ sym (get_or-map (capturing device n) (record_books_of old) k d d listed))
 
 -- ---- a parent
 

@@ -7,11 +7,11 @@ use Rattle.pcm_feeder.specs.Streams.{frames_of}
 use Rattle.pcm_desk.specs.Device.{DeviceSeen, device_settings, filters_of}
 use Rattle.pcm_desk.specs.RecordBooks.{keeping}
 use Rattle.pcm_desk.specs.Desk.{capturing, record_rate_at}
-use Rattle.pcm_record.specs.declared.channel.RecChannelOf.{RecChannelOf}
+use Rattle.pcm_record.specs.declared.channel.RecordChannelOf.{RecordChannelOf}
 use Rattle.pcm_record.specs.Channels.{RecordMoves}
 
 -- its book captures n frames of the device, which are these samples
-pub record Captures {B : Type 0} (kind : B → Kind) (kept : B → Kept) (device : DeviceSeen) (n : ℕ) (samples : List ℤ) (old new : RecChannelOf B) : Type 0 where
+pub record Captures {B : Type 0} (kind : B → Kind) (kept : B → Kept) (device : DeviceSeen) (n : ℕ) (samples : List ℤ) (old new : RecordChannelOf B) : Type 0 where
   pub book : new.book ≡ capturing device n old.book
   pub moves : RecordMoves kind kept (filters_of device) (frames_of (channels_of (device_settings device).layout) samples)
       (keeping (record_rate_at device old.book) n old.book) old new

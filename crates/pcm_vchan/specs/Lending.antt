@@ -4,8 +4,8 @@ use Rattle.std.specs.Borrow.{Lends, MutBor, Fml, RattleType}
 use Rattle.pcm_fixed.specs.Fixed.{with_fixed_item}
 use Rattle.pcm_play.specs.declared.channel.PlayChannelOf.{PlayChannelOf}
 use Rattle.pcm_play.specs.contracts.channel.PlayChannelOf.{the_row as channel_row}
-use Rattle.pcm_record.specs.declared.channel.RecChannelOf.{RecChannelOf}
-use Rattle.pcm_record.specs.contracts.channel.RecChannelOf.{the_row as recorder_row}
+use Rattle.pcm_record.specs.declared.channel.RecordChannelOf.{RecordChannelOf}
+use Rattle.pcm_record.specs.contracts.channel.RecordChannelOf.{the_row as recorder_row}
 use Rattle.pcm_vchan.specs.declared.parent.ParentOf.{ParentOf}
 use Rattle.pcm_vchan.specs.contracts.parent.ParentOf.{the_row}
 
@@ -18,9 +18,9 @@ abbrev pub LendsChannel : (R : RattleType) → MutBor (ParentOf R.Denot) → ℕ
 LendsChannel R parent slot channel = Lends (the_row R) (channel_row R) parent channel (λ last. with_channel parent.now slot last)
 
 -- a parent with another channel in a slot for recording
-abbrev pub with_recorder : {B : Type 0} → ParentOf B → ℕ → RecChannelOf B → ParentOf B
+abbrev pub with_recorder : {B : Type 0} → ParentOf B → ℕ → RecordChannelOf B → ParentOf B
 with_recorder parent slot channel = record parent { recorders = with_fixed_item parent.recorders slot channel }
 
 -- the parent ends with the channel that records as its borrower left it
-abbrev pub LendsRecorder : (R : RattleType) → MutBor (ParentOf R.Denot) → ℕ → MutBor (RecChannelOf R.Denot) → Fml
+abbrev pub LendsRecorder : (R : RattleType) → MutBor (ParentOf R.Denot) → ℕ → MutBor (RecordChannelOf R.Denot) → Fml
 LendsRecorder R parent slot channel = Lends (the_row R) (recorder_row R) parent channel (λ last. with_recorder parent.now slot last)

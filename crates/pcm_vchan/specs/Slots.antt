@@ -1,44 +1,60 @@
 -- The channels of a device, by slot.
-use Rattle.std.specs.Prelude.{◌≡◌, ℕ, ◌<◌, List, length, map, slice_index_or, All}
+use Rattle.std.specs.Prelude.{◌≡◌, ℕ, ◌+◌, ◌^◌, ◌<◌, List, length, map, slice_index_or, All}
+use Rattle.pcm_feeder.specs.declared.kind.Kind.{Kind}
 use Rattle.pcm_feeder.specs.Filters.{Filters}
 use Rattle.pcm_feeder.specs.Kept.{Kept}
 use Rattle.pcm_format.specs.Frames.{Frame}
-use Rattle.pcm_desk.specs.declared.book.Book.{Book}
+use Rattle.pcm_desk.specs.declared.play_book.PlayBook.{PlayBook}
 use Rattle.pcm_desk.specs.declared.record_book.RecordBook.{RecordBook}
 use Rattle.pcm_desk.specs.declared.device.Device.{Device}
 use Rattle.pcm_play.specs.declared.channel.PlayChannelOf.{PlayChannelOf}
-use Rattle.pcm_play.specs.Channels.{ChannelStands}
-use Rattle.pcm_record.specs.declared.channel.RecChannelOf.{RecChannelOf}
-use Rattle.pcm_record.specs.Channels.{RecordStands}
+use Rattle.pcm_oss.specs.declared.fragments.TheConstants.{RING_BYTES}
+use Rattle.pcm_play.specs.Channels.{IsPlayReady, PlayStands}
+use Rattle.pcm_record.specs.declared.channel.RecordChannelOf.{RecordChannelOf}
+use Rattle.pcm_record.specs.Channels.{IsRecordReady, RecordStands}
 
 -- the books of channels, by slot
-abbrev pub books_of : {B : Type 0} → List (PlayChannelOf B) → List Book
-books_of channels = map (λ channel. channel.book) channels
+abbrev pub play_books_of : {B : Type 0} → List (PlayChannelOf B) → List PlayBook
+play_books_of channels = map (λ channel. channel.book) channels
 
 -- each channel is of one device
-abbrev pub AreOf : {B : Type 0} → Device → List (PlayChannelOf B) → Type 0
-AreOf device channels = All (λ channel. channel.device ≡ device) channels
+abbrev pub PlayAreOf : {B : Type 0} → Device → List (PlayChannelOf B) → Type 0
+PlayAreOf device channels = All (λ channel. channel.device ≡ device) channels
 
 -- what holds of each channel, before and after
 abbrev pub Each : {X : Type 0} → (X → X → Type 0) → List X → List X → Type 0
 Each {X} how old new = (slot : ℕ) (other : X) → slot < length old → how (slice_index_or old slot other) (slice_index_or new slot other)
 
 -- each channel stands for its book and the bytes of its slot
-abbrev pub AllStand : {B : Type 0} → (B → Kept) → Filters → List (PlayChannelOf B) → (ℕ → List ℕ) → Type 0
-AllStand kept filters channels streams = (slot : ℕ) (other : PlayChannelOf _) → slot < length channels
-    → ChannelStands kept filters (slice_index_or channels slot other) (slice_index_or channels slot other).book (streams slot)
+abbrev pub AllPlayStand : {B : Type 0} → (B → Kept) → Filters → List (PlayChannelOf B) → (ℕ → List ℕ) → Type 0
+AllPlayStand kept filters channels streams = (slot : ℕ) (other : PlayChannelOf _) → slot < length channels
+    → PlayStands kept filters (slice_index_or channels slot other) (slice_index_or channels slot other).book (streams slot)
+
+-- a channel of this device is ready for an interrupt that mixes so many frames, and its counts have room for them
+pub record IsPlayDue {B : Type 0} (kind : B → Kind) (keeps : B → Kept) (filters : Filters) (device : Device) (frames : ℕ) (channel : PlayChannelOf B) : Type 0 where
+  pub own : channel.device ≡ device
+  pub ready : IsPlayReady kind keeps filters channel
+  pub given : channel.book.given + frames < 2 ^ 64
+  pub counted : channel.book.done + channel.book.written < 2 ^ 64
 
 -- ---- channels that record
 
 -- their books, by slot
-abbrev pub record_books_of : {B : Type 0} → List (RecChannelOf B) → List RecordBook
+abbrev pub record_books_of : {B : Type 0} → List (RecordChannelOf B) → List RecordBook
 record_books_of channels = map (λ channel. channel.book) channels
 
 -- each is of one device
-abbrev pub RecordersAreOf : {B : Type 0} → Device → List (RecChannelOf B) → Type 0
-RecordersAreOf device channels = All (λ channel. channel.device ≡ device) channels
+abbrev pub RecordAreOf : {B : Type 0} → Device → List (RecordChannelOf B) → Type 0
+RecordAreOf device channels = All (λ channel. channel.device ≡ device) channels
 
 -- each stands for its book, the bytes that were kept in its slot and the frames that were captured there
-abbrev pub AllRecord : {B : Type 0} → (B → Kept) → Filters → List (RecChannelOf B) → (ℕ → List ℕ) → (ℕ → List Frame) → Type 0
-AllRecord kept filters channels bytes frames = (slot : ℕ) (other : RecChannelOf _) → slot < length channels
+abbrev pub AllRecordStand : {B : Type 0} → (B → Kept) → Filters → List (RecordChannelOf B) → (ℕ → List ℕ) → (ℕ → List Frame) → Type 0
+AllRecordStand kept filters channels bytes frames = (slot : ℕ) (other : RecordChannelOf _) → slot < length channels
     → RecordStands kept filters (slice_index_or channels slot other) (slice_index_or channels slot other).book (bytes slot) (frames slot)
+
+-- a channel of this device is ready for an interrupt that captures so many frames, and its counts have room for them
+pub record IsRecordDue {B : Type 0} (kind : B → Kind) (keeps : B → Kept) (filters : Filters) (device : Device) (frames : ℕ) (channel : RecordChannelOf B) : Type 0 where
+  pub own : channel.device ≡ device
+  pub ready : IsRecordReady kind keeps filters channel
+  pub captured : channel.book.captured + frames < 2 ^ 56
+  pub kept : channel.book.kept + RING_BYTES < 2 ^ 64

@@ -1,6 +1,6 @@
 //! One block of the mix, from all channels in the order of their slots, and the ring that it goes into.
 
-ghost use Rattle.std.specs.Prelude.{◌≡◌, ◌≢◌, ℕ, pos, List, [], ◌++◌, ◌+◌, ◌*◌, ◌^◌, ◌<◌, ◌≤◌, length, take, drop, replicate, flat_map, All, IfOk, slice_index_or};
+ghost use Rattle.std.specs.Prelude.{◌≡◌, ◌≢◌, ℕ, pos, List, [], ◌++◌, ◌*◌, ◌<◌, ◌≤◌, length, take, drop, replicate, flat_map, All, IfOk, slice_index_or};
 ghost use Rattle.pcm_num.specs.Limit.{FitsBits};
 ghost use Rattle.pcm_format.specs.Formats.{bits_of, bytes_of};
 ghost use Rattle.pcm_format.specs.Layouts.{channels_of};
@@ -8,10 +8,10 @@ ghost use Rattle.pcm_format.specs.Frames.{frame_bytes};
 ghost use Rattle.pcm_format.specs.Samples.{spelled};
 ghost use Rattle.pcm_desk.specs.Device.{seen};
 ghost use Rattle.pcm_desk.specs.Desk.{mixing};
-ghost use Rattle.pcm_sound.specs.Blocks.{turned};
+ghost use Rattle.pcm_sound.specs.Added.{turned};
 ghost use Rattle.pcm_play.specs.declared.channel.PlayChannelOf.{PlayChannelOf};
-ghost use Rattle.pcm_vchan.specs.Slots.{AreOf, AllStand, Each, books_of};
-ghost use Rattle.pcm_play.specs.Channels.{ChannelStands, IsReady, Moves};
+ghost use Rattle.pcm_vchan.specs.Slots.{AllPlayStand, Each, IsPlayDue, PlayAreOf, play_books_of};
+ghost use Rattle.pcm_play.specs.Channels.{PlayStands, PlayMoves};
 ghost use Rattle.pcm_vchan.specs.Blocks.{block_bytes, block_of, mixed_onto};
 
 use pcm_desk::Device;
@@ -31,19 +31,15 @@ fn mix_channels<B: Feeder>(
     sum: &mut [i32],
 )
     requires some { 0 < n }
-    requires own { AreOf device channels.old }
-    requires ready { All (IsReady B.kind B.kept tables.now) channels.old }
+    requires due { All (IsPlayDue B.kind B.kept tables.now device n) channels.old }
     requires frames { length frames.old ≡ n * channels_of device.settings.layout }
     requires sum { length sum.old ≡ n * channels_of device.settings.layout }
     requires fits { All (FitsBits (bits_of device.settings.format)) sum.old }
-    requires count { All (λ channel. channel.book.given + n < 2 ^ 64) channels.old }
-    requires counted { All (λ channel. channel.book.done + channel.book.written
-        < 2 ^ 64) channels.old }
-    ensures own { AreOf device channels.new }
-    ensures moves { Each (Moves B.kind B.kept tables.now [] n) channels.old channels.new }
+    ensures own { PlayAreOf device channels.new }
+    ensures moves { Each (PlayMoves B.kind B.kept tables.now [] n) channels.old channels.new }
     ensures books { Each (λ old new. new.book ≡ mixing (seen tables.now device) n old.book) channels.old channels.new }
-    ensures sum { (streams : ℕ → List ℕ) → AllStand B.kept tables.now channels.old streams
-        → sum.new ≡ mixed_onto (seen tables.now device) n (books_of channels.old) streams (length channels.old) sum.old }
+    ensures sum { (streams : ℕ → List ℕ) → AllPlayStand B.kept tables.now channels.old streams
+        → sum.new ≡ mixed_onto (seen tables.now device) n (play_books_of channels.old) streams (length channels.old) sum.old }
     ensures fits { All (FitsBits (bits_of device.settings.format)) sum.new }
 {
     for slot in 0..channels.len() {
@@ -63,26 +59,20 @@ fn mix_slot<B: Feeder>(
 )
     requires some { 0 < n }
     requires there { slot < length channels.old }
-    requires own { (other : PlayChannelOf B) → (slice_index_or channels.old slot other).device ≡ device }
-    requires ready { (other : PlayChannelOf B)
-        → IsReady B.kind B.kept tables.now (slice_index_or channels.old slot other) }
+    requires due { (other : PlayChannelOf B)
+        → IsPlayDue B.kind B.kept tables.now device n (slice_index_or channels.old slot other) }
     requires frames { length frames.old ≡ n * channels_of device.settings.layout }
     requires sum { length sum.old ≡ n * channels_of device.settings.layout }
     requires fits { All (FitsBits (bits_of device.settings.format)) sum.old }
-    requires count { (other : PlayChannelOf B)
-        → (slice_index_or channels.old slot other).book.given + n < 2 ^ 64 }
-    requires counted { (other : PlayChannelOf B)
-        → (slice_index_or channels.old slot other).book.done
-        + (slice_index_or channels.old slot other).book.written < 2 ^ 64 }
     ensures others { (at : ℕ) (other : PlayChannelOf B) → at ≢ slot
         → slice_index_or channels.new at other ≡ slice_index_or channels.old at other }
     ensures own { (other : PlayChannelOf B) → (slice_index_or channels.new slot other).device ≡ device }
-    ensures moves { (other : PlayChannelOf B) → Moves B.kind B.kept tables.now [] n
+    ensures moves { (other : PlayChannelOf B) → PlayMoves B.kind B.kept tables.now [] n
         (slice_index_or channels.old slot other) (slice_index_or channels.new slot other) }
     ensures book { (other : PlayChannelOf B) → (slice_index_or channels.new slot other).book
         ≡ mixing (seen tables.now device) n (slice_index_or channels.old slot other).book }
     ensures sum { (other : PlayChannelOf B) (bytes : List ℕ)
-        → ChannelStands B.kept tables.now (slice_index_or channels.old slot other)
+        → PlayStands B.kept tables.now (slice_index_or channels.old slot other)
         (slice_index_or channels.old slot other).book bytes
         → sum.new ≡ turned (seen tables.now device) n (slice_index_or channels.old slot other).book
         bytes sum.old }
@@ -102,20 +92,16 @@ fn mix_block<B: Feeder>(
     sum: &mut [i32],
 )
     requires some { 0 < n }
-    requires own { AreOf device channels.old }
-    requires ready { All (IsReady B.kind B.kept tables.now) channels.old }
+    requires due { All (IsPlayDue B.kind B.kept tables.now device n) channels.old }
     requires bytes { length bytes.old ≡ n * frame_bytes device.settings }
     requires frames { n * channels_of device.settings.layout ≤ length frames.old }
     requires sum { n * channels_of device.settings.layout ≤ length sum.old }
-    requires count { All (λ channel. channel.book.given + n < 2 ^ 64) channels.old }
-    requires counted { All (λ channel. channel.book.done + channel.book.written
-        < 2 ^ 64) channels.old }
-    ensures own { AreOf device channels.new }
-    ensures moves { Each (Moves B.kind B.kept tables.now [] n) channels.old channels.new }
+    ensures own { PlayAreOf device channels.new }
+    ensures moves { Each (PlayMoves B.kind B.kept tables.now [] n) channels.old channels.new }
     ensures books { Each (λ old new. new.book ≡ mixing (seen tables.now device) n old.book) channels.old channels.new }
-    ensures bytes { (streams : ℕ → List ℕ) → AllStand B.kept tables.now channels.old streams
+    ensures bytes { (streams : ℕ → List ℕ) → AllPlayStand B.kept tables.now channels.old streams
         → bytes.new ≡ block_bytes (seen tables.now device)
-        (block_of (seen tables.now device) n (books_of channels.old) streams (length channels.old)) }
+        (block_of (seen tables.now device) n (play_books_of channels.old) streams (length channels.old)) }
 {
     let samples = n * device.settings.layout.channels();
     let sum = &mut sum[..samples];
@@ -138,27 +124,23 @@ pub fn turn_ring<B: Feeder>(
     out: &mut [u8],
 )
     requires some { 0 < n }
-    requires own { AreOf device channels.old }
-    requires ready { All (IsReady B.kind B.kept tables.now) channels.old }
+    requires due { All (IsPlayDue B.kind B.kept tables.now device n) channels.old }
     requires full { length ring.old.bytes ≡ ring.old.size }
     requires within { n * frame_bytes device.settings ≤ ring.old.size }
     requires out { length out.old ≡ n * frame_bytes device.settings }
     requires bytes { n * frame_bytes device.settings ≤ length bytes.old }
     requires frames { n * channels_of device.settings.layout ≤ length frames.old }
     requires sum { n * channels_of device.settings.layout ≤ length sum.old }
-    requires count { All (λ channel. channel.book.given + n < 2 ^ 64) channels.old }
-    requires counted { All (λ channel. channel.book.done + channel.book.written
-        < 2 ^ 64) channels.old }
-    ensures own { AreOf device channels.new }
-    ensures moves { Each (Moves B.kind B.kept tables.now [] n) channels.old channels.new }
+    ensures own { PlayAreOf device channels.new }
+    ensures moves { Each (PlayMoves B.kind B.kept tables.now [] n) channels.old channels.new }
     ensures books { Each (λ old new. new.book ≡ mixing (seen tables.now device) n old.book) channels.old channels.new }
     ensures size { ring.new.size ≡ ring.old.size }
     ensures full { length ring.new.bytes ≡ ring.old.size }
     ensures out { out.new ≡ take (n * frame_bytes device.settings) ring.old.bytes }
-    ensures ring { (streams : ℕ → List ℕ) → AllStand B.kept tables.now channels.old streams
+    ensures ring { (streams : ℕ → List ℕ) → AllPlayStand B.kept tables.now channels.old streams
         → ring.new.bytes ≡ drop (n * frame_bytes device.settings) ring.old.bytes
         ++ block_bytes (seen tables.now device)
-        (block_of (seen tables.now device) n (books_of channels.old) streams (length channels.old)) }
+        (block_of (seen tables.now device) n (play_books_of channels.old) streams (length channels.old)) }
 {
     let block = &mut bytes[..n * device.settings.frame_bytes()];
     ring.take(out);

@@ -9,12 +9,11 @@ ghost use Rattle.pcm_feeder.specs.Limits.{IsRate};
 ghost use Rattle.pcm_feeder.specs.Racks.{AreRacks, list_of};
 ghost use Rattle.pcm_desk.specs.declared.limits.TheConstants.{RING_FRAMES, SLOTS};
 ghost use Rattle.pcm_desk.specs.Device.{seen};
-ghost use Rattle.pcm_desk.specs.Books.{is_free};
+ghost use Rattle.pcm_desk.specs.PlayBooks.{is_play_free};
 ghost use Rattle.pcm_desk.specs.Desk.{mixing};
-ghost use Rattle.pcm_desk.specs.RecordBooks as records;
-ghost use Rattle.pcm_oss.specs.declared.fragments.TheConstants.{RING_BYTES};
-ghost use Rattle.pcm_vchan.specs.Slots.{AllStand, AreOf, Each, RecordersAreOf};
-ghost use Rattle.pcm_play.specs.Channels.{IsReady, IsUnopened, Moves};
+ghost use Rattle.pcm_desk.specs.RecordBooks.{is_record_free};
+ghost use Rattle.pcm_vchan.specs.Slots.{AllPlayStand, Each, IsPlayDue, IsRecordDue, PlayAreOf, RecordAreOf};
+ghost use Rattle.pcm_play.specs.Channels.{IsPlayReady, IsPlayUnopened, PlayMoves};
 ghost use Rattle.pcm_record.specs.Channels.{IsRecordReady, IsRecordUnopened};
 ghost use Rattle.pcm_vchan.specs.Blocks.{block_bytes, block_of, silent_block};
 
@@ -26,7 +25,7 @@ use pcm_fixed::Fixed;
 use pcm_format::Settings;
 use pcm_oss::{Errno, Way};
 use pcm_play::PlayChannelOf;
-use pcm_record::RecChannelOf;
+use pcm_record::RecordChannelOf;
 use pcm_ring::ByteRing;
 use std::alloc::{AllocError, Global};
 
@@ -35,7 +34,7 @@ use std::alloc::{AllocError, Global};
 pub struct ParentOf<B> {
     pub device: Device,
     pub channels: Fixed<PlayChannelOf<B>>,
-    pub recorders: Fixed<RecChannelOf<B>>,
+    pub recorders: Fixed<RecordChannelOf<B>>,
     pub ring: ByteRing,
     pub handed: u64,
     pub mixed: u64,
@@ -55,9 +54,9 @@ pub struct ParentOf<B> {
 }
 
 impl<B: Feeder> ParentOf<B> {
-    ghost use Rattle.pcm_oss.specs.declared.event.Way.TheVariants.{Play, Rec};
+    ghost use Rattle.pcm_oss.specs.declared.event.Way.TheVariants.{Play, Record};
     ghost use Rattle.pcm_vchan.specs.Captures.{Captures};
-    ghost use Rattle.pcm_vchan.specs.Parents.{parent_books, play_channels, rec_channels, KeepsOutput, OpensPlay, OpensRecord};
+    ghost use Rattle.pcm_vchan.specs.Parents.{play_books, play_channels, record_channels, KeepsOutput, OpensPlay, OpensRecord};
     ghost use Rattle.pcm_vchan.specs.Lending.{LendsChannel, LendsRecorder};
 
     /// A device that nobody has opened, whose ring is full of silence. Each slot gets a rack: those that play the first
@@ -76,10 +75,10 @@ impl<B: Feeder> ParentOf<B> {
         ensures device { IfOk result (λ made. made.device ≡ device) }
         ensures slots { IfOk result (λ made. length (play_channels made) ≡ device.play_slots) }
         ensures channels { IfOk result
-            (λ made. All (IsUnopened B.kind B.kept tables.now device) (play_channels made)) }
-        ensures recorders { IfOk result (λ made. length (rec_channels made) ≡ device.record_slots) }
+            (λ made. All (IsPlayUnopened B.kind B.kept tables.now device) (play_channels made)) }
+        ensures recorders { IfOk result (λ made. length (record_channels made) ≡ device.record_slots) }
         ensures recording { IfOk result
-            (λ made. All (IsRecordUnopened B.kind B.kept tables.now device) (rec_channels made)) }
+            (λ made. All (IsRecordUnopened B.kind B.kept tables.now device) (record_channels made)) }
         ensures ring { IfOk result (λ made. made.ring.bytes
             ≡ block_bytes (seen tables.now device) (silent_block (seen tables.now device) device.ring_frames)) }
         ensures handed { IfOk result (λ made. made.handed ≡ 0) }
@@ -116,31 +115,31 @@ impl<B: Feeder> ParentOf<B> {
         settings: Settings,
     ) -> Result<usize, Errno>
         requires rate { IsRate settings.rate }
-        requires own { AreOf self.old.device (play_channels self.old) }
-        requires recorders_own { RecordersAreOf self.old.device (rec_channels self.old) }
-        requires ready { All (IsReady B.kind B.kept tables.now) (play_channels self.old) }
-        requires recorders_ready { All (IsRecordReady B.kind B.kept tables.now) (rec_channels self.old) }
+        requires own { PlayAreOf self.old.device (play_channels self.old) }
+        requires recorders_own { RecordAreOf self.old.device (record_channels self.old) }
+        requires ready { All (IsPlayReady B.kind B.kept tables.now) (play_channels self.old) }
+        requires recorders_ready { All (IsRecordReady B.kind B.kept tables.now) (record_channels self.old) }
         ensures play { way ≡ Play → OpensPlay B.kind B.kept tables.now settings self.old self.new result }
-        ensures recording { way ≡ Rec → OpensRecord B.kind B.kept tables.now settings self.old self.new result }
+        ensures recording { way ≡ Record → OpensRecord B.kind B.kept tables.now settings self.old self.new result }
         ensures output { KeepsOutput self.old self.new }
         ensures refused { OnErr result (self.new ≡ self.old) }
     {
         match way {
             Way::Play => self.open_play(tables, settings),
-            Way::Rec => self.open_record(tables, settings),
+            Way::Record => self.open_record(tables, settings),
         }
     }
 
     // An opening that plays begins in the least free slot.
     fn open_play(&mut self, tables: &Tables, settings: Settings) -> Result<usize, Errno>
         requires rate { IsRate settings.rate }
-        requires own { AreOf self.old.device (play_channels self.old) }
-        requires ready { All (IsReady B.kind B.kept tables.now) (play_channels self.old) }
+        requires own { PlayAreOf self.old.device (play_channels self.old) }
+        requires ready { All (IsPlayReady B.kind B.kept tables.now) (play_channels self.old) }
         ensures opens { OpensPlay B.kind B.kept tables.now settings self.old self.new result }
         ensures output { KeepsOutput self.old self.new }
         ensures refused { OnErr result (self.new ≡ self.old) }
     {
-        let Some(slot) = self.least_free() else {
+        let Some(slot) = self.least_free_play() else {
             return Err(Errno::Busy);
         };
         self.channels[slot].begin(tables, settings);
@@ -150,8 +149,8 @@ impl<B: Feeder> ParentOf<B> {
     // An opening that records begins in the least free slot.
     fn open_record(&mut self, tables: &Tables, settings: Settings) -> Result<usize, Errno>
         requires rate { IsRate settings.rate }
-        requires own { RecordersAreOf self.old.device (rec_channels self.old) }
-        requires ready { All (IsRecordReady B.kind B.kept tables.now) (rec_channels self.old) }
+        requires own { RecordAreOf self.old.device (record_channels self.old) }
+        requires ready { All (IsRecordReady B.kind B.kept tables.now) (record_channels self.old) }
         ensures opens { OpensRecord B.kind B.kept tables.now settings self.old self.new result }
         ensures output { KeepsOutput self.old self.new }
         ensures refused { OnErr result (self.new ≡ self.old) }
@@ -173,10 +172,10 @@ impl<B: Feeder> ParentOf<B> {
     }
 
     /// Lends the channel of a slot for recording.
-    pub fn recorder(&mut self, slot: usize) -> &mut RecChannelOf<B>
+    pub fn recorder(&mut self, slot: usize) -> &mut RecordChannelOf<B>
         requires { slot < fixed_len self.old.recorders }
         ensures* writes_back { sem 𝓛 (LendsRecorder B.row self.entry slot result) }
-        ensures value { result.now ≡ slice_index_or (rec_channels self.old) slot result.now }
+        ensures value { result.now ≡ slice_index_or (record_channels self.old) slot result.now }
     {
         &mut self.recorders[slot]
     }
@@ -184,41 +183,35 @@ impl<B: Feeder> ParentOf<B> {
     /// The device's interrupt: hands the oldest `n` frames over, mixes as many from all channels that play, and gives as
     /// many captured ones to all that record.
     pub fn interrupt(&mut self, tables: &Tables, n: usize, captured: &[i32], out: &mut [u8])
-        requires own { AreOf self.old.device (play_channels self.old) }
         requires some { 0 < n }
         requires within { n ≤ self.old.device.ring_frames }
         requires captured { length captured.now ≡ n * channels_of self.old.device.settings.layout }
         requires out { length out.old ≡ n * frame_bytes self.old.device.settings }
-        requires recorders_own { RecordersAreOf self.old.device (rec_channels self.old) }
-        requires recorders_ready { All (IsRecordReady B.kind B.kept tables.now) (rec_channels self.old) }
-        requires recorders_count { All (λ channel. channel.book.captured + n < 2 ^ 56) (rec_channels self.old) }
-        requires recorders_kept { All (λ channel. channel.book.kept + RING_BYTES < 2 ^ 64) (rec_channels self.old) }
-        requires ready { All (IsReady B.kind B.kept tables.now) (play_channels self.old) }
-        requires count { All (λ channel. channel.book.given + n < 2 ^ 64) (play_channels self.old) }
-        requires counted { All (λ channel. channel.book.done + channel.book.written
-            < 2 ^ 64) (play_channels self.old) }
+        requires due { All (IsPlayDue B.kind B.kept tables.now self.old.device n) (play_channels self.old) }
+        requires recorders_due { All (IsRecordDue B.kind B.kept tables.now self.old.device n)
+            (record_channels self.old) }
         requires handed { self.old.handed + n < 2 ^ 64 }
         requires mixed { self.old.mixed + n < 2 ^ 64 }
         ensures device { self.new.device ≡ self.old.device }
-        ensures own { AreOf self.new.device (play_channels self.new) }
+        ensures own { PlayAreOf self.new.device (play_channels self.new) }
         ensures slots { length (play_channels self.new) ≡ length (play_channels self.old) }
-        ensures channels { Each (Moves B.kind B.kept tables.now [] n)
+        ensures channels { Each (PlayMoves B.kind B.kept tables.now [] n)
             (play_channels self.old) (play_channels self.new) }
         ensures books { Each (λ old new. new.book ≡ mixing (seen tables.now self.old.device) n old.book)
             (play_channels self.old) (play_channels self.new) }
-        ensures recorders_own { RecordersAreOf self.new.device (rec_channels self.new) }
-        ensures recorders_slots { length (rec_channels self.new) ≡ length (rec_channels self.old) }
+        ensures recorders_own { RecordAreOf self.new.device (record_channels self.new) }
+        ensures recorders_slots { length (record_channels self.new) ≡ length (record_channels self.old) }
         ensures recorders { Each (Captures B.kind B.kept (seen tables.now self.old.device) n captured.now)
-            (rec_channels self.old) (rec_channels self.new) }
+            (record_channels self.old) (record_channels self.new) }
         ensures handed { self.new.handed ≡ self.old.handed + n }
         ensures mixed { self.new.mixed ≡ self.old.mixed + n }
         ensures out { out.new
             ≡ take (n * frame_bytes self.old.device.settings) self.old.ring.bytes }
-        ensures ring { (streams : ℕ → List ℕ) → AllStand B.kept tables.now (play_channels self.old) streams
+        ensures ring { (streams : ℕ → List ℕ) → AllPlayStand B.kept tables.now (play_channels self.old) streams
             → self.new.ring.bytes
             ≡ drop (n * frame_bytes self.old.device.settings) self.old.ring.bytes
             ++ block_bytes (seen tables.now self.old.device) (block_of (seen tables.now self.old.device) n
-            (parent_books self.old) streams (length (play_channels self.old))) }
+            (play_books self.old) streams (length (play_channels self.old))) }
     {
         turn_ring(
             self.device,
@@ -244,9 +237,9 @@ impl<B: Feeder> ParentOf<B> {
     }
 
     // The least slot whose channel is free, if there is one.
-    fn least_free(&self) -> Option<usize>
+    fn least_free_play(&self) -> Option<usize>
         ensures slot { result
-            ≡ position (λ channel. is_free channel.book.state) (play_channels self.now) }
+            ≡ position (λ channel. is_play_free channel.book.state) (play_channels self.now) }
         ensures within { IfSome result (λ slot. slot < fixed_len self.now.channels) }
     {
         self.channels.iter().position(|channel| channel.is_free())
@@ -255,7 +248,7 @@ impl<B: Feeder> ParentOf<B> {
     // The least slot for recording whose channel is free, if there is one.
     fn least_free_record(&self) -> Option<usize>
         ensures slot { result
-            ≡ position (λ channel. records.is_free channel.book.state) (rec_channels self.now) }
+            ≡ position (λ channel. is_record_free channel.book.state) (record_channels self.now) }
         ensures within { IfSome result (λ slot. slot < fixed_len self.now.recorders) }
     {
         self.recorders.iter().position(|channel| channel.is_free())
@@ -273,7 +266,7 @@ fn free_channels<B: Feeder>(
     requires enough { device.play_slots ≤ vec_len racks }
     requires kinds { AreRacks B.kind racks.items }
     ensures slots { IfOk result (λ made. length made.items ≡ device.play_slots) }
-    ensures channels { IfOk result (λ made. All (IsUnopened B.kind B.kept tables.now device) made.items) }
+    ensures channels { IfOk result (λ made. All (IsPlayUnopened B.kind B.kept tables.now device) made.items) }
 {
     let mut racks = racks;
     racks.truncate(device.play_slots as usize);
@@ -290,7 +283,7 @@ fn free_recorders<B: Feeder>(
     device: Device,
     tables: &Tables,
     racks: Vec<RackOf<B>>,
-) -> Result<Vec<RecChannelOf<B>>, AllocError>
+) -> Result<Vec<RecordChannelOf<B>>, AllocError>
     requires device { IsRate device.settings.rate }
     requires enough { device.record_slots ≤ vec_len racks }
     requires kinds { AreRacks B.kind racks.items }
@@ -301,7 +294,7 @@ fn free_recorders<B: Feeder>(
     racks.truncate(device.record_slots as usize);
     let mut channels = Vec::new(alloc);
     for rack in racks {
-        channels.push(RecChannelOf::new(alloc, device, tables, rack)?)?;
+        channels.push(RecordChannelOf::new(alloc, device, tables, rack)?)?;
     }
     Ok(channels)
 }

@@ -5,7 +5,7 @@ use Rattle.pcm_oss.specs.declared.event.Event.{Event}
 use Rattle.pcm_wave.specs.declared.pool.Pool.{Pool}
 use Rattle.pcm_desk.specs.Usual.{usual_device}
 use Rattle.pcm_sound.specs.DeviceList.{device_text}
-use Rattle.pcm_sound.specs.Replies.{replies}
+use Rattle.pcm_sound.specs.StoryReplies.{replies}
 use Rattle.pcm_sound.specs.Story.{story_at_start}
 use Rattle.pcm_script.specs.Lines.{pool_of}
 use Rattle.pcm_soak.specs.declared.tally.Tally.{Tally}

@@ -5,7 +5,7 @@ use Rattle.pcm_wave.specs.declared.pool.Pool.{Pool}
 use Rattle.pcm_oss.specs.Replies.{Reply}
 use Rattle.pcm_report.specs.Lines.{reply_line}
 use Rattle.pcm_desk.specs.Device.{DeviceSeen}
-use Rattle.pcm_sound.specs.Replies.{replies}
+use Rattle.pcm_sound.specs.StoryReplies.{replies}
 use Rattle.pcm_sound.specs.Story.{story_at_start}
 
 -- the lines of replies, numbered from a number on

@@ -1,5 +1,5 @@
-use Rattle.pcm_desk.proofs.Safe.{safe-begun, safe-write, safe-close, safe-refilled}
-use Rattle.pcm_desk.proofs.Asking.{safe-ask}
+use Rattle.pcm_desk.proofs.PlaySafe.{safe-begun, safe-write, safe-close, safe-refilled}
+use Rattle.pcm_desk.proofs.PlaySafeAsking.{safe-ask}
 use Rattle.pcm_desk.proofs.laws.books_stay_in_order.Goals as goal
 
 pub returns-clause-begun : goal.returns-clause-begun

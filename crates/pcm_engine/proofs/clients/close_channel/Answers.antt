@@ -5,30 +5,30 @@ use Rattle.pcm_chain.specs.Chains.{boxes_in}
 use Rattle.pcm_desk.specs.declared.device.Device.{Device}
 use Rattle.pcm_desk.specs.Device.{seen}
 use Rattle.pcm_desk.specs.RecordBooks.{closed}
-use Rattle.pcm_desk.specs.declared.book.Book.{Book}
+use Rattle.pcm_desk.specs.declared.play_book.PlayBook.{PlayBook}
 use Rattle.pcm_desk.specs.declared.record_book.RecordBook.{RecordBook}
 use Rattle.pcm_oss.specs.declared.reply.Answer.TheVariants.{Done}
 use Rattle.pcm_oss.specs.declared.event.Way.{Way}
-use Rattle.pcm_desk.specs.Desk.{Desk, book_at, by_way, closing, record_at, with_book, with_record}
+use Rattle.pcm_desk.specs.Desk.{Desk, play_at, by_way, closing, record_at, with_play, with_record}
 use Rattle.pcm_play.specs.declared.channel.PlayChannelOf.{PlayChannelOf}
-use Rattle.pcm_play.specs.Channels.{IsPlanned, Moves}
+use Rattle.pcm_play.specs.Channels.{IsPlayPlanned, PlayMoves}
 use Rattle.pcm_play.proofs.Moving.{moves-nothing}
-use Rattle.pcm_record.specs.declared.channel.RecChannelOf.{RecChannelOf}
+use Rattle.pcm_record.specs.declared.channel.RecordChannelOf.{RecordChannelOf}
 use Rattle.pcm_record.specs.Channels.{RecordMoves}
 use Rattle.pcm_record.proofs.Moving as recorders
 use Rattle.pcm_vchan.proofs.Channels.{each_set, own_set}
-use Rattle.pcm_vchan.specs.Parents.{play_channels, rec_channels}
+use Rattle.pcm_vchan.specs.Parents.{play_channels, record_channels}
 use Rattle.pcm_engine.specs.Desks.{desk_with}
 use Rattle.pcm_engine.proofs.Turning.{desk-played, desk-recorded, own-lent}
 use Rattle.pcm_engine.proofs.clients.close_channel.Goals as goal
 
-pub close-requires-in-Rec : goal.close-requires-in-Rec
-close-requires-in-Rec g c =
+pub close-requires-in-Record : goal.close-requires-in-Record
+close-requires-in-Record g c =
     let parent = c.args.parent.now in
     let held = c.args.held in
-    let below = c.requires.recording c.in-Rec.is in
-    let there : held.slot < length (rec_channels parent) = omega (arith, below, items-count parent.recorders) in
-    record { kinds = subst (λ (channel : RecChannelOf _). HaveKinds g.B.Feeder.kind (boxes_in channel.chain)) (sym c.recorder.ensures.value) (c.requires.recorders_kinds held.slot c.recorder.result.now there) }
+    let below = c.requires.recording c.in-Record.is in
+    let there : held.slot < length (record_channels parent) = omega (arith, below, items-count parent.recorders) in
+    record { kinds = subst (λ (channel : RecordChannelOf _). HaveKinds g.B.Feeder.kind (boxes_in channel.chain)) (sym c.recorder.ensures.value) (c.requires.recorders_kinds held.slot c.recorder.result.now there) }
 
 pub returns-in-Play-clause-own : goal.returns-in-Play-clause-own
 returns-in-Play-clause-own g c =
@@ -49,9 +49,9 @@ returns-in-Play-clause-desk g c =
     let device = seen filters parent.device in
     let own = own-lent parent.device (play_channels parent) held.slot lent there c.play.ensures.value c.requires.own in
     let desk : Desk = desk_with parent descriptors in
-    desk-played device (λ (book : Book). record { book = closing device book; reply = Ok Done }) parent descriptors held.slot lent c.close.new.self there c.play.ensures.value
-    (c.close.ensures.book filters (subst (IsPlanned filters) (sym c.play.ensures.value) (ready held.slot lent there).planned) ∙ ap (λ (d : Device). closing (seen filters d) lent.book) own)
-    ∙ sym (ap (λ (w : Way). by_way w (with_book desk held.slot (closing device (book_at device desk held.slot))) (with_record desk held.slot (closed (record_at device desk held.slot)))) c.in-Play.is)
+    desk-played device (λ (book : PlayBook). record { book = closing device book; reply = Ok Done }) parent descriptors held.slot lent c.close.new.self there c.play.ensures.value
+    (c.close.ensures.book filters (subst (IsPlayPlanned filters) (sym c.play.ensures.value) (ready held.slot lent there).planned) ∙ ap (λ (d : Device). closing (seen filters d) lent.book) own)
+    ∙ sym (ap (λ (w : Way). by_way w (with_play desk held.slot (closing device (play_at device desk held.slot))) (with_record desk held.slot (closed (record_at device desk held.slot)))) c.in-Play.is)
 
 pub returns-in-Play-clause-channels : goal.returns-in-Play-clause-channels
 returns-in-Play-clause-channels g c = λ filters.
@@ -59,40 +59,40 @@ returns-in-Play-clause-channels g c = λ filters.
     let held = c.args.held in
     let below = c.requires.play c.in-Play.is in
     let there : held.slot < length (play_channels parent) = omega (arith, below, items-count parent.channels) in
-    each_set (Moves g.B.Feeder.kind g.B.Feeder.kept filters [] 0) (play_channels parent) held.slot c.play.result.now c.close.new.self there c.play.ensures.value (c.close.ensures.moves filters)
+    each_set (PlayMoves g.B.Feeder.kind g.B.Feeder.kept filters [] 0) (play_channels parent) held.slot c.play.result.now c.close.new.self there c.play.ensures.value (c.close.ensures.moves filters)
     (moves-nothing g.B.Feeder.kind g.B.Feeder.kept filters [] 0)
 
 pub returns-in-Play-clause-recorders : goal.returns-in-Play-clause-recorders
-returns-in-Play-clause-recorders g c = λ filters slot other there. recorders.moves-nothing g.B.Feeder.kind g.B.Feeder.kept filters [] 0 (get_or (rec_channels c.args.parent.now) slot other)
+returns-in-Play-clause-recorders g c = λ filters slot other there. recorders.moves-nothing g.B.Feeder.kind g.B.Feeder.kept filters [] 0 (get_or (record_channels c.args.parent.now) slot other)
 
-pub returns-in-Rec-clause-recorders_own : goal.returns-in-Rec-clause-recorders_own
-returns-in-Rec-clause-recorders_own g c =
+pub returns-in-Record-clause-recorders_own : goal.returns-in-Record-clause-recorders_own
+returns-in-Record-clause-recorders_own g c =
     let parent = c.args.parent.now in
     let held = c.args.held in
-    let below = c.requires.recording c.in-Rec.is in
-    let there : held.slot < length (rec_channels parent) = omega (arith, below, items-count parent.recorders) in
-    own_set (λ (channel : RecChannelOf _). channel.device) parent.device (rec_channels parent) held.slot c.recorder.result.now c.close-in-Rec.new.self there c.recorder.ensures.value c.close-in-Rec.ensures.device c.requires.recorders_own
+    let below = c.requires.recording c.in-Record.is in
+    let there : held.slot < length (record_channels parent) = omega (arith, below, items-count parent.recorders) in
+    own_set (λ (channel : RecordChannelOf _). channel.device) parent.device (record_channels parent) held.slot c.recorder.result.now c.close-in-Record.new.self there c.recorder.ensures.value c.close-in-Record.ensures.device c.requires.recorders_own
 
-pub returns-in-Rec-clause-desk : goal.returns-in-Rec-clause-desk
-returns-in-Rec-clause-desk g c =
+pub returns-in-Record-clause-desk : goal.returns-in-Record-clause-desk
+returns-in-Record-clause-desk g c =
     λ filters descriptors ready.
     let parent = c.args.parent.now in
     let held = c.args.held in
-    let below = c.requires.recording c.in-Rec.is in
-    let there : held.slot < length (rec_channels parent) = omega (arith, below, items-count parent.recorders) in
+    let below = c.requires.recording c.in-Record.is in
+    let there : held.slot < length (record_channels parent) = omega (arith, below, items-count parent.recorders) in
     let device = seen filters parent.device in
     let desk : Desk = desk_with parent descriptors in
-    desk-recorded device (λ (book : RecordBook). record { book = closed book; reply = Ok Done }) parent descriptors held.slot c.recorder.result.now c.close-in-Rec.new.self there c.recorder.ensures.value c.close-in-Rec.ensures.book
-    ∙ sym (ap (λ (w : Way). by_way w (with_book desk held.slot (closing device (book_at device desk held.slot))) (with_record desk held.slot (closed (record_at device desk held.slot)))) c.in-Rec.is)
+    desk-recorded device (λ (book : RecordBook). record { book = closed book; reply = Ok Done }) parent descriptors held.slot c.recorder.result.now c.close-in-Record.new.self there c.recorder.ensures.value c.close-in-Record.ensures.book
+    ∙ sym (ap (λ (w : Way). by_way w (with_play desk held.slot (closing device (play_at device desk held.slot))) (with_record desk held.slot (closed (record_at device desk held.slot)))) c.in-Record.is)
 
-pub returns-in-Rec-clause-channels : goal.returns-in-Rec-clause-channels
-returns-in-Rec-clause-channels g c = λ filters slot other there. moves-nothing g.B.Feeder.kind g.B.Feeder.kept filters [] 0 (get_or (play_channels c.args.parent.now) slot other)
+pub returns-in-Record-clause-channels : goal.returns-in-Record-clause-channels
+returns-in-Record-clause-channels g c = λ filters slot other there. moves-nothing g.B.Feeder.kind g.B.Feeder.kept filters [] 0 (get_or (play_channels c.args.parent.now) slot other)
 
-pub returns-in-Rec-clause-recorders : goal.returns-in-Rec-clause-recorders
-returns-in-Rec-clause-recorders g c = λ filters.
+pub returns-in-Record-clause-recorders : goal.returns-in-Record-clause-recorders
+returns-in-Record-clause-recorders g c = λ filters.
     let parent = c.args.parent.now in
     let held = c.args.held in
-    let below = c.requires.recording c.in-Rec.is in
-    let there : held.slot < length (rec_channels parent) = omega (arith, below, items-count parent.recorders) in
-    each_set (RecordMoves g.B.Feeder.kind g.B.Feeder.kept filters [] 0) (rec_channels parent) held.slot c.recorder.result.now c.close-in-Rec.new.self there c.recorder.ensures.value (c.close-in-Rec.ensures.moves filters)
+    let below = c.requires.recording c.in-Record.is in
+    let there : held.slot < length (record_channels parent) = omega (arith, below, items-count parent.recorders) in
+    each_set (RecordMoves g.B.Feeder.kind g.B.Feeder.kept filters [] 0) (record_channels parent) held.slot c.recorder.result.now c.close-in-Record.new.self there c.recorder.ensures.value (c.close-in-Record.ensures.moves filters)
     (recorders.moves-nothing g.B.Feeder.kind g.B.Feeder.kept filters [] 0)

@@ -3,104 +3,104 @@ use Rattle.std.proofs.lemmas.Result.{on_err_weaker}
 use Rattle.pcm_fixed.proofs.Items.{item-kept, items-count}
 use Rattle.pcm_feeder.specs.Racks.{HaveKinds}
 use Rattle.pcm_chain.specs.Chains.{boxes_in}
-use Rattle.pcm_oss.specs.declared.event.Way.TheVariants.{Play, Rec}
+use Rattle.pcm_oss.specs.declared.event.Way.TheVariants.{Play, Record}
 use Rattle.pcm_desk.specs.declared.device.Device.{Device}
 use Rattle.pcm_desk.specs.Device.{seen}
-use Rattle.pcm_desk.specs.RecordRequests as record_requests
-use Rattle.pcm_desk.specs.Desk.{DeskTurn, asking, held_by, play_turn, rate_at, record_turn}
+use Rattle.pcm_desk.specs.RecordRequests.{record_ask}
+use Rattle.pcm_desk.specs.Desk.{DeskTurn, asking, held_by, play_turn, play_rate_at, record_turn}
 use Rattle.pcm_desk.proofs.Silent.{ask-silent, record-ask-silent}
 use Rattle.pcm_play.specs.declared.channel.PlayChannelOf.{PlayChannelOf}
-use Rattle.pcm_play.specs.Channels.{IsPlanned, Moves}
+use Rattle.pcm_play.specs.Channels.{IsPlayPlanned, PlayMoves}
 use Rattle.pcm_play.proofs.Moving.{moves-nothing}
-use Rattle.pcm_record.specs.declared.channel.RecChannelOf.{RecChannelOf}
+use Rattle.pcm_record.specs.declared.channel.RecordChannelOf.{RecordChannelOf}
 use Rattle.pcm_record.specs.Channels.{IsRecordPlanned, RecordMoves}
 use Rattle.pcm_record.proofs.Moving as recorders
 use Rattle.pcm_vchan.proofs.Channels.{each_set, own_set, parent_same}
-use Rattle.pcm_vchan.specs.Parents.{play_channels, rec_channels}
+use Rattle.pcm_vchan.specs.Parents.{play_channels, record_channels}
 use Rattle.pcm_oss.specs.Replies.{bytes_due}
 use Rattle.pcm_engine.specs.Desks.{desk_with}
-use Rattle.pcm_engine.proofs.Turning.{desk-played, desk-recorded, own-lent, play-there, record-there, reply-played, reply-recorded, turning-held}
+use Rattle.pcm_engine.proofs.Turning.{desk-played, desk-recorded, own-lent, play-there, record-there, reply-played, reply-recorded, turning-held, holding-is}
 use Rattle.pcm_engine.proofs.clients.ioctl.Goals as goal
 
-pub returns-in_default-clause-channels : goal.returns-in_default-clause-channels
-returns-in_default-clause-channels g c = λ slot other there. moves-nothing g.B.Feeder.kind g.B.Feeder.kept c.args.tables.now [] 0 (get_or (play_channels c.args.parent.now) slot other)
+pub returns-in_err-held-clause-channels : goal.returns-in_err-held-clause-channels
+returns-in_err-held-clause-channels g c = λ slot other there. moves-nothing g.B.Feeder.kind g.B.Feeder.kept c.args.tables.now [] 0 (get_or (play_channels c.args.parent.now) slot other)
 
-pub returns-in_default-clause-recorders : goal.returns-in_default-clause-recorders
-returns-in_default-clause-recorders g c = λ slot other there. recorders.moves-nothing g.B.Feeder.kind g.B.Feeder.kept c.args.tables.now [] 0 (get_or (rec_channels c.args.parent.now) slot other)
+pub returns-in_err-held-clause-recorders : goal.returns-in_err-held-clause-recorders
+returns-in_err-held-clause-recorders g c = λ slot other there. recorders.moves-nothing g.B.Feeder.kind g.B.Feeder.kept c.args.tables.now [] 0 (get_or (record_channels c.args.parent.now) slot other)
 
 pub play-requires : goal.play-requires
 play-requires g c =
     let parent = c.args.parent.now in
-    let held = c.in-Some.held in
-    let e = sym c.held.ensures ∙ c.in-Some.is in
-    let there = play-there parent c.args.descriptors.now c.args.fd held c.requires.apart e c.in-Play.is in
+    let held = c.in_ok-held.held in
+    let e = holding-is (held_by (desk_with parent c.args.descriptors.now.held) c.args.fd) c.in_ok-held.held (sym c.holding.ensures ∙ c.in_ok-held.was) in
+    let there = play-there parent c.args.descriptors.now.held c.args.fd held c.requires.apart e c.in-Play.is in
     omega (arith, there, items-count parent.channels)
 
 pub ioctl-requires-clause-kinds : goal.ioctl-requires-clause-kinds
 ioctl-requires-clause-kinds g c =
     let parent = c.args.parent.now in
-    let held = c.in-Some.held in
-    let e = sym c.held.ensures ∙ c.in-Some.is in
-    let there = play-there parent c.args.descriptors.now c.args.fd held c.requires.apart e c.in-Play.is in
+    let held = c.in_ok-held.held in
+    let e = holding-is (held_by (desk_with parent c.args.descriptors.now.held) c.args.fd) c.in_ok-held.held (sym c.holding.ensures ∙ c.in_ok-held.was) in
+    let there = play-there parent c.args.descriptors.now.held c.args.fd held c.requires.apart e c.in-Play.is in
     subst (λ (channel : PlayChannelOf _). HaveKinds g.B.Feeder.kind (boxes_in channel.chain)) (sym c.play.ensures.value) (c.requires.ready held.slot c.play.result.now there).kinds
 
 pub ioctl-requires-clause-planned : goal.ioctl-requires-clause-planned
 ioctl-requires-clause-planned g c =
     let parent = c.args.parent.now in
-    let held = c.in-Some.held in
-    let e = sym c.held.ensures ∙ c.in-Some.is in
-    let there = play-there parent c.args.descriptors.now c.args.fd held c.requires.apart e c.in-Play.is in
-    subst (IsPlanned c.args.tables.now) (sym c.play.ensures.value) (c.requires.ready held.slot c.play.result.now there).planned
+    let held = c.in_ok-held.held in
+    let e = holding-is (held_by (desk_with parent c.args.descriptors.now.held) c.args.fd) c.in_ok-held.held (sym c.holding.ensures ∙ c.in_ok-held.was) in
+    let there = play-there parent c.args.descriptors.now.held c.args.fd held c.requires.apart e c.in-Play.is in
+    subst (IsPlayPlanned c.args.tables.now) (sym c.play.ensures.value) (c.requires.ready held.slot c.play.result.now there).planned
 
 pub ioctl-requires-clause-count : goal.ioctl-requires-clause-count
 ioctl-requires-clause-count g c =
     let parent = c.args.parent.now in
-    let held = c.in-Some.held in
-    let e = sym c.held.ensures ∙ c.in-Some.is in
-    let there = play-there parent c.args.descriptors.now c.args.fd held c.requires.apart e c.in-Play.is in
+    let held = c.in_ok-held.held in
+    let e = holding-is (held_by (desk_with parent c.args.descriptors.now.held) c.args.fd) c.in_ok-held.held (sym c.holding.ensures ∙ c.in_ok-held.was) in
+    let there = play-there parent c.args.descriptors.now.held c.args.fd held c.requires.apart e c.in-Play.is in
     subst (λ (channel : PlayChannelOf _). channel.book.done + channel.book.written < 18446744073709551616) (sym c.play.ensures.value) (c.requires.count held.slot c.play.result.now there)
 
 pub recorder-requires : goal.recorder-requires
 recorder-requires g c =
     let parent = c.args.parent.now in
-    let held = c.in-Some.held in
-    let e = sym c.held.ensures ∙ c.in-Some.is in
-    let there = record-there parent c.args.descriptors.now c.args.fd held c.requires.apart e c.in-Rec.is in
+    let held = c.in_ok-held.held in
+    let e = holding-is (held_by (desk_with parent c.args.descriptors.now.held) c.args.fd) c.in_ok-held.held (sym c.holding.ensures ∙ c.in_ok-held.was) in
+    let there = record-there parent c.args.descriptors.now.held c.args.fd held c.requires.apart e c.in-Record.is in
     omega (arith, there, items-count parent.recorders)
 
-pub ioctl-requires-in-Rec-clause-kinds : goal.ioctl-requires-in-Rec-clause-kinds
-ioctl-requires-in-Rec-clause-kinds g c =
+pub ioctl-requires-in-Record-clause-kinds : goal.ioctl-requires-in-Record-clause-kinds
+ioctl-requires-in-Record-clause-kinds g c =
     let parent = c.args.parent.now in
-    let held = c.in-Some.held in
-    let e = sym c.held.ensures ∙ c.in-Some.is in
-    let there = record-there parent c.args.descriptors.now c.args.fd held c.requires.apart e c.in-Rec.is in
-    subst (λ (channel : RecChannelOf _). HaveKinds g.B.Feeder.kind (boxes_in channel.chain)) (sym c.recorder.ensures.value) (c.requires.recorders_ready held.slot c.recorder.result.now there).kinds
+    let held = c.in_ok-held.held in
+    let e = holding-is (held_by (desk_with parent c.args.descriptors.now.held) c.args.fd) c.in_ok-held.held (sym c.holding.ensures ∙ c.in_ok-held.was) in
+    let there = record-there parent c.args.descriptors.now.held c.args.fd held c.requires.apart e c.in-Record.is in
+    subst (λ (channel : RecordChannelOf _). HaveKinds g.B.Feeder.kind (boxes_in channel.chain)) (sym c.recorder.ensures.value) (c.requires.recorders_ready held.slot c.recorder.result.now there).kinds
 
-pub ioctl-requires-in-Rec-clause-planned : goal.ioctl-requires-in-Rec-clause-planned
-ioctl-requires-in-Rec-clause-planned g c =
+pub ioctl-requires-in-Record-clause-planned : goal.ioctl-requires-in-Record-clause-planned
+ioctl-requires-in-Record-clause-planned g c =
     let parent = c.args.parent.now in
-    let held = c.in-Some.held in
-    let e = sym c.held.ensures ∙ c.in-Some.is in
-    let there = record-there parent c.args.descriptors.now c.args.fd held c.requires.apart e c.in-Rec.is in
+    let held = c.in_ok-held.held in
+    let e = holding-is (held_by (desk_with parent c.args.descriptors.now.held) c.args.fd) c.in_ok-held.held (sym c.holding.ensures ∙ c.in_ok-held.was) in
+    let there = record-there parent c.args.descriptors.now.held c.args.fd held c.requires.apart e c.in-Record.is in
     subst (IsRecordPlanned c.args.tables.now) (sym c.recorder.ensures.value) (c.requires.recorders_ready held.slot c.recorder.result.now there).planned
 
 pub returns-in-Play-clause-silent : goal.returns-in-Play-clause-silent
 returns-in-Play-clause-silent g c =
-    ap bytes_due c.ioctl.ensures.reply ∙ ask-silent (rate_at (seen c.args.tables.now c.play.result.now.device) c.play.result.now.book) c.args.request c.play.result.now.book
+    ap bytes_due c.ioctl.ensures.reply ∙ ask-silent (play_rate_at (seen c.args.tables.now c.play.result.now.device) c.play.result.now.book) c.args.request c.play.result.now.book
 
 pub returns-in-Play-clause-own : goal.returns-in-Play-clause-own
 returns-in-Play-clause-own g c =
     let parent = c.args.parent.now in
-    let held = c.in-Some.held in
-    let e = sym c.held.ensures ∙ c.in-Some.is in
-    let there = play-there parent c.args.descriptors.now c.args.fd held c.requires.apart e c.in-Play.is in
+    let held = c.in_ok-held.held in
+    let e = holding-is (held_by (desk_with parent c.args.descriptors.now.held) c.args.fd) c.in_ok-held.held (sym c.holding.ensures ∙ c.in_ok-held.was) in
+    let there = play-there parent c.args.descriptors.now.held c.args.fd held c.requires.apart e c.in-Play.is in
     own_set (λ (channel : PlayChannelOf _). channel.device) parent.device (play_channels parent) held.slot c.play.result.now c.ioctl.new.self there c.play.ensures.value c.ioctl.ensures.device c.requires.own
 
 pub returns-in-Play-clause-refused : goal.returns-in-Play-clause-refused
 returns-in-Play-clause-refused g c =
     let parent = c.args.parent.now in
-    let held = c.in-Some.held in
-    let e = sym c.held.ensures ∙ c.in-Some.is in
+    let held = c.in_ok-held.held in
+    let e = holding-is (held_by (desk_with parent c.args.descriptors.now.held) c.args.fd) c.in_ok-held.held (sym c.holding.ensures ∙ c.in_ok-held.was) in
     on_err_weaker c.ioctl.result
     (λ same. parent_same _ parent refl (item-kept parent.channels held.slot c.ioctl.new.self c.play.result.now (same ∙ c.play.ensures.value)) refl refl refl refl refl refl refl)
     c.ioctl.ensures.refused
@@ -108,86 +108,86 @@ returns-in-Play-clause-refused g c =
 pub returns-in-Play-clause-desk : goal.returns-in-Play-clause-desk
 returns-in-Play-clause-desk g c =
     let parent = c.args.parent.now in
-    let held = c.in-Some.held in
-    let e = sym c.held.ensures ∙ c.in-Some.is in
-    let there = play-there parent c.args.descriptors.now c.args.fd held c.requires.apart e c.in-Play.is in
+    let held = c.in_ok-held.held in
+    let e = holding-is (held_by (desk_with parent c.args.descriptors.now.held) c.args.fd) c.in_ok-held.held (sym c.holding.ensures ∙ c.in_ok-held.was) in
+    let there = play-there parent c.args.descriptors.now.held c.args.fd held c.requires.apart e c.in-Play.is in
     let lent = c.play.result.now in
     let own = own-lent parent.device (play_channels parent) held.slot lent there c.play.ensures.value c.requires.own in
-    desk-played (seen c.args.tables.now parent.device) (asking (seen c.args.tables.now parent.device) c.args.request) parent c.args.descriptors.now held.slot lent c.ioctl.new.self there c.play.ensures.value
+    desk-played (seen c.args.tables.now parent.device) (asking (seen c.args.tables.now parent.device) c.args.request) parent c.args.descriptors.now.held held.slot lent c.ioctl.new.self there c.play.ensures.value
     (c.ioctl.ensures.book ∙ ap (λ (d : Device). (asking (seen c.args.tables.now d) c.args.request lent.book).book) own)
-    ∙ sym (ap (λ (t : DeskTurn). t.desk) (turning-held Play (play_turn (seen c.args.tables.now parent.device) (asking (seen c.args.tables.now parent.device) c.args.request) (desk_with parent c.args.descriptors.now)) (record_turn (seen c.args.tables.now parent.device) (record_requests.ask_turn c.args.request) (desk_with parent c.args.descriptors.now)) (held_by (desk_with parent c.args.descriptors.now) c.args.fd) held (desk_with parent c.args.descriptors.now) e c.in-Play.is))
+    ∙ sym (ap (λ (t : DeskTurn). t.desk) (turning-held Play (play_turn (seen c.args.tables.now parent.device) (asking (seen c.args.tables.now parent.device) c.args.request) (desk_with parent c.args.descriptors.now.held)) (record_turn (seen c.args.tables.now parent.device) (record_ask c.args.request) (desk_with parent c.args.descriptors.now.held)) (held_by (desk_with parent c.args.descriptors.now.held) c.args.fd) held (desk_with parent c.args.descriptors.now.held) e c.in-Play.is))
 
 pub returns-in-Play-clause-reply : goal.returns-in-Play-clause-reply
 returns-in-Play-clause-reply g c =
     let parent = c.args.parent.now in
-    let held = c.in-Some.held in
-    let e = sym c.held.ensures ∙ c.in-Some.is in
-    let there = play-there parent c.args.descriptors.now c.args.fd held c.requires.apart e c.in-Play.is in
+    let held = c.in_ok-held.held in
+    let e = holding-is (held_by (desk_with parent c.args.descriptors.now.held) c.args.fd) c.in_ok-held.held (sym c.holding.ensures ∙ c.in_ok-held.was) in
+    let there = play-there parent c.args.descriptors.now.held c.args.fd held c.requires.apart e c.in-Play.is in
     let lent = c.play.result.now in
     let own = own-lent parent.device (play_channels parent) held.slot lent there c.play.ensures.value c.requires.own in
-    reply-played (seen c.args.tables.now parent.device) (asking (seen c.args.tables.now parent.device) c.args.request) parent c.args.descriptors.now held.slot lent c.ioctl.result there c.play.ensures.value
+    reply-played (seen c.args.tables.now parent.device) (asking (seen c.args.tables.now parent.device) c.args.request) parent c.args.descriptors.now.held held.slot lent c.ioctl.result there c.play.ensures.value
     (c.ioctl.ensures.reply ∙ ap (λ (d : Device). (asking (seen c.args.tables.now d) c.args.request lent.book).reply) own)
-    ∙ sym (ap (λ (t : DeskTurn). t.reply) (turning-held Play (play_turn (seen c.args.tables.now parent.device) (asking (seen c.args.tables.now parent.device) c.args.request) (desk_with parent c.args.descriptors.now)) (record_turn (seen c.args.tables.now parent.device) (record_requests.ask_turn c.args.request) (desk_with parent c.args.descriptors.now)) (held_by (desk_with parent c.args.descriptors.now) c.args.fd) held (desk_with parent c.args.descriptors.now) e c.in-Play.is))
+    ∙ sym (ap (λ (t : DeskTurn). t.reply) (turning-held Play (play_turn (seen c.args.tables.now parent.device) (asking (seen c.args.tables.now parent.device) c.args.request) (desk_with parent c.args.descriptors.now.held)) (record_turn (seen c.args.tables.now parent.device) (record_ask c.args.request) (desk_with parent c.args.descriptors.now.held)) (held_by (desk_with parent c.args.descriptors.now.held) c.args.fd) held (desk_with parent c.args.descriptors.now.held) e c.in-Play.is))
 
 pub returns-in-Play-clause-channels : goal.returns-in-Play-clause-channels
 returns-in-Play-clause-channels g c =
     let parent = c.args.parent.now in
-    let held = c.in-Some.held in
-    let e = sym c.held.ensures ∙ c.in-Some.is in
-    let there = play-there parent c.args.descriptors.now c.args.fd held c.requires.apart e c.in-Play.is in
-    each_set (Moves g.B.Feeder.kind g.B.Feeder.kept c.args.tables.now [] 0) (play_channels parent) held.slot c.play.result.now c.ioctl.new.self there c.play.ensures.value c.ioctl.ensures.moves
+    let held = c.in_ok-held.held in
+    let e = holding-is (held_by (desk_with parent c.args.descriptors.now.held) c.args.fd) c.in_ok-held.held (sym c.holding.ensures ∙ c.in_ok-held.was) in
+    let there = play-there parent c.args.descriptors.now.held c.args.fd held c.requires.apart e c.in-Play.is in
+    each_set (PlayMoves g.B.Feeder.kind g.B.Feeder.kept c.args.tables.now [] 0) (play_channels parent) held.slot c.play.result.now c.ioctl.new.self there c.play.ensures.value c.ioctl.ensures.moves
     (moves-nothing g.B.Feeder.kind g.B.Feeder.kept c.args.tables.now [] 0)
 
 pub returns-in-Play-clause-recorders : goal.returns-in-Play-clause-recorders
-returns-in-Play-clause-recorders g c = λ slot other there. recorders.moves-nothing g.B.Feeder.kind g.B.Feeder.kept c.args.tables.now [] 0 (get_or (rec_channels c.args.parent.now) slot other)
+returns-in-Play-clause-recorders g c = λ slot other there. recorders.moves-nothing g.B.Feeder.kind g.B.Feeder.kept c.args.tables.now [] 0 (get_or (record_channels c.args.parent.now) slot other)
 
-pub returns-in-Rec-clause-silent : goal.returns-in-Rec-clause-silent
-returns-in-Rec-clause-silent g c =
-    ap bytes_due c.ioctl-in-Rec.ensures.reply ∙ record-ask-silent c.args.request c.recorder.result.now.book
+pub returns-in-Record-clause-silent : goal.returns-in-Record-clause-silent
+returns-in-Record-clause-silent g c =
+    ap bytes_due c.ioctl-in-Record.ensures.reply ∙ record-ask-silent c.args.request c.recorder.result.now.book
 
-pub returns-in-Rec-clause-recorders_own : goal.returns-in-Rec-clause-recorders_own
-returns-in-Rec-clause-recorders_own g c =
+pub returns-in-Record-clause-recorders_own : goal.returns-in-Record-clause-recorders_own
+returns-in-Record-clause-recorders_own g c =
     let parent = c.args.parent.now in
-    let held = c.in-Some.held in
-    let e = sym c.held.ensures ∙ c.in-Some.is in
-    let there = record-there parent c.args.descriptors.now c.args.fd held c.requires.apart e c.in-Rec.is in
-    own_set (λ (channel : RecChannelOf _). channel.device) parent.device (rec_channels parent) held.slot c.recorder.result.now c.ioctl-in-Rec.new.self there c.recorder.ensures.value c.ioctl-in-Rec.ensures.device c.requires.recorders_own
+    let held = c.in_ok-held.held in
+    let e = holding-is (held_by (desk_with parent c.args.descriptors.now.held) c.args.fd) c.in_ok-held.held (sym c.holding.ensures ∙ c.in_ok-held.was) in
+    let there = record-there parent c.args.descriptors.now.held c.args.fd held c.requires.apart e c.in-Record.is in
+    own_set (λ (channel : RecordChannelOf _). channel.device) parent.device (record_channels parent) held.slot c.recorder.result.now c.ioctl-in-Record.new.self there c.recorder.ensures.value c.ioctl-in-Record.ensures.device c.requires.recorders_own
 
-pub returns-in-Rec-clause-refused : goal.returns-in-Rec-clause-refused
-returns-in-Rec-clause-refused g c =
+pub returns-in-Record-clause-refused : goal.returns-in-Record-clause-refused
+returns-in-Record-clause-refused g c =
     let parent = c.args.parent.now in
-    let held = c.in-Some.held in
-    let e = sym c.held.ensures ∙ c.in-Some.is in
-    on_err_weaker c.ioctl-in-Rec.result
-    (λ same. parent_same _ parent refl refl (item-kept parent.recorders held.slot c.ioctl-in-Rec.new.self c.recorder.result.now (same ∙ c.recorder.ensures.value)) refl refl refl refl refl refl)
-    c.ioctl-in-Rec.ensures.refused
+    let held = c.in_ok-held.held in
+    let e = holding-is (held_by (desk_with parent c.args.descriptors.now.held) c.args.fd) c.in_ok-held.held (sym c.holding.ensures ∙ c.in_ok-held.was) in
+    on_err_weaker c.ioctl-in-Record.result
+    (λ same. parent_same _ parent refl refl (item-kept parent.recorders held.slot c.ioctl-in-Record.new.self c.recorder.result.now (same ∙ c.recorder.ensures.value)) refl refl refl refl refl refl)
+    c.ioctl-in-Record.ensures.refused
 
-pub returns-in-Rec-clause-desk : goal.returns-in-Rec-clause-desk
-returns-in-Rec-clause-desk g c =
+pub returns-in-Record-clause-desk : goal.returns-in-Record-clause-desk
+returns-in-Record-clause-desk g c =
     let parent = c.args.parent.now in
-    let held = c.in-Some.held in
-    let e = sym c.held.ensures ∙ c.in-Some.is in
-    let there = record-there parent c.args.descriptors.now c.args.fd held c.requires.apart e c.in-Rec.is in
-    desk-recorded (seen c.args.tables.now parent.device) (record_requests.ask_turn c.args.request) parent c.args.descriptors.now held.slot c.recorder.result.now c.ioctl-in-Rec.new.self there c.recorder.ensures.value c.ioctl-in-Rec.ensures.book
-    ∙ sym (ap (λ (t : DeskTurn). t.desk) (turning-held Rec (play_turn (seen c.args.tables.now parent.device) (asking (seen c.args.tables.now parent.device) c.args.request) (desk_with parent c.args.descriptors.now)) (record_turn (seen c.args.tables.now parent.device) (record_requests.ask_turn c.args.request) (desk_with parent c.args.descriptors.now)) (held_by (desk_with parent c.args.descriptors.now) c.args.fd) held (desk_with parent c.args.descriptors.now) e c.in-Rec.is))
+    let held = c.in_ok-held.held in
+    let e = holding-is (held_by (desk_with parent c.args.descriptors.now.held) c.args.fd) c.in_ok-held.held (sym c.holding.ensures ∙ c.in_ok-held.was) in
+    let there = record-there parent c.args.descriptors.now.held c.args.fd held c.requires.apart e c.in-Record.is in
+    desk-recorded (seen c.args.tables.now parent.device) (record_ask c.args.request) parent c.args.descriptors.now.held held.slot c.recorder.result.now c.ioctl-in-Record.new.self there c.recorder.ensures.value c.ioctl-in-Record.ensures.book
+    ∙ sym (ap (λ (t : DeskTurn). t.desk) (turning-held Record (play_turn (seen c.args.tables.now parent.device) (asking (seen c.args.tables.now parent.device) c.args.request) (desk_with parent c.args.descriptors.now.held)) (record_turn (seen c.args.tables.now parent.device) (record_ask c.args.request) (desk_with parent c.args.descriptors.now.held)) (held_by (desk_with parent c.args.descriptors.now.held) c.args.fd) held (desk_with parent c.args.descriptors.now.held) e c.in-Record.is))
 
-pub returns-in-Rec-clause-reply : goal.returns-in-Rec-clause-reply
-returns-in-Rec-clause-reply g c =
+pub returns-in-Record-clause-reply : goal.returns-in-Record-clause-reply
+returns-in-Record-clause-reply g c =
     let parent = c.args.parent.now in
-    let held = c.in-Some.held in
-    let e = sym c.held.ensures ∙ c.in-Some.is in
-    let there = record-there parent c.args.descriptors.now c.args.fd held c.requires.apart e c.in-Rec.is in
-    reply-recorded (seen c.args.tables.now parent.device) (record_requests.ask_turn c.args.request) parent c.args.descriptors.now held.slot c.recorder.result.now c.ioctl-in-Rec.result there c.recorder.ensures.value c.ioctl-in-Rec.ensures.reply
-    ∙ sym (ap (λ (t : DeskTurn). t.reply) (turning-held Rec (play_turn (seen c.args.tables.now parent.device) (asking (seen c.args.tables.now parent.device) c.args.request) (desk_with parent c.args.descriptors.now)) (record_turn (seen c.args.tables.now parent.device) (record_requests.ask_turn c.args.request) (desk_with parent c.args.descriptors.now)) (held_by (desk_with parent c.args.descriptors.now) c.args.fd) held (desk_with parent c.args.descriptors.now) e c.in-Rec.is))
+    let held = c.in_ok-held.held in
+    let e = holding-is (held_by (desk_with parent c.args.descriptors.now.held) c.args.fd) c.in_ok-held.held (sym c.holding.ensures ∙ c.in_ok-held.was) in
+    let there = record-there parent c.args.descriptors.now.held c.args.fd held c.requires.apart e c.in-Record.is in
+    reply-recorded (seen c.args.tables.now parent.device) (record_ask c.args.request) parent c.args.descriptors.now.held held.slot c.recorder.result.now c.ioctl-in-Record.result there c.recorder.ensures.value c.ioctl-in-Record.ensures.reply
+    ∙ sym (ap (λ (t : DeskTurn). t.reply) (turning-held Record (play_turn (seen c.args.tables.now parent.device) (asking (seen c.args.tables.now parent.device) c.args.request) (desk_with parent c.args.descriptors.now.held)) (record_turn (seen c.args.tables.now parent.device) (record_ask c.args.request) (desk_with parent c.args.descriptors.now.held)) (held_by (desk_with parent c.args.descriptors.now.held) c.args.fd) held (desk_with parent c.args.descriptors.now.held) e c.in-Record.is))
 
-pub returns-in-Rec-clause-channels : goal.returns-in-Rec-clause-channels
-returns-in-Rec-clause-channels g c = λ slot other there. moves-nothing g.B.Feeder.kind g.B.Feeder.kept c.args.tables.now [] 0 (get_or (play_channels c.args.parent.now) slot other)
+pub returns-in-Record-clause-channels : goal.returns-in-Record-clause-channels
+returns-in-Record-clause-channels g c = λ slot other there. moves-nothing g.B.Feeder.kind g.B.Feeder.kept c.args.tables.now [] 0 (get_or (play_channels c.args.parent.now) slot other)
 
-pub returns-in-Rec-clause-recorders : goal.returns-in-Rec-clause-recorders
-returns-in-Rec-clause-recorders g c =
+pub returns-in-Record-clause-recorders : goal.returns-in-Record-clause-recorders
+returns-in-Record-clause-recorders g c =
     let parent = c.args.parent.now in
-    let held = c.in-Some.held in
-    let e = sym c.held.ensures ∙ c.in-Some.is in
-    let there = record-there parent c.args.descriptors.now c.args.fd held c.requires.apart e c.in-Rec.is in
-    each_set (RecordMoves g.B.Feeder.kind g.B.Feeder.kept c.args.tables.now [] 0) (rec_channels parent) held.slot c.recorder.result.now c.ioctl-in-Rec.new.self there c.recorder.ensures.value c.ioctl-in-Rec.ensures.moves
+    let held = c.in_ok-held.held in
+    let e = holding-is (held_by (desk_with parent c.args.descriptors.now.held) c.args.fd) c.in_ok-held.held (sym c.holding.ensures ∙ c.in_ok-held.was) in
+    let there = record-there parent c.args.descriptors.now.held c.args.fd held c.requires.apart e c.in-Record.is in
+    each_set (RecordMoves g.B.Feeder.kind g.B.Feeder.kept c.args.tables.now [] 0) (record_channels parent) held.slot c.recorder.result.now c.ioctl-in-Record.new.self there c.recorder.ensures.value c.ioctl-in-Record.ensures.moves
     (recorders.moves-nothing g.B.Feeder.kind g.B.Feeder.kept c.args.tables.now [] 0)

@@ -6,7 +6,7 @@ use Rattle.pcm_format.specs.Formats.{bits_of, bytes_of}
 use Rattle.pcm_format.specs.Layouts.{channels_of}
 use Rattle.pcm_format.proofs.Spelling.{silence-fits}
 use Rattle.pcm_desk.specs.Device.{seen}
-use Rattle.pcm_vchan.specs.Slots.{books_of}
+use Rattle.pcm_vchan.specs.Slots.{play_books_of}
 use Rattle.pcm_vchan.specs.Blocks.{block_bytes, mixed_onto}
 use Rattle.pcm_vchan.proofs.mixer.mix_block.Goals as goal
 
@@ -44,4 +44,4 @@ returns-clause-bytes g c = λ streams stand.
     let long : length (take (c.args.n * c.channels.result) c.args.sum.now) ≡ c.args.n * channels_of c.args.device.settings.layout =
     omega (arith, length-take (c.args.n * c.channels.result) c.args.sum.now, c.requires.sum) in
     let silent : c.fill.new.self ≡ replicate (c.args.n * channels_of c.args.device.settings.layout) (pos 0) = c.fill.ensures.after (λ y same. same) ∙ ap (λ k. replicate k (pos 0)) long in
-    c.spell_frames.ensures ∙ ap (block_bytes device) (c.mix_channels.ensures.sum streams stand ∙ ap (mixed_onto device c.args.n (books_of c.args.channels.now) streams slots) silent)
+    c.spell_frames.ensures ∙ ap (block_bytes device) (c.mix_channels.ensures.sum streams stand ∙ ap (mixed_onto device c.args.n (play_books_of c.args.channels.now) streams slots) silent)

@@ -1,31 +1,23 @@
-use Rattle.std.proofs.Common.{◌≡◌, ℕ, ℤ, ◌+◌, ◌<◌, List, [], length, get_or, refl, sym, ap, ◌∙◌, subst, inl, inr, arith}
+use Rattle.std.proofs.Common.{◌≡◌, ℕ, ℤ, ◌<◌, List, [], length, get_or, refl, sym, ap, ◌∙◌, subst, inl, inr, arith}
 use Rattle.std.proofs.lemmas.Bool.{cases_lt, cases_eq}
 use Rattle.pcm_desk.specs.Device.{DeviceSeen, seen}
 use Rattle.pcm_desk.specs.Desk.{mixing}
-use Rattle.pcm_sound.specs.Blocks.{turned}
+use Rattle.pcm_sound.specs.Added.{turned}
 use Rattle.pcm_play.specs.declared.channel.PlayChannelOf.{PlayChannelOf}
-use Rattle.pcm_play.specs.Channels.{ChannelStands, IsReady, Moves}
-use Rattle.pcm_vchan.specs.Slots.{books_of}
+use Rattle.pcm_play.specs.Channels.{PlayStands, PlayMoves}
+use Rattle.pcm_vchan.specs.Slots.{IsPlayDue, play_books_of}
 use Rattle.pcm_vchan.specs.Blocks.{mixed_onto}
 use Rattle.pcm_vchan.proofs.Channels.{some_channel}
 use Rattle.pcm_vchan.proofs.Blocks.{mixed-more}
 use Rattle.pcm_vchan.proofs.mixer.mix_channels.Goals as goal
 
-pub mix_slot-requires-clause-ready : goal.mix_slot-requires-clause-ready
-mix_slot-requires-clause-ready g c = λ other.
-    subst (IsReady g.B.Feeder.kind g.B.Feeder.kept c.args.tables.now) (sym (c.loop-slot.invariant.rest c.loop-slot.slot other (omega arith))) (c.requires.ready c.loop-slot.slot other (omega arith))
-
-pub mix_slot-requires-clause-count : goal.mix_slot-requires-clause-count
-mix_slot-requires-clause-count g c = λ other.
-    subst (λ (n : PlayChannelOf _). n.book.given + c.args.n < 18446744073709551616) (sym (c.loop-slot.invariant.rest c.loop-slot.slot other (omega arith))) (c.requires.count c.loop-slot.slot other (omega arith))
-
-pub mix_slot-requires-clause-counted : goal.mix_slot-requires-clause-counted
-mix_slot-requires-clause-counted g c = λ other.
-    subst (λ (n : PlayChannelOf _). n.book.done + n.book.written < 18446744073709551616) (sym (c.loop-slot.invariant.rest c.loop-slot.slot other (omega arith))) (c.requires.counted c.loop-slot.slot other (omega arith))
+pub mix_slot-requires-clause-due : goal.mix_slot-requires-clause-due
+mix_slot-requires-clause-due g c = λ other.
+    subst (IsPlayDue g.B.Feeder.kind g.B.Feeder.kept c.args.tables.now c.args.device c.args.n) (sym (c.loop-slot.invariant.rest c.loop-slot.slot other (omega arith))) (c.requires.due c.loop-slot.slot other (omega arith))
 
 pub loop-slot-init : goal.loop-slot-init
 loop-slot-init g c = record {
-  own = λ at other h. c.requires.own at other h;
+  own = λ at other h. (c.requires.due at other h).own;
   moved = λ at other h. absurd (omega arith);
   mixed = λ at other h. absurd (omega arith);
   rest = λ at other h. refl;
@@ -48,11 +40,11 @@ loop-slot-preserved g c =
         | inr differ ↦ ap (λ (channel : PlayChannelOf _). channel.device) (c.mix_slot.ensures.others at other differ) ∙ c.loop-slot.invariant.own at other h
       ];
       moved = λ at other h. elim (cases_lt at i) [
-        | inl below ↦ subst (Moves g.B.Feeder.kind g.B.Feeder.kept c.args.tables.now [] n (get_or before at other)) (sym (c.mix_slot.ensures.others at other (omega arith))) (c.loop-slot.invariant.moved at other below)
+        | inl below ↦ subst (PlayMoves g.B.Feeder.kind g.B.Feeder.kept c.args.tables.now [] n (get_or before at other)) (sym (c.mix_slot.ensures.others at other (omega arith))) (c.loop-slot.invariant.moved at other below)
         | inr above ↦ (
             let here : at ≡ i = omega arith in
-            subst (λ (k : ℕ). Moves g.B.Feeder.kind g.B.Feeder.kept c.args.tables.now [] n (get_or before k other) (get_or c.mix_slot.new.channels k other)) (sym here)
-            (subst (λ (channel : PlayChannelOf _). Moves g.B.Feeder.kind g.B.Feeder.kept c.args.tables.now [] n channel (get_or c.mix_slot.new.channels i other)) (c.loop-slot.invariant.rest i other (omega arith)) (c.mix_slot.ensures.moves other)))
+            subst (λ (k : ℕ). PlayMoves g.B.Feeder.kind g.B.Feeder.kept c.args.tables.now [] n (get_or before k other) (get_or c.mix_slot.new.channels k other)) (sym here)
+            (subst (λ (channel : PlayChannelOf _). PlayMoves g.B.Feeder.kind g.B.Feeder.kept c.args.tables.now [] n channel (get_or c.mix_slot.new.channels i other)) (c.loop-slot.invariant.rest i other (omega arith)) (c.mix_slot.ensures.moves other)))
       ];
       mixed = λ at other h. elim (cases_lt at i) [
         | inl below ↦ ap (λ (channel : PlayChannelOf _). channel.book) (c.mix_slot.ensures.others at other (omega arith)) ∙ c.loop-slot.invariant.mixed at other below
@@ -64,8 +56,8 @@ loop-slot-preserved g c =
       rest = λ at other h. c.mix_slot.ensures.others at other (omega arith) ∙ c.loop-slot.invariant.rest at other (omega arith);
       sum = λ streams stand. (
           let channel : PlayChannelOf _ = get_or c.loop-slot.channels i first in
-          let mixed : List ℤ = mixed_onto device n (books_of before) streams i c.args.sum.now in
-          let stood : ChannelStands g.B.Feeder.kept c.args.tables.now channel channel.book (streams i) = subst (λ (held : PlayChannelOf _). ChannelStands g.B.Feeder.kept c.args.tables.now held held.book (streams i)) (sym was) (stand i first there) in
+          let mixed : List ℤ = mixed_onto device n (play_books_of before) streams i c.args.sum.now in
+          let stood : PlayStands g.B.Feeder.kept c.args.tables.now channel channel.book (streams i) = subst (λ (held : PlayChannelOf _). PlayStands g.B.Feeder.kept c.args.tables.now held held.book (streams i)) (sym was) (stand i first there) in
           let by_slot : c.mix_slot.new.sum ≡ turned device n channel.book (streams i) c.loop-slot.sum = c.mix_slot.ensures.sum first (streams i) stood in
           let onto : c.mix_slot.new.sum ≡ turned device n channel.book (streams i) mixed = by_slot ∙ ap (turned device n channel.book (streams i)) (c.loop-slot.invariant.sum streams stand) in
           onto ∙ mixed-more device n before streams i channel first there was c.args.sum.now);

@@ -4,8 +4,8 @@ use Rattle.pcm_format.specs.Formats.{bits_of}
 use Rattle.pcm_desk.specs.Device.{seen}
 use Rattle.pcm_desk.specs.Desk.{mixing}
 use Rattle.pcm_play.specs.declared.channel.PlayChannelOf.{PlayChannelOf}
-use Rattle.pcm_vchan.specs.Slots.{AllStand, books_of}
-use Rattle.pcm_play.specs.Channels.{Moves}
+use Rattle.pcm_vchan.specs.Slots.{AllPlayStand, play_books_of}
+use Rattle.pcm_play.specs.Channels.{PlayMoves}
 use Rattle.pcm_vchan.specs.Blocks.{mixed_onto}
 use Rattle.pcm_vchan.proofs.mixer.mix_channels.Given as goal
 
@@ -13,9 +13,9 @@ use Rattle.pcm_vchan.proofs.mixer.mix_channels.Given as goal
 abbrev pub invariant-loop-slot : goal.invariant-loop-slot
 invariant-loop-slot g l = record {
   own : (at : ℕ) (other : PlayChannelOf _) → at < length l.fn.channels → (slice_index_or l.channels at other).device ≡ l.fn.device;
-  moved : (at : ℕ) (other : PlayChannelOf _) → at < l.slot → Moves g.B.Feeder.kind g.B.Feeder.kept l.tables [] l.n (slice_index_or l.fn.channels at other) (slice_index_or l.channels at other);
+  moved : (at : ℕ) (other : PlayChannelOf _) → at < l.slot → PlayMoves g.B.Feeder.kind g.B.Feeder.kept l.tables [] l.n (slice_index_or l.fn.channels at other) (slice_index_or l.channels at other);
   mixed : (at : ℕ) (other : PlayChannelOf _) → at < l.slot → (slice_index_or l.channels at other).book ≡ mixing (seen l.tables l.fn.device) l.n (slice_index_or l.fn.channels at other).book;
   rest : (at : ℕ) (other : PlayChannelOf _) → l.slot ≤ at → slice_index_or l.channels at other ≡ slice_index_or l.fn.channels at other;
-  sum : (streams : ℕ → List ℕ) → AllStand g.B.Feeder.kept l.tables l.fn.channels streams → l.sum ≡ mixed_onto (seen l.tables l.fn.device) l.n (books_of l.fn.channels) streams l.slot l.fn.sum;
+  sum : (streams : ℕ → List ℕ) → AllPlayStand g.B.Feeder.kept l.tables l.fn.channels streams → l.sum ≡ mixed_onto (seen l.tables l.fn.device) l.n (play_books_of l.fn.channels) streams l.slot l.fn.sum;
   fits : All (FitsBits (bits_of l.fn.device.settings.format)) l.sum;
 }

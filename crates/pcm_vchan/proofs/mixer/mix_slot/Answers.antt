@@ -6,34 +6,34 @@ use Rattle.pcm_format.specs.Layouts.{channels_of}
 use Rattle.pcm_desk.specs.declared.device.Device.{Device}
 use Rattle.pcm_desk.specs.Device.{seen}
 use Rattle.pcm_desk.specs.Desk.{mixing}
-use Rattle.pcm_sound.specs.Blocks.{turned}
+use Rattle.pcm_sound.specs.Added.{turned}
 use Rattle.pcm_play.specs.declared.channel.PlayChannelOf.{PlayChannelOf}
-use Rattle.pcm_play.specs.Channels.{ChannelStands, Moves}
+use Rattle.pcm_play.specs.Channels.{PlayStands, PlayMoves}
 use Rattle.pcm_vchan.proofs.mixer.mix_slot.Goals as goal
 
 pub refill-requires-clause-kinds : goal.refill-requires-clause-kinds
-refill-requires-clause-kinds g c = (c.requires.ready c.index-channels-slot.result).kinds
+refill-requires-clause-kinds g c = (c.requires.due c.index-channels-slot.result).ready.kinds
 
 pub refill-requires-clause-planned : goal.refill-requires-clause-planned
-refill-requires-clause-planned g c = (c.requires.ready c.index-channels-slot.result).planned
+refill-requires-clause-planned g c = (c.requires.due c.index-channels-slot.result).ready.planned
 
 pub refill-requires-clause-stands : goal.refill-requires-clause-stands
-refill-requires-clause-stands g c = (c.requires.ready c.index-channels-slot.result).stands
+refill-requires-clause-stands g c = (c.requires.due c.index-channels-slot.result).ready.stands
 
 pub refill-requires-clause-frames : goal.refill-requires-clause-frames
-refill-requires-clause-frames g c = c.requires.frames ∙ ap (λ (d : Device). c.args.n * channels_of d.settings.layout) (sym (c.requires.own c.index-channels-slot.result))
+refill-requires-clause-frames g c = c.requires.frames ∙ ap (λ (d : Device). c.args.n * channels_of d.settings.layout) (sym ((c.requires.due c.index-channels-slot.result).own))
 
 pub refill-requires-clause-sum : goal.refill-requires-clause-sum
-refill-requires-clause-sum g c = c.requires.sum ∙ ap (λ (d : Device). c.args.n * channels_of d.settings.layout) (sym (c.requires.own c.index-channels-slot.result))
+refill-requires-clause-sum g c = c.requires.sum ∙ ap (λ (d : Device). c.args.n * channels_of d.settings.layout) (sym ((c.requires.due c.index-channels-slot.result).own))
 
 pub refill-requires-clause-fits : goal.refill-requires-clause-fits
-refill-requires-clause-fits g c = subst (λ (d : Device). All (FitsBits (bits_of d.settings.format)) c.args.sum.now) (sym (c.requires.own c.index-channels-slot.result)) c.requires.fits
+refill-requires-clause-fits g c = subst (λ (d : Device). All (FitsBits (bits_of d.settings.format)) c.args.sum.now) (sym ((c.requires.due c.index-channels-slot.result).own)) c.requires.fits
 
 pub returns-clause-own : goal.returns-clause-own
 returns-clause-own g c = λ other.
     ap (λ (n : PlayChannelOf _). n.device) (get_or-set_same c.args.channels.now c.args.slot c.refill.new.self other c.requires.there)
     ∙ c.refill.ensures.device
-    ∙ c.requires.own c.index-channels-slot.result
+    ∙ (c.requires.due c.index-channels-slot.result).own
 
 pub returns-clause-book : goal.returns-clause-book
 returns-clause-book g c = λ other.
@@ -41,20 +41,20 @@ returns-clause-book g c = λ other.
     let old = c.args.channels.now in
     ap (λ (n : PlayChannelOf _). n.book) (get_or-set_same old c.args.slot c.refill.new.self other c.requires.there)
     ∙ c.refill.ensures.book
-    ∙ ap (λ (d : Device). mixing (seen c.args.tables.now d) c.args.n (get_or old c.args.slot held).book) (c.requires.own held)
+    ∙ ap (λ (d : Device). mixing (seen c.args.tables.now d) c.args.n (get_or old c.args.slot held).book) ((c.requires.due held).own)
     ∙ ap (λ (n : PlayChannelOf _). mixing (seen c.args.tables.now c.args.device) c.args.n n.book) (get_or_default old c.args.slot held other c.requires.there)
 
 pub refill-requires-clause-count : goal.refill-requires-clause-count
-refill-requires-clause-count g c = c.requires.count c.index-channels-slot.result
+refill-requires-clause-count g c = (c.requires.due c.index-channels-slot.result).given
 
 pub refill-requires-clause-counted : goal.refill-requires-clause-counted
-refill-requires-clause-counted g c = c.requires.counted c.index-channels-slot.result
+refill-requires-clause-counted g c = (c.requires.due c.index-channels-slot.result).counted
 
 pub returns-clause-moves : goal.returns-clause-moves
 returns-clause-moves g c = λ other.
     let held = c.index-channels-slot.result in
     let old = c.args.channels.now in
-    let Moved : PlayChannelOf _ → PlayChannelOf _ → Type 0 = Moves g.B.Feeder.kind g.B.Feeder.kept c.args.tables.now [] c.args.n in
+    let Moved : PlayChannelOf _ → PlayChannelOf _ → Type 0 = PlayMoves g.B.Feeder.kind g.B.Feeder.kept c.args.tables.now [] c.args.n in
     subst (Moved (get_or old c.args.slot other)) (sym (get_or-set_same old c.args.slot c.refill.new.self other c.requires.there))
     (subst (λ (n : PlayChannelOf _). Moved n c.refill.new.self) (get_or_default old c.args.slot held other c.requires.there) c.refill.ensures.moves)
 
@@ -65,11 +65,11 @@ returns-clause-sum g c = λ other bytes stands.
     let sum = c.args.sum.now in
     let before : PlayChannelOf _ = get_or old c.args.slot held in
     let same : before ≡ get_or old c.args.slot other = get_or_default old c.args.slot held other c.requires.there in
-    let stood : ChannelStands g.B.Feeder.kept c.args.tables.now before before.book bytes = subst (λ (n : PlayChannelOf _). ChannelStands g.B.Feeder.kept c.args.tables.now n n.book bytes) (sym same) stands in
+    let stood : PlayStands g.B.Feeder.kept c.args.tables.now before before.book bytes = subst (λ (n : PlayChannelOf _). PlayStands g.B.Feeder.kept c.args.tables.now n n.book bytes) (sym same) stands in
     let by_channel : c.refill.new.sum ≡ turned (seen c.args.tables.now before.device) c.args.n before.book bytes sum = c.refill.ensures.sum bytes stood in
     let of_device : c.refill.new.sum ≡ turned (seen c.args.tables.now c.args.device) c.args.n before.book bytes sum =
-    by_channel ∙ ap (λ (d : Device). turned (seen c.args.tables.now d) c.args.n before.book bytes sum) (c.requires.own held) in
+    by_channel ∙ ap (λ (d : Device). turned (seen c.args.tables.now d) c.args.n before.book bytes sum) ((c.requires.due held).own) in
     of_device ∙ ap (λ (n : PlayChannelOf _). turned (seen c.args.tables.now c.args.device) c.args.n n.book bytes sum) same
 
 pub returns-clause-fits : goal.returns-clause-fits
-returns-clause-fits g c = subst (λ (d : Device). All (FitsBits (bits_of d.settings.format)) c.refill.new.sum) (c.requires.own c.index-channels-slot.result) c.refill.ensures.fits
+returns-clause-fits g c = subst (λ (d : Device). All (FitsBits (bits_of d.settings.format)) c.refill.new.sum) ((c.requires.due c.index-channels-slot.result).own) c.refill.ensures.fits

@@ -4,7 +4,7 @@ use Rattle.std.proofs.lemmas.List.Elements.{All-nil, All-push, All-same, All-tak
 use Rattle.pcm_feeder.specs.declared.rack.RackOf.{RackOf}
 use Rattle.pcm_feeder.specs.Racks.{IsRack}
 use Rattle.pcm_play.specs.declared.channel.PlayChannelOf.{PlayChannelOf}
-use Rattle.pcm_play.specs.Channels.{IsUnopened}
+use Rattle.pcm_play.specs.Channels.{IsPlayUnopened}
 use Rattle.pcm_vchan.proofs.parent.free_channels.Goals as goal
 
 pub loop-rack-init : goal.loop-rack-init
@@ -13,7 +13,7 @@ loop-rack-init g c =
     let none = c.new-channels.ensures.items in
     record {
       count = rw (none, rest) (omega (arith, length-take c.args.device.play_slots c.args.racks.items, c.args.racks.ok.0, c.requires.enough));
-      unopened = rw none (All-nil (IsUnopened g.B.Feeder.kind g.B.Feeder.kept c.args.tables.now c.args.device));
+      play_unopened = rw none (All-nil (IsPlayUnopened g.B.Feeder.kind g.B.Feeder.kept c.args.tables.now c.args.device));
       kinds = rw rest (All-take (IsRack g.B.Feeder.kind) c.args.device.play_slots c.args.racks.items c.requires.kinds);
     }
 
@@ -24,7 +24,7 @@ new-requires-clause-kinds g c =
 pub loop-rack-preserved : goal.loop-rack-preserved
 loop-rack-preserved g c =
     let channel = c.in_ok-new.field-0 in
-    let P = IsUnopened g.B.Feeder.kind g.B.Feeder.kept c.args.tables.now c.args.device in
+    let P = IsPlayUnopened g.B.Feeder.kind g.B.Feeder.kept c.args.tables.now c.args.device in
     let steps = c.in-Some.ensures.steps.0 in
     let before = c.loop-rack.channels.items in
     let made : P channel = record {
@@ -40,6 +40,6 @@ loop-rack-preserved g c =
     let count = c.loop-rack.invariant.count in
     record {
       count = omega arith;
-      unopened = All-same P c.push.new.self.items (before ++ channel ∷ []) items (All-push P before channel c.loop-rack.invariant.unopened made);
+      play_unopened = All-same P c.push.new.self.items (before ++ channel ∷ []) items (All-push P before channel c.loop-rack.invariant.play_unopened made);
       kinds = All-tail (IsRack g.B.Feeder.kind) c.in-Some.rack c.next.new.self.rest.items (rw steps at c.loop-rack.invariant.kinds);
     }

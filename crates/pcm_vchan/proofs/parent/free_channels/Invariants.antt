@@ -1,12 +1,12 @@
 use Rattle.std.proofs.Common.{◌≡◌, ◌+◌, length, All}
 use Rattle.pcm_feeder.specs.Racks.{AreRacks}
-use Rattle.pcm_play.specs.Channels.{IsUnopened}
+use Rattle.pcm_play.specs.Channels.{IsPlayUnopened}
 use Rattle.pcm_vchan.proofs.parent.free_channels.Given as goal
 
 -- A channel was made with each rack so far.
 abbrev pub invariant-loop-rack : goal.invariant-loop-rack
 invariant-loop-rack g l = record {
   count : length l.channels.items + length l.rack-iterator.rest.items ≡ l.device.play_slots;
-  unopened : All (IsUnopened g.B.Feeder.kind g.B.Feeder.kept l.tables l.device) l.channels.items;
+  play_unopened : All (IsPlayUnopened g.B.Feeder.kind g.B.Feeder.kept l.tables l.device) l.channels.items;
   kinds : AreRacks g.B.Feeder.kind l.rack-iterator.rest.items;
 }

@@ -3,7 +3,7 @@ use Rattle.std.proofs.lemmas.List.{length_push}
 use Rattle.std.proofs.lemmas.List.Elements.{All-nil, All-push, All-same, All-take, All-head, All-tail}
 use Rattle.pcm_feeder.specs.declared.rack.RackOf.{RackOf}
 use Rattle.pcm_feeder.specs.Racks.{IsRack}
-use Rattle.pcm_record.specs.declared.channel.RecChannelOf.{RecChannelOf}
+use Rattle.pcm_record.specs.declared.channel.RecordChannelOf.{RecordChannelOf}
 use Rattle.pcm_record.specs.Channels.{IsRecordUnopened}
 use Rattle.pcm_vchan.proofs.parent.free_recorders.Goals as goal
 
@@ -13,7 +13,7 @@ loop-rack-init g c =
     let none = c.new-channels.ensures.items in
     record {
       count = rw (none, rest) (omega (arith, length-take c.args.device.record_slots c.args.racks.items, c.args.racks.ok.0, c.requires.enough));
-      unopened = rw none (All-nil (IsRecordUnopened g.B.Feeder.kind g.B.Feeder.kept c.args.tables.now c.args.device));
+      play_unopened = rw none (All-nil (IsRecordUnopened g.B.Feeder.kind g.B.Feeder.kept c.args.tables.now c.args.device));
       kinds = rw rest (All-take (IsRack g.B.Feeder.kind) c.args.device.record_slots c.args.racks.items c.requires.kinds);
     }
 
@@ -35,11 +35,11 @@ loop-rack-preserved g c =
       stands = c.in_ok-new.ensures.stands;
     } in
     let items = c.in_ok-push.ensures.items in
-    let longer : length c.push.new.self.items ≡ length before + 1 = ap (λ (list : List (RecChannelOf _)). length list) items ∙ length_push before channel in
+    let longer : length c.push.new.self.items ≡ length before + 1 = ap (λ (list : List (RecordChannelOf _)). length list) items ∙ length_push before channel in
     let shorter : length c.loop-rack.rack-iterator.rest.items ≡ length (c.in-Some.rack ∷ c.next.new.self.rest.items) = ap (λ (list : List (RackOf _)). length list) steps in
     let count = c.loop-rack.invariant.count in
     record {
       count = omega arith;
-      unopened = All-same P c.push.new.self.items (before ++ channel ∷ []) items (All-push P before channel c.loop-rack.invariant.unopened made);
+      play_unopened = All-same P c.push.new.self.items (before ++ channel ∷ []) items (All-push P before channel c.loop-rack.invariant.play_unopened made);
       kinds = All-tail (IsRack g.B.Feeder.kind) c.in-Some.rack c.next.new.self.rest.items (rw steps at c.loop-rack.invariant.kinds);
     }

@@ -7,6 +7,6 @@ use Rattle.pcm_vchan.proofs.parent.free_recorders.Given as goal
 abbrev pub invariant-loop-rack : goal.invariant-loop-rack
 invariant-loop-rack g l = record {
   count : length l.channels.items + length l.rack-iterator.rest.items ≡ l.device.record_slots;
-  unopened : All (IsRecordUnopened g.B.Feeder.kind g.B.Feeder.kept l.tables l.device) l.channels.items;
+  play_unopened : All (IsRecordUnopened g.B.Feeder.kind g.B.Feeder.kept l.tables l.device) l.channels.items;
   kinds : AreRacks g.B.Feeder.kind l.rack-iterator.rest.items;
 }

@@ -7,21 +7,21 @@ use Rattle.pcm_format.specs.Layouts.{channels_of}
 use Rattle.pcm_oss.specs.declared.fragments.TheConstants.{RING_BYTES}
 use Rattle.pcm_desk.specs.declared.device.Device.{Device}
 use Rattle.pcm_play.specs.declared.channel.PlayChannelOf.{PlayChannelOf}
-use Rattle.pcm_record.specs.declared.channel.RecChannelOf.{RecChannelOf}
+use Rattle.pcm_record.specs.declared.channel.RecordChannelOf.{RecordChannelOf}
 use Rattle.pcm_desk.specs.declared.limits.TheConstants.{RING_FRAMES}
 use Rattle.pcm_oss.specs.Replies.{Reply}
 use Rattle.pcm_desk.specs.Desk.{after, held_by, write_on}
 use Rattle.pcm_desk.specs.Own.{HoldApart}
 use Rattle.pcm_desk.proofs.Apart.{apart-after}
-use Rattle.pcm_play.specs.Channels.{Moves}
+use Rattle.pcm_play.specs.Channels.{PlayMoves}
 use Rattle.pcm_play.proofs.Moving.{moves-nothing}
 use Rattle.pcm_record.specs.Channels.{RecordMoves}
 use Rattle.pcm_record.proofs.Moving as recorders
-use Rattle.pcm_vchan.specs.Slots.{AreOf, Each, RecordersAreOf}
+use Rattle.pcm_vchan.specs.Slots.{PlayAreOf, Each, RecordAreOf}
 use Rattle.pcm_engine.specs.Engines.{device_of, desk_of}
 use Rattle.pcm_engine.specs.Steps.{ChannelsMove, RecordersMove, bytes_answered}
-use Rattle.pcm_vchan.proofs.Channels.{books_of-mixed, record_books_of-captured}
-use Rattle.pcm_vchan.specs.Parents.{play_channels, rec_channels}
+use Rattle.pcm_vchan.proofs.Channels.{play_books_of-mixed, record_books_of-captured}
+use Rattle.pcm_vchan.specs.Parents.{play_channels, record_channels}
 use Rattle.pcm_engine.proofs.Desks.{count-stays, count-within, desk_with-mixed}
 use Rattle.pcm_engine.proofs.Recording.{length-captured}
 use Rattle.pcm_engine.proofs.engine.EngineOf.apply.Goals as goal
@@ -39,9 +39,9 @@ invariant_of-self-in-Write g c =
           (λ slot other there. let more = (c.write.ensures.channels old.tables slot other there).grown in omega (arith, more)) old.counted;
       given = count-within (λ (c : PlayChannelOf _). c.book.given) RING_FRAMES old.steps (play_channels old.parent) (play_channels new) same
           (λ slot other there. let more = (c.write.ensures.channels old.tables slot other there).given in omega (arith, more)) old.given;
-      recorders_own = subst (λ (v : Fixed (RecChannelOf _)). RecordersAreOf new.device (fixed_items v)) (sym c.write.ensures.recorders) (subst (λ (d : Device). RecordersAreOf d (rec_channels old.parent)) (sym output.device_same) old.recorders_own);
-      kept = count-stays (λ (c : RecChannelOf _). c.book.kept) RING_BYTES old.steps (rec_channels old.parent) (rec_channels new) (ap (λ (v : Fixed (RecChannelOf _)). fixed_items v) c.write.ensures.recorders) old.kept;
-      captured_within = count-stays (λ (c : RecChannelOf _). c.book.captured) RING_FRAMES old.steps (rec_channels old.parent) (rec_channels new) (ap (λ (v : Fixed (RecChannelOf _)). fixed_items v) c.write.ensures.recorders) old.captured_within;
+      recorders_own = subst (λ (v : Fixed (RecordChannelOf _)). RecordAreOf new.device (fixed_items v)) (sym c.write.ensures.recorders) (subst (λ (d : Device). RecordAreOf d (record_channels old.parent)) (sym output.device_same) old.recorders_own);
+      kept = count-stays (λ (c : RecordChannelOf _). c.book.kept) RING_BYTES old.steps (record_channels old.parent) (record_channels new) (ap (λ (v : Fixed (RecordChannelOf _)). fixed_items v) c.write.ensures.recorders) old.kept;
+      captured_within = count-stays (λ (c : RecordChannelOf _). c.book.captured) RING_FRAMES old.steps (record_channels old.parent) (record_channels new) (ap (λ (v : Fixed (RecordChannelOf _)). fixed_items v) c.write.ensures.recorders) old.captured_within;
       captured_size = old.captured_size ∙ ap (λ (d : Device). d.ring_frames * channels_of d.settings.layout) (sym output.device_same);
       mixed_within = omega (arith, output.mixed_same, old.mixed_within);
       handed_within = omega (arith, output.handed_same, old.handed_within);
@@ -61,13 +61,42 @@ invariant_of-self-in-Ioctl g c =
       given = count-within (λ (c : PlayChannelOf _). c.book.given) RING_FRAMES old.steps (play_channels old.parent) (play_channels new) same
           (λ slot other there. let more = (c.ioctl.ensures.channels slot other there).given in omega (arith, more)) old.given;
       recorders_own = c.ioctl.ensures.recorders_own;
-      kept = count-within (λ (c : RecChannelOf _). c.book.kept) RING_BYTES old.steps (rec_channels old.parent) (rec_channels new) output.recorders_same
+      kept = count-within (λ (c : RecordChannelOf _). c.book.kept) RING_BYTES old.steps (record_channels old.parent) (record_channels new) output.recorders_same
           (λ slot other there. (c.ioctl.ensures.recorders slot other there).kept) old.kept;
-      captured_within = count-within (λ (c : RecChannelOf _). c.book.captured) RING_FRAMES old.steps (rec_channels old.parent) (rec_channels new) output.recorders_same
+      captured_within = count-within (λ (c : RecordChannelOf _). c.book.captured) RING_FRAMES old.steps (record_channels old.parent) (record_channels new) output.recorders_same
           (λ slot other there. let more = (c.ioctl.ensures.recorders slot other there).captured in omega (arith, more)) old.captured_within;
       captured_size = old.captured_size ∙ ap (λ (d : Device). d.ring_frames * channels_of d.settings.layout) (sym output.device_same);
       mixed_within = omega (arith, output.mixed_same, old.mixed_within);
       handed_within = omega (arith, output.handed_same, old.handed_within);
+    }
+
+-- what an interrupt relies on holds of every channel, since few steps were taken
+pub interrupt-requires-clause-due : goal.interrupt-requires-clause-due
+interrupt-requires-clause-due g c = λ slot other there.
+    let old = c.args.self.now in
+    let fits = rw c.in-Intr.is at c.requires.fits in
+    let within = old.parent.within in
+    let given = old.given slot other there in
+    let counted = old.counted slot other there in
+    record {
+      own = old.own slot other there;
+      ready = c.requires.ready.playing slot other there;
+      given = omega (arith, given, within, fits.1, c.requires.count);
+      counted = omega (arith, counted, c.requires.count);
+    }
+
+pub interrupt-requires-clause-recorders_due : goal.interrupt-requires-clause-recorders_due
+interrupt-requires-clause-recorders_due g c = λ slot other there.
+    let old = c.args.self.now in
+    let fits = rw c.in-Intr.is at c.requires.fits in
+    let within = old.parent.within in
+    let captured = old.captured_within slot other there in
+    let kept = old.kept slot other there in
+    record {
+      own = old.recorders_own slot other there;
+      ready = c.requires.ready.recording slot other there;
+      captured = omega (arith, captured, within, fits.1, c.requires.count);
+      kept = omega (arith, kept, c.requires.count);
     }
 
 pub invariant_of-self-in-Intr : goal.invariant_of-self-in-Intr
@@ -77,9 +106,9 @@ invariant_of-self-in-Intr g c =
     let fits = rw c.in-Intr.is at c.requires.fits in
     let same = c.interrupt.ensures.slots in
     let within = old.parent.within in
-    let books = books_of-mixed (device_of old) c.in-Intr.frames (play_channels old.parent) (play_channels new) same c.interrupt.ensures.books in
-    let recorded = record_books_of-captured (device_of old) c.in-Intr.frames (rec_channels old.parent) (rec_channels new) c.interrupt.ensures.recorders_slots (λ slot other there. (c.interrupt.ensures.recorders slot other there).book) in
-    let desk = desk_with-mixed (device_of old) old.parent new old.descriptors c.in-Intr.frames books recorded c.interrupt.ensures.handed c.interrupt.ensures.mixed in
+    let books = play_books_of-mixed (device_of old) c.in-Intr.frames (play_channels old.parent) (play_channels new) same c.interrupt.ensures.books in
+    let recorded = record_books_of-captured (device_of old) c.in-Intr.frames (record_channels old.parent) (record_channels new) c.interrupt.ensures.recorders_slots (λ slot other there. (c.interrupt.ensures.recorders slot other there).book) in
+    let desk = desk_with-mixed (device_of old) old.parent new old.descriptors.held c.in-Intr.frames books recorded c.interrupt.ensures.handed c.interrupt.ensures.mixed in
     let brought = length-captured old.parent.device.settings.layout c.args.pool.now old.parent.handed c.in-Intr.frames c.requires.captures in
     record {
       apart = subst HoldApart (sym desk) (apart-after (device_of old) (desk_of old) (Intr c.in-Intr.frames) old.apart);
@@ -89,9 +118,9 @@ invariant_of-self-in-Intr g c =
       given = count-within (λ (c : PlayChannelOf _). c.book.given) RING_FRAMES old.steps (play_channels old.parent) (play_channels new) same
           (λ slot other there. let more = (c.interrupt.ensures.channels slot other there).given in omega (arith, more, fits.1)) old.given;
       recorders_own = c.interrupt.ensures.recorders_own;
-      kept = count-within (λ (c : RecChannelOf _). c.book.kept) RING_BYTES old.steps (rec_channels old.parent) (rec_channels new) c.interrupt.ensures.recorders_slots
+      kept = count-within (λ (c : RecordChannelOf _). c.book.kept) RING_BYTES old.steps (record_channels old.parent) (record_channels new) c.interrupt.ensures.recorders_slots
           (λ slot other there. (c.interrupt.ensures.recorders slot other there).moves.kept) old.kept;
-      captured_within = count-within (λ (c : RecChannelOf _). c.book.captured) RING_FRAMES old.steps (rec_channels old.parent) (rec_channels new) c.interrupt.ensures.recorders_slots
+      captured_within = count-within (λ (c : RecordChannelOf _). c.book.captured) RING_FRAMES old.steps (record_channels old.parent) (record_channels new) c.interrupt.ensures.recorders_slots
           (λ slot other there. let more = (c.interrupt.ensures.recorders slot other there).moves.captured in omega (arith, more, brought, fits.1)) old.captured_within;
       captured_size = old.captured_size ∙ ap (λ (d : Device). d.ring_frames * channels_of d.settings.layout) (sym c.interrupt.ensures.device);
       mixed_within = omega (arith, c.interrupt.ensures.mixed, old.mixed_within, fits.1);
@@ -103,9 +132,9 @@ returns-in-Intr-clause-desk g c =
     let old = c.args.self.now in
     let new = c.interrupt.new.parent in
     let n : ℕ = c.in-Intr.frames in
-    let books = books_of-mixed (device_of old) n (play_channels old.parent) (play_channels new) c.interrupt.ensures.slots c.interrupt.ensures.books in
-    let recorded = record_books_of-captured (device_of old) n (rec_channels old.parent) (rec_channels new) c.interrupt.ensures.recorders_slots (λ slot other there. (c.interrupt.ensures.recorders slot other there).book) in
-    desk_with-mixed (device_of old) old.parent new old.descriptors n books recorded c.interrupt.ensures.handed c.interrupt.ensures.mixed
+    let books = play_books_of-mixed (device_of old) n (play_channels old.parent) (play_channels new) c.interrupt.ensures.slots c.interrupt.ensures.books in
+    let recorded = record_books_of-captured (device_of old) n (record_channels old.parent) (record_channels new) c.interrupt.ensures.recorders_slots (λ slot other there. (c.interrupt.ensures.recorders slot other there).book) in
+    desk_with-mixed (device_of old) old.parent new old.descriptors.held n books recorded c.interrupt.ensures.handed c.interrupt.ensures.mixed
     ∙ sym (ap (λ (event : Event). (after (device_of old) (desk_of old) event).desk) c.in-Intr.is)
 
 pub returns-in-Write-clause-desk : goal.returns-in-Write-clause-desk
@@ -121,9 +150,9 @@ returns-in-Write-clause-reply g c =
 pub returns-in-Write-clause-recorders : goal.returns-in-Write-clause-recorders
 returns-in-Write-clause-recorders g c =
     let old = c.args.self.now in
-    subst (λ (event : Event). RecordersMove g.B.Feeder.kind g.B.Feeder.kept (device_of old) c.args.pool.now old.parent.handed event (rec_channels old.parent) (rec_channels c.write.new.parent)) (sym c.in-Write.is)
-    (subst (λ (v : Fixed (RecChannelOf _)). Each (RecordMoves g.B.Feeder.kind g.B.Feeder.kept old.tables [] 0) (rec_channels old.parent) (fixed_items v)) (sym c.write.ensures.recorders)
-    (λ slot other there. recorders.moves-nothing g.B.Feeder.kind g.B.Feeder.kept old.tables [] 0 (get_or (rec_channels old.parent) slot other)))
+    subst (λ (event : Event). RecordersMove g.B.Feeder.kind g.B.Feeder.kept (device_of old) c.args.pool.now old.parent.handed event (record_channels old.parent) (record_channels c.write.new.parent)) (sym c.in-Write.is)
+    (subst (λ (v : Fixed (RecordChannelOf _)). Each (RecordMoves g.B.Feeder.kind g.B.Feeder.kept old.tables [] 0) (record_channels old.parent) (fixed_items v)) (sym c.write.ensures.recorders)
+    (λ slot other there. recorders.moves-nothing g.B.Feeder.kind g.B.Feeder.kept old.tables [] 0 (get_or (record_channels old.parent) slot other)))
 
 pub returns-in-Read-clause-bytes : goal.returns-in-Read-clause-bytes
 returns-in-Read-clause-bytes g c = λ bytes frames stand.
@@ -134,13 +163,13 @@ pub returns-in-Read-clause-channels : goal.returns-in-Read-clause-channels
 returns-in-Read-clause-channels g c =
     let old = c.args.self.now in
     subst (λ (event : Event). ChannelsMove g.B.Feeder.kind g.B.Feeder.kept old.tables c.args.pool.now event (play_channels old.parent) (play_channels c.answer_read.new.parent)) (sym c.in-Read.is)
-    (subst (λ (v : Fixed (PlayChannelOf _)). Each (Moves g.B.Feeder.kind g.B.Feeder.kept old.tables [] 0) (play_channels old.parent) (fixed_items v)) (sym c.answer_read.ensures.channels)
+    (subst (λ (v : Fixed (PlayChannelOf _)). Each (PlayMoves g.B.Feeder.kind g.B.Feeder.kept old.tables [] 0) (play_channels old.parent) (fixed_items v)) (sym c.answer_read.ensures.channels)
     (λ slot other there. moves-nothing g.B.Feeder.kind g.B.Feeder.kept old.tables [] 0 (get_or (play_channels old.parent) slot other)))
 
 pub returns-in-Read-clause-recorders : goal.returns-in-Read-clause-recorders
 returns-in-Read-clause-recorders g c =
     let old = c.args.self.now in
-    subst (λ (event : Event). RecordersMove g.B.Feeder.kind g.B.Feeder.kept (device_of old) c.args.pool.now old.parent.handed event (rec_channels old.parent) (rec_channels c.answer_read.new.parent)) (sym c.in-Read.is)
+    subst (λ (event : Event). RecordersMove g.B.Feeder.kind g.B.Feeder.kept (device_of old) c.args.pool.now old.parent.handed event (record_channels old.parent) (record_channels c.answer_read.new.parent)) (sym c.in-Read.is)
     (c.answer_read.ensures.recorders old.tables)
 
 pub returns-in-Ioctl-clause-channels : goal.returns-in-Ioctl-clause-channels
@@ -168,7 +197,7 @@ returns-in-Close-clause-channels g c =
 pub returns-in-Close-clause-recorders : goal.returns-in-Close-clause-recorders
 returns-in-Close-clause-recorders g c =
     let old = c.args.self.now in
-    subst (λ (event : Event). RecordersMove g.B.Feeder.kind g.B.Feeder.kept (device_of old) c.args.pool.now old.parent.handed event (rec_channels old.parent) (rec_channels c.close.new.parent)) (sym c.in-Close.is)
+    subst (λ (event : Event). RecordersMove g.B.Feeder.kind g.B.Feeder.kept (device_of old) c.args.pool.now old.parent.handed event (record_channels old.parent) (record_channels c.close.new.parent)) (sym c.in-Close.is)
     (c.close.ensures.recorders old.tables)
 
 pub returns-in-Write-clause-channels : goal.returns-in-Write-clause-channels
@@ -176,7 +205,7 @@ returns-in-Write-clause-channels g c =
     let before = (play_channels c.args.self.now.parent) in
     let now = (play_channels c.write.new.parent) in
     subst (λ (event : Event). ChannelsMove g.B.Feeder.kind g.B.Feeder.kept c.args.self.now.tables c.args.pool.now event before now) (sym c.in-Write.is)
-    (subst (λ (bytes : List ℕ). Each (Moves g.B.Feeder.kind g.B.Feeder.kept c.args.self.now.tables bytes 0) before now) c.bytes_at-bytes.ensures.bytes (c.write.ensures.channels c.args.self.now.tables))
+    (subst (λ (bytes : List ℕ). Each (PlayMoves g.B.Feeder.kind g.B.Feeder.kept c.args.self.now.tables bytes 0) before now) c.bytes_at-bytes.ensures.bytes (c.write.ensures.channels c.args.self.now.tables))
 
 pub returns-in-Intr-clause-channels : goal.returns-in-Intr-clause-channels
 returns-in-Intr-clause-channels g c =
@@ -197,9 +226,9 @@ invariant_of-self g c =
       given = count-within (λ (c : PlayChannelOf _). c.book.given) RING_FRAMES old.steps (play_channels old.parent) (play_channels new) same
           (λ slot other there. let more = (c.open-answer.ensures.channels slot other there).given in omega (arith, more)) old.given;
       recorders_own = c.open-answer.ensures.recorders_own;
-      kept = count-within (λ (c : RecChannelOf _). c.book.kept) RING_BYTES old.steps (rec_channels old.parent) (rec_channels new) output.recorders_same
+      kept = count-within (λ (c : RecordChannelOf _). c.book.kept) RING_BYTES old.steps (record_channels old.parent) (record_channels new) output.recorders_same
           (λ slot other there. (c.open-answer.ensures.recorders slot other there).kept) old.kept;
-      captured_within = count-within (λ (c : RecChannelOf _). c.book.captured) RING_FRAMES old.steps (rec_channels old.parent) (rec_channels new) output.recorders_same
+      captured_within = count-within (λ (c : RecordChannelOf _). c.book.captured) RING_FRAMES old.steps (record_channels old.parent) (record_channels new) output.recorders_same
           (λ slot other there. let more = (c.open-answer.ensures.recorders slot other there).captured in omega (arith, more)) old.captured_within;
       captured_size = old.captured_size ∙ ap (λ (d : Device). d.ring_frames * channels_of d.settings.layout) (sym output.device_same);
       mixed_within = omega (arith, output.mixed_same, old.mixed_within);
@@ -220,9 +249,9 @@ invariant_of-self-in-Close g c =
       given = count-within (λ (c : PlayChannelOf _). c.book.given) RING_FRAMES old.steps (play_channels old.parent) (play_channels new) same
           (λ slot other there. let more = (c.close.ensures.channels old.tables slot other there).given in omega (arith, more)) old.given;
       recorders_own = c.close.ensures.recorders_own;
-      kept = count-within (λ (c : RecChannelOf _). c.book.kept) RING_BYTES old.steps (rec_channels old.parent) (rec_channels new) output.recorders_same
+      kept = count-within (λ (c : RecordChannelOf _). c.book.kept) RING_BYTES old.steps (record_channels old.parent) (record_channels new) output.recorders_same
           (λ slot other there. (c.close.ensures.recorders old.tables slot other there).kept) old.kept;
-      captured_within = count-within (λ (c : RecChannelOf _). c.book.captured) RING_FRAMES old.steps (rec_channels old.parent) (rec_channels new) output.recorders_same
+      captured_within = count-within (λ (c : RecordChannelOf _). c.book.captured) RING_FRAMES old.steps (record_channels old.parent) (record_channels new) output.recorders_same
           (λ slot other there. let more = (c.close.ensures.recorders old.tables slot other there).captured in omega (arith, more)) old.captured_within;
       captured_size = old.captured_size ∙ ap (λ (d : Device). d.ring_frames * channels_of d.settings.layout) (sym output.device_same);
       mixed_within = omega (arith, output.mixed_same, old.mixed_within);
@@ -237,13 +266,13 @@ invariant_of-self-in-Read g c =
     let stays = ap (λ (v : Fixed (PlayChannelOf _)). fixed_items v) c.answer_read.ensures.channels in
     record {
       apart = subst HoldApart (sym (c.answer_read.ensures.desk old.tables)) (apart-after (device_of old) (desk_of old) (Read c.in-Read.fd c.in-Read.len) old.apart);
-      own = subst (λ (v : Fixed (PlayChannelOf _)). AreOf new.device (fixed_items v)) (sym c.answer_read.ensures.channels) (subst (λ (d : Device). AreOf d (play_channels old.parent)) (sym output.device_same) old.own);
+      own = subst (λ (v : Fixed (PlayChannelOf _)). PlayAreOf new.device (fixed_items v)) (sym c.answer_read.ensures.channels) (subst (λ (d : Device). PlayAreOf d (play_channels old.parent)) (sym output.device_same) old.own);
       counted = count-stays (λ (c : PlayChannelOf _). c.book.done + c.book.written) RING_BYTES old.steps (play_channels old.parent) (play_channels new) stays old.counted;
       given = count-stays (λ (c : PlayChannelOf _). c.book.given) RING_FRAMES old.steps (play_channels old.parent) (play_channels new) stays old.given;
       recorders_own = c.answer_read.ensures.recorders_own;
-      kept = count-within (λ (c : RecChannelOf _). c.book.kept) RING_BYTES old.steps (rec_channels old.parent) (rec_channels new) output.recorders_same
+      kept = count-within (λ (c : RecordChannelOf _). c.book.kept) RING_BYTES old.steps (record_channels old.parent) (record_channels new) output.recorders_same
           (λ slot other there. (c.answer_read.ensures.recorders old.tables slot other there).kept) old.kept;
-      captured_within = count-within (λ (c : RecChannelOf _). c.book.captured) RING_FRAMES old.steps (rec_channels old.parent) (rec_channels new) output.recorders_same
+      captured_within = count-within (λ (c : RecordChannelOf _). c.book.captured) RING_FRAMES old.steps (record_channels old.parent) (record_channels new) output.recorders_same
           (λ slot other there. let more = (c.answer_read.ensures.recorders old.tables slot other there).captured in omega (arith, more)) old.captured_within;
       captured_size = old.captured_size ∙ ap (λ (d : Device). d.ring_frames * channels_of d.settings.layout) (sym output.device_same);
       mixed_within = omega (arith, output.mixed_same, old.mixed_within);

@@ -1,5 +1,6 @@
-use Rattle.std.proofs.Common.{◌≡◌, ◌*◌, None, Some, refl, sym, ap, ◌∙◌, subst, arith}
-use Rattle.pcm_desk.specs.declared.book.Book.{Book}
+use Rattle.pcm_desk.specs.declared.device.Held.{Held}
+use Rattle.std.proofs.Common.{◌≡◌, ◌*◌, List, Option, None, Some, get_or, sym, ap, ◌∙◌, subst, arith}
+use Rattle.pcm_desk.specs.declared.play_book.PlayBook.{PlayBook}
 use Rattle.pcm_desk.proofs.Apart.{apart-shut}
 use Rattle.pcm_sound.proofs.Stories.{get_or-same}
 use Rattle.pcm_desk.specs.declared.device.Device.{Device}
@@ -11,21 +12,21 @@ use Rattle.pcm_engine.specs.Stands.{RecordersStand}
 use Rattle.pcm_engine.proofs.InOrder.{ready-all}
 use Rattle.pcm_engine.proofs.Starting.{parent-starts, ready-unopened, record-ready-unopened, record_books_of-unopened, recorders-start}
 use Rattle.pcm_engine.proofs.engine.EngineOf.new.Goals as goal
-use Rattle.pcm_vchan.specs.Parents.{play_channels, rec_channels}
+use Rattle.pcm_vchan.specs.Parents.{play_channels, record_channels}
 
 pub invariant_of-result : goal.invariant_of-result
 invariant_of-result g c =
     let parent = c.in_ok-parent.parent in
     record {
       own = λ slot other there. (c.in_ok-parent.ensures.channels slot other there).device_is ∙ sym c.in_ok-parent.ensures.device;
-      apart = apart-shut _ (λ fd held e. let none : None ≡ Some held = sym (get_or-same 64 fd None) ∙ e in cc);
+      apart = apart-shut _ (λ fd held e. let none : None ≡ Some held = sym (get_or-same 64 fd None) ∙ sym (ap (λ (list : List (Option Held)). get_or list fd None) c.all_shut.ensures) ∙ e in cc);
       recorders_own = λ slot other there. (c.in_ok-parent.ensures.recording slot other there).device_is ∙ sym c.in_ok-parent.ensures.device;
       counted = λ slot other there.
           let book = (c.in_ok-parent.ensures.channels slot other there).book in
-          let none = ap (λ (b : Book). b.written) book in
-          let before = ap (λ (b : Book). b.done) book in
+          let none = ap (λ (b : PlayBook). b.written) book in
+          let before = ap (λ (b : PlayBook). b.done) book in
           omega arith;
-      given = λ slot other there. let none = ap (λ (b : Book). b.given) (c.in_ok-parent.ensures.channels slot other there).book in omega arith;
+      given = λ slot other there. let none = ap (λ (b : PlayBook). b.given) (c.in_ok-parent.ensures.channels slot other there).book in omega arith;
       kept = λ slot other there. let none = ap (λ (b : RecordBook). b.kept) (c.in_ok-parent.ensures.recording slot other there).book in omega arith;
       captured_within = λ slot other there. let none = ap (λ (b : RecordBook). b.captured) (c.in_ok-parent.ensures.recording slot other there).book in omega arith;
       captured_size = c.new-2.ensures.len ∙ c.in_ok-captured.ensures.len ∙ ap (λ n. c.args.device.ring_frames * n) c.channels.ensures ∙ ap (λ (d : Device). d.ring_frames * channels_of d.settings.layout) (sym c.in_ok-parent.ensures.device);
@@ -36,15 +37,15 @@ invariant_of-result g c =
 pub returns-clause-ready : goal.returns-clause-ready
 returns-clause-ready g c = ready-all g.B.Feeder.kind g.B.Feeder.kept _
     (ready-unopened g.B.Feeder.kind g.B.Feeder.kept c.args.tables c.args.device (play_channels c.in_ok-parent.parent) c.in_ok-parent.ensures.channels)
-    (record-ready-unopened g.B.Feeder.kind g.B.Feeder.kept c.args.tables c.args.device (rec_channels c.in_ok-parent.parent) c.in_ok-parent.ensures.recording)
+    (record-ready-unopened g.B.Feeder.kind g.B.Feeder.kept c.args.tables c.args.device (record_channels c.in_ok-parent.parent) c.in_ok-parent.ensures.recording)
 
 pub returns-clause-stands : goal.returns-clause-stands
 returns-clause-stands g c = λ pool.
     let e = c.in_ok-parent.ensures in
     let parent = c.in_ok-parent.parent in
-    let books = record_books_of-unopened g.B.Feeder.kind g.B.Feeder.kept c.args.tables c.args.device (rec_channels parent) e.recorders e.recording in
-    let started = recorders-start g.B.Feeder.kind g.B.Feeder.kept c.args.tables c.args.device pool (rec_channels parent) c.requires.limits.device_is e.recording in
+    let books = record_books_of-unopened g.B.Feeder.kind g.B.Feeder.kept c.args.tables c.args.device (record_channels parent) e.recorders e.recording in
+    let started = recorders-start g.B.Feeder.kind g.B.Feeder.kept c.args.tables c.args.device pool (record_channels parent) c.requires.limits.device_is e.recording in
     record {
-      playing = parent-starts g.B.Feeder.kind g.B.Feeder.kept c.args.tables c.args.device parent _ c.requires.limits.device_is refl e.device e.slots books e.channels e.ring e.handed e.mixed;
-      recording = subst (λ (d : Device). RecordersStand g.B.Feeder.kept (seen c.args.tables d) pool (rec_channels parent) (story_at_start (seen c.args.tables d))) (sym e.device) started;
+      playing = parent-starts g.B.Feeder.kind g.B.Feeder.kept c.args.tables c.args.device parent c.all_shut.result.held c.requires.limits.device_is c.all_shut.ensures e.device e.slots books e.channels e.ring e.handed e.mixed;
+      recording = subst (λ (d : Device). RecordersStand g.B.Feeder.kept (seen c.args.tables d) pool (record_channels parent) (story_at_start (seen c.args.tables d))) (sym e.device) started;
     }

@@ -1,12 +1,14 @@
-use Rattle.std.proofs.Common.{◌≡◌, All, ℕ, List, [], ◌∷◌, ◌++◌, take, refl, sym, ap, ◌∙◌, subst}
+use Rattle.pcm_oss.specs.declared.reply.Answer.{Answer}
+use Rattle.pcm_oss.specs.declared.reply.Errno.{Errno}
+use Rattle.std.proofs.Common.{Result, ◌≡◌, All, ℕ, List, [], ◌∷◌, ◌++◌, take, refl, sym, ap, ◌∙◌, subst}
 use Rattle.pcm_fixed.proofs.Items.{items-count}
 use Rattle.pcm_desk.specs.declared.device.Device.{Device}
 use Rattle.pcm_desk.specs.Device.{DeviceSeen, seen}
 use Rattle.pcm_feeder.specs.Filters.{Filters}
 use Rattle.pcm_oss.specs.declared.event.Event.{Event}
-use Rattle.pcm_play.specs.Channels.{IsReady}
+use Rattle.pcm_play.specs.Channels.{IsPlayReady}
 use Rattle.pcm_record.specs.Channels.{IsRecordReady}
-use Rattle.pcm_sound.specs.Replies.{bytes_to}
+use Rattle.pcm_sound.specs.StoryReplies.{bytes_to}
 use Rattle.pcm_desk.specs.Desk.{Desk, after, held_by}
 use Rattle.pcm_desk.specs.Events.{frames_taken}
 use Rattle.pcm_desk.specs.Own.{IsIsolated}
@@ -19,7 +21,7 @@ use Rattle.pcm_engine.specs.Stands.{PartsStand, RecordersStand, bytes_kept, fram
 use Rattle.pcm_engine.specs.Steps.{bytes_answered, bytes_brought}
 use Rattle.pcm_engine.specs.Engines.{device_of, desk_of}
 use Rattle.pcm_vchan.proofs.Channels.{ready-after}
-use Rattle.pcm_vchan.specs.Parents.{play_channels, rec_channels}
+use Rattle.pcm_vchan.specs.Parents.{play_channels, record_channels}
 use Rattle.pcm_desk.proofs.Isolation.{isolated}
 use Rattle.pcm_engine.proofs.InOrder.{ready-all, rings-hold}
 use Rattle.pcm_engine.proofs.Recording.{all-record, answered-told, recorders-ready, recorders-told, reply-made}
@@ -31,10 +33,10 @@ pub returns-clause-ready : goal.returns-clause-ready
 returns-clause-ready g c =
     let old = c.args.self.now in
     let new = c.apply.new.self in
-    let playing = subst (λ (t : Filters). All (IsReady g.B.Feeder.kind g.B.Feeder.kept t) (play_channels new.parent)) (sym c.apply.ensures.tables)
+    let playing = subst (λ (t : Filters). All (IsPlayReady g.B.Feeder.kind g.B.Feeder.kept t) (play_channels new.parent)) (sym c.apply.ensures.tables)
     (ready-after g.B.Feeder.kind g.B.Feeder.kept old.tables (bytes_brought c.args.pool.now c.args.event.now) (frames_taken c.args.event.now) (play_channels old.parent) (play_channels new.parent) c.apply.ensures.slots c.apply.ensures.channels c.requires.ready.playing) in
-    let recording = subst (λ (t : Filters). All (IsRecordReady g.B.Feeder.kind g.B.Feeder.kept t) (rec_channels new.parent)) (sym c.apply.ensures.tables)
-    (recorders-ready g.B.Feeder.kind g.B.Feeder.kept (device_of old) c.args.pool.now old.parent.handed c.args.event.now (rec_channels old.parent) (rec_channels new.parent) c.apply.ensures.recorders_slots c.apply.ensures.recorders c.requires.ready.recording) in
+    let recording = subst (λ (t : Filters). All (IsRecordReady g.B.Feeder.kind g.B.Feeder.kept t) (record_channels new.parent)) (sym c.apply.ensures.tables)
+    (recorders-ready g.B.Feeder.kind g.B.Feeder.kept (device_of old) c.args.pool.now old.parent.handed c.args.event.now (record_channels old.parent) (record_channels new.parent) c.apply.ensures.recorders_slots c.apply.ensures.recorders c.requires.ready.recording) in
     ready-all g.B.Feeder.kind g.B.Feeder.kept new playing recording
 
 pub returns-clause-stands : goal.returns-clause-stands
@@ -58,14 +60,14 @@ returns-clause-stands g c = λ events s.
     let stood = stands-told g.B.Feeder.kind kept device pool story event (desk_of old) (desk_of new) (play_channels old.parent) (play_channels new.parent) old.parent.ring.bytes new.parent.ring.bytes c.requires.fits step s.playing in
     let pushed : PartsStand kept device (desk_of new) (play_channels new.parent) new.parent.ring.bytes (story_of device pool (events ++ event ∷ [])) =
     subst (PartsStand kept device (desk_of new) (play_channels new.parent) new.parent.ring.bytes) (sym (told_all-push device pool (story_at_start device) events event)) stood in
-    let recorded = recorders-told g.B.Feeder.kind kept device old.parent.device pool story event (desk_of old) (desk_of new) (rec_channels old.parent) (rec_channels new.parent) c.requires.captures c.requires.fits refl old.recorders_own
+    let recorded = recorders-told g.B.Feeder.kind kept device old.parent.device pool story event (desk_of old) (desk_of new) (record_channels old.parent) (record_channels new.parent) c.requires.captures c.requires.fits refl old.recorders_own
     s.playing.desk_is c.apply.ensures.desk refl refl c.apply.ensures.recorders_slots c.apply.ensures.recorders s.playing.valid s.recording in
-    let recording : RecordersStand kept device pool (rec_channels new.parent) (story_of device pool (events ++ event ∷ [])) =
-    subst (RecordersStand kept device pool (rec_channels new.parent)) (sym (told_all-push device pool (story_at_start device) events event)) recorded in
+    let recording : RecordersStand kept device pool (record_channels new.parent) (story_of device pool (events ++ event ∷ [])) =
+    subst (RecordersStand kept device pool (record_channels new.parent)) (sym (told_all-push device pool (story_at_start device) events event)) recorded in
     let same : device_of new ≡ device = ap (λ (d : Device). seen new.tables d) c.apply.ensures.device ∙ ap (λ (t : Filters). seen t old.parent.device) c.apply.ensures.tables in
     record {
       playing = subst (λ (d : DeviceSeen). PartsStand kept d (desk_of new) (play_channels new.parent) new.parent.ring.bytes (story_of d pool (events ++ event ∷ []))) (sym same) pushed;
-      recording = subst (λ (d : DeviceSeen). RecordersStand kept d pool (rec_channels new.parent) (story_of d pool (events ++ event ∷ []))) (sym same) recording;
+      recording = subst (λ (d : DeviceSeen). RecordersStand kept d pool (record_channels new.parent) (story_of d pool (events ++ event ∷ []))) (sym same) recording;
     }
 
 pub returns-clause-reply : goal.returns-clause-reply
@@ -76,7 +78,7 @@ returns-clause-reply g c = λ events s.
     let event = c.args.event.now in
     let story = story_of device pool events in
     let is = s.playing.desk_is in
-    let all = all-record g.B.Feeder.kept device pool story (rec_channels old.parent) (ap (λ (d : Desk). d.recording) (sym is)) s.recording in
+    let all = all-record g.B.Feeder.kept device pool story (record_channels old.parent) (ap (λ (d : Desk). d.recording) (sym is)) s.recording in
     reply-made c.apply.new.reply (after device story.desk event).reply (bytes_to device story event)
     (c.apply.ensures.reply ∙ ap (λ (d : Desk). (after device d event).reply) is)
     (c.apply.ensures.bytes (bytes_kept device story) (frames_captured device pool story) all
@@ -122,11 +124,11 @@ returns-clause-isolated g c =
     let desk = desk_of old in
     let alone = isolated device c.args.event.now desk old.apart in
     subst (λ (new : Desk). IsIsolated device c.args.event.now desk new c.apply.new.reply.result) (sym c.apply.ensures.desk)
-    (subst (IsIsolated device c.args.event.now desk (after device desk c.args.event.now).desk) (sym c.apply.ensures.reply) alone)
+    (subst (λ (told : Result Answer Errno). IsIsolated device c.args.event.now desk (after device desk c.args.event.now).desk told) (sym c.apply.ensures.reply) alone)
 
 pub returns-clause-taken : goal.returns-clause-taken
 returns-clause-taken g c = λ fd count is.
     let old = c.args.self.now in
-    read-waiting g.B.Feeder.kind g.B.Feeder.kept old.tables (device_of old) (desk_of old) (rec_channels old.parent) count (held_by (desk_of old) fd) c.apply.new.reply.bytes refl c.requires.ready.recording
+    read-waiting g.B.Feeder.kind g.B.Feeder.kept old.tables (device_of old) (desk_of old) (record_channels old.parent) count (held_by (desk_of old) fd) c.apply.new.reply.bytes refl c.requires.ready.recording
     (λ held e. old.apart.within fd held e)
     (λ bytes frames stand. c.apply.ensures.bytes bytes frames stand ∙ ap (λ (event : Event). bytes_answered (device_of old) (desk_of old) bytes event) is)

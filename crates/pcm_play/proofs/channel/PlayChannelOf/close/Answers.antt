@@ -5,8 +5,8 @@ use Rattle.pcm_oss.specs.Fragments.{ring_size}
 use Rattle.pcm_rate.specs.declared.rate.Rate.{Rate}
 use Rattle.pcm_rate.specs.Rates.{IsRatio}
 use Rattle.pcm_plan.specs.Plans.{PlanSeen, rate_in_plan}
-use Rattle.pcm_desk.specs.Books.{close_turn}
-use Rattle.pcm_desk.specs.Safe.{BookIsSafe}
+use Rattle.pcm_desk.specs.PlayBooks.{close_turn}
+use Rattle.pcm_desk.specs.PlaySafe.{PlayIsSafe}
 use Rattle.pcm_play.proofs.Moving.{moves-ended, moves-state, planned-as, book-closed}
 use Rattle.pcm_play.proofs.channel.PlayChannelOf.close.Goals as goal
 
@@ -23,7 +23,7 @@ invariant_of-self g c =
       size = ap (λ (ring : Ring). ring.size) c.clear.ensures ∙ old.size ∙ ap ring_size (sym k.keeps.fragments);
       fill = ap (λ (ring : Ring). length ring.bytes) c.clear.ensures ∙ none.3;
       within = none.2;
-      safe = subst (λ (p : PlanSeen). BookIsSafe (rate_in_plan p) c.closed-self.result) (sym c.restart.ensures.plan) k.left.safe;
+      safe = subst (λ (p : PlanSeen). PlayIsSafe (rate_in_plan p) c.closed-self.result) (sym c.restart.ensures.plan) k.left.safe;
     }
 
 pub invariant_of-self-else-self-eq0 : goal.invariant_of-self-else-self-eq0
@@ -31,7 +31,7 @@ invariant_of-self-else-self-eq0 g c =
     let old = c.args.self.now in
     let k = book-closed old c.closed-self.result c.rate-rate.result c.plan.result.now c.closed-self.ensures c.rate-rate.ensures.value c.plan.ensures in
     let go = k.left.goes c.if-self-eq0.false in
-    let size : frame_bytes c.closed-self.result.settings ≡ frame_bytes old.book.settings = ap frame_bytes go.settings in
+    let size : frame_bytes c.closed-self.result.opening.settings ≡ frame_bytes old.book.opening.settings = ap frame_bytes go.settings in
     record {
       device_rate = old.device_rate;
       rate = k.left.rate;

@@ -3,28 +3,32 @@ use Rattle.pcm_format.specs.Frames.{frame_bytes}
 use Rattle.pcm_ring.specs.Ring.{Ring}
 use Rattle.pcm_oss.specs.Fragments.{ring_size}
 use Rattle.pcm_plan.specs.Plans.{PlanSeen, rate_in_plan}
-use Rattle.pcm_desk.specs.Device.{plan_between, seen}
-use Rattle.pcm_desk.specs.Safe.{BookIsSafe}
-use Rattle.pcm_play.proofs.Moving.{moves-ended, moves-state, book-asked}
+use Rattle.pcm_desk.specs.Device.{play_plan_between, seen}
+use Rattle.pcm_desk.specs.declared.play_book.PlayBook.{PlayBook}
+use Rattle.pcm_desk.specs.declared.turn.Turn.{Turn}
+use Rattle.pcm_desk.specs.Desk.{play_rate_at}
+use Rattle.pcm_desk.specs.PlaySafe.{PlayIsSafe}
+use Rattle.pcm_desk.proofs.Refused.{ask-refused}
+use Rattle.pcm_play.proofs.Moving.{asked-is, book-asked, moves-ended, moves-state}
 use Rattle.pcm_play.proofs.channel.PlayChannelOf.ioctl.Goals as goal
 
 pub begin_anew-requires-clause-rate : goal.begin_anew-requires-clause-rate
 begin_anew-requires-clause-rate g c =
     let old = c.args.self.now in
-    (book-asked c.args.tables.now c.args.request old c.in_ok-turn.turn c.rate.result c.plan.result.now c.requires.planned
-    (sym c.in_ok-turn.was ∙ c.asked.ensures) c.rate.ensures.value c.plan.ensures).rate
+    (book-asked c.args.tables.now c.args.request old c.asked-turn.result c.requires.planned
+    (asked-is c.args.tables.now c.args.request old c.asked-turn.result c.rate.result c.plan.result.now c.requires.planned c.asked-turn.ensures c.rate.ensures.value c.plan.ensures)).rate
 
 pub begin_anew-requires-clause-fragments : goal.begin_anew-requires-clause-fragments
 begin_anew-requires-clause-fragments g c =
     let old = c.args.self.now in
-    (book-asked c.args.tables.now c.args.request old c.in_ok-turn.turn c.rate.result c.plan.result.now c.requires.planned
-    (sym c.in_ok-turn.was ∙ c.asked.ensures) c.rate.ensures.value c.plan.ensures).safe.fragments
+    (book-asked c.args.tables.now c.args.request old c.asked-turn.result c.requires.planned
+    (asked-is c.args.tables.now c.args.request old c.asked-turn.result c.rate.result c.plan.result.now c.requires.planned c.asked-turn.ensures c.rate.ensures.value c.plan.ensures)).safe.fragments
 
 pub invariant_of-self : goal.invariant_of-self
 invariant_of-self g c =
     let old = c.args.self.now in
-    let left = book-asked c.args.tables.now c.args.request old c.in_ok-turn.turn c.rate.result c.plan.result.now c.requires.planned
-    (sym c.in_ok-turn.was ∙ c.asked.ensures) c.rate.ensures.value c.plan.ensures in
+    let left = book-asked c.args.tables.now c.args.request old c.asked-turn.result c.requires.planned
+    (asked-is c.args.tables.now c.args.request old c.asked-turn.result c.rate.result c.plan.result.now c.requires.planned c.asked-turn.ensures c.rate.ensures.value c.plan.ensures) in
     let none = left.ended c.if-self-eq0.true in
     record {
       device_rate = old.device_rate;
@@ -34,16 +38,16 @@ invariant_of-self g c =
       size = ap (λ (ring : Ring). ring.size) c.begin_anew.ensures.ring;
       fill = ap (λ (ring : Ring). length ring.bytes) c.begin_anew.ensures.ring ∙ none.3;
       within = none.2;
-      safe = subst (λ (p : PlanSeen). BookIsSafe (rate_in_plan p) c.in_ok-turn.turn.book) (sym c.begin_anew.ensures.plan) left.safe;
+      safe = subst (λ (p : PlanSeen). PlayIsSafe (rate_in_plan p) c.asked-turn.result.book) (sym c.begin_anew.ensures.plan) left.safe;
     }
 
 pub invariant_of-self-else-self-eq0 : goal.invariant_of-self-else-self-eq0
 invariant_of-self-else-self-eq0 g c =
     let old = c.args.self.now in
-    let left = book-asked c.args.tables.now c.args.request old c.in_ok-turn.turn c.rate.result c.plan.result.now c.requires.planned
-    (sym c.in_ok-turn.was ∙ c.asked.ensures) c.rate.ensures.value c.plan.ensures in
+    let left = book-asked c.args.tables.now c.args.request old c.asked-turn.result c.requires.planned
+    (asked-is c.args.tables.now c.args.request old c.asked-turn.result c.rate.result c.plan.result.now c.requires.planned c.asked-turn.ensures c.rate.ensures.value c.plan.ensures) in
     let go = left.goes c.if-self-eq0.false in
-    let size : frame_bytes c.in_ok-turn.turn.book.settings ≡ frame_bytes old.book.settings = ap frame_bytes go.settings in
+    let size : frame_bytes c.asked-turn.result.book.opening.settings ≡ frame_bytes old.book.opening.settings = ap frame_bytes go.settings in
     record {
       device_rate = old.device_rate;
       rate = left.rate;
@@ -52,15 +56,15 @@ invariant_of-self-else-self-eq0 g c =
       size = old.size ∙ ap ring_size (sym go.fragments);
       fill = old.fill ∙ sym (rw (go.written, go.eaten, size) refl);
       within = rw (go.eaten, size, go.written) old.within;
-      safe = subst (λ (p : PlanSeen). BookIsSafe (rate_in_plan p) c.in_ok-turn.turn.book)
-          (sym (c.requires.planned.plan_is ∙ ap (plan_between (seen c.args.tables.now old.device)) (sym go.settings))) left.safe;
+      safe = subst (λ (p : PlanSeen). PlayIsSafe (rate_in_plan p) c.asked-turn.result.book)
+          (sym (c.requires.planned.plan_is ∙ ap (play_plan_between (seen c.args.tables.now old.device)) (sym go.settings))) left.safe;
     }
 
 pub returns-then-self-eq0-clause-moves : goal.returns-then-self-eq0-clause-moves
 returns-then-self-eq0-clause-moves g c =
     let old = c.args.self.now in
-    let left = book-asked c.args.tables.now c.args.request old c.in_ok-turn.turn c.rate.result c.plan.result.now c.requires.planned
-    (sym c.in_ok-turn.was ∙ c.asked.ensures) c.rate.ensures.value c.plan.ensures in
+    let left = book-asked c.args.tables.now c.args.request old c.asked-turn.result c.requires.planned
+    (asked-is c.args.tables.now c.args.request old c.asked-turn.result c.rate.result c.plan.result.now c.requires.planned c.asked-turn.ensures c.rate.ensures.value c.plan.ensures) in
     let none = left.ended c.if-self-eq0.true in
     moves-ended g.B.Feeder.kind g.B.Feeder.kept c.args.tables.now _ 0 old _ c.begin_anew.ensures.kinds
     (λ p. record { limits = c.begin_anew.ensures.limits; plan_is = c.begin_anew.ensures.plan }) c.if-self-eq0.true none.0 none.1
@@ -69,6 +73,21 @@ returns-then-self-eq0-clause-moves g c =
 pub returns-else-self-eq0-clause-moves : goal.returns-else-self-eq0-clause-moves
 returns-else-self-eq0-clause-moves g c =
     let old = c.args.self.now in
-    let left = book-asked c.args.tables.now c.args.request old c.in_ok-turn.turn c.rate.result c.plan.result.now c.requires.planned
-    (sym c.in_ok-turn.was ∙ c.asked.ensures) c.rate.ensures.value c.plan.ensures in
+    let left = book-asked c.args.tables.now c.args.request old c.asked-turn.result c.requires.planned
+    (asked-is c.args.tables.now c.args.request old c.asked-turn.result c.rate.result c.plan.result.now c.requires.planned c.asked-turn.ensures c.rate.ensures.value c.plan.ensures) in
     moves-state g.B.Feeder.kind g.B.Feeder.kept c.args.tables.now old _ refl refl refl (left.goes c.if-self-eq0.false)
+
+-- what is refused leaves the book
+pub returns-in_err-answer-clause-book : goal.returns-in_err-answer-clause-book
+returns-in_err-answer-clause-book g c =
+    let old = c.args.self.now in
+    let asked = asked-is c.args.tables.now c.args.request c.args.self.now c.asked-turn.result c.rate.result c.plan.result.now c.requires.planned c.asked-turn.ensures c.rate.ensures.value c.plan.ensures in
+    sym (ask-refused (play_rate_at (seen c.args.tables.now old.device) old.book) c.args.request old.book c.in_err-answer.field-0.0 (ap (λ (t : Turn PlayBook). t.reply) (sym asked) ∙ c.in_err-answer.was))
+
+pub returns-then-self-eq0-clause-book : goal.returns-then-self-eq0-clause-book
+returns-then-self-eq0-clause-book g c =
+    ap (λ (t : Turn PlayBook). t.book) (asked-is c.args.tables.now c.args.request c.args.self.now c.asked-turn.result c.rate.result c.plan.result.now c.requires.planned c.asked-turn.ensures c.rate.ensures.value c.plan.ensures)
+
+pub returns-then-self-eq0-clause-reply : goal.returns-then-self-eq0-clause-reply
+returns-then-self-eq0-clause-reply g c =
+    sym c.in_ok-answer.was ∙ ap (λ (t : Turn PlayBook). t.reply) (asked-is c.args.tables.now c.args.request c.args.self.now c.asked-turn.result c.rate.result c.plan.result.now c.requires.planned c.asked-turn.ensures c.rate.ensures.value c.plan.ensures)

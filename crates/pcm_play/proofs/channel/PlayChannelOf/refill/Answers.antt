@@ -13,8 +13,8 @@ use Rattle.pcm_plan.specs.Plans.{PlanSeen, rate_in_plan}
 use Rattle.pcm_plan.specs.Fits.{HaveTables}
 use Rattle.pcm_chain.specs.Chains.{plan_in}
 use Rattle.pcm_chain.proofs.Standing.{stands-fitted}
-use Rattle.pcm_desk.specs.Device.{plan_between, seen}
-use Rattle.pcm_desk.specs.Safe.{BookIsSafe}
+use Rattle.pcm_desk.specs.Device.{play_plan_between, seen}
+use Rattle.pcm_desk.specs.PlaySafe.{PlayIsSafe}
 use Rattle.pcm_desk.proofs.Ratios.{tables-between}
 use Rattle.pcm_play.proofs.Moving.{device-is, moves-ended, moves-nothing, planned-as, safe-at}
 use Rattle.pcm_play.proofs.Refilling.{pulls-run, book-mixed, book-refilled, turned-none, ring-refilled, turned-pulled, moves-pulled}
@@ -37,7 +37,7 @@ pull-pulled-requires-clause-tables g c =
     let old = c.args.self.now in
     let planned = c.requires.planned in
     subst (λ (p : PlanSeen). HaveTables p.stages c.args.tables.now) (sym planned.plan_is)
-    (tables-between (seen c.args.tables.now old.device) old.book.settings (device-is c.args.tables.now old planned) old.rate)
+    (tables-between (seen c.args.tables.now old.device) old.book.opening.settings (device-is c.args.tables.now old planned) old.rate)
 
 pub slice_bounds-mix_into-end-2 : goal.slice_bounds-mix_into-end-2
 slice_bounds-mix_into-end-2 g c =
@@ -67,8 +67,8 @@ invariant_of-self g c =
       size = ap (λ (ring : Ring). ring.size) c.clear.ensures ∙ ap (λ (ring : Ring). ring.size) c.pull-pulled.ensures.ring ∙ old.size ∙ ap ring_size (sym k.fragments);
       fill = ap (λ (ring : Ring). length ring.bytes) c.clear.ensures ∙ none.3;
       within = none.2;
-      safe = subst (λ (p : PlanSeen). BookIsSafe (rate_in_plan p) c.refilled-self.result)
-          (sym (c.restart.ensures.plan ∙ c.pull-pulled.ensures.plan ∙ planned.plan_is ∙ ap (plan_between device) (sym k.settings))) k.safe;
+      safe = subst (λ (p : PlanSeen). PlayIsSafe (rate_in_plan p) c.refilled-self.result)
+          (sym (c.restart.ensures.plan ∙ c.pull-pulled.ensures.plan ∙ planned.plan_is ∙ ap (play_plan_between device) (sym k.settings))) k.safe;
     }
 
 pub invariant_of-self-else-self-eq0 : goal.invariant_of-self-else-self-eq0
@@ -82,18 +82,18 @@ invariant_of-self-else-self-eq0 g c =
     let p = pulls-run g.B.Feeder.kept c.args.tables.now old c.pull-pulled.new.self _ c.is_draining-ended.result c.args.n c.pull-pulled.result c.args.frames.now c.pull-pulled.new.out c.requires.stands.bytes
     (sym c.if-not-is_started.ensures) c.requires.planned c.is_draining-ended.ensures c.pull-pulled.ensures.pulls c.requires.stands.stands in
     let r = ring-refilled device c.args.n old.book c.refilled-self.result c.pull-pulled.result k.safe go p.counted in
-    let size = ap (λ (q : PlanSeen). c.pull-pulled.result.eaten * (channels_of q.source * bytes_of old.book.settings.format)) planned.plan_is in
+    let size = ap (λ (q : PlanSeen). c.pull-pulled.result.eaten * (channels_of q.source * bytes_of old.book.opening.settings.format)) planned.plan_is in
     record {
       device_rate = old.device_rate;
       rate = subst (λ (s : Settings). IsRate s.rate) (sym k.settings) old.rate;
       ratio = subst (λ (p : PlanSeen). IsRatio (rate_in_plan p)) (sym c.pull-pulled.ensures.plan) old.ratio;
       room = ap (λ (ring : Ring). ring.max) c.pull-pulled.ensures.ring ∙ old.room;
       size = ap (λ (ring : Ring). ring.size) c.pull-pulled.ensures.ring ∙ old.size ∙ ap ring_size (sym k.fragments);
-      fill = ap (λ (ring : Ring). length ring.bytes) c.pull-pulled.ensures.ring ∙ (let long = length-drop (c.pull-pulled.result.eaten * (channels_of (plan_in old.chain).source * bytes_of old.book.settings.format)) old.ring.bytes in
+      fill = ap (λ (ring : Ring). length ring.bytes) c.pull-pulled.ensures.ring ∙ (let long = length-drop (c.pull-pulled.result.eaten * (channels_of (plan_in old.chain).source * bytes_of old.book.opening.settings.format)) old.ring.bytes in
           let fill = old.fill in let left = r.fill in omega arith);
       within = r.within;
-      safe = subst (λ (p : PlanSeen). BookIsSafe (rate_in_plan p) c.refilled-self.result)
-          (sym (c.pull-pulled.ensures.plan ∙ planned.plan_is ∙ ap (plan_between device) (sym k.settings))) k.safe;
+      safe = subst (λ (p : PlanSeen). PlayIsSafe (rate_in_plan p) c.refilled-self.result)
+          (sym (c.pull-pulled.ensures.plan ∙ planned.plan_is ∙ ap (play_plan_between device) (sym k.settings))) k.safe;
     }
 
 pub returns-then-self-eq0-clause-book : goal.returns-then-self-eq0-clause-book
@@ -125,7 +125,7 @@ returns-else-self-eq0-clause-moves g c =
     let k = book-refilled (seen c.args.tables.now old.device) c.args.n old.book c.refilled-self.result c.rate.result c.plan.result.now c.requires.some (device-is c.args.tables.now old planned) old.rate (safe-at c.args.tables.now old planned) (sym c.if-not-is_started.ensures)
     c.refilled-self.ensures c.rate.ensures.value (c.plan.ensures ∙ c.pull-pulled.ensures.plan ∙ planned.plan_is) in
     moves-pulled g.B.Feeder.kind g.B.Feeder.kept c.args.tables.now old _ c.args.n c.pull-pulled.result _ c.args.frames.now c.pull-pulled.new.out planned refl c.pull-pulled.ensures.plan (k.goes c.if-self-eq0.false) c.pull-pulled.ensures.kinds
-    (ap (λ (ring : Ring). ring.bytes) c.pull-pulled.ensures.ring ∙ ap (λ (q : PlanSeen). drop (c.pull-pulled.result.eaten * (channels_of q.source * bytes_of old.book.settings.format)) old.ring.bytes) planned.plan_is)
+    (ap (λ (ring : Ring). ring.bytes) c.pull-pulled.ensures.ring ∙ ap (λ (q : PlanSeen). drop (c.pull-pulled.result.eaten * (channels_of q.source * bytes_of old.book.opening.settings.format)) old.ring.bytes) planned.plan_is)
     (λ bytes s. pulls-run g.B.Feeder.kept c.args.tables.now old c.pull-pulled.new.self _ c.is_draining-ended.result c.args.n c.pull-pulled.result c.args.frames.now c.pull-pulled.new.out bytes
     (sym c.if-not-is_started.ensures) c.requires.planned c.is_draining-ended.ensures c.pull-pulled.ensures.pulls s)
 

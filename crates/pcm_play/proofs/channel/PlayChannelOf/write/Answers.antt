@@ -2,45 +2,47 @@ use Rattle.std.proofs.Common.{◌≡◌, ◌+◌, sym, ap, ◌∙◌, subst, ref
 use Rattle.pcm_ring.specs.Ring.{Ring}
 use Rattle.pcm_format.specs.declared.settings.Settings.{Settings}
 use Rattle.pcm_feeder.specs.Limits.{IsRate}
-use Rattle.pcm_desk.specs.declared.book.Book.{Book}
+use Rattle.pcm_desk.specs.declared.play_book.PlayBook.{PlayBook}
 use Rattle.pcm_plan.specs.Plans.{rate_in_plan}
 use Rattle.pcm_chain.specs.Chains.{plan_in}
-use Rattle.pcm_desk.specs.Books.{fill_of}
+use Rattle.pcm_desk.specs.PlayBooks.{accepting, play_fill_of}
 use Rattle.pcm_oss.specs.Fragments.{ring_size}
-use Rattle.pcm_desk.proofs.Leaves.{accepting-adds}
-use Rattle.pcm_desk.proofs.Safe.{safe-accepting}
+use Rattle.pcm_desk.proofs.PlayLeaves.{accepting-adds}
+use Rattle.pcm_desk.proofs.PlaySafe.{safe-accepting}
 use Rattle.pcm_sound.proofs.Slots.{accepts}
-use Rattle.pcm_desk.specs.Safe.{BookIsSafe}
-use Rattle.pcm_play.proofs.Moving.{fill_of-accepting, within-accepting, moves-taking}
+use Rattle.pcm_desk.specs.PlaySafe.{PlayIsSafe}
+use Rattle.pcm_play.proofs.Moving.{fill_of-accepting, within-accepting, moves-taking, takes-written}
 use Rattle.pcm_play.proofs.channel.PlayChannelOf.write.Goals as goal
 
 pub invariant_of-self : goal.invariant_of-self
 invariant_of-self g c =
     let old = c.args.self.now in
-    let accepted = c.put-accepted.result in
-    let is = c.accepting-self.ensures in
+    let accepted = c.put.result in
+    let count = c.put.ensures.count in
+    let written = takes-written old (length c.args.bytes.now) accepted c.write-turn.result c.in_ok-answer.answer c.write-turn.ensures c.in_ok-answer.was count in
+    let is : c.write-turn.result.book ≡ accepting accepted old.book = written.is in
     let a = accepts accepted old.book in
-    let settings : c.accepting-self.result.settings ≡ old.book.settings = ap (λ (b : Book). b.settings) is ∙ a.settings in
-    let fragments : c.accepting-self.result.fragments ≡ old.book.fragments = ap (λ (b : Book). b.fragments) is ∙ (accepting-adds accepted old.book).fragments in
-    let count = c.put-accepted.ensures.count in
-    let length_is : length c.put-accepted.new.self.bytes ≡ length old.ring.bytes + accepted =
-    ap (λ (ring : Ring). length ring.bytes) c.put-accepted.ensures.kept ∙ omega (arith, length-append old.ring.bytes (take accepted c.args.bytes.now), length-take accepted c.args.bytes.now) in
+    let settings : c.write-turn.result.book.opening.settings ≡ old.book.opening.settings = ap (λ (b : PlayBook). b.opening.settings) is ∙ a.settings in
+    let fragments : c.write-turn.result.book.opening.fragments ≡ old.book.opening.fragments = ap (λ (b : PlayBook). b.opening.fragments) is ∙ (accepting-adds accepted old.book).fragments in
+    let length_is : length c.put.new.self.bytes ≡ length old.ring.bytes + accepted =
+    ap (λ (ring : Ring). length ring.bytes) c.put.ensures.kept ∙ omega (arith, length-append old.ring.bytes (take accepted c.args.bytes.now), length-take accepted c.args.bytes.now) in
     record {
       device_rate = old.device_rate;
       rate = subst (λ (s : Settings). IsRate s.rate) (sym settings) old.rate;
       ratio = old.ratio;
-      room = ap (λ (ring : Ring). ring.max) c.put-accepted.ensures.kept ∙ old.room;
-      size = ap (λ (ring : Ring). ring.size) c.put-accepted.ensures.kept ∙ old.size ∙ ap ring_size (sym fragments);
-      fill = length_is ∙ ap (λ n. n + accepted) old.fill ∙ sym (fill_of-accepting accepted old.book old.within) ∙ sym (ap fill_of is);
+      room = ap (λ (ring : Ring). ring.max) c.put.ensures.kept ∙ old.room;
+      size = ap (λ (ring : Ring). ring.size) c.put.ensures.kept ∙ old.size ∙ ap ring_size (sym fragments);
+      fill = length_is ∙ ap (λ n. n + accepted) old.fill ∙ sym (fill_of-accepting accepted old.book old.within) ∙ sym (ap play_fill_of is);
       within = rw is (within-accepting accepted old.book old.within);
-      safe = subst (BookIsSafe (rate_in_plan (plan_in old.chain))) (sym is)
-          (safe-accepting (rate_in_plan (plan_in old.chain)) accepted old.book old.ratio (sym c.is_draining.ensures ∙ c.if-is_draining.false)
+      safe = subst (PlayIsSafe (rate_in_plan (plan_in old.chain))) (sym is)
+          (safe-accepting (rate_in_plan (plan_in old.chain)) accepted old.book old.ratio written.more
           (let size = old.size in let fill = old.fill in omega (arith, count)) old.safe);
     }
 
 pub returns-clause-moves : goal.returns-clause-moves
 returns-clause-moves g c = λ filters.
     let old = c.args.self.now in
-    let count = c.put-accepted.ensures.count in
-    moves-taking g.B.Feeder.kind g.B.Feeder.kept filters c.args.bytes.now c.put-accepted.result old _ refl refl (ap (λ (ring : Ring). ring.bytes) c.put-accepted.ensures.kept) c.accepting-self.ensures
-    (omega (arith, count)) (let size = old.size in omega (arith, count, size, old.safe.fragments.fits)) (sym c.is_draining.ensures ∙ c.if-is_draining.false) old.within
+    let count = c.put.ensures.count in
+    let written = takes-written old (length c.args.bytes.now) c.put.result c.write-turn.result c.in_ok-answer.answer c.write-turn.ensures c.in_ok-answer.was count in
+    moves-taking g.B.Feeder.kind g.B.Feeder.kept filters c.args.bytes.now c.put.result old _ refl refl (ap (λ (ring : Ring). ring.bytes) c.put.ensures.kept) written.is
+    (omega (arith, count)) (let size = old.size in omega (arith, count, size, old.safe.fragments.fits)) written.more old.within

@@ -1,4 +1,4 @@
-use Rattle.std.proofs.Common.{◌≡◌, ◌<◌, ◌+◌, ◌*◌, ◌++◌, ℕ, List, [], length, take, drop, All, sym, ap, ◌∙◌, subst, arith}
+use Rattle.std.proofs.Common.{◌≡◌, ◌*◌, ◌++◌, ℕ, List, [], length, take, drop, All, sym, ap, ◌∙◌, subst, arith}
 use Rattle.std.proofs.Math.Nat.{mul-le-mul_right}
 use Rattle.std.proofs.lemmas.List.{take_at}
 use Rattle.pcm_fixed.specs.Fixed.{fixed_len}
@@ -7,24 +7,23 @@ use Rattle.pcm_format.specs.Layouts.{channels_of}
 use Rattle.pcm_desk.specs.Device.{seen}
 use Rattle.pcm_desk.specs.Desk.{mixing}
 use Rattle.pcm_play.specs.declared.channel.PlayChannelOf.{PlayChannelOf}
-use Rattle.pcm_record.specs.declared.channel.RecChannelOf.{RecChannelOf}
+use Rattle.pcm_record.specs.declared.channel.RecordChannelOf.{RecordChannelOf}
 use Rattle.pcm_vchan.specs.Captures.{Captures}
-use Rattle.pcm_vchan.specs.Slots.{AllStand, AreOf, Each, RecordersAreOf, books_of}
-use Rattle.pcm_play.specs.Channels.{IsReady, Moves}
-use Rattle.pcm_record.specs.Channels.{IsRecordReady}
+use Rattle.pcm_vchan.specs.Slots.{IsPlayDue, IsRecordDue, AllPlayStand, Each, play_books_of}
+use Rattle.pcm_play.specs.Channels.{PlayMoves}
 use Rattle.pcm_vchan.specs.Blocks.{block_bytes, block_of}
-use Rattle.pcm_vchan.specs.Parents.{play_channels, rec_channels}
+use Rattle.pcm_vchan.specs.Parents.{play_channels, record_channels}
 use Rattle.pcm_vchan.proofs.parent.ParentOf.interrupt.Goals as goal
 
 -- what stands in a list whose front was written over by as many elements
 rewritten : {A : Type 0} (new old : List A) (n : ℕ) → length new ≡ n → take n (new ++ drop (length new) old) ≡ new
 rewritten new old n long = take_at new (drop (length new) old) n long
 
-pub turn_ring-requires-clause-own : goal.turn_ring-requires-clause-own
-turn_ring-requires-clause-own g c = subst (AreOf c.args.self.now.device) (sym c.deref_mut.ensures.value) c.requires.own
+pub turn_ring-requires-clause-due : goal.turn_ring-requires-clause-due
+turn_ring-requires-clause-due g c = subst (All (IsPlayDue g.B.Feeder.kind g.B.Feeder.kept c.args.tables.now c.args.self.now.device c.args.n)) (sym c.deref_mut.ensures.value) c.requires.due
 
-pub turn_ring-requires-clause-ready : goal.turn_ring-requires-clause-ready
-turn_ring-requires-clause-ready g c = subst (All (IsReady g.B.Feeder.kind g.B.Feeder.kept c.args.tables.now)) (sym c.deref_mut.ensures.value) c.requires.ready
+pub capture_all-requires-clause-due : goal.capture_all-requires-clause-due
+capture_all-requires-clause-due g c = subst (All (IsRecordDue g.B.Feeder.kind g.B.Feeder.kept c.args.tables.now c.args.self.now.device c.args.n)) (sym c.deref_mut-5.ensures.value) c.requires.recorders_due
 
 pub turn_ring-requires-clause-full : goal.turn_ring-requires-clause-full
 turn_ring-requires-clause-full g c = c.args.self.now.full ∙ sym c.args.self.now.size
@@ -53,33 +52,11 @@ turn_ring-requires-clause-sum g c =
     let room = mul-le-mul_right (channels_of old.device.settings.layout) c.requires.within in
     omega (arith, c.deref_mut-4.ensures.len, old.sum_size)
 
-pub turn_ring-requires-clause-count : goal.turn_ring-requires-clause-count
-turn_ring-requires-clause-count g c =
-    subst (All (λ (channel : PlayChannelOf _). channel.book.given + c.args.n < 18446744073709551616)) (sym c.deref_mut.ensures.value) c.requires.count
-
-pub turn_ring-requires-clause-counted : goal.turn_ring-requires-clause-counted
-turn_ring-requires-clause-counted g c =
-    subst (All (λ (channel : PlayChannelOf _). channel.book.done + channel.book.written < 18446744073709551616)) (sym c.deref_mut.ensures.value) c.requires.counted
-
-pub capture_all-requires-clause-own : goal.capture_all-requires-clause-own
-capture_all-requires-clause-own g c = subst (RecordersAreOf c.args.self.now.device) (sym c.deref_mut-5.ensures.value) c.requires.recorders_own
-
-pub capture_all-requires-clause-ready : goal.capture_all-requires-clause-ready
-capture_all-requires-clause-ready g c = subst (All (IsRecordReady g.B.Feeder.kind g.B.Feeder.kept c.args.tables.now)) (sym c.deref_mut-5.ensures.value) c.requires.recorders_ready
-
-pub capture_all-requires-clause-count : goal.capture_all-requires-clause-count
-capture_all-requires-clause-count g c =
-    subst (All (λ (channel : RecChannelOf _). channel.book.captured + c.args.n < 72057594037927936)) (sym c.deref_mut-5.ensures.value) c.requires.recorders_count
-
-pub capture_all-requires-clause-kept : goal.capture_all-requires-clause-kept
-capture_all-requires-clause-kept g c =
-    subst (All (λ (channel : RecChannelOf _). channel.book.kept + 131072 < 18446744073709551616)) (sym c.deref_mut-5.ensures.value) c.requires.recorders_kept
-
 pub returns-clause-channels : goal.returns-clause-channels
 returns-clause-channels g c =
     let old = c.args.self.now in
     let same = rewritten c.turn_ring.new.channels (play_channels old) (fixed_len old.channels) (c.turn_ring.auto.channels ∙ c.deref_mut.ensures.len) in
-    rw same (subst (λ (before : List (PlayChannelOf _)). Each (Moves g.B.Feeder.kind g.B.Feeder.kept c.args.tables.now [] c.args.n) before c.turn_ring.new.channels) c.deref_mut.ensures.value c.turn_ring.ensures.moves)
+    rw same (subst (λ (before : List (PlayChannelOf _)). Each (PlayMoves g.B.Feeder.kind g.B.Feeder.kept c.args.tables.now [] c.args.n) before c.turn_ring.new.channels) c.deref_mut.ensures.value c.turn_ring.ensures.moves)
 
 pub returns-clause-books : goal.returns-clause-books
 returns-clause-books g c =
@@ -91,9 +68,9 @@ pub returns-clause-ring : goal.returns-clause-ring
 returns-clause-ring g c = λ streams stand.
     let old = c.args.self.now in
     let device = seen c.args.tables.now old.device in
-    let stands : AllStand g.B.Feeder.kept c.args.tables.now c.deref_mut.result.now streams = subst (λ (list : List (PlayChannelOf _)). AllStand g.B.Feeder.kept c.args.tables.now list streams) (sym c.deref_mut.ensures.value) stand in
+    let stands : AllPlayStand g.B.Feeder.kept c.args.tables.now c.deref_mut.result.now streams = subst (λ (list : List (PlayChannelOf _)). AllPlayStand g.B.Feeder.kept c.args.tables.now list streams) (sym c.deref_mut.ensures.value) stand in
     c.turn_ring.ensures.ring streams stands
-    ∙ ap (λ (list : List (PlayChannelOf _)). drop (c.args.n * frame_bytes old.device.settings) old.ring.bytes ++ block_bytes device (block_of device c.args.n (books_of list) streams (length list))) c.deref_mut.ensures.value
+    ∙ ap (λ (list : List (PlayChannelOf _)). drop (c.args.n * frame_bytes old.device.settings) old.ring.bytes ++ block_bytes device (block_of device c.args.n (play_books_of list) streams (length list))) c.deref_mut.ensures.value
 
 pub invariant_of-self : goal.invariant_of-self
 invariant_of-self g c =
@@ -120,11 +97,11 @@ returns-clause-own g c =
 pub returns-clause-recorders : goal.returns-clause-recorders
 returns-clause-recorders g c =
     let old = c.args.self.now in
-    let same = rewritten c.capture_all.new.channels (rec_channels old) (fixed_len old.recorders) (c.capture_all.auto.channels ∙ c.deref_mut-5.ensures.len) in
-    rw same (subst (λ (before : List (RecChannelOf _)). Each (Captures g.B.Feeder.kind g.B.Feeder.kept (seen c.args.tables.now old.device) c.args.n c.args.captured.now) before c.capture_all.new.channels) c.deref_mut-5.ensures.value c.capture_all.ensures.moves)
+    let same = rewritten c.capture_all.new.channels (record_channels old) (fixed_len old.recorders) (c.capture_all.auto.channels ∙ c.deref_mut-5.ensures.len) in
+    rw same (subst (λ (before : List (RecordChannelOf _)). Each (Captures g.B.Feeder.kind g.B.Feeder.kept (seen c.args.tables.now old.device) c.args.n c.args.captured.now) before c.capture_all.new.channels) c.deref_mut-5.ensures.value c.capture_all.ensures.moves)
 
 pub returns-clause-recorders_own : goal.returns-clause-recorders_own
 returns-clause-recorders_own g c =
     let old = c.args.self.now in
-    let same = rewritten c.capture_all.new.channels (rec_channels old) (fixed_len old.recorders) (c.capture_all.auto.channels ∙ c.deref_mut-5.ensures.len) in
+    let same = rewritten c.capture_all.new.channels (record_channels old) (fixed_len old.recorders) (c.capture_all.auto.channels ∙ c.deref_mut-5.ensures.len) in
     rw same c.capture_all.ensures.own

@@ -1,11 +1,11 @@
 use Rattle.std.proofs.Common.{ℕ, ◌<◌, [], length, Option, set, get_or, refl, sym, ap, ◌∙◌, arith}
 use Rattle.std.proofs.lemmas.List.{map-set}
 use Rattle.pcm_fixed.proofs.Items.{items-count}
-use Rattle.pcm_record.specs.declared.channel.RecChannelOf.{RecChannelOf}
+use Rattle.pcm_record.specs.declared.channel.RecordChannelOf.{RecordChannelOf}
 use Rattle.pcm_record.specs.Channels.{RecordMoves}
 use Rattle.pcm_vchan.specs.Slots.{record_books_of}
-use Rattle.pcm_vchan.specs.Parents.{rec_channels, slot_or_busy, record_books_begun}
-use Rattle.pcm_vchan.proofs.Channels.{least_free-records, each_set, own_set}
+use Rattle.pcm_vchan.specs.Parents.{record_channels, slot_or_busy, record_books_begun}
+use Rattle.pcm_vchan.proofs.Channels.{least_free_play-records, each_set, own_set}
 use Rattle.pcm_record.proofs.Moving.{moves-nothing}
 use Rattle.pcm_vchan.proofs.parent.ParentOf.open_record.Goals as goal
 
@@ -13,7 +13,7 @@ pub invariant_of-self : goal.invariant_of-self
 invariant_of-self g c =
     let old = c.args.self.now in
     let within = c.in-Some.ensures.within in
-    let there : c.in-Some.slot < length (rec_channels old) = omega (arith, items-count old.recorders) in
+    let there : c.in-Some.slot < length (record_channels old) = omega (arith, items-count old.recorders) in
     record {
       within = old.within;
       slots = old.slots;
@@ -30,30 +30,30 @@ invariant_of-self g c =
 pub returns-in_default-clause-opens : goal.returns-in_default-clause-opens
 returns-in_default-clause-opens g c =
     let old = c.args.self.now in
-    let none = least_free-records (rec_channels old) ∙ sym c.least_free_record.ensures.slot ∙ c.in_default.is in
+    let none = least_free_play-records (record_channels old) ∙ sym c.least_free_record.ensures.slot ∙ c.in_default.is in
     record {
       found = sym (ap slot_or_busy none);
-      books = sym (ap (λ (found : Option ℕ). record_books_begun found c.args.settings (record_books_of (rec_channels old))) none);
+      books = sym (ap (λ (found : Option ℕ). record_books_begun found c.args.settings (record_books_of (record_channels old))) none);
       there = tt;
       own = c.requires.own;
-      moves = λ slot other there. moves-nothing g.B.Feeder.kind g.B.Feeder.kept c.args.tables.now [] 0 (get_or (rec_channels old) slot other);
+      moves = λ slot other there. moves-nothing g.B.Feeder.kind g.B.Feeder.kept c.args.tables.now [] 0 (get_or (record_channels old) slot other);
       others = refl;
     }
 
 pub returns-clause-opens : goal.returns-clause-opens
 returns-clause-opens g c =
     let old = c.args.self.now in
-    let found = least_free-records (rec_channels old) ∙ sym c.least_free_record.ensures.slot ∙ c.in-Some.is in
+    let found = least_free_play-records (record_channels old) ∙ sym c.least_free_record.ensures.slot ∙ c.in-Some.is in
     let within = c.in-Some.ensures.within in
-    let there : c.in-Some.slot < length (rec_channels old) = omega (arith, items-count old.recorders) in
+    let there : c.in-Some.slot < length (record_channels old) = omega (arith, items-count old.recorders) in
     record {
       found = sym (ap slot_or_busy found);
-      books = map-set (λ (channel : RecChannelOf _). channel.book) (rec_channels old) c.in-Some.slot c.begin.new.self
-          ∙ ap (set (record_books_of (rec_channels old)) c.in-Some.slot) c.begin.ensures.book
-          ∙ sym (ap (λ (found : Option ℕ). record_books_begun found c.args.settings (record_books_of (rec_channels old))) found);
+      books = map-set (λ (channel : RecordChannelOf _). channel.book) (record_channels old) c.in-Some.slot c.begin.new.self
+          ∙ ap (set (record_books_of (record_channels old)) c.in-Some.slot) c.begin.ensures.book
+          ∙ sym (ap (λ (found : Option ℕ). record_books_begun found c.args.settings (record_books_of (record_channels old))) found);
       there = there;
-      own = own_set (λ (channel : RecChannelOf _). channel.device) old.device (rec_channels old) c.in-Some.slot c.index_mut.result.now c.begin.new.self there c.index_mut.ensures.value c.begin.ensures.device c.requires.own;
-      moves = each_set (RecordMoves g.B.Feeder.kind g.B.Feeder.kept c.args.tables.now [] 0) (rec_channels old) c.in-Some.slot c.index_mut.result.now c.begin.new.self there c.index_mut.ensures.value c.begin.ensures.moves
+      own = own_set (λ (channel : RecordChannelOf _). channel.device) old.device (record_channels old) c.in-Some.slot c.index_mut.result.now c.begin.new.self there c.index_mut.ensures.value c.begin.ensures.device c.requires.own;
+      moves = each_set (RecordMoves g.B.Feeder.kind g.B.Feeder.kept c.args.tables.now [] 0) (record_channels old) c.in-Some.slot c.index_mut.result.now c.begin.new.self there c.index_mut.ensures.value c.begin.ensures.moves
           (moves-nothing g.B.Feeder.kind g.B.Feeder.kept c.args.tables.now [] 0);
       others = refl;
     }

@@ -1,0 +1,182 @@
+-- What is refused leaves the book as it was, and what a write or a read comes to that isn't.
+use Rattle.std.proofs.Common.{◌≡◌, ℕ, ◌+◌, Bool, true, false, cond, eqb, min, Option, Some, None, Ok, Err, refl, ap}
+use Rattle.std.specs.Prelude.{nat_lt, ◌&&◌, option_map}
+use Rattle.pcm_format.specs.declared.settings.Settings.{Settings}
+use Rattle.pcm_format.specs.Formats.{code_of, format_with_code}
+use Rattle.pcm_format.specs.Layouts.{channels_of, layout_of}
+use Rattle.pcm_oss.specs.declared.reply.Answer.{Answer}
+use Rattle.pcm_oss.specs.declared.reply.Answer.TheVariants.{Number, Got}
+use Rattle.pcm_oss.specs.declared.reply.Errno.{Errno}
+use Rattle.pcm_oss.specs.declared.reply.Errno.TheVariants.{Again, Busy, Inval}
+use Rattle.pcm_oss.specs.declared.request.Request.{Request}
+use Rattle.pcm_oss.specs.declared.request.Request.TheVariants.{SetFmt, Speed, Channels, GetFmts, GetCaps, GetBlkSize, SetFragment, GetOSpace, GetISpace, GetOPtr, GetIPtr, GetODelay, GetError, SetTrigger, GetTrigger, SetPlayVol, GetPlayVol, Post, Sync, Halt}
+use Rattle.pcm_oss.specs.Volumes.{is_volume}
+use Rattle.pcm_rate.specs.declared.rate.Rate.{Rate}
+use Rattle.pcm_desk.specs.declared.play_book.PlayBook.{PlayBook}
+use Rattle.pcm_desk.specs.declared.opening.Opening.{Opening}
+use Rattle.pcm_desk.specs.declared.record_book.RecordBook.{RecordBook}
+use Rattle.pcm_desk.specs.declared.record_requests.TheConstants.{RECORD_BIT}
+use Rattle.pcm_desk.specs.declared.play_requests.TheConstants.{PLAY_BIT}
+use Rattle.pcm_desk.specs.declared.turn.Turn.{Turn}
+use Rattle.pcm_desk.specs.PlayBooks.{accepting, is_draining, is_play_setup, play_free_of, write_turn}
+use Rattle.pcm_desk.specs.Openings as openings
+use Rattle.pcm_desk.specs.Openings.{at_format, at_layout, at_rate, set_fragments, reset_to, telling_of}
+use Rattle.pcm_desk.specs.PlayRequests.{has_play_bit, play_ask, play_triggered}
+use Rattle.pcm_desk.specs.RecordBooks as records
+use Rattle.pcm_desk.specs.RecordBooks.{is_record_setup, record_fill_of}
+use Rattle.pcm_desk.specs.RecordRequests as record_requests
+use Rattle.pcm_desk.specs.RecordRequests.{record_ask, record_triggered}
+use Rattle.pcm_desk.specs.BookTurns.{doing, refused, telling}
+
+-- where a turn is refused, the book is this one
+abbrev pub LeavesRefused : {B : Type 0} → B → Turn B → Type 0
+LeavesRefused old turn = (errno : Errno) → turn.reply ≡ Err errno → turn.book ≡ old
+
+was_told : {B : Type 0} (answer : Answer) (new old : B) → LeavesRefused old (telling answer new)
+was_told answer new old errno e = cc
+
+was_refused : {B : Type 0} (why : Errno) (old : B) → LeavesRefused old (refused why old)
+was_refused why old errno e = refl
+
+-- ---- every opening
+
+reset : (asks setup : Bool) (number : Settings → ℕ) (found : Option Settings) (opening : Opening) → LeavesRefused opening (telling_of number opening (cond asks (Ok opening) (reset_to setup found opening)))
+reset true setup number found opening = was_told (Number (number opening.settings)) opening opening
+reset false setup number None opening = was_refused Inval opening
+reset false true number (Some settings) opening = was_told (Number (number settings)) (record opening { settings = settings }) opening
+reset false false number (Some settings) opening = was_refused Busy opening
+
+cut : (setup : Bool) (arg : ℕ) (opening : Opening) → LeavesRefused opening (set_fragments setup arg opening)
+cut true arg opening errno e = cc
+cut false arg opening errno e = refl
+
+opening_refused : (setup : Bool) (bit : ℕ) (request : Request) (opening : Opening) → LeavesRefused opening (openings.ask setup bit request opening)
+opening_refused setup bit (SetFmt code) opening = reset (eqb code 0) setup (λ settings. code_of settings.format) (option_map (at_format opening.settings) (format_with_code code)) opening
+opening_refused setup bit (Speed rate) opening = reset (eqb rate 0) setup (λ settings. settings.rate) (at_rate opening.settings rate) opening
+opening_refused setup bit (Channels channels) opening = reset (eqb channels 0) setup (λ settings. channels_of settings.layout) (option_map (at_layout opening.settings) (layout_of channels)) opening
+opening_refused setup bit (SetFragment arg) opening = cut setup arg opening
+opening_refused setup bit _ opening = λ errno e. refl
+
+-- ---- channels that play
+
+common : (rate : Rate) (request : Request) (book : PlayBook) (errno : Errno) → (openings.ask (is_play_setup book.state) PLAY_BIT request book.opening).reply ≡ Err errno
+    → record book { opening = (openings.ask (is_play_setup book.state) PLAY_BIT request book.opening).book } ≡ book
+common rate request book errno e = ap (λ (opening : Opening). record book { opening = opening }) (opening_refused (is_play_setup book.state) PLAY_BIT request book.opening errno e)
+
+volume_in : (b : Bool) (volume : ℕ) (book : PlayBook) → LeavesRefused book (cond b (telling (Number volume) (record book { volume = volume })) (refused Inval book))
+volume_in true volume book errno e = cc
+volume_in false volume book errno e = refl
+
+set_trigger_in : (wrong busy : Bool) (bits : ℕ) (book : PlayBook) → LeavesRefused book (cond wrong (refused Inval book) (cond busy (refused Busy book) (doing (play_triggered (has_play_bit bits) book))))
+set_trigger_in true busy bits book errno e = refl
+set_trigger_in false true bits book errno e = refl
+set_trigger_in false false bits book errno e = cc
+
+-- a request
+pub ask-refused : (rate : Rate) (request : Request) (book : PlayBook) → LeavesRefused book (play_ask rate request book)
+ask-refused rate (SetFmt code) book errno e = common rate (SetFmt code) book errno e
+ask-refused rate (Speed speed) book errno e = common rate (Speed speed) book errno e
+ask-refused rate (Channels channels) book errno e = common rate (Channels channels) book errno e
+ask-refused rate (SetFragment arg) book errno e = common rate (SetFragment arg) book errno e
+ask-refused rate (SetTrigger bits) book errno e = set_trigger_in (nat_lt 3 bits) (is_draining book.state) bits book errno e
+ask-refused rate (SetPlayVol volume) book errno e = volume_in (is_volume volume) volume book errno e
+ask-refused rate GetISpace book errno e = refl
+ask-refused rate GetIPtr book errno e = refl
+ask-refused rate GetFmts book errno e = cc
+ask-refused rate GetCaps book errno e = cc
+ask-refused rate GetBlkSize book errno e = cc
+ask-refused rate GetOSpace book errno e = cc
+ask-refused rate GetOPtr book errno e = cc
+ask-refused rate GetODelay book errno e = cc
+ask-refused rate GetError book errno e = cc
+ask-refused rate GetTrigger book errno e = cc
+ask-refused rate GetPlayVol book errno e = cc
+ask-refused rate Post book errno e = cc
+ask-refused rate Sync book errno e = cc
+ask-refused rate Halt book errno e = cc
+
+written_in : (busy full : Bool) (accepted : ℕ) (book : PlayBook)
+    → LeavesRefused book (cond {A = Turn PlayBook} busy (refused Busy book) (cond {A = Turn PlayBook} full (refused Again book) (telling (Number accepted) (accepting accepted book))))
+written_in true full accepted book errno e = refl
+written_in false true accepted book errno e = refl
+written_in false false accepted book errno e = cc
+
+-- a write
+pub write-refused : (length : ℕ) (book : PlayBook) → LeavesRefused book (write_turn length book)
+write-refused length book = written_in (is_draining book.state) (nat_lt 0 length && eqb (play_free_of book) 0) (min length (play_free_of book)) book
+
+-- a write that isn't refused, of a book that doesn't drain, accepts what fits
+pub record IsWritten (length : ℕ) (old new : PlayBook) : Type 0 where
+  pub more : is_draining old.state ≡ false
+  pub is : new ≡ accepting (min length (play_free_of old)) old
+
+done_in : (busy full : Bool) (accepted : ℕ) (book : PlayBook) (answer : Answer)
+    → let turn : Turn PlayBook = cond {A = Turn PlayBook} busy (refused Busy book) (cond {A = Turn PlayBook} full (refused Again book) (telling (Number accepted) (accepting accepted book))) in
+    turn.reply ≡ Ok answer → (busy ≡ false) × (turn.book ≡ accepting accepted book)
+done_in true full accepted book answer e = cc
+done_in false true accepted book answer e = cc
+done_in false false accepted book answer e = (refl, refl)
+
+pub write-done : (length : ℕ) (book : PlayBook) (answer : Answer) → (write_turn length book).reply ≡ Ok answer → IsWritten length book (write_turn length book).book
+write-done length book answer e =
+    let done = done_in (is_draining book.state) (nat_lt 0 length && eqb (play_free_of book) 0) (min length (play_free_of book)) book answer e in
+    record { more = done.0; is = done.1 }
+
+-- ---- channels that record
+
+record_common : (request : Request) (book : RecordBook) (errno : Errno) → (openings.ask (is_record_setup book.state) RECORD_BIT request book.opening).reply ≡ Err errno
+    → record book { opening = (openings.ask (is_record_setup book.state) RECORD_BIT request book.opening).book } ≡ book
+record_common request book errno e = ap (λ (opening : Opening). record book { opening = opening }) (opening_refused (is_record_setup book.state) RECORD_BIT request book.opening errno e)
+
+record_set_trigger_in : (wrong : Bool) (bits : ℕ) (book : RecordBook)
+    → LeavesRefused book (cond wrong (refused Inval book) (doing (record_triggered (record_requests.has_record_bit bits) book)))
+record_set_trigger_in true bits book errno e = refl
+record_set_trigger_in false bits book errno e = cc
+
+-- a request
+pub record-ask-refused : (request : Request) (book : RecordBook) → LeavesRefused book (record_ask request book)
+record-ask-refused (SetFmt code) book errno e = record_common (SetFmt code) book errno e
+record-ask-refused (Speed speed) book errno e = record_common (Speed speed) book errno e
+record-ask-refused (Channels channels) book errno e = record_common (Channels channels) book errno e
+record-ask-refused (SetFragment arg) book errno e = record_common (SetFragment arg) book errno e
+record-ask-refused (SetTrigger bits) book errno e = record_set_trigger_in (nat_lt 3 bits) bits book errno e
+record-ask-refused GetOSpace book errno e = refl
+record-ask-refused GetOPtr book errno e = refl
+record-ask-refused GetODelay book errno e = refl
+record-ask-refused (SetPlayVol volume) book errno e = refl
+record-ask-refused GetPlayVol book errno e = refl
+record-ask-refused GetFmts book errno e = cc
+record-ask-refused GetCaps book errno e = cc
+record-ask-refused GetBlkSize book errno e = cc
+record-ask-refused GetISpace book errno e = cc
+record-ask-refused GetIPtr book errno e = cc
+record-ask-refused GetError book errno e = cc
+record-ask-refused GetTrigger book errno e = cc
+record-ask-refused Post book errno e = cc
+record-ask-refused Sync book errno e = cc
+record-ask-refused Halt book errno e = cc
+
+read_in : (empty : Bool) (count : ℕ) (book : RecordBook)
+    → LeavesRefused book (cond {A = Turn RecordBook} empty (refused Again book) (telling (Got count) (record book { read = book.read + count })))
+read_in true count book errno e = refl
+read_in false count book errno e = cc
+
+-- a read
+pub read-refused : (length : ℕ) (book : RecordBook) → LeavesRefused book (records.read_turn length book)
+read-refused length book = read_in (nat_lt 0 length && eqb (record_fill_of book) 0) (min length (record_fill_of book)) book
+
+got_in : (empty : Bool) (count : ℕ) (book : RecordBook) (answer : Answer)
+    → let turn : Turn RecordBook = cond {A = Turn RecordBook} empty (refused Again book) (telling (Got count) (record book { read = book.read + count })) in
+    turn.reply ≡ Ok answer → (answer ≡ Got count) × (turn.book ≡ record book { read = book.read + count })
+got_in true count book answer e = cc
+got_in false count book answer e = ((let same : Ok (Got count) ≡ Ok answer = e in cc), refl)
+
+-- a read that isn't refused gets what waits
+pub record IsRead (length : ℕ) (old new : RecordBook) (answer : Answer) : Type 0 where
+  pub got : answer ≡ Got (min length (record_fill_of old))
+  pub is : new ≡ record old { read = old.read + min length (record_fill_of old) }
+
+pub read-done : (length : ℕ) (book : RecordBook) (answer : Answer) → (records.read_turn length book).reply ≡ Ok answer → IsRead length book (records.read_turn length book).book answer
+read-done length book answer e =
+    let done = got_in (nat_lt 0 length && eqb (record_fill_of book) 0) (min length (record_fill_of book)) book answer e in
+    record { got = done.0; is = done.1 }

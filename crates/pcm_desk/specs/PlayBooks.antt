@@ -1,0 +1,157 @@
+-- The book of one play opening: what is counted, and what each event does to it. No book looks at another.
+use Rattle.std.specs.Prelude.{ℕ, ◌+◌, ◌-◌, ◌*◌, ◌^◌, min, max, Bool, true, false, ◌&&◌, nat_lt, nat_le, ◌==◌, if◌then◌else◌}
+use Rattle.pcm_format.specs.declared.settings.Settings.{Settings}
+use Rattle.pcm_oss.specs.declared.reply.Answer.TheVariants.{Number}
+use Rattle.pcm_oss.specs.declared.reply.Errno.TheVariants.{Again, Busy}
+use Rattle.pcm_oss.specs.declared.volume.TheConstants.{VOLUME}
+use Rattle.pcm_format.specs.Frames.{frame_bytes, whole_frames}
+use Rattle.pcm_rate.specs.declared.rate.Rate.{Rate}
+use Rattle.pcm_rate.specs.Rates.{need, can, len}
+use Rattle.pcm_desk.specs.declared.play_book.PlayBook.{PlayBook}
+use Rattle.pcm_desk.specs.declared.play_book.PlayState.{PlayState}
+use Rattle.pcm_desk.specs.declared.play_book.PlayState.TheVariants.{Free, Setup, Primed, Running, Draining}
+use Rattle.pcm_desk.specs.declared.turn.Turn.{Turn}
+use Rattle.pcm_desk.specs.Openings as openings
+use Rattle.pcm_desk.specs.Openings.{fragment_bytes, ring_bytes}
+use Rattle.pcm_desk.specs.BookTurns.{refused, telling}
+
+abbrev pub is_play_free : PlayState → Bool
+is_play_free Free = true
+is_play_free state = false
+
+abbrev pub is_play_setup : PlayState → Bool
+is_play_setup Setup = true
+is_play_setup state = false
+
+abbrev pub is_draining : PlayState → Bool
+is_draining (Draining _) = true
+is_draining state = false
+
+abbrev pub is_started : PlayState → Bool
+is_started Running = true
+is_started (Draining _) = true
+is_started state = false
+
+-- the whole frames accepted in this run
+abbrev pub frames_written : PlayBook → ℕ
+frames_written book = whole_frames book.opening.settings book.written
+
+-- the bytes that wait in the ring
+abbrev pub play_fill_of : PlayBook → ℕ
+play_fill_of book = book.written - book.eaten * frame_bytes book.opening.settings
+
+-- the bytes that fit
+abbrev pub play_free_of : PlayBook → ℕ
+play_free_of book = ring_bytes book.opening - play_fill_of book
+
+-- the bytes that the device has taken since the opening or its last halt
+abbrev pub played_of : PlayBook → ℕ
+played_of book = book.done + book.eaten * frame_bytes book.opening.settings
+
+-- Counts of frames on the side of the mix stand to those of the client's side by the rate between the two.
+
+-- how many frames of the mix the book has allowed so far
+abbrev pub allowed_in : Rate → PlayState → PlayBook → ℕ
+allowed_in rate Running book = can rate (frames_written book)
+allowed_in rate (Draining _) book = len rate (frames_written book)
+allowed_in rate state book = 0
+
+-- how many of n frames the book gives to the mix
+abbrev pub giving : Rate → ℕ → PlayBook → ℕ
+giving rate n book = min n (allowed_in rate book.state book - book.given)
+
+-- an opening begins
+abbrev pub play_begun : Settings → PlayBook
+play_begun settings = record {
+  opening = openings.begun settings;
+  volume = VOLUME;
+  state = Setup;
+  written = 0;
+  eaten = 0;
+  given = 0;
+  done = 0;
+  underruns = 0;
+}
+
+-- nothing of a run is left
+abbrev pub play_emptied : PlayState → PlayBook → PlayBook
+play_emptied state book = record book { state = state; written = 0; eaten = 0; given = 0 }
+
+-- a run ends that was played whole
+abbrev pub finished : PlayState → PlayBook → PlayBook
+finished state book = record (play_emptied state book) { done = book.done + frames_written book * frame_bytes book.opening.settings }
+
+-- all bytes are dropped, and positions begin anew
+abbrev pub play_dropped : PlayBook → PlayBook
+play_dropped book = record (play_emptied Setup book) { opening = record book.opening { told = 0 }; done = 0 }
+
+-- a book with bytes in it isn't in Setup
+abbrev pub primed_in : PlayState → PlayBook → PlayBook
+primed_in Setup book = if nat_lt 0 book.written then record book { state = Primed } else book
+primed_in state book = book
+
+-- the trigger is on, and a full fragment waits
+abbrev pub may_start : PlayBook → Bool
+may_start book = book.opening.trigger && nat_le (fragment_bytes book.opening) (play_fill_of book)
+
+-- a primed book that may start does so
+abbrev pub started_in : PlayState → PlayBook → PlayBook
+started_in Primed book = if may_start book then record book { state = Running } else book
+started_in state book = book
+
+-- `accepted` more bytes were written
+abbrev pub accepting : ℕ → PlayBook → PlayBook
+accepting accepted book =
+    let more : PlayBook = record book { written = book.written + accepted } in
+    let primed : PlayBook = primed_in more.state more in
+    started_in primed.state primed
+
+-- A write of `length` bytes. A draining book is busy; then a full ring has no room; else what fits is accepted.
+abbrev pub write_turn : ℕ → PlayBook → Turn PlayBook
+write_turn length book =
+    if is_draining book.state then refused Busy book
+    else if nat_lt 0 length && play_free_of book == 0 then refused Again book
+    else telling (Number (min length (play_free_of book))) (accepting (min length (play_free_of book)) book)
+
+-- a draining book that has given its last frame is over
+abbrev pub settled_in : Rate → PlayState → PlayBook → PlayBook
+settled_in rate (Draining closed) book =
+    if book.given == len rate (frames_written book) then finished (if closed then Free else Setup) book else book
+settled_in rate state book = book
+
+-- No more comes: what was written plays to its end, and a part of a frame alone is dropped.
+abbrev pub drained_in : Rate → PlayState → PlayBook → PlayBook
+drained_in rate Primed book =
+    if nat_lt 0 (frames_written book) then record book { state = Draining false } else play_emptied Setup book
+drained_in rate Running book = settled_in rate (Draining false) (record book { state = Draining false })
+drained_in rate state book = book
+
+-- no descriptor has the book any more
+abbrev pub closed_in : PlayState → PlayBook → PlayBook
+closed_in Setup book = record book { state = Free }
+closed_in (Draining closed) book = record book { state = Draining true }
+closed_in state book = book
+
+-- a close: a drain, and then no descriptor
+abbrev pub close_turn : Rate → PlayBook → PlayBook
+close_turn rate book = let drained : PlayBook = drained_in rate book.state book in closed_in drained.state drained
+
+-- what the next n frames of the mix need leaves the ring, and what is allowed of them goes into the mix
+abbrev pub gives : Rate → ℕ → PlayBook → PlayBook
+gives rate n book = record book {
+  eaten = max book.eaten (min (frames_written book) (need rate (book.given + n)));
+  given = book.given + giving rate n book;
+}
+
+-- a running book that gave fewer than n frames was short; the count stands still at its end
+abbrev pub underruns_after : Rate → ℕ → PlayBook → ℕ
+underruns_after rate n book = if nat_lt (giving rate n book) n then min (book.underruns + 1) (2 ^ 32 - 1) else book.underruns
+
+-- an interrupt that mixes n frames
+abbrev pub refilled_in : Rate → PlayState → ℕ → PlayBook → PlayBook
+refilled_in rate Running n book = record (gives rate n book) { underruns = underruns_after rate n book }
+refilled_in rate (Draining closed) n book = settled_in rate (Draining closed) (gives rate n book)
+refilled_in rate state n book = book
+
+abbrev pub refilled : Rate → ℕ → PlayBook → PlayBook
+refilled rate n book = refilled_in rate book.state n book

@@ -1,0 +1,52 @@
+-- What holds of the counts of a book at every moment.
+use Rattle.std.specs.Prelude.{◌≡◌, ℕ, ◌+◌, ◌-◌, ◌<◌, ◌≤◌, true, min, max}
+use Rattle.pcm_oss.specs.Fragments.{AreFragments}
+use Rattle.pcm_oss.specs.Volumes.{is_volume}
+use Rattle.pcm_rate.specs.declared.rate.Rate.{Rate}
+use Rattle.pcm_rate.specs.Rates.{need, can, len}
+use Rattle.pcm_desk.specs.declared.play_book.PlayBook.{PlayBook}
+use Rattle.pcm_desk.specs.declared.play_book.PlayState.{PlayState}
+use Rattle.pcm_desk.specs.declared.play_book.PlayState.TheVariants.{Free, Setup, Primed, Running, Draining}
+use Rattle.pcm_desk.specs.PlayBooks.{frames_written, play_fill_of, played_of}
+use Rattle.pcm_desk.specs.Openings.{ring_bytes}
+
+-- Of the frames written in a run, how many were eaten, and how many frames of the mix were given for them.
+
+-- no frame is eaten that wasn't written, and none before the next frame of the mix needs it
+pub record EatsInTime (rate : Rate) (frames eaten given : ℕ) : Type 0 where
+  pub written : eaten ≤ frames
+  pub early : eaten ≤ max (need rate given) (need rate (given + 1) - 1)
+
+-- while more may come, all that is given was eaten for and is allowed
+pub record IsRunning (rate : Rate) (frames eaten given : ℕ) : Type 0 where
+  pub eats : EatsInTime rate frames eaten given
+  pub needed : need rate given ≤ eaten
+  pub allowed : given ≤ can rate frames
+
+-- once no more comes, silence stands in for what is needed past the last frame, and some is still to be given
+pub record IsDraining (rate : Rate) (frames eaten given : ℕ) : Type 0 where
+  pub eats : EatsInTime rate frames eaten given
+  pub needed : min frames (need rate given) ≤ eaten
+  pub left : given < len rate frames
+
+-- nothing was eaten or given
+pub record IsPlayUnstarted (eaten given : ℕ) : Type 0 where
+  pub eaten_none : eaten ≡ 0
+  pub given_none : given ≡ 0
+
+-- the counts of a book in each state
+abbrev pub IsPlayInOrder : Rate → PlayState → PlayBook → Type 0
+IsPlayInOrder rate Free book = IsPlayUnstarted book.eaten book.given
+IsPlayInOrder rate Setup book = (book.written ≡ 0) × IsPlayUnstarted book.eaten book.given
+IsPlayInOrder rate Primed book = (0 < book.written) × IsPlayUnstarted book.eaten book.given
+IsPlayInOrder rate Running book = IsRunning rate (frames_written book) book.eaten book.given
+IsPlayInOrder rate (Draining closed) book = IsDraining rate (frames_written book) book.eaten book.given
+
+-- the counts of a book are in order, no more waits than its ring holds, and what a client may set is within its limits
+pub record PlayIsSafe (rate : Rate) (book : PlayBook) : Type 0 where
+  pub order : IsPlayInOrder rate book.state book
+  pub fill : play_fill_of book ≤ ring_bytes book.opening
+  pub fragments : AreFragments book.opening.fragments
+  pub volume : is_volume book.volume ≡ true
+  -- no position was told that wasn't reached
+  pub told : book.opening.told ≤ played_of book

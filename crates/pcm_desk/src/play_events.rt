@@ -1,0 +1,302 @@
+//! What each event does to a book, as plain arithmetic.
+
+ghost use Rattle.std.specs.Prelude.{◌≡◌, ◌+◌, ◌*◌, ◌^◌, ◌<◌, ◌≤◌};
+ghost use Rattle.pcm_format.specs.Frames.{frame_bytes};
+ghost use Rattle.pcm_oss.specs.Fragments.{AreFragments};
+ghost use Rattle.pcm_rate.specs.Rates.{IsRatio};
+ghost use Rattle.pcm_desk.specs.Openings.{ring_bytes};
+ghost use Rattle.pcm_desk.specs.PlayBooks.{accepting, close_turn, drained_in, finished, frames_written, gives, giving, is_draining, is_play_free, is_started, may_start, play_begun, play_dropped, play_emptied, play_fill_of, play_free_of, primed_in, refilled, settled_in, started_in, underruns_after, write_turn};
+
+use crate::{Opening, PlayBook, PlayState, Turn};
+use pcm_format::Settings;
+use pcm_oss::{Answer, Errno, VOLUME};
+use pcm_rate::Rate;
+
+impl PlayBook {
+    /// The book of a new opening.
+    pub fn begun(settings: Settings) -> PlayBook
+        ensures { result ≡ play_begun settings }
+    {
+        PlayBook {
+            opening: Opening::begun(settings),
+            volume: VOLUME,
+            state: PlayState::Setup,
+            written: 0,
+            eaten: 0,
+            given: 0,
+            done: 0,
+            underruns: 0,
+        }
+    }
+
+    /// Whether nobody has the channel, and nothing of it is left to play.
+    pub fn is_free(&self) -> bool
+        ensures { result ≡ is_play_free self.now.state }
+    {
+        matches!(self.state, PlayState::Free)
+    }
+
+    /// Whether nothing more will be written of the run.
+    pub fn is_draining(&self) -> bool
+        ensures { result ≡ is_draining self.now.state }
+    {
+        matches!(self.state, PlayState::Draining { .. })
+    }
+
+    /// Whether interrupts take frames of the run.
+    pub fn is_started(&self) -> bool
+        ensures { result ≡ is_started self.now.state }
+    {
+        matches!(self.state, PlayState::Running | PlayState::Draining { .. })
+    }
+
+    /// The whole frames accepted in this run.
+    pub fn frames_written(&self) -> u64
+        ensures { result ≡ frames_written self.now }
+    {
+        self.written / self.opening.settings.frame_bytes() as u64
+    }
+
+    /// The bytes that wait in the ring.
+    pub fn fill(&self) -> u64
+        requires { self.now.eaten * frame_bytes self.now.opening.settings ≤ self.now.written }
+        ensures { result ≡ play_fill_of self.now }
+    {
+        self.written - self.eaten * self.opening.settings.frame_bytes() as u64
+    }
+
+    // The bytes that fit the ring.
+    pub(crate) fn free(&self) -> u32
+        requires eaten { self.now.eaten * frame_bytes self.now.opening.settings ≤ self.now.written }
+        requires fill { play_fill_of self.now ≤ ring_bytes self.now.opening }
+        requires fragments { AreFragments self.now.opening.fragments }
+        ensures { result ≡ play_free_of self.now }
+    {
+        self.opening.fragments.size() - self.fill() as u32
+    }
+
+    /// The book after a write of `length` bytes, and how many of them are accepted: as many as fit.
+    pub fn write(self, length: u64) -> Turn<PlayBook>
+        requires count { self.written + length < 2 ^ 64 }
+        requires eaten { self.eaten * frame_bytes self.opening.settings ≤ self.written }
+        requires fill { play_fill_of self ≤ ring_bytes self.opening }
+        requires fragments { AreFragments self.opening.fragments }
+        ensures { result ≡ write_turn length self }
+    {
+        if self.is_draining() {
+            return Turn::refused(self, Errno::Busy);
+        }
+        let free = self.free();
+        if length > 0 && free == 0 {
+            return Turn::refused(self, Errno::Again);
+        }
+        let accepted = length.min(u64::from(free));
+        Turn::telling(self.accepting(accepted), Answer::Number(accepted as u32))
+    }
+
+    // The book after `accepted` more bytes.
+    fn accepting(self, accepted: u64) -> PlayBook
+        requires count { self.written + accepted < 2 ^ 64 }
+        requires eaten { self.eaten * frame_bytes self.opening.settings ≤ self.written }
+        requires fragments { AreFragments self.opening.fragments }
+        ensures { result ≡ accepting accepted self }
+    {
+        let more = PlayBook {
+            written: self.written + accepted,
+            ..self
+        };
+        more.primed().started()
+    }
+
+    // With bytes in it the book isn't in Setup.
+    fn primed(self) -> PlayBook
+        ensures { result ≡ primed_in self.state self }
+    {
+        match self.state {
+            PlayState::Setup if self.written > 0 => PlayBook {
+                state: PlayState::Primed,
+                ..self
+            },
+            _ => self,
+        }
+    }
+
+    // A primed book that may start does so at a full fragment.
+    fn started(self) -> PlayBook
+        requires eaten { self.eaten * frame_bytes self.opening.settings ≤ self.written }
+        requires fragments { AreFragments self.opening.fragments }
+        ensures { result ≡ started_in self.state self }
+    {
+        match self.state {
+            PlayState::Primed if self.may_start() => PlayBook {
+                state: PlayState::Running,
+                ..self
+            },
+            _ => self,
+        }
+    }
+
+    // Whether the trigger is on, and a full fragment waits.
+    fn may_start(&self) -> bool
+        requires eaten { self.now.eaten * frame_bytes self.now.opening.settings ≤ self.now.written }
+        requires fragments { AreFragments self.now.opening.fragments }
+        ensures { result ≡ may_start self.now }
+    {
+        self.opening.trigger && self.fill() >= u64::from(self.opening.fragments.bytes())
+    }
+
+    /// The book after a close.
+    pub fn closed(self, rate: Rate) -> PlayBook
+        requires rate { IsRatio rate }
+        requires count { self.done + self.written < 2 ^ 64 }
+        ensures { result ≡ close_turn rate self }
+    {
+        let drained = self.drained(rate);
+        match drained.state {
+            PlayState::Setup => PlayBook {
+                state: PlayState::Free,
+                ..drained
+            },
+            PlayState::Draining { .. } => PlayBook {
+                state: PlayState::Draining { closed: true },
+                ..drained
+            },
+            _ => drained,
+        }
+    }
+
+    // No more comes. A part of a frame alone is dropped.
+    pub(crate) fn drained(self, rate: Rate) -> PlayBook
+        requires rate { IsRatio rate }
+        requires count { self.done + self.written < 2 ^ 64 }
+        ensures { result ≡ drained_in rate self.state self }
+    {
+        let draining = PlayBook {
+            state: PlayState::Draining { closed: false },
+            ..self
+        };
+        match self.state {
+            PlayState::Primed if self.frames_written() > 0 => draining,
+            PlayState::Primed => self.emptied(PlayState::Setup),
+            PlayState::Running => draining.settled(rate),
+            _ => self,
+        }
+    }
+
+    // Nothing of a run is left.
+    fn emptied(self, state: PlayState) -> PlayBook
+        ensures { result ≡ play_emptied state self }
+    {
+        PlayBook {
+            state,
+            written: 0,
+            eaten: 0,
+            given: 0,
+            ..self
+        }
+    }
+
+    // A run ends that was played whole.
+    fn finished(self, state: PlayState) -> PlayBook
+        requires { self.done + self.written < 2 ^ 64 }
+        ensures { result ≡ finished state self }
+    {
+        PlayBook {
+            done: self.done + self.frames_written() * self.opening.settings.frame_bytes() as u64,
+            ..self.emptied(state)
+        }
+    }
+
+    // All bytes are dropped, and positions begin anew.
+    pub(crate) fn dropped(self) -> PlayBook
+        ensures { result ≡ play_dropped self }
+    {
+        let opening = Opening {
+            told: 0,
+            ..self.opening
+        };
+        PlayBook {
+            opening,
+            done: 0,
+            ..self.emptied(PlayState::Setup)
+        }
+    }
+
+    // A draining book that has given its last frame is over.
+    fn settled(self, rate: Rate) -> PlayBook
+        requires rate { IsRatio rate }
+        requires count { self.done + self.written < 2 ^ 64 }
+        ensures { result ≡ settled_in rate self.state self }
+    {
+        match self.state {
+            PlayState::Draining { closed }
+                if u128::from(self.given) == rate.len(self.frames_written()) => {
+                self.finished(if closed {
+                    PlayState::Free
+                } else {
+                    PlayState::Setup
+                })
+            }
+            _ => self,
+        }
+    }
+
+    /// How many of `n` frames the book gives to the mix.
+    pub fn giving(&self, rate: Rate, n: u64) -> u64
+        requires { IsRatio rate }
+        ensures value { result ≡ giving rate n self.now }
+        ensures within { result ≤ n }
+    {
+        let allowed = match self.state {
+            PlayState::Running => rate.can(self.frames_written()),
+            PlayState::Draining { .. } => rate.len(self.frames_written()),
+            PlayState::Free | PlayState::Setup | PlayState::Primed => 0,
+        };
+        u128::from(n).min(allowed.saturating_sub(u128::from(self.given))) as u64
+    }
+
+    /// The book after an interrupt that mixes `n` frames.
+    pub fn refilled(self, rate: Rate, n: u64) -> PlayBook
+        requires rate { IsRatio rate }
+        requires count { self.given + n < 2 ^ 64 }
+        requires played { self.done + self.written < 2 ^ 64 }
+        ensures { result ≡ refilled rate n self }
+    {
+        match self.state {
+            PlayState::Running => PlayBook {
+                underruns: self.underruns_after(rate, n),
+                ..self.gives(rate, n)
+            },
+            PlayState::Draining { .. } => self.gives(rate, n).settled(rate),
+            _ => self,
+        }
+    }
+
+    // The frames of an interrupt leave the ring and go into the mix.
+    fn gives(self, rate: Rate, n: u64) -> PlayBook
+        requires rate { IsRatio rate }
+        requires count { self.given + n < 2 ^ 64 }
+        ensures { result ≡ gives rate n self }
+    {
+        let needed = rate
+            .need(self.given + n)
+            .min(u128::from(self.frames_written()));
+        PlayBook {
+            eaten: self.eaten.max(needed as u64),
+            given: self.given + self.giving(rate, n),
+            ..self
+        }
+    }
+
+    // Fewer than `n` frames are a shortage. The count stands still at its end.
+    fn underruns_after(&self, rate: Rate, n: u64) -> u32
+        requires { IsRatio rate }
+        ensures { result ≡ underruns_after rate n self.now }
+    {
+        if self.giving(rate, n) < n {
+            self.underruns.saturating_add(1)
+        } else {
+            self.underruns
+        }
+    }
+}

@@ -1,0 +1,32 @@
+use Rattle.std.proofs.Common.{◌≡◌, ◌≤◌, ℕ, List, length, replicate, take, ap, ◌∙◌, arith, length-take}
+use Rattle.std.proofs.lemmas.List.{length-replicate, take-append-le}
+use Rattle.pcm_oss.specs.Replies.{Reply, bytes_due}
+use Rattle.pcm_desk.specs.Device.{DeviceSeen, seen}
+use Rattle.pcm_desk.specs.Desk.{Desk, held_by, read_on}
+use Rattle.pcm_engine.specs.Desks.{desk_with}
+use Rattle.pcm_engine.specs.Steps.{bytes_read}
+use Rattle.pcm_engine.proofs.clients.answer_read.Goals as goal
+
+-- as many bytes as are asked for are there
+there : (n : ℕ) → n ≤ 4096 → length {A = ℕ} (take n (replicate 4096 0)) ≡ n
+there n few = let zeros : List ℕ = replicate 4096 0 in omega (arith, length-take n zeros, length-replicate {A = ℕ} 4096 0)
+
+pub returns-clause-desk : goal.returns-clause-desk
+returns-clause-desk g c = λ filters.
+    let desk : Desk = desk_with c.args.parent.now c.args.descriptors.now.held in
+    c.read-answer.ensures.desk filters ∙ ap (λ (n : ℕ). (read_on (seen filters c.args.parent.now.device) (held_by desk c.args.fd) desk n).desk) (there c.args.len c.requires.few)
+
+pub returns-clause-reply : goal.returns-clause-reply
+returns-clause-reply g c = λ filters.
+    let desk : Desk = desk_with c.args.parent.now c.args.descriptors.now.held in
+    let device : DeviceSeen = seen filters c.args.parent.now.device in
+    ap (λ (r : Reply). r.result) c.keep.ensures ∙ c.read-answer.ensures.reply filters ∙ ap (λ (n : ℕ). (read_on device (held_by desk c.args.fd) desk n).reply) (there c.args.len c.requires.few)
+
+pub returns-clause-bytes : goal.returns-clause-bytes
+returns-clause-bytes g c = λ filters bytes frames stand.
+    let desk : Desk = desk_with c.args.parent.now c.args.descriptors.now.held in
+    let device : DeviceSeen = seen filters c.args.parent.now.device in
+    let within = c.read-answer.ensures.within in
+    ap (λ (r : Reply). r.bytes) c.keep.ensures
+    ∙ take-append-le (bytes_due c.read-answer.result) c.read-answer.new.out _ (omega (arith, within, c.read-answer.ensures.length))
+    ∙ c.read-answer.ensures.bytes filters bytes frames stand ∙ ap (λ (n : ℕ). bytes_read device desk bytes n (held_by desk c.args.fd)) (there c.args.len c.requires.few)

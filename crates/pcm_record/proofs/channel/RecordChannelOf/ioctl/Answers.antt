@@ -1,0 +1,76 @@
+use Rattle.std.proofs.Common.{ap, sym, subst, ◌∙◌, length, refl}
+use Rattle.pcm_ring.specs.Ring.{Ring}
+use Rattle.pcm_oss.specs.Fragments.{ring_size}
+use Rattle.pcm_plan.specs.Plans.{PlanSeen, rate_in_plan}
+use Rattle.pcm_desk.specs.Device.{record_plan_between, seen}
+use Rattle.pcm_desk.specs.declared.record_book.RecordBook.{RecordBook}
+use Rattle.pcm_desk.specs.declared.turn.Turn.{Turn}
+use Rattle.pcm_desk.specs.RecordSafe.{RecordIsSafe}
+use Rattle.pcm_desk.proofs.Refused.{record-ask-refused}
+use Rattle.pcm_sound.proofs.Recorded.{idle-unstarted}
+use Rattle.pcm_record.proofs.Moving.{book-asked, moves-ended, moves-read, none-waits, stays-fill, stays-reads}
+use Rattle.pcm_record.proofs.channel.RecordChannelOf.ioctl.Goals as goal
+
+pub begin_anew-requires-clause-rate : goal.begin_anew-requires-clause-rate
+begin_anew-requires-clause-rate g c =
+    (book-asked c.args.tables.now c.args.request c.args.self.now c.asked-turn.result c.requires.planned c.asked-turn.ensures).rate
+
+pub begin_anew-requires-clause-fragments : goal.begin_anew-requires-clause-fragments
+begin_anew-requires-clause-fragments g c =
+    (book-asked c.args.tables.now c.args.request c.args.self.now c.asked-turn.result c.requires.planned c.asked-turn.ensures).safe.fragments
+
+pub invariant_of-self : goal.invariant_of-self
+invariant_of-self g c =
+    let old = c.args.self.now in
+    let new = c.asked-turn.result.book in
+    let left = book-asked c.args.tables.now c.args.request old c.asked-turn.result c.requires.planned c.asked-turn.ensures in
+    record {
+      device_rate = old.device_rate;
+      rate = left.rate;
+      ratio = c.begin_anew.ensures.ratio;
+      room = ap (λ (ring : Ring). ring.max) c.begin_anew.ensures.ring;
+      size = ap (λ (ring : Ring). ring.size) c.begin_anew.ensures.ring;
+      fill = ap (λ (ring : Ring). length ring.bytes) c.begin_anew.ensures.ring ∙ none-waits new (idle-unstarted new.state new (sym c.if-not-is_running.ensures) left.safe.order);
+      within = left.safe.read;
+      safe = subst (λ (p : PlanSeen). RecordIsSafe (rate_in_plan p) new) (sym c.begin_anew.ensures.plan) left.safe;
+    }
+
+pub invariant_of-self-else-not-is_running : goal.invariant_of-self-else-not-is_running
+invariant_of-self-else-not-is_running g c =
+    let old = c.args.self.now in
+    let new = c.asked-turn.result.book in
+    let left = book-asked c.args.tables.now c.args.request old c.asked-turn.result c.requires.planned c.asked-turn.ensures in
+    let go = left.goes (sym c.if-not-is_running.ensures) in
+    record {
+      device_rate = old.device_rate;
+      rate = left.rate;
+      ratio = old.ratio;
+      room = old.room;
+      size = old.size ∙ ap ring_size (sym go.fragments);
+      fill = old.fill ∙ stays-fill old.book new go;
+      within = left.safe.read;
+      safe = subst (λ (p : PlanSeen). RecordIsSafe (rate_in_plan p) new)
+          (sym (c.requires.planned.plan_is ∙ ap (record_plan_between (seen c.args.tables.now old.device)) (sym go.settings))) left.safe;
+    }
+
+pub returns-then-not-is_running-clause-moves : goal.returns-then-not-is_running-clause-moves
+returns-then-not-is_running-clause-moves g c =
+    let old = c.args.self.now in
+    let new = c.asked-turn.result.book in
+    let left = book-asked c.args.tables.now c.args.request old c.asked-turn.result c.requires.planned c.asked-turn.ensures in
+    moves-ended g.B.Feeder.kind g.B.Feeder.kept c.args.tables.now old _ c.begin_anew.ensures.kinds
+    (λ p. record { limits = c.begin_anew.ensures.limits; plan_is = c.begin_anew.ensures.plan })
+    (idle-unstarted new.state new (sym c.if-not-is_running.ensures) left.safe.order)
+    (ap (λ (ring : Ring). ring.bytes) c.begin_anew.ensures.ring) c.begin_anew.ensures.records
+
+pub returns-else-not-is_running-clause-moves : goal.returns-else-not-is_running-clause-moves
+returns-else-not-is_running-clause-moves g c =
+    let old = c.args.self.now in
+    let new = c.asked-turn.result.book in
+    let left = book-asked c.args.tables.now c.args.request old c.asked-turn.result c.requires.planned c.asked-turn.ensures in
+    moves-read g.B.Feeder.kind g.B.Feeder.kept c.args.tables.now 0 old _ refl refl refl (stays-reads old.book new (left.goes (sym c.if-not-is_running.ensures)))
+
+-- what is refused leaves the book
+pub returns-in_err-answer-clause-book : goal.returns-in_err-answer-clause-book
+returns-in_err-answer-clause-book g c =
+    sym (record-ask-refused c.args.request c.args.self.now.book c.in_err-answer.field-0.0 (ap (λ (t : Turn RecordBook). t.reply) (sym c.asked-turn.ensures) ∙ c.in_err-answer.was))
