@@ -19,8 +19,11 @@ pub const FOUR_FRAMES_PRINTED: &[u8] = b"1: ok 0\n2: ok 16\n3: ok\n4: ok 1024\n5
 /// What is heard of it.
 pub const FOUR_FRAMES_HEARD: &[u8] = b"\x01\0\x02\0\x03\0\x04\0\x05\0\x06\0\x07\0\x08\0";
 
-/// What a call is to come to: the status, what is printed, and the device file, as bytes of silence and then others.
-pub type Expected = (u8, &'static [u8], Option<(usize, &'static [u8])>);
+/// What the device file holds: a head, bytes of silence, and what is heard behind them.
+pub type Content = (&'static [u8], usize, &'static [u8]);
+
+/// What a call is to come to: the status, what is printed, and the device file, if it is there.
+pub type Expected = (u8, &'static [u8], Option<Content>);
 
 /// Files by their names.
 pub type Held = &'static [(&'static str, &'static [u8])];
@@ -30,6 +33,9 @@ pub type Row = (Held, &'static [&'static str], Expected);
 
 /// The room of the files and of the sink, and the call of each that fails, where 0 is none.
 pub type Fault = (usize, usize, u32, u32);
+
+/// A call by its files and words, and what each fault makes of it.
+pub type Faults = (Held, &'static [&'static str], &'static [(Fault, Expected)]);
 
 // Room that is enough for each run here, and no call that fails.
 const NO_FAULT: Fault = (ROOM, ROOM, 0, 0);
@@ -136,7 +142,8 @@ fn ends_with(
     Ok(found == status && ran.map(|engine| engine.steps()) == steps)
 }
 
-fn owned(alloc: Global, words: &[&str]) -> Result<Vec<String>, AllocError> {
+/// Words of their own memory.
+pub fn owned(alloc: Global, words: &[&str]) -> Result<Vec<String>, AllocError> {
     let mut owned = Vec::new(alloc);
     for word in words {
         owned.push(String::from_str(alloc, word)?)?;
@@ -144,13 +151,22 @@ fn owned(alloc: Global, words: &[&str]) -> Result<Vec<String>, AllocError> {
     Ok(owned)
 }
 
-// Whether the device file `o` has so many bytes of silence and then these, or isn't there.
-fn has_file(files: &MemFiles, content: Option<(usize, &[u8])>) -> bool {
+// Whether the device file `o` holds exactly that, or isn't there.
+fn has_file(files: &MemFiles, content: Option<Content>) -> bool {
     match (files.content("o"), content) {
-        (Some(bytes), Some((silent, heard))) => match bytes.split_at_checked(silent) {
-            Some((front, rest)) => front.iter().all(|byte| *byte == 0) && rest == heard,
-            None => false,
-        },
+        (Some(bytes), Some(wanted)) => holds(bytes, wanted),
         (found, wanted) => found.is_none() && wanted.is_none(),
+    }
+}
+
+// Whether bytes are a head, so much silence, and what is heard.
+fn holds(bytes: &[u8], content: Content) -> bool {
+    let (head, silent, heard) = content;
+    let Some(body) = bytes.strip_prefix(head) else {
+        return false;
+    };
+    match body.split_at_checked(silent) {
+        Some((silence, rest)) => silence.iter().all(|byte| *byte == 0) && rest == heard,
+        None => false,
     }
 }

@@ -15,6 +15,8 @@ mod scripts;
 #[cfg(test)]
 mod tables;
 #[cfg(test)]
+mod tallies;
+#[cfg(test)]
 mod usage;
 #[cfg(test)]
 mod waves;

@@ -2,12 +2,12 @@
 
 use crate::calls::Row;
 
-// Ten frames of two channels of 16 bits at 48000 frames each second: frame j, from 1 on, has the sample j on both sides.
-const TEN_FRAMES: &[u8] =
+/// Ten frames of two channels of 16 bits at 48000 frames each second: frame j, from 1 on, has the sample j on both sides.
+pub const TEN_FRAMES: &[u8] =
     b"RIFFL\0\0\0WAVEfmt \x10\0\0\0\x01\0\x02\0\x80\xbb\0\0\0\xee\x02\0\x04\0\x10\0data(\0\0\0\x01\0\x01\0\x02\0\x02\0\x03\0\x03\0\x04\0\x04\0\x05\0\x05\0\x06\0\x06\0\x07\0\x07\0\x08\0\x08\0\x09\0\x09\0\x0a\0\x0a\0";
 
-// That wave is what is recorded.
-const MICROPHONE: &[u8] = b"[device]\ncapture = \"mic\"\n[files]\nmic = \"w\"\n";
+/// That wave is what is recorded.
+pub const MICROPHONE: &[u8] = b"[device]\ncapture = \"mic\"\n[files]\nmic = \"w\"\n";
 
 const RUN: &[&str] = &["run", "s", "o", "c"];
 
@@ -26,7 +26,7 @@ pub const ROWS: [Row; 4] = [
         (
             0,
             b"1: ok 0\n2: ok 131076\n3: ok\n4: ok 6\n5: ok 4\n6: ok underruns=0 overruns=1\n7: ok fragments=2 fragstotal=2 fragsize=16 bytes=32\n8: ok 32 0100010002000200030003000400040005000500060006000700070008000800\n9: refused again\n10: ok 0 -\n11: ok bytes=32 blocks=2 ptr=0\n",
-            Some((40, b"")),
+            Some((b"", 40, b"")),
         ),
     ),
     // One channel is the mean of both.
@@ -43,7 +43,7 @@ pub const ROWS: [Row; 4] = [
         (
             0,
             b"1: ok 0\n2: ok 131076\n3: ok\n4: ok 2\n5: ok 4 01000200\n",
-            Some((8, b"")),
+            Some((b"", 8, b"")),
         ),
     ),
     // What goes the other way is refused.
@@ -59,7 +59,7 @@ pub const ROWS: [Row; 4] = [
         (
             0,
             b"1: ok 0\n2: refused exist\n3: refused inval\n4: refused inval\n5: refused inval\n6: ok 1044984\n7: ok 4608\n",
-            Some((0, b"")),
+            Some((b"", 0, b"")),
         ),
     ),
     // A long script plays and records at once, and writes no file.

@@ -20,23 +20,23 @@ const HALF_HEARD: &[u8] = b"\0\0\0\0\x32\0\x32\0\x64\0\x64\0\x32\0\x32\0";
 const RUN: &[&str] = &["run", "s", "o"];
 
 pub const ROWS: [Row; 5] = [
-    (&[("s", b"")], RUN, (0, b"", Some((0, b"")))),
+    (&[("s", b"")], RUN, (0, b"", Some((b"", 0, b"")))),
     (
         &[("s", FOUR_FRAMES)],
         RUN,
-        (0, FOUR_FRAMES_PRINTED, Some((4096, FOUR_FRAMES_HEARD))),
+        (0, FOUR_FRAMES_PRINTED, Some((b"", 4096, FOUR_FRAMES_HEARD))),
     ),
     // The limit acts after each addition: 30000 + 10000 - 10000 is 22767.
     (
         &[("s", THREE)],
         RUN,
-        (0, THREE_PRINTED, Some((4096, b"\xef\x58\xef\x58"))),
+        (0, THREE_PRINTED, Some((b"", 4096, b"\xef\x58\xef\x58"))),
     ),
     // Lines between 0, 100 and the silence after them.
     (
         &[("s", HALF)],
         RUN,
-        (0, HALF_PRINTED, Some((4096, HALF_HEARD))),
+        (0, HALF_PRINTED, Some((b"", 4096, HALF_HEARD))),
     ),
     // An interrupt above the ring.
     (

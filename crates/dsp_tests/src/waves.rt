@@ -2,16 +2,16 @@
 
 use crate::calls::Row;
 
-// One frame of two channels of 16 bits at 48000 frames each second, behind a header.
-const ONE_FRAME: &[u8] =
+/// One frame of two channels of 16 bits at 48000 frames each second, behind a header.
+pub const ONE_FRAME: &[u8] =
     b"RIFF\x28\0\0\0WAVEfmt \x10\0\0\0\x01\0\x02\0\x80\xbb\0\0\0\xee\x02\0\x04\0\x10\0data\x04\0\0\0\x01\0\x02\0";
 
-// Two frames at 24000 frames each second, from nothing to 100.
-const STEP: &[u8] =
+/// Two frames at 24000 frames each second, from nothing to 100.
+pub const STEP: &[u8] =
     b"RIFF\x2c\0\0\0WAVEfmt \x10\0\0\0\x01\0\x02\0\xc0\x5d\0\0\0\x77\x01\0\x04\0\x10\0data\x08\0\0\0\0\0\0\0\x64\0\x64\0";
 
-// The same at twice the rate.
-const STEP_DOUBLED: &[u8] =
+/// The same at twice the rate.
+pub const STEP_DOUBLED: &[u8] =
     b"RIFF\x34\0\0\0WAVEfmt \x10\0\0\0\x01\0\x02\0\x80\xbb\0\0\0\xee\x02\0\x04\0\x10\0data\x10\0\0\0\0\0\0\0\x32\0\x32\0\x64\0\x64\0\x32\0\x32\0";
 
 // And as one channel of bytes, of which there is an odd number with a byte of padding behind it.
@@ -26,7 +26,8 @@ const RUN: &[&str] = &["run", "s", "o", "c"];
 
 const CHECK: &[&str] = &["check", "s", "c"];
 
-const CONVERT: &[&str] = &["convert", "w", "o", "48000", "s16le", "2"];
+/// The words of a conversion.
+pub const CONVERT: &[&str] = &["convert", "w", "o", "48000", "s16le", "2"];
 
 // A configuration with one data file, and with one more that is recorded from.
 const SONG: &[u8] = b"[files]\nsong = \"w\"\n";
@@ -48,7 +49,11 @@ pub const RUNS: [Row; 4] = [
         (
             0,
             b"1: ok 0\n2: ok 8\n3: ok\n4: ok 1024\n5: ok 4\n",
-            Some((4096, b"\x01\0\x02\0\x01\0\x02\0\x03\0\x04\0\x03\0\x04\0")),
+            Some((
+                b"",
+                4096,
+                b"\x01\0\x02\0\x01\0\x02\0\x03\0\x04\0\x03\0\x04\0",
+            )),
         ),
     ),
     // The frames stand behind a header.
@@ -58,7 +63,7 @@ pub const RUNS: [Row; 4] = [
             ("c", b"[device]\ncontainer = \"wav\"\n"),
         ],
         RUN,
-        (0, b"1: ok 4\n2: ok 4\n", Some((0, SILENT_WAVE))),
+        (0, b"1: ok 4\n2: ok 4\n", Some((b"", 0, SILENT_WAVE))),
     ),
     // The bytes of a wave's body are sent, from the body's begin on.
     (
@@ -74,7 +79,7 @@ pub const RUNS: [Row; 4] = [
         (
             0,
             b"1: ok 0\n2: ok 2\n3: ok 2\n4: ok\n5: ok 1024\n6: ok 1\n",
-            Some((4096, b"\x01\0\x02\0")),
+            Some((b"", 4096, b"\x01\0\x02\0")),
         ),
     ),
     // One slot alone: it is free again once the closed channel was played.
@@ -84,7 +89,7 @@ pub const RUNS: [Row; 4] = [
             ("c", b"[vchans]\nplay = 1\n"),
         ],
         RUN,
-        (0, b"1: ok 0\n2: refused busy\n", Some((0, b""))),
+        (0, b"1: ok 0\n2: refused busy\n", Some((b"", 0, b""))),
     ),
 ];
 
@@ -146,13 +151,13 @@ pub const CONVERTED: [Row; 3] = [
     (
         &[("w", STEP)],
         CONVERT,
-        (0, b"frames 4\n", Some((0, STEP_DOUBLED))),
+        (0, b"frames 4\n", Some((b"", 0, STEP_DOUBLED))),
     ),
     // 1 and 2 in 16 bits are nothing in 8: the byte is the midpoint.
     (
         &[("w", ONE_FRAME)],
         &["convert", "w", "o", "48000", "u8", "1"],
-        (0, b"frames 1\n", Some((0, ONE_FRAME_IN_BYTES))),
+        (0, b"frames 1\n", Some((b"", 0, ONE_FRAME_IN_BYTES))),
     ),
     (
         &[("w", b"RIFF")],

@@ -5,3 +5,4 @@ pub mod Calls
 pub mod Folder
 pub mod Buffer
 pub mod Edge
+pub mod Tallies

@@ -8,6 +8,7 @@ mod mem_sink;
 mod outside;
 mod real_files;
 mod real_sink;
+mod tally_forms;
 mod transfer;
 
 pub use mem_files::MemFiles;
@@ -15,4 +16,5 @@ pub use mem_sink::MemSink;
 pub use outside::{Files, ReadFault, Sink, WriteFault};
 pub use real_files::RealFiles;
 pub use real_sink::RealSink;
+pub use tally_forms::{TallyFiles, TallySink};
 pub use transfer::{read_front, write_whole};

@@ -10,8 +10,10 @@ mod refusals;
 mod replay;
 mod running;
 mod soak;
+mod tallied;
 mod tally_line;
 mod top;
 mod writing;
 
+pub use tallied::tally_main;
 pub use top::dsp_main;

@@ -1,0 +1,17 @@
+-- What a contract sees of the forms that only count bytes: nothing is told, and nothing ever failed.
+use Rattle.std.specs.Prelude.{ℕ, ◌+◌, ◌-◌, ◌^◌, min, true, None}
+use Rattle.pcm_outside.specs.Files.{FilesSeen}
+use Rattle.pcm_outside.specs.Sink.{SinkSeen}
+use Rattle.pcm_outside.specs.Edge.{untold_files, untold_sink}
+
+-- a total after more bytes; the last number of 64 bits is kept
+abbrev pub taken_more : ℕ → ℕ → ℕ
+taken_more total more = min (total + more) (2 ^ 64 - 1)
+
+-- files that take all bytes
+abbrev pub counting_files : FilesSeen
+counting_files = untold_files true 0 0 None
+
+-- a sink that takes all bytes
+abbrev pub counting_sink : SinkSeen
+counting_sink = untold_sink 0

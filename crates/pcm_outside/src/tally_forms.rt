@@ -1,0 +1,115 @@
+//! The forms that only count: they take all bytes, keep none, and never fail.
+ghost use Rattle.std.specs.Prelude.{◌≡◌, ◌≢◌, [], Err, IfOk, IsErrOf, IsOk, IsTrue, OnErr, OnOk, length};
+ghost use Rattle.pcm_outside.specs.Files.{Appends, Creates, FailsToAppend, FailsToCreate, FailsToRead};
+ghost use Rattle.pcm_outside.specs.Files.{NoReadFails, OnlyAppends, OnlyReads, OnlyWrites, ReadsFile};
+ghost use Rattle.pcm_outside.specs.Sink.{FailsToPut, OnlyPuts, Puts};
+ghost use Rattle.pcm_outside.specs.Tallies.{counting_files, counting_sink, taken_more};
+
+use crate::outside::{Files, ReadFault, Sink, WriteFault};
+use std::alloc::Global;
+
+/// Files that count the bytes appended. Each name reads as a file of no bytes.
+#[derive(Clone, Copy, Debug, PartialEq, Eq)]
+pub struct TallyFiles {
+    total: u64,
+}
+
+impl TallyFiles {
+    /// No byte was taken so far.
+    pub fn new() -> TallyFiles
+        ensures { result.total ≡ 0 }
+    {
+        TallyFiles { total: 0 }
+    }
+
+    /// How many bytes were taken. The greatest number of its type stands for it and all beyond.
+    pub fn total(&self) -> u64
+        ensures { result ≡ self.now.total }
+    {
+        self.total
+    }
+}
+
+impl Files for TallyFiles {
+    ghost seen = { λ files. counting_files };
+
+    fn read(&mut self, alloc: Global, name: &str, most: usize) -> Result<Vec<u8>, ReadFault>
+        ensures only { OnlyReads counting_files counting_files }
+        ensures ok { IfOk result (λ bytes. ReadsFile counting_files name.now most bytes.items) }
+        ensures failed { IsErrOf result ReadFault.Failed
+            → FailsToRead counting_files counting_files name.now }
+        ensures kept { result ≢ Err ReadFault.Failed → NoReadFails counting_files counting_files }
+
+        // It gives no bytes, and nothing is counted.
+        ensures whole { IsOk result }
+        ensures empty { IfOk result (λ bytes. bytes.items ≡ []) }
+        ensures same { self.new ≡ self.old }
+    {
+        Ok(Vec::new(alloc))
+    }
+
+    fn create(&mut self, name: &str) -> Result<(), WriteFault>
+        ensures only { OnlyWrites counting_files counting_files }
+        ensures ok { OnOk result (Creates counting_files counting_files name.now) }
+        ensures err { OnErr result (FailsToCreate counting_files counting_files name.now) }
+
+        // The count goes on through any number of files.
+        ensures whole { IsOk result }
+        ensures same { self.new ≡ self.old }
+    {
+        Ok(())
+    }
+
+    fn append(&mut self, piece: &[u8]) -> Result<(), WriteFault>
+        requires { IsTrue counting_files.stands }
+        ensures only { OnlyAppends counting_files counting_files }
+        ensures ok { OnOk result (Appends counting_files counting_files piece.now) }
+        ensures err { OnErr result (FailsToAppend counting_files counting_files piece.now) }
+
+        // The bytes are counted.
+        ensures whole { IsOk result }
+        ensures counted { self.new.total ≡ taken_more self.old.total (length piece.now) }
+    {
+        self.total = self.total.saturating_add(piece.len() as u64);
+        Ok(())
+    }
+}
+
+/// A sink that counts the bytes put.
+#[derive(Clone, Copy, Debug, PartialEq, Eq)]
+pub struct TallySink {
+    total: u64,
+}
+
+impl TallySink {
+    /// No byte was put so far.
+    pub fn new() -> TallySink
+        ensures { result.total ≡ 0 }
+    {
+        TallySink { total: 0 }
+    }
+
+    /// How many bytes were put. The greatest number of its type stands for it and all beyond.
+    pub fn total(&self) -> u64
+        ensures { result ≡ self.now.total }
+    {
+        self.total
+    }
+}
+
+impl Sink for TallySink {
+    ghost seen = { λ sink. counting_sink };
+
+    fn put(&mut self, piece: &[u8]) -> Result<(), WriteFault>
+        ensures only { OnlyPuts counting_sink counting_sink }
+        ensures ok { OnOk result (Puts counting_sink counting_sink piece.now) }
+        ensures err { OnErr result (FailsToPut counting_sink counting_sink piece.now) }
+
+        // The bytes are counted.
+        ensures whole { IsOk result }
+        ensures counted { self.new.total ≡ taken_more self.old.total (length piece.now) }
+    {
+        self.total = self.total.saturating_add(piece.len() as u64);
+        Ok(())
+    }
+}
