@@ -96,8 +96,8 @@ impl Format {
         }
     }
 
-    // The word that names the format.
-    fn name(self) -> &'static [u8]
+    /// The word that names the format.
+    pub fn name(self) -> &'static [u8]
         ensures { result.now ≡ name_of self }
     {
         match self {

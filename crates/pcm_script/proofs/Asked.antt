@@ -1,5 +1,5 @@
 -- What each line asks for, judged by itself, is within what a device and a write allow.
-use Rattle.std.proofs.Common.{ℕ, ◌<◌, ◌≤◌, Bool, true, false, cond, List, [], ◌∷◌, length, Option, Some, None, Result, Ok, Err, arith, IfOk, codes, ◌≡◌, ◌+◌, refl, subst, position}
+use Rattle.std.proofs.Common.{ℕ, ◌<◌, ◌≤◌, List, [], ◌∷◌, length, Option, Some, None, Result, Ok, Err, arith, IfOk, codes, ◌≡◌, ◌+◌, refl, subst, position}
 use Rattle.std.specs.Option.{IfSome}
 use Rattle.std.specs.Str.{bytes_eq}
 use Rattle.hex.specs.Hex.{decode_of}
@@ -14,14 +14,16 @@ use Rattle.pcm_feeder.specs.Limits.{IsRate}
 use Rattle.pcm_wave.specs.DataFiles.{DataFileSeen}
 use Rattle.pcm_desk.specs.declared.limits.TheConstants.{DESCRIPTORS, READ_BYTES, WRITE_BYTES}
 use Rattle.pcm_desk.specs.Device.{DeviceSeen, block_frames, ring_frames}
-use Rattle.pcm_script.specs.declared.fault.ScriptKind.{ScriptKind}
 use Rattle.pcm_script.specs.declared.fault.ScriptKind.TheVariants.{Word, Name}
 use Rattle.pcm_script.specs.declared.fault.LineFault.{LineFault}
 use Rattle.pcm_script.specs.declared.line_event.LineEvent.{LineEvent}
 use Rattle.pcm_script.specs.declared.line_event.LineEvent.TheVariants.{Open, Write, Send, Read, Ioctl, Close, Intr}
+use Rattle.pcm_script.specs.declared.names.Command.{Command}
+use Rattle.pcm_script.specs.declared.names.Command.TheVariants as commands
+use Rattle.pcm_script.specs.Names.{command_named}
 use Rattle.pcm_script.specs.Numbers.{number_in, within, number_within}
 use Rattle.pcm_script.specs.Requests.{as_full, as_plain, request_named}
-use Rattle.pcm_script.specs.Commands.{descriptor_in, way_in, or_fault, format_in, layout_in, rate_in, short_bytes, bytes_in, argument_in, ending_within, file_in, is_file_named, length_in, size_of, open_line, write_line, send_line, read_line, ioctl_line, close_line, interrupt_line, command_line, line_event}
+use Rattle.pcm_script.specs.Commands.{descriptor_in, way_in, or_fault, format_in, layout_in, rate_in, short_bytes, bytes_in, argument_in, ending_within, file_in, is_file_named, length_in, size_of, open_line, write_line, send_line, read_line, ioctl_line, close_line, interrupt_line, asked_by, command_line, line_event}
 use Rattle.pcm_script.specs.Answers.{Asks}
 use Rattle.pcm_script.specs.Collecting.{own_bytes}
 use Rattle.pcm_script.proofs.Judgements.{IfOk-then, IfOk-after, IfOk-either}
@@ -162,30 +164,21 @@ interrupt_line-within device files (n ∷ []) =
     IfOk-then (number_within 1 (ring_frames device) n) _ _ (IsWithin device files) (number_within-range 1 (ring_frames device) n) (λ frames range blocks. range)
 interrupt_line-within device files (n ∷ x ∷ more) = tt
 
--- what a judgement gives is within
-record GivesWithin (device : DeviceSeen) (files : List DataFileSeen) (judged : Result LineEvent ScriptKind) : Type 0 where
-  kept : IfOk judged (IsWithin device files)
-
-either : (device : DeviceSeen) (files : List DataFileSeen) (test : Bool) {one other : Result LineEvent ScriptKind} → GivesWithin device files one → GivesWithin device files other
-    → GivesWithin device files (cond test one other)
-either device files true here there = here
-either device files false here there = there
-
-refused : (device : DeviceSeen) (files : List DataFileSeen) (kind : ScriptKind) → GivesWithin device files (Err kind)
-refused device files kind = record { kept = tt }
+asked_by-within : (device : DeviceSeen) (files : List DataFileSeen) (command : Command) (arguments : List (List ℕ))
+    → IfOk (asked_by device files command arguments) (IsWithin device files)
+asked_by-within device files commands.Open arguments = open_line-within device files arguments
+asked_by-within device files commands.Write arguments = write_line-within device files arguments
+asked_by-within device files commands.Send arguments = send_line-within device files arguments
+asked_by-within device files commands.Read arguments = read_line-within device files arguments
+asked_by-within device files commands.Ioctl arguments = ioctl_line-within device files arguments
+asked_by-within device files commands.Close arguments = close_line-within device files arguments
+asked_by-within device files commands.Intr arguments = interrupt_line-within device files arguments
 
 command_line-within : (device : DeviceSeen) (files : List DataFileSeen) (word : List ℕ) (arguments : List (List ℕ))
     → IfOk (command_line device files word arguments) (IsWithin device files)
 unfolding command_line
 command_line-within device files word arguments =
-    (either device files (bytes_eq word (codes "open")) (record { kept = open_line-within device files arguments })
-    (either device files (bytes_eq word (codes "write")) (record { kept = write_line-within device files arguments })
-    (either device files (bytes_eq word (codes "send")) (record { kept = send_line-within device files arguments })
-    (either device files (bytes_eq word (codes "read")) (record { kept = read_line-within device files arguments })
-    (either device files (bytes_eq word (codes "ioctl")) (record { kept = ioctl_line-within device files arguments })
-    (either device files (bytes_eq word (codes "close")) (record { kept = close_line-within device files arguments })
-    (either device files (bytes_eq word (codes "intr")) (record { kept = interrupt_line-within device files arguments })
-    (refused device files Word)))))))).kept
+    IfOk-after (or_fault (command_named word) Word) _ (IsWithin device files) (λ command. asked_by-within device files command arguments)
 
 -- what each line asks for is within
 pub line_event-within : (device : DeviceSeen) (files : List DataFileSeen) (words : List (List ℕ))

@@ -10,7 +10,6 @@ use Rattle.pcm_format.specs.declared.settings.TheConstants.{RATE_LEAST, RATE_MOS
 use Rattle.pcm_format.specs.Formats.{code_of, format_named}
 use Rattle.pcm_format.specs.Layouts.{layout_of}
 use Rattle.pcm_oss.specs.declared.event.Way.{Way}
-use Rattle.pcm_oss.specs.declared.event.Way.TheVariants.{Play, Record}
 use Rattle.pcm_wave.specs.DataFiles.{DataFileSeen}
 use Rattle.pcm_wave.specs.Pools.{body_in}
 use Rattle.pcm_desk.specs.declared.device.TheConstants.{OPENING}
@@ -20,26 +19,26 @@ use Rattle.pcm_script.specs.declared.fault.ScriptKind.{ScriptKind}
 use Rattle.pcm_script.specs.declared.fault.ScriptKind.TheVariants.{Word, Count, Name, Hex, Range}
 use Rattle.pcm_script.specs.declared.line_event.LineEvent.{LineEvent}
 use Rattle.pcm_script.specs.declared.line_event.LineEvent.TheVariants.{Open, Write, Send, Read, Ioctl, Close, Intr}
+use Rattle.pcm_script.specs.declared.names.Command.{Command}
+use Rattle.pcm_script.specs.declared.names.Command.TheVariants as commands
 use Rattle.pcm_script.specs.declared.request.Setter.{Setter}
 use Rattle.pcm_script.specs.declared.request.Setter.TheVariants.{SetFmt}
 use Rattle.pcm_script.specs.Steps.{◌>>=◌}
 use Rattle.pcm_script.specs.Numbers.{number_in, number_within, within}
+use Rattle.pcm_script.specs.Names.{command_named, way_named}
 use Rattle.pcm_script.specs.Requests.{as_full, as_plain, request_named, request_with}
 
 -- a descriptor
 abbrev pub descriptor_in : List ℕ → Result ℕ ScriptKind
 descriptor_in word = number_within 0 (DESCRIPTORS - 1) word
 
--- which way sound goes
-abbrev pub way_in : List ℕ → Result Way ScriptKind
-way_in word =
-    if bytes_eq word (codes "play") then Ok Play
-    else if bytes_eq word (codes "rec") then Ok Record
-    else Err Name
-
 abbrev pub or_fault : {A : Type 0} → Option A → ScriptKind → Result A ScriptKind
 or_fault None kind = Err kind
 or_fault (Some value) kind = Ok value
+
+-- which way sound goes
+abbrev pub way_in : List ℕ → Result Way ScriptKind
+way_in word = or_fault (way_named word) Name
 
 -- a sample format by its name
 abbrev pub format_in : List ℕ → Result Format ScriptKind
@@ -177,17 +176,21 @@ interrupt_line device (n ∷ []) = do
   Ok (Intr frames)
 interrupt_line device arguments = Err Count
 
+-- the event of a command
+abbrev pub asked_by : DeviceSeen → List DataFileSeen → Command → List (List ℕ) → Result LineEvent ScriptKind
+asked_by device files commands.Open arguments = open_line arguments
+asked_by device files commands.Write arguments = write_line arguments
+asked_by device files commands.Send arguments = send_line files arguments
+asked_by device files commands.Read arguments = read_line arguments
+asked_by device files commands.Ioctl arguments = ioctl_line arguments
+asked_by device files commands.Close arguments = close_line arguments
+asked_by device files commands.Intr arguments = interrupt_line device arguments
+
 -- a command by its first word
 unfoldable pub command_line : DeviceSeen → List DataFileSeen → List ℕ → List (List ℕ) → Result LineEvent ScriptKind
-command_line device files word arguments =
-    if bytes_eq word (codes "open") then open_line arguments
-    else if bytes_eq word (codes "write") then write_line arguments
-    else if bytes_eq word (codes "send") then send_line files arguments
-    else if bytes_eq word (codes "read") then read_line arguments
-    else if bytes_eq word (codes "ioctl") then ioctl_line arguments
-    else if bytes_eq word (codes "close") then close_line arguments
-    else if bytes_eq word (codes "intr") then interrupt_line device arguments
-    else Err Word
+command_line device files word arguments = do
+  command ← or_fault (command_named word) Word
+  asked_by device files command arguments
 
 -- What a line of these words asks for, judged by itself: nothing if it has none, else the event of its command.
 unfoldable pub line_event : DeviceSeen → List DataFileSeen → List (List ℕ) → Result (Option LineEvent) ScriptKind

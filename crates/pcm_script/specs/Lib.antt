@@ -1,6 +1,7 @@
 pub mod Steps
 pub mod Words
 pub mod Numbers
+pub mod Names
 pub mod Requests
 pub mod Commands
 pub mod Collecting

@@ -1,6 +1,5 @@
 -- The requests of a channel, by their names.
-use Rattle.std.specs.Prelude.{ℕ, List, [], ◌∷◌, Option, Some, None, Result, Ok, Err, option_map, find, codes}
-use Rattle.std.specs.Borrow.{Bor}
+use Rattle.std.specs.Prelude.{ℕ, List, [], ◌∷◌, Option, Some, None, Result, Ok, Err, find}
 use Rattle.std.specs.Str.{bytes_eq}
 use Rattle.pcm_oss.specs.declared.request.Request.{Request}
 use Rattle.pcm_oss.specs.declared.request.Request.TheVariants as requests
@@ -10,56 +9,7 @@ use Rattle.pcm_script.specs.declared.request.Named.{Named}
 use Rattle.pcm_script.specs.declared.request.Named.TheVariants.{Plain, Full}
 use Rattle.pcm_script.specs.declared.request.Setter.{Setter}
 use Rattle.pcm_script.specs.declared.request.Setter.TheVariants as setters
-
--- a row of the table: a name, and what it stands for
-pub record Row : Type 0 where
-  pub name : List ℕ
-  pub named : Named
-
--- a request without an argument
-abbrev plain : List ℕ → Request → Row
-plain name request = record { name = name; named = Plain request }
-
--- a request with an argument
-abbrev full : List ℕ → Setter → Row
-full name setter = record { name = name; named = Full setter }
-
--- all requests
-abbrev pub all_requests : List Row
-all_requests =
-    full (codes "setfmt") setters.SetFmt
-    ∷ full (codes "speed") setters.Speed
-    ∷ full (codes "channels") setters.Channels
-    ∷ plain (codes "getfmts") requests.GetFmts
-    ∷ plain (codes "getcaps") requests.GetCaps
-    ∷ plain (codes "getblksize") requests.GetBlkSize
-    ∷ full (codes "setfragment") setters.SetFragment
-    ∷ plain (codes "getospace") requests.GetOSpace
-    ∷ plain (codes "getispace") requests.GetISpace
-    ∷ plain (codes "getoptr") requests.GetOPtr
-    ∷ plain (codes "getiptr") requests.GetIPtr
-    ∷ plain (codes "getodelay") requests.GetODelay
-    ∷ plain (codes "geterror") requests.GetError
-    ∷ full (codes "settrigger") setters.SetTrigger
-    ∷ plain (codes "gettrigger") requests.GetTrigger
-    ∷ full (codes "setplayvol") setters.SetPlayVol
-    ∷ plain (codes "getplayvol") requests.GetPlayVol
-    ∷ plain (codes "post") requests.Post
-    ∷ plain (codes "sync") requests.Sync
-    ∷ plain (codes "halt") requests.Halt
-    ∷ []
-
--- what the first row of a name says
-abbrev pub named_in : List Row → List ℕ → Option Named
-named_in rows name = option_map (λ row. row.named) (find (λ row. bytes_eq row.name name) rows)
-
--- what a name stands for, if a request has it
-abbrev pub request_named : List ℕ → Option Named
-request_named name = named_in all_requests name
-
--- a row as the code has it
-abbrev pub row_seen : Bor (List ℕ) × Named → Row
-row_seen row = record { name = row.0.now; named = row.1 }
+use Rattle.pcm_script.specs.Names.{request_name}
 
 -- the request with its argument
 abbrev pub request_with : Setter → ℕ → Request
@@ -69,6 +19,40 @@ request_with setters.Channels argument = requests.Channels argument
 request_with setters.SetFragment argument = requests.SetFragment argument
 request_with setters.SetTrigger argument = requests.SetTrigger argument
 request_with setters.SetPlayVol argument = requests.SetPlayVol argument
+
+-- all that a name can stand for
+abbrev pub all_requests : List Named
+all_requests =
+    Full setters.SetFmt
+    ∷ Full setters.Speed
+    ∷ Full setters.Channels
+    ∷ Plain requests.GetFmts
+    ∷ Plain requests.GetCaps
+    ∷ Plain requests.GetBlkSize
+    ∷ Full setters.SetFragment
+    ∷ Plain requests.GetOSpace
+    ∷ Plain requests.GetISpace
+    ∷ Plain requests.GetOPtr
+    ∷ Plain requests.GetIPtr
+    ∷ Plain requests.GetODelay
+    ∷ Plain requests.GetError
+    ∷ Full setters.SetTrigger
+    ∷ Plain requests.GetTrigger
+    ∷ Full setters.SetPlayVol
+    ∷ Plain requests.GetPlayVol
+    ∷ Plain requests.Post
+    ∷ Plain requests.Sync
+    ∷ Plain requests.Halt
+    ∷ []
+
+-- the word that names it
+abbrev pub name_in_table : Named → List ℕ
+name_in_table (Plain request) = request_name request
+name_in_table (Full setter) = request_name (request_with setter 0)
+
+-- what a name stands for, if a request has it
+abbrev pub request_named : List ℕ → Option Named
+request_named name = find (λ named. bytes_eq (name_in_table named) name) all_requests
 
 -- A name behind which nothing stands: a request that has an argument has too few words then.
 abbrev pub as_plain : Option Named → Result (Option Request) ScriptKind

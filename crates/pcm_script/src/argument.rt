@@ -6,6 +6,7 @@ ghost use Rattle.pcm_script.specs.Commands.{argument_in, bytes_in, code_in, desc
 
 use crate::ScriptKind;
 use crate::fault::LineFault;
+use crate::names::way_named;
 use crate::number::{number_in, number_within};
 use crate::request::Setter;
 use hex::FromHexError;
@@ -26,13 +27,7 @@ pub(crate) fn descriptor_in(word: &[u8]) -> Result<u8, ScriptKind>
 pub(crate) fn way_in(word: &[u8]) -> Result<Way, ScriptKind>
     ensures { result ≡ way_in word.now }
 {
-    if word == b"play".as_slice() {
-        Ok(Way::Play)
-    } else if word == b"rec".as_slice() {
-        Ok(Way::Record)
-    } else {
-        Err(ScriptKind::Name)
-    }
+    way_named(word).ok_or(ScriptKind::Name)
 }
 
 // A sample format by its name.

@@ -1,10 +1,9 @@
 //! What each command asks for.
 
-ghost use Rattle.std.specs.Prelude.{◌≡◌, ◌∷◌, [], codes, false};
-ghost use Rattle.std.specs.Str.{bytes_eq};
+ghost use Rattle.std.specs.Prelude.{◌≡◌, ◌∷◌, []};
 ghost use Rattle.pcm_desk.specs.Device.{unfiltered};
 ghost use Rattle.pcm_script.specs.Answers.{Asks};
-ghost use Rattle.pcm_script.specs.Commands.{close_line, command_line, interrupt_line, ioctl_line, line_event, open_line, read_line, send_line, write_line};
+ghost use Rattle.pcm_script.specs.Commands.{asked_by, close_line, command_line, interrupt_line, ioctl_line, line_event, open_line, read_line, send_line, write_line};
 ghost use Rattle.pcm_script.specs.Words.{lent};
 
 use crate::ScriptKind;
@@ -14,6 +13,7 @@ use crate::argument::{
 };
 use crate::fault::LineFault;
 use crate::line_event::LineEvent;
+use crate::names::Command;
 use crate::number::{number_in, number_within};
 use crate::request::{full_request, plain_request};
 use pcm_desk::{Device, OPENING, READ_BYTES};
@@ -48,40 +48,29 @@ fn command_line(
     ensures { Asks result
         (command_line (unfiltered device.now) files.now word.now (lent arguments.now)) }
 {
-    if word == b"open".as_slice() {
-        Ok(open_line(arguments)?)
-    } else if word == b"write".as_slice() {
-        write_line(alloc, arguments)
-    } else {
-        Ok(later_line(device, files, word, arguments)?)
-    }
+    let command = Command::from_name(word).ok_or(ScriptKind::Word)?;
+    asked_by(alloc, device, files, command, arguments)
 }
 
-// A line of any other command.
-#[tactic(auto, unfolding(crate::specs::Commands::command_line))]
-fn later_line(
+// What a command asks for.
+fn asked_by(
+    alloc: Global,
     device: &Device,
     files: &[DataFile],
-    word: &[u8],
+    command: Command,
     arguments: &[&[u8]],
-) -> Result<LineEvent, ScriptKind>
-    requires open { bytes_eq word.now (codes "open") ≡ false }
-    requires write { bytes_eq word.now (codes "write") ≡ false }
-    ensures { result
-        ≡ command_line (unfiltered device.now) files.now word.now (lent arguments.now) }
+) -> Result<LineEvent, LineFault>
+    ensures { Asks result
+        (asked_by (unfiltered device.now) files.now command (lent arguments.now)) }
 {
-    if word == b"send".as_slice() {
-        send_line(files, arguments)
-    } else if word == b"read".as_slice() {
-        read_line(arguments)
-    } else if word == b"ioctl".as_slice() {
-        ioctl_line(arguments)
-    } else if word == b"close".as_slice() {
-        close_line(arguments)
-    } else if word == b"intr".as_slice() {
-        interrupt_line(device, arguments)
-    } else {
-        Err(ScriptKind::Word)
+    match command {
+        Command::Open => Ok(open_line(arguments)?),
+        Command::Write => write_line(alloc, arguments),
+        Command::Send => Ok(send_line(files, arguments)?),
+        Command::Read => Ok(read_line(arguments)?),
+        Command::Ioctl => Ok(ioctl_line(arguments)?),
+        Command::Close => Ok(close_line(arguments)?),
+        Command::Intr => Ok(interrupt_line(device, arguments)?),
     }
 }
 

@@ -8,6 +8,7 @@ mod draft;
 mod fault;
 mod limits;
 mod line_event;
+mod names;
 mod number;
 mod reader;
 mod request;
@@ -16,6 +17,7 @@ mod words;
 
 pub use fault::{Refusal, ScriptFault, ScriptKind};
 pub use limits::TEXT_BYTES;
+pub use names::{Command, request_name, way_name};
 pub use number::decimal_in;
 pub use reader::script_of;
 pub use script::{Events, Script};

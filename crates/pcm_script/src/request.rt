@@ -1,9 +1,10 @@
 //! The requests of a channel, by their names.
 
-ghost use Rattle.std.specs.Prelude.{◌≡◌, map};
-ghost use Rattle.pcm_script.specs.Requests.{as_full, as_plain, named_in, request_named, request_with, row_seen};
+ghost use Rattle.std.specs.Prelude.{◌≡◌};
+ghost use Rattle.pcm_script.specs.Requests.{as_full, as_plain, name_in_table, request_named, request_with};
 
 use crate::ScriptKind;
+use crate::names::request_name;
 use pcm_oss::Request;
 
 // What the name of a request stands for.
@@ -26,29 +27,41 @@ pub(crate) enum Setter {
     SetPlayVol,
 }
 
-// All requests by their names, in the order of `Request`.
-const REQUESTS: [(&str, Named); 20] = [
-    ("setfmt", Named::Full(Setter::SetFmt)),
-    ("speed", Named::Full(Setter::Speed)),
-    ("channels", Named::Full(Setter::Channels)),
-    ("getfmts", Named::Plain(Request::GetFmts)),
-    ("getcaps", Named::Plain(Request::GetCaps)),
-    ("getblksize", Named::Plain(Request::GetBlkSize)),
-    ("setfragment", Named::Full(Setter::SetFragment)),
-    ("getospace", Named::Plain(Request::GetOSpace)),
-    ("getispace", Named::Plain(Request::GetISpace)),
-    ("getoptr", Named::Plain(Request::GetOPtr)),
-    ("getiptr", Named::Plain(Request::GetIPtr)),
-    ("getodelay", Named::Plain(Request::GetODelay)),
-    ("geterror", Named::Plain(Request::GetError)),
-    ("settrigger", Named::Full(Setter::SetTrigger)),
-    ("gettrigger", Named::Plain(Request::GetTrigger)),
-    ("setplayvol", Named::Full(Setter::SetPlayVol)),
-    ("getplayvol", Named::Plain(Request::GetPlayVol)),
-    ("post", Named::Plain(Request::Post)),
-    ("sync", Named::Plain(Request::Sync)),
-    ("halt", Named::Plain(Request::Halt)),
+// All of them, in the order of `Request`.
+const REQUESTS: [Named; 20] = [
+    Named::Full(Setter::SetFmt),
+    Named::Full(Setter::Speed),
+    Named::Full(Setter::Channels),
+    Named::Plain(Request::GetFmts),
+    Named::Plain(Request::GetCaps),
+    Named::Plain(Request::GetBlkSize),
+    Named::Full(Setter::SetFragment),
+    Named::Plain(Request::GetOSpace),
+    Named::Plain(Request::GetISpace),
+    Named::Plain(Request::GetOPtr),
+    Named::Plain(Request::GetIPtr),
+    Named::Plain(Request::GetODelay),
+    Named::Plain(Request::GetError),
+    Named::Full(Setter::SetTrigger),
+    Named::Plain(Request::GetTrigger),
+    Named::Full(Setter::SetPlayVol),
+    Named::Plain(Request::GetPlayVol),
+    Named::Plain(Request::Post),
+    Named::Plain(Request::Sync),
+    Named::Plain(Request::Halt),
 ];
+
+impl Named {
+    // The word that names it.
+    fn name(self) -> &'static [u8]
+        ensures { result.now ≡ name_in_table self }
+    {
+        match self {
+            Named::Plain(request) => request_name(request),
+            Named::Full(setter) => request_name(setter.with(0)),
+        }
+    }
+}
 
 impl Setter {
     // The request with its argument.
@@ -91,13 +104,5 @@ pub(crate) fn full_request(name: &[u8]) -> Result<Option<Setter>, ScriptKind>
 fn request_named(name: &[u8]) -> Option<Named>
     ensures { result ≡ request_named name.now }
 {
-    named_in(&REQUESTS, name)
-}
-
-// What the first row of a name says.
-fn named_in(rows: &[(&str, Named)], name: &[u8]) -> Option<Named>
-    ensures { result ≡ named_in (map row_seen rows.now) name.now }
-{
-    let (_, named) = rows.iter().find(|(word, _)| word.as_bytes() == name)?;
-    Some(*named)
+    REQUESTS.iter().copied().find(|named| named.name() == name)
 }

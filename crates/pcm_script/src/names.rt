@@ -1,0 +1,106 @@
+//! The words of a script's language, as they are read and as they are written.
+
+ghost use Rattle.std.specs.Prelude.{◌≡◌};
+ghost use Rattle.pcm_script.specs.Names.{request_name, way_name, way_named};
+
+use pcm_oss::{Request, Way};
+
+/// What a line asks for, by its first word.
+#[derive(Clone, Copy, Debug, PartialEq, Eq)]
+pub enum Command {
+    Open,
+    Write,
+    Send,
+    Read,
+    Ioctl,
+    Close,
+    Intr,
+}
+
+// All commands, in the order of the language's table.
+const COMMANDS: [Command; 7] = [
+    Command::Open,
+    Command::Write,
+    Command::Send,
+    Command::Read,
+    Command::Ioctl,
+    Command::Close,
+    Command::Intr,
+];
+
+impl Command {
+    ghost use Rattle.pcm_script.specs.Names.{command_name, command_named};
+
+    /// The word that names the command.
+    pub fn name(self) -> &'static [u8]
+        ensures { result.now ≡ command_name self }
+    {
+        match self {
+            Command::Open => b"open",
+            Command::Write => b"write",
+            Command::Send => b"send",
+            Command::Read => b"read",
+            Command::Ioctl => b"ioctl",
+            Command::Close => b"close",
+            Command::Intr => b"intr",
+        }
+    }
+
+    // The command that a word names.
+    pub(crate) fn from_name(word: &[u8]) -> Option<Command>
+        ensures { result ≡ command_named word.now }
+    {
+        COMMANDS
+            .iter()
+            .copied()
+            .find(|command| command.name() == word)
+    }
+}
+
+// Both ways.
+const WAYS: [Way; 2] = [Way::Play, Way::Record];
+
+/// The word that names a way.
+pub fn way_name(way: Way) -> &'static [u8]
+    ensures { result.now ≡ way_name way }
+{
+    match way {
+        Way::Play => b"play",
+        Way::Record => b"rec",
+    }
+}
+
+// The way that a word names.
+pub(crate) fn way_named(word: &[u8]) -> Option<Way>
+    ensures { result ≡ way_named word.now }
+{
+    WAYS.iter().copied().find(|way| way_name(*way) == word)
+}
+
+/// The word that names a request, whatever its argument.
+pub fn request_name(request: Request) -> &'static [u8]
+    ensures { result.now ≡ request_name request }
+{
+    match request {
+        Request::SetFmt(_) => b"setfmt",
+        Request::Speed(_) => b"speed",
+        Request::Channels(_) => b"channels",
+        Request::GetFmts => b"getfmts",
+        Request::GetCaps => b"getcaps",
+        Request::GetBlkSize => b"getblksize",
+        Request::SetFragment(_) => b"setfragment",
+        Request::GetOSpace => b"getospace",
+        Request::GetISpace => b"getispace",
+        Request::GetOPtr => b"getoptr",
+        Request::GetIPtr => b"getiptr",
+        Request::GetODelay => b"getodelay",
+        Request::GetError => b"geterror",
+        Request::SetTrigger(_) => b"settrigger",
+        Request::GetTrigger => b"gettrigger",
+        Request::SetPlayVol(_) => b"setplayvol",
+        Request::GetPlayVol => b"getplayvol",
+        Request::Post => b"post",
+        Request::Sync => b"sync",
+        Request::Halt => b"halt",
+    }
+}
