@@ -7,9 +7,9 @@ use pcm_format::{Bytes, Settings};
 use pcm_oss::{Event, Request, Way};
 use pcm_wave::Source;
 
-// An event with the bytes that the line spells, and not yet a place for them.
-#[derive(Drop)]
-pub(crate) enum LineEvent {
+/// An event with the bytes that its line spells, and not yet a place for them.
+#[derive(Debug, Drop)]
+pub enum LineEvent {
     Open {
         fd: u8,
         way: Way,

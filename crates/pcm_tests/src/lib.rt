@@ -19,6 +19,8 @@ mod scripts;
 #[cfg(test)]
 mod soaks;
 #[cfg(test)]
+mod texts;
+#[cfg(test)]
 mod transfers;
 #[cfg(test)]
 mod waves;

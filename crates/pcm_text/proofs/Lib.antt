@@ -1,0 +1,4 @@
+pub mod CutLines
+pub mod Spelling
+pub mod Lines
+pub mod Scripts

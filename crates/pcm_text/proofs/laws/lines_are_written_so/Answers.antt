@@ -1,0 +1,52 @@
+use Rattle.std.proofs.Common.{refl}
+use Rattle.std.specs.Fmt.{digits}
+use Rattle.hex.specs.Hex.{encode_with}
+use Rattle.pcm_text.proofs.laws.lines_are_written_so.Goals as goal
+
+pub returns-clause-open : goal.returns-clause-open
+unfolding digits encode_with
+returns-clause-open c = refl
+
+pub returns-clause-record : goal.returns-clause-record
+unfolding digits encode_with
+returns-clause-record c = refl
+
+pub returns-clause-write : goal.returns-clause-write
+unfolding digits encode_with
+returns-clause-write c = refl
+
+pub returns-clause-empty : goal.returns-clause-empty
+unfolding digits encode_with
+returns-clause-empty c = refl
+
+pub returns-clause-send : goal.returns-clause-send
+unfolding digits encode_with
+returns-clause-send c = refl
+
+pub returns-clause-read : goal.returns-clause-read
+unfolding digits encode_with
+returns-clause-read c = refl
+
+pub returns-clause-format : goal.returns-clause-format
+unfolding digits encode_with
+returns-clause-format c = refl
+
+pub returns-clause-greatest : goal.returns-clause-greatest
+unfolding digits encode_with
+returns-clause-greatest c = refl
+
+pub returns-clause-sync : goal.returns-clause-sync
+unfolding digits encode_with
+returns-clause-sync c = refl
+
+pub returns-clause-close : goal.returns-clause-close
+unfolding digits encode_with
+returns-clause-close c = refl
+
+pub returns-clause-interrupt : goal.returns-clause-interrupt
+unfolding digits encode_with
+returns-clause-interrupt c = refl
+
+pub returns-clause-several : goal.returns-clause-several
+unfolding digits encode_with
+returns-clause-several c = refl

@@ -1,0 +1,167 @@
+//! The text of a script, line by line.
+
+ghost use Rattle.std.specs.Prelude.{◌≡◌, ◌+◌, ◌≤◌, ◌∷◌, ◌++◌, [], IfOk, OnOk, drop, length, take};
+ghost use Rattle.std.specs.Fmt.{decimal};
+ghost use Rattle.pcm_report.specs.Lines.{bytes_text};
+ghost use Rattle.pcm_script.specs.Lines.{pool_of};
+ghost use Rattle.pcm_script.specs.Names.{request_name, way_name};
+ghost use Rattle.pcm_text.specs.Texts.{AllFound, FindsBytes, argument_words, arguments_for, command_for, event_line, settings_words, spaced, text_of};
+
+use crate::words::{push_bytes, push_number, push_word};
+use pcm_format::Settings;
+use pcm_oss::{Event, Request, Way};
+use pcm_script::{Command, Script, request_name, way_name};
+use pcm_wave::{DataFile, Source};
+use std::alloc::{AllocError, Global};
+
+/// Writes the text of a script that reads from these data files: a line for each event.
+pub fn script_text(
+    alloc: Global,
+    script: &Script,
+    files: &[DataFile],
+) -> Result<Vec<u8>, AllocError>
+    requires found { AllFound files.now script.now }
+    ensures text { IfOk result (λ text. text.items ≡ text_of files.now script.now) }
+{
+    let mut text = Vec::new(alloc);
+    for event in script.events.as_slice() {
+        push_line(&mut text, script, files, event)?;
+    }
+    Ok(text)
+}
+
+// Writes the line of an event, and its end.
+fn push_line(
+    text: &mut Vec<u8>,
+    script: &Script,
+    files: &[DataFile],
+    event: &Event,
+) -> Result<(), AllocError>
+    requires found { FindsBytes (pool_of files.now script.now) event.now }
+    ensures { OnOk result (text.new.items
+        ≡ text.old.items ++ event_line (pool_of files.now script.now) event.now ++ 10 ∷ []) }
+{
+    text.extend_from_slice(command_for(event).name())?;
+    push_arguments(text, script, files, event)?;
+    text.extend_from_slice(b"\n")
+}
+
+// The command of an event.
+fn command_for(event: &Event) -> Command
+    ensures { result ≡ command_for event.now }
+{
+    match event {
+        Event::Open { .. } => Command::Open,
+        Event::Write {
+            source: Source::Inline,
+            ..
+        } => Command::Write,
+        Event::Write { .. } => Command::Send,
+        Event::Read { .. } => Command::Read,
+        Event::Ioctl { .. } => Command::Ioctl,
+        Event::Close { .. } => Command::Close,
+        Event::Intr { .. } => Command::Intr,
+    }
+}
+
+// Writes what stands behind the command of an event.
+fn push_arguments(
+    text: &mut Vec<u8>,
+    script: &Script,
+    files: &[DataFile],
+    event: &Event,
+) -> Result<(), AllocError>
+    requires found { FindsBytes (pool_of files.now script.now) event.now }
+    ensures { OnOk result (text.new.items
+        ≡ text.old.items ++ spaced (arguments_for (pool_of files.now script.now) event.now)) }
+{
+    match *event {
+        Event::Open { fd, way, settings } => push_open(text, fd, way, settings),
+        Event::Write {
+            fd,
+            source: Source::Inline,
+            at,
+            len,
+        } => push_write(text, fd, inline(script, at, len)),
+        Event::Write {
+            fd,
+            source: Source::File(place),
+            at,
+            len,
+        } => push_send(text, fd, files[place].name(), at, len),
+        Event::Read { fd, len } => push_read(text, fd, len),
+        Event::Ioctl { fd, request } => push_ioctl(text, fd, request),
+        Event::Close { fd } => push_number(text, u32::from(fd)),
+        Event::Intr { frames } => push_number(text, frames),
+    }
+}
+
+// The bytes of a script's lines that a write names.
+fn inline(script: &Script, at: u32, len: u32) -> &[u8]
+    requires within { at + len ≤ length script.now.inline_bytes }
+    ensures { result.now ≡ take len (drop at script.now.inline_bytes) }
+{
+    let at = at as usize;
+    &script.inline_bytes.as_slice()[at..at + len as usize]
+}
+
+fn push_open(text: &mut Vec<u8>, fd: u8, way: Way, settings: Settings) -> Result<(), AllocError>
+    ensures { OnOk result (text.new.items
+        ≡ text.old.items ++ spaced (decimal fd ∷ way_name way ∷ settings_words settings)) }
+{
+    push_number(text, u32::from(fd))?;
+    push_word(text, way_name(way))?;
+    push_word(text, settings.format.name())?;
+    push_number(text, settings.layout.channels() as u32)?;
+    push_number(text, settings.rate)
+}
+
+fn push_write(text: &mut Vec<u8>, fd: u8, bytes: &[u8]) -> Result<(), AllocError>
+    ensures { OnOk result (text.new.items
+        ≡ text.old.items ++ spaced (decimal fd ∷ bytes_text bytes.now ∷ [])) }
+{
+    push_number(text, u32::from(fd))?;
+    push_bytes(text, bytes)
+}
+
+fn push_send(text: &mut Vec<u8>, fd: u8, name: &str, at: u32, count: u32) -> Result<(), AllocError>
+    ensures { OnOk result (text.new.items
+        ≡ text.old.items ++ spaced (decimal fd ∷ name.now ∷ decimal at ∷ decimal count ∷ [])) }
+{
+    push_number(text, u32::from(fd))?;
+    push_word(text, name.as_bytes())?;
+    push_number(text, at)?;
+    push_number(text, count)
+}
+
+fn push_read(text: &mut Vec<u8>, fd: u8, count: u32) -> Result<(), AllocError>
+    ensures { OnOk result (text.new.items
+        ≡ text.old.items ++ spaced (decimal fd ∷ decimal count ∷ [])) }
+{
+    push_number(text, u32::from(fd))?;
+    push_number(text, count)
+}
+
+fn push_ioctl(text: &mut Vec<u8>, fd: u8, request: Request) -> Result<(), AllocError>
+    ensures { OnOk result (text.new.items
+        ≡ text.old.items ++ spaced (decimal fd ∷ request_name request ∷ argument_words request)) }
+{
+    push_number(text, u32::from(fd))?;
+    push_word(text, request_name(request))?;
+    push_argument(text, request)
+}
+
+// Writes the argument of a request, if it has one.
+fn push_argument(text: &mut Vec<u8>, request: Request) -> Result<(), AllocError>
+    ensures { OnOk result (text.new.items ≡ text.old.items ++ spaced (argument_words request)) }
+{
+    match request {
+        Request::SetFmt(argument)
+        | Request::Speed(argument)
+        | Request::Channels(argument)
+        | Request::SetFragment(argument)
+        | Request::SetTrigger(argument)
+        | Request::SetPlayVol(argument) => push_number(text, argument),
+        _ => Ok(()),
+    }
+}
