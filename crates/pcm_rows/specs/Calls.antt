@@ -1,5 +1,6 @@
 -- The call that the rows make, and the devices that they make it on.
-use Rattle.std.specs.Prelude.{ℕ, zero, suc, List, [], ◌∷◌, ◌++◌, codes, true, Option, Some, None, Result, Ok, Err, if◌then◌else◌}
+use Prim.Native.String.{String}
+use Rattle.std.specs.Prelude.{ℕ, ◌/◌, ◌%◌, zero, suc, List, [], ◌∷◌, ◌++◌, codes, flat_map, replicate, true, Option, Some, None, Result, Ok, Err, if◌then◌else◌}
 use Rattle.std.specs.Str.{bytes_eq}
 use Rattle.pcm_oss.specs.declared.event.Event.{Event}
 use Rattle.pcm_oss.specs.declared.event.Event.TheVariants.{Open}
@@ -10,10 +11,10 @@ use Rattle.pcm_desk.specs.declared.play_book.PlayState.{PlayState}
 use Rattle.pcm_desk.specs.Desk.{desk_at_start, play_at}
 use Rattle.pcm_desk.specs.Device.{DeviceSeen, no_filters}
 use Rattle.pcm_desk.specs.Events.{after_all}
-use Rattle.pcm_desk.specs.Usual.{usual_settings}
+use Rattle.pcm_desk.specs.Usual.{usual_device, usual_settings}
 use Rattle.pcm_sound.specs.DeviceList.{device_text}
 use Rattle.pcm_sound.specs.Plain.{Span, plain_text, spans_of}
-use Rattle.pcm_sound.specs.Runs.{Piece}
+use Rattle.pcm_sound.specs.Runs.{Piece, Run}
 use Rattle.pcm_sound.specs.Story.{Story, story_of}
 use Rattle.pcm_sound.specs.Gains.{GainSet}
 use Rattle.pcm_feeder.specs.Layouts.{unity}
@@ -22,6 +23,7 @@ use Rattle.pcm_script.specs.Lines.{pool_of, script_read}
 use Rattle.pcm_verdict.specs.Faults.{Fault, fault_line, status_of}
 use Rattle.pcm_verdict.specs.Verdict.{or_bad_script}
 use Rattle.pcm_verdict.specs.Transcript.{transcript}
+use Rattle.pcm_rows.specs.Stages.{half_right}
 
 -- a ring of four frames, where a row looks at single frames
 abbrev pub small_device : DeviceSeen
@@ -45,6 +47,18 @@ abbrev pub times : ℕ → List ℕ → List ℕ
 times zero bytes = []
 times (suc count) bytes = bytes ++ times count bytes
 
+-- numbers of 16 bits, each with its lowest byte first
+abbrev pub little_endian : List ℕ → List ℕ
+little_endian numbers = flat_map (λ number. number % 256 ∷ number / 256 ∷ []) numbers
+
+-- frames of two channels of 16 bits, each with its number on both sides
+abbrev pub stereo_bytes : List ℕ → List ℕ
+stereo_bytes numbers = little_endian (flat_map (λ number. number ∷ number ∷ []) numbers)
+
+-- what the ring of the usual device begins with
+abbrev pub silent_ring : List ℕ
+silent_ring = replicate 4096 0
+
 -- files of which one alone is there
 abbrev pub only : List ℕ → List ℕ → List ℕ → Option (List ℕ)
 only there bytes other = if bytes_eq other there then Some bytes else None
@@ -56,6 +70,10 @@ run_call = codes "run" ∷ codes "s" ∷ codes "o" ∷ []
 -- what a script's text is judged to be, for a device and without data files
 abbrev pub judged : DeviceSeen → List ℕ → Result Script Fault
 judged device bytes = or_bad_script (script_read device [] bytes)
+
+-- and what a text is judged to be for the usual device
+abbrev pub script_in : String → Result Script Fault
+script_in text = judged usual_device (codes text)
 
 -- a script that is accepted
 abbrev pub accepted : Script → Result Script Fault
@@ -86,9 +104,21 @@ printed device script = transcript device (pool_of [] script) script.events
 abbrev pub story_after : DeviceSeen → Script → Story
 story_after device script = story_of device (pool_of [] script) script.events
 
--- the runs of a script's first client, as they are heard until a position
-abbrev pub spans_after : DeviceSeen → Script → ℕ → List Span
-spans_after device script until = spans_of device until ((story_after device script).runs 0)
+-- and on a ring of four frames
+abbrev pub small_story : Script → Story
+small_story script = story_after small_device script
+
+-- the runs of a script's first client on a ring of four frames, the newest first
+abbrev pub runs_in : Script → List Run
+runs_in script = (small_story script).runs 0
+
+-- its gains, the newest first
+abbrev pub gains_in : Script → List GainSet
+gains_in script = (small_story script).gains 0
+
+-- its runs, as they are heard until a position
+abbrev pub spans_in : Script → ℕ → List Span
+spans_in script until = spans_of small_device until (runs_in script)
 
 -- so many frames of a run from an index on, mixed from a position on, with so many missing
 abbrev pub piece : ℕ → ℕ → ℕ → ℕ → Piece
@@ -97,6 +127,10 @@ piece position index count short = record { position = position; index = index; 
 -- a gain of one on both sides, set at a position
 abbrev pub unity_from : ℕ → GainSet
 unity_from position = record { position = position; gain = unity }
+
+-- half as loud on the right side, from a position on
+abbrev pub softer_from : ℕ → GainSet
+softer_from position = record { position = position; gain = half_right }
 
 -- a book with the counts of a run, and all else as an opening begins: four fragments of 4096 bytes, the trigger on, 100 on both sides
 abbrev pub book_in : Settings → PlayState → ℕ → ℕ → ℕ → PlayBook
@@ -110,6 +144,10 @@ book_in settings state written eaten given = record {
   done = 0;
   underruns = 0;
 }
+
+-- the same in the settings of the device
+abbrev pub usual_book : PlayState → ℕ → ℕ → ℕ → PlayBook
+usual_book state written eaten given = book_in usual_settings state written eaten given
 
 -- a book whose ring is cut so
 abbrev pub cut_in : ℕ → ℕ → PlayBook → PlayBook

@@ -11,11 +11,12 @@ use Rattle.pcm_format.specs.declared.settings.Settings.{Settings}
 use Rattle.pcm_desk.specs.declared.play_book.PlayBook.{PlayBook}
 use Rattle.pcm_desk.specs.declared.play_book.PlayState.TheVariants.{Free, Setup, Running, Draining}
 use Rattle.pcm_desk.specs.declared.device.TheConstants.{OPENING}
-use Rattle.pcm_desk.specs.Device.{DeviceSeen}
+use Rattle.pcm_desk.specs.Device.{DeviceSeen, play_plan_between}
 use Rattle.pcm_desk.specs.Usual.{usual_device}
+use Rattle.pcm_plan.specs.Plans.{PlanSeen}
 use Rattle.pcm_sound.specs.Runs.{Run}
 use Rattle.pcm_script.specs.declared.script.Script.{Script}
-use Rattle.pcm_rows.specs.Calls.{book_in, cut_in, device_in, joined, piece, small_device}
+use Rattle.pcm_rows.specs.Calls.{book_in, cut_in, device_in, joined, piece, small_device, stereo_bytes}
 use Rattle.pcm_rows.specs.ClientFormats.{client_script}
 use Rattle.pcm_rows.specs.FilterRows.{sixty_four_taps}
 use Rattle.pcm_rows.specs.Stages.{two_taps}
@@ -43,6 +44,14 @@ opening_bytes =
 abbrev pub half_settings : Settings
 half_settings = record { format = S16Le; layout = Two; rate = 24000 }
 
+-- 0 and 100 on both sides
+abbrev pub step_body : List ℕ
+step_body = stereo_bytes (0 ∷ 100 ∷ [])
+
+-- and at twice the rate, up to silence
+abbrev pub step_doubled : List ℕ
+step_doubled = stereo_bytes (0 ∷ 50 ∷ 100 ∷ 50 ∷ [])
+
 -- two frames at half the rate, of which three of the four frames that they last for are mixed first
 abbrev pub tail_text : List ℕ
 tail_text = joined (
@@ -56,7 +65,7 @@ tail_text = joined (
 abbrev pub tail_script : Script
 tail_script = record {
   events = Open 0 Play half_settings ∷ Write 0 Inline 0 8 ∷ Close 0 ∷ Intr 3 ∷ Intr 1 ∷ Intr 4 ∷ [];
-  inline_bytes = 0 ∷ 0 ∷ 0 ∷ 0 ∷ 100 ∷ 0 ∷ 100 ∷ 0 ∷ [];
+  inline_bytes = step_body;
   device_frames = 8;
 }
 
@@ -126,6 +135,10 @@ filtered_device = record (device_in (record { format = S32Le; layout = One; rate
 abbrev pub filtered_settings : Settings
 filtered_settings = record { format = S32Le; layout = One; rate = 24000 }
 
+-- what a plan at some quality gives it
+abbrev pub filtered_plan : ℕ → PlanSeen
+filtered_plan quality = play_plan_between (record filtered_device { quality = quality }) filtered_settings
+
 -- two frames: -3 and 4
 abbrev pub filtered_text : List ℕ
 filtered_text = joined (
@@ -145,6 +158,11 @@ filtered_script = record {
 abbrev pub filtered_lines : List ℕ
 filtered_lines = joined (
     codes "1: ok 0" ∷ codes "2: ok 8" ∷ codes "3: ok" ∷ codes "4: ok 1024" ∷ codes "5: ok 4" ∷ [])
+
+-- -3, 1, 4 and 2
+abbrev pub filtered_bytes : List ℕ
+filtered_bytes =
+    0xfd ∷ 0xff ∷ 0xff ∷ 0xff ∷ 1 ∷ 0 ∷ 0 ∷ 0 ∷ 4 ∷ 0 ∷ 0 ∷ 0 ∷ 2 ∷ 0 ∷ 0 ∷ 0 ∷ []
 
 -- its book once both frames were played
 abbrev pub filtered_book : PlayBook

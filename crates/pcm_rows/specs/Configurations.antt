@@ -1,5 +1,6 @@
--- A configuration that settles all, and what it settles.
-use Rattle.std.specs.Prelude.{ℕ, pos, negsuc, List, [], ◌∷◌, codes, Some}
+-- Configurations: one that settles all, and parts of others, with what they settle.
+use Prim.Native.String.{String}
+use Rattle.std.specs.Prelude.{ℕ, pos, negsuc, List, [], ◌∷◌, ◌++◌, codes, Some, Result}
 use Rattle.pcm_format.specs.declared.format.Format.TheVariants.{S24Le}
 use Rattle.pcm_format.specs.declared.layout.Layout.TheVariants.{Six}
 use Rattle.pcm_feeder.specs.declared.table.Table.{Table}
@@ -7,8 +8,13 @@ use Rattle.pcm_desk.specs.Device.{no_filters}
 use Rattle.pcm_config.specs.declared.config.Config.{Config}
 use Rattle.pcm_config.specs.declared.config.Container.TheVariants.{Wav}
 use Rattle.pcm_config.specs.declared.config.FilePath.{FilePath}
-use Rattle.pcm_config.specs.Configs.{usual_config}
+use Rattle.pcm_config.specs.declared.fault.ConfigRefusal.{ConfigRefusal}
+use Rattle.pcm_config.specs.Configs.{config_read, usual_config}
 use Rattle.pcm_rows.specs.Calls.{joined}
+
+-- what a text is read as
+abbrev pub config_in : String → Result Config ConfigRefusal
+config_in text = config_read (codes text)
 
 -- all that may be settled
 abbrev pub whole_text : List ℕ
@@ -54,6 +60,26 @@ whole_config = record {
   files = whole_files;
 }
 
+-- ---- filters
+
+-- a filter without rows
+abbrev pub rowless_text : List ℕ
+rowless_text = codes "[[tables]]\nshift = 1\n"
+
+-- a filter of these keys and rows
+abbrev pub filter_keyed : String → String → List ℕ
+filter_keyed keys rows = codes "[[tables]]\n" ++ codes keys ++ codes "shift = 1\nrows = " ++ codes rows ++ 10 ∷ []
+
+-- a filter of these rows for any rates
+abbrev pub filter_of : String → List ℕ
+filter_of rows = filter_keyed "" rows
+
+abbrev pub half_way_text : List ℕ
+half_way_text = filter_of "[[2, 0], [1, 1]]"
+
+abbrev pub widest_text : List ℕ
+widest_text = codes "[[tables]]\nrows = [[-16777216, 16777216]]\nshift = 30\nsrc = 4000\ndst = 192000\n"
+
 -- a filter of two rows for any rates
 abbrev pub half_way : Table
 half_way = record { src = 0; dst = 0; phases = 2; taps = 2; shift = 1; coefs = pos 2 ∷ pos 0 ∷ pos 1 ∷ pos 1 ∷ [] }
@@ -65,3 +91,13 @@ widest = record { src = 4000; dst = 192000; phases = 1; taps = 2; shift = 30; co
 -- what is usual, but for the filters
 abbrev pub config_of_filters : List Table → Config
 config_of_filters list = record usual_config { tables = record { list = list } }
+
+-- ---- waves
+
+-- a device whose file is a wave, with these keys
+abbrev pub wave_with_keys : String → List ℕ
+wave_with_keys keys = codes "[device]\n" ++ codes keys ++ codes "container = \"wav\"\n"
+
+-- a wave without a filter's rows
+abbrev pub wave_and_rowless_text : List ℕ
+wave_and_rowless_text = codes "[device]\ncontainer = \"wav\"\nformat = \"s16be\"\n" ++ rowless_text

@@ -1,9 +1,10 @@
 -- Bodies of waves, and the settings between which they are converted.
-use Rattle.std.specs.Prelude.{ℕ, ℤ, List, [], ◌∷◌, map, replicate}
+use Rattle.std.specs.Prelude.{ℕ, List, [], ◌∷◌, ◌++◌, replicate}
 use Rattle.pcm_format.specs.declared.format.Format.TheVariants.{U8, S24Be}
 use Rattle.pcm_format.specs.declared.layout.Layout.TheVariants.{One, Two}
 use Rattle.pcm_format.specs.declared.settings.Settings.{Settings}
-use Rattle.pcm_format.specs.Frames.{Frame}
+use Rattle.pcm_rows.specs.Calls.{little_endian}
+use Rattle.pcm_rows.specs.ClientRates.{step_body}
 use Rattle.pcm_rows.specs.PlanRows.{sixteen_bits}
 
 -- two channels of 16 bits
@@ -22,17 +23,13 @@ unsigned_at rate = record { format = U8; layout = One; rate = rate }
 abbrev pub wide_at : ℕ → Settings
 wide_at rate = record { format = S24Be; layout = One; rate = rate }
 
--- the same samples in both channels
-abbrev pub in_both : List ℤ → List Frame
-in_both samples = map (λ sample. sample ∷ sample ∷ []) samples
+-- 1 to 5 in one channel
+abbrev pub five_body : List ℕ
+five_body = little_endian (1 ∷ 2 ∷ 3 ∷ 4 ∷ 5 ∷ [])
 
--- 0 and 100 in both channels
-abbrev pub step_body : List ℕ
-step_body = 0x00 ∷ 0x00 ∷ 0x00 ∷ 0x00 ∷ 0x64 ∷ 0x00 ∷ 0x64 ∷ 0x00 ∷ []
-
--- and three bytes of a frame more
+-- 0 and 100 in both channels, and three bytes of a frame more
 abbrev pub cut_body : List ℕ
-cut_body = 0x00 ∷ 0x00 ∷ 0x00 ∷ 0x00 ∷ 0x64 ∷ 0x00 ∷ 0x64 ∷ 0x00 ∷ 0x0a ∷ 0x0b ∷ 0x0c ∷ []
+cut_body = step_body ++ 0x0a ∷ 0x0b ∷ 0x0c ∷ []
 
 -- a hundredth of a second at 44100, in two channels of 16 bits
 abbrev pub hundredth_body : List ℕ

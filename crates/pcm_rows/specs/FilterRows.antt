@@ -1,5 +1,5 @@
 -- Filters, and plans that choose between them.
-use Rattle.std.specs.Prelude.{ℕ, ℤ, pos, List, [], ◌∷◌, ◌++◌, replicate}
+use Rattle.std.specs.Prelude.{ℕ, ℤ, pos, negsuc, List, [], ◌∷◌, ◌++◌, replicate}
 use Rattle.pcm_format.specs.declared.layout.Layout.TheVariants.{One, Two}
 use Rattle.pcm_format.specs.Frames.{Frame}
 use Rattle.pcm_feeder.specs.declared.stage.Spec.{Spec}
@@ -11,6 +11,7 @@ use Rattle.pcm_feeder.specs.Layouts.{unity}
 use Rattle.pcm_feeder.specs.Turns.{Turn, turn_of}
 use Rattle.pcm_plan.specs.Plans.{PlanSeen, plan_play}
 use Rattle.pcm_rows.specs.PlanRows.{sixteen_bits}
+use Rattle.pcm_rows.specs.Stages.{made_with, levels, mono}
 
 -- one filter for any rates, with its rows one after another
 abbrev pub one_filter : ℕ → ℕ → ℕ → List ℤ → Filters
@@ -41,6 +42,36 @@ first_feed_by tables spec frames want = turn_of spec (fresh spec) tables unity f
 abbrev pub doubling : ℕ → ℕ → Spec
 doubling channels taps = Poly 24000 48000 channels 0 taps
 
+-- three times the rate, and four thirds of it, by the first filter of two taps
+abbrev pub tripling : Spec
+tripling = Poly 16000 48000 1 0 2
+
+abbrev pub by_four_thirds : Spec
+by_four_thirds = Poly 24000 32000 1 0 2
+
+-- 5 and -6, and what the three rows make of them
+abbrev pub five_and_six : List Frame
+five_and_six = mono (pos 5 ∷ negsuc 5 ∷ [])
+
+abbrev pub five_and_six_tripled : List Frame
+five_and_six_tripled = mono (pos 5 ∷ pos 2 ∷ negsuc 2 ∷ negsuc 5 ∷ negsuc 3 ∷ negsuc 0 ∷ [])
+
+-- the four sums at twice the rate that two frames make
+abbrev pub sums_of : ℤ → ℤ → List Frame
+sums_of first second = made_with both_added (doubling 1 2) (mono (first ∷ second ∷ [])) 4
+
+-- 1, 10 and 100
+abbrev pub tens : List Frame
+tens = levels (1 ∷ 10 ∷ 100 ∷ [])
+
+-- two frames of two channels, and these with their means behind each
+abbrev pub two_sided : List Frame
+two_sided = (pos 10 ∷ negsuc 2 ∷ []) ∷ (pos 20 ∷ pos 4 ∷ []) ∷ []
+
+abbrev pub two_sided_doubled : List Frame
+two_sided_doubled =
+    (pos 10 ∷ negsuc 2 ∷ []) ∷ (pos 15 ∷ pos 1 ∷ []) ∷ (pos 20 ∷ pos 4 ∷ []) ∷ (pos 10 ∷ pos 2 ∷ []) ∷ []
+
 -- a filter of zeros for two rates, with so many taps
 abbrev pub zeros_for : ℕ → ℕ → ℕ → Table
 zeros_for src dst taps = record { src = src; dst = dst; phases = 1; taps = taps; shift = 1; coefs = replicate taps (pos 0) }
@@ -56,3 +87,12 @@ only_back = record { list = zeros_for 48000 24000 2 ∷ [] }
 -- one channel at 16000 to two at 48000, by a filter of three rows
 abbrev pub tripling_plan : PlanSeen
 tripling_plan = plan_play three_rows 2 (sixteen_bits One 16000) (sixteen_bits Two 48000)
+
+-- 5 and -6 in steps of 65536, and what comes of them at 16 bits on both sides
+abbrev pub high_five_and_six : List Frame
+high_five_and_six = mono (pos 327680 ∷ negsuc 393215 ∷ [])
+
+abbrev pub five_and_six_played : List Frame
+five_and_six_played =
+    (pos 5 ∷ pos 5 ∷ []) ∷ (pos 2 ∷ pos 2 ∷ []) ∷ (negsuc 3 ∷ negsuc 3 ∷ [])
+    ∷ (negsuc 5 ∷ negsuc 5 ∷ []) ∷ (negsuc 4 ∷ negsuc 4 ∷ []) ∷ (negsuc 1 ∷ negsuc 1 ∷ []) ∷ []

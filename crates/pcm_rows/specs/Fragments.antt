@@ -7,7 +7,7 @@ use Rattle.pcm_desk.specs.declared.play_book.PlayState.TheVariants.{Running}
 use Rattle.pcm_desk.specs.Usual.{usual_settings}
 use Rattle.pcm_sound.specs.Runs.{Piece, Run}
 use Rattle.pcm_script.specs.declared.script.Script.{Script}
-use Rattle.pcm_rows.specs.Calls.{book_in, joined, opens, piece, times}
+use Rattle.pcm_rows.specs.Calls.{joined, opens, piece, silent_ring, times, usual_book}
 
 -- a fragment, which is 1024 frames
 abbrev pub full_fragment : List ℕ
@@ -37,7 +37,7 @@ starved_script = record {
 }
 
 abbrev pub starved_bytes : List ℕ
-starved_bytes = replicate 4096 0 ++ full_fragment ++ replicate 16 0 ++ late_frame ++ replicate 12 0
+starved_bytes = silent_ring ++ full_fragment ++ replicate 16 0 ++ late_frame ++ replicate 12 0
 
 abbrev pub starved_lines : List ℕ
 starved_lines = joined (
@@ -46,7 +46,7 @@ starved_lines = joined (
 
 -- four interrupts were short
 abbrev pub starved_book : PlayBook
-starved_book = record (book_in usual_settings Running 4100 1025 1025) { underruns = 4 }
+starved_book = record (usual_book Running 4100 1025 1025) { underruns = 4 }
 
 -- what the interrupts took of the stream, the newest first: frame 1024 is mixed at 1028
 abbrev pub starved_pieces : List Piece

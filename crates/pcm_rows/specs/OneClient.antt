@@ -1,5 +1,5 @@
 -- Scripts with one client at most.
-use Rattle.std.specs.Prelude.{ℕ, List, [], ◌∷◌, codes, Some, None, true}
+use Rattle.std.specs.Prelude.{ℕ, List, [], ◌∷◌, ◌++◌, codes, replicate, Some, None, true}
 use Rattle.pcm_oss.specs.declared.event.Event.TheVariants.{Write, Close, Intr}
 use Rattle.pcm_wave.specs.declared.pool.Source.TheVariants.{Inline}
 use Rattle.pcm_desk.specs.declared.play_book.PlayBook.{PlayBook}
@@ -7,7 +7,7 @@ use Rattle.pcm_desk.specs.declared.play_book.PlayState.TheVariants.{Free}
 use Rattle.pcm_desk.specs.Usual.{usual_settings}
 use Rattle.pcm_sound.specs.Runs.{Run}
 use Rattle.pcm_script.specs.declared.script.Script.{Script}
-use Rattle.pcm_rows.specs.Calls.{book_in, joined, opens, piece}
+use Rattle.pcm_rows.specs.Calls.{joined, little_endian, opens, piece, usual_book}
 
 abbrev pub silent_script : Script
 silent_script = record { events = Intr 1024 ∷ []; inline_bytes = []; device_frames = 1024 }
@@ -22,7 +22,11 @@ drain_text = joined (
     codes "intr 4" ∷ [])
 
 abbrev pub drain_bytes : List ℕ
-drain_bytes = 1 ∷ 0 ∷ 2 ∷ 0 ∷ 3 ∷ 0 ∷ 4 ∷ 0 ∷ 5 ∷ 0 ∷ 6 ∷ 0 ∷ 7 ∷ 0 ∷ 8 ∷ 0 ∷ []
+drain_bytes = little_endian (1 ∷ 2 ∷ 3 ∷ 4 ∷ 5 ∷ 6 ∷ 7 ∷ 8 ∷ [])
+
+-- the four frames behind the silence of a ring of four
+abbrev pub four_frames_heard : List ℕ
+four_frames_heard = replicate 16 0 ++ drain_bytes
 
 abbrev pub drain_script : Script
 drain_script = record {
@@ -59,6 +63,14 @@ cut_lines = joined (
 abbrev pub stray_close_script : Script
 stray_close_script = record { events = Close 5 ∷ []; inline_bytes = []; device_frames = 0 }
 
+-- two frames
+abbrev pub two_frame_bytes : List ℕ
+two_frame_bytes = little_endian (1 ∷ 2 ∷ 3 ∷ 4 ∷ [])
+
+-- the two frames between the silence of a ring of four and that of two frames
+abbrev pub two_frames_heard : List ℕ
+two_frames_heard = replicate 16 0 ++ two_frame_bytes ++ replicate 8 0
+
 -- two frames, where the first interrupt wants four
 abbrev pub short_drain_text : List ℕ
 short_drain_text = joined (
@@ -72,7 +84,7 @@ short_drain_text = joined (
 abbrev pub short_drain_script : Script
 short_drain_script = record {
   events = opens 0 ∷ Write 0 Inline 0 8 ∷ Close 0 ∷ Intr 4 ∷ Intr 2 ∷ Intr 2 ∷ [];
-  inline_bytes = 1 ∷ 0 ∷ 2 ∷ 0 ∷ 3 ∷ 0 ∷ 4 ∷ 0 ∷ [];
+  inline_bytes = two_frame_bytes;
   device_frames = 8;
 }
 
@@ -93,7 +105,7 @@ short_drain_run = record {
 
 -- a slot whose run is over, of which two frames were played
 abbrev pub over_book : PlayBook
-over_book = record (book_in usual_settings Free 0 0 0) { done = 8 }
+over_book = record (usual_book Free 0 0 0) { done = 8 }
 
 -- three bytes of a frame of four
 abbrev pub part_text : List ℕ

@@ -6,17 +6,16 @@ use Rattle.pcm_oss.specs.declared.event.Way.TheVariants.{Play}
 use Rattle.pcm_oss.specs.declared.request.Request.TheVariants.{SetPlayVol, Post, Sync, Halt}
 use Rattle.pcm_format.specs.declared.layout.Layout.TheVariants.{Two}
 use Rattle.pcm_format.specs.Frames.{Frame}
-use Rattle.pcm_feeder.specs.declared.stage.Spec.TheVariants.{Linear, Volume, Depth}
+use Rattle.pcm_feeder.specs.declared.stage.Spec.TheVariants.{Linear}
 use Rattle.pcm_plan.specs.Plans.{PlanSeen}
-use Rattle.pcm_sound.specs.Gains.{GainSet}
 use Rattle.pcm_sound.specs.Plain.{Span}
 use Rattle.pcm_script.specs.declared.script.Script.{Script}
 use Rattle.pcm_rows.specs.Calls.{opens, times}
 use Rattle.pcm_rows.specs.ClientRates.{half_settings}
 use Rattle.pcm_rows.specs.OneClient.{drain_bytes}
+use Rattle.pcm_rows.specs.PlanRows.{plan_16}
 use Rattle.pcm_rows.specs.Requests.{asks, softer_script}
-use Rattle.pcm_rows.specs.SeveralClients.{three_script, loud_frame, soft_frame}
-use Rattle.pcm_rows.specs.Stages.{half_right}
+use Rattle.pcm_rows.specs.SeveralClients.{three_script, loud_frame, soft_frame, negative_frame}
 
 -- ---- spans
 
@@ -26,15 +25,27 @@ sides left right = pos (left * 65536) ∷ pos (right * 65536) ∷ []
 
 -- what a client in the settings of the device goes through
 abbrev pub usual_plan : PlanSeen
-usual_plan = record { source = Two; target = Two; stages = Volume Two ∷ Depth 16 2 ∷ [] }
+usual_plan = plan_16 Two Two []
 
 -- and a client at half its rate
 abbrev pub half_plan : PlanSeen
-half_plan = record { source = Two; target = Two; stages = Linear 24000 48000 2 ∷ Volume Two ∷ Depth 16 2 ∷ [] }
+half_plan = plan_16 Two Two (Linear 24000 48000 2 ∷ [])
 
 -- frames that a plan makes something of, from a position on and before another
 abbrev pub span : PlanSeen → List Frame → ℕ → ℕ → Span
 span plan stream start end = record { plan = plan; stream = stream; start = start; end = end }
+
+-- those of a client in the settings of the device
+abbrev pub heard : List Frame → ℕ → ℕ → Span
+heard stream start end = span usual_plan stream start end
+
+-- and those of a client at half its rate, between which lines are drawn
+abbrev pub drawn : List Frame → ℕ → ℕ → Span
+drawn stream start end = span half_plan stream start end
+
+-- the frames of `step_body`
+abbrev pub step_frames : List Frame
+step_frames = sides 0 0 ∷ sides 100 100 ∷ []
 
 -- the frames of `drain_bytes`
 abbrev pub four_frames : List Frame
@@ -106,9 +117,6 @@ abbrev pub dip_bytes : List ℕ
 dip_bytes =
     replicate 16 0 ++ 0x64 ∷ 0x00 ∷ 0xfd ∷ 0xff ∷ 0x64 ∷ 0x00 ∷ 0xfe ∷ 0xff ∷ times 2 (0x64 ∷ 0x00 ∷ 0xfd ∷ 0xff ∷ [])
 
-abbrev pub softer_at : ℕ → GainSet
-softer_at position = record { position = position; gain = half_right }
-
 -- ---- several clients
 
 -- two frames each, of which the second client's begin one later
@@ -132,6 +140,13 @@ trio_script first second third = record (three_script first second third) {
   device_frames = 5;
 }
 
+-- the three of which the sum is limited, and of which it isn't
+abbrev pub limited_trio : Script
+limited_trio = trio_script loud_frame soft_frame negative_frame
+
+abbrev pub unlimited_trio : Script
+unlimited_trio = trio_script negative_frame loud_frame soft_frame
+
 -- ---- three runs
 
 -- One frame at half the rate drains, four are halted behind two frames of the mix, and three are on their way.
@@ -148,6 +163,10 @@ three_runs_script = record {
 -- the frame and its half, silence, and the first of the next run
 abbrev pub three_runs_bytes : List ℕ
 three_runs_bytes = replicate 16 0 ++ 100 ∷ 0 ∷ 100 ∷ 0 ∷ 50 ∷ 0 ∷ 50 ∷ 0 ∷ 0 ∷ 0 ∷ 0 ∷ 0 ∷ 1 ∷ 0 ∷ 2 ∷ 0 ∷ []
+
+-- the frame that drains
+abbrev pub drained_frames : List Frame
+drained_frames = sides 100 100 ∷ []
 
 -- what is on its way
 abbrev pub closing_frames : List Frame

@@ -1,5 +1,5 @@
 -- Every request in every state: a book for each state, and what comes of each request.
-use Rattle.std.specs.Prelude.{ℕ, ◌^◌, List, [], ◌∷◌, map, true, false, Ok, Err}
+use Rattle.std.specs.Prelude.{◌≡◌, ℕ, ◌^◌, List, [], ◌∷◌, map, true, false, Ok, Err}
 use Rattle.pcm_format.specs.declared.format.Format.TheVariants.{S8}
 use Rattle.pcm_format.specs.declared.layout.Layout.TheVariants.{Six}
 use Rattle.pcm_format.specs.Formats.{code_of}
@@ -21,7 +21,7 @@ use Rattle.pcm_desk.specs.Desk.{Desk, desk_at_start}
 use Rattle.pcm_desk.specs.Events.{after_all}
 use Rattle.pcm_desk.specs.PlayRequests.{play_ask, play_with_trigger}
 use Rattle.pcm_desk.specs.Usual.{usual_settings}
-use Rattle.pcm_rows.specs.Calls.{book_in, cut_in, opens, set_to, small_device, told_at}
+use Rattle.pcm_rows.specs.Calls.{cut_in, opens, set_to, small_device, told_at, usual_book}
 
 -- ---- tables
 
@@ -53,6 +53,10 @@ turns_in book rows = map (λ row. outcome_turn book row.outcome) rows
 abbrev pub turns_asked : Rate → PlayBook → List AskedRow → List (Turn PlayBook)
 turns_asked rate book rows = map (λ row. play_ask rate row.request book) rows
 
+-- a book answers the requests of a table as its rows tell
+abbrev pub AnswersAs : Rate → PlayBook → List AskedRow → Type 0
+AnswersAs rate book rows = turns_asked rate book rows ≡ turns_in book rows
+
 -- ---- outcomes
 
 abbrev pub number : ℕ → Outcome
@@ -75,7 +79,7 @@ inval = Refuses Inval
 
 -- A ring of four fragments of 16 bytes, behind runs of 80 bytes, of which 28 were told. Frames have four bytes.
 abbrev pub cut_book : PlayState → ℕ → ℕ → PlayBook
-cut_book state written eaten = record (cut_in 4 4 (told_at 28 (book_in usual_settings state written eaten eaten))) { done = 80; underruns = 3 }
+cut_book state written eaten = record (cut_in 4 4 (told_at 28 (usual_book state written eaten eaten))) { done = 80; underruns = 3 }
 
 abbrev pub setup_book : PlayBook
 setup_book = cut_book Setup 0 0
@@ -257,8 +261,8 @@ played_book = cut_book Running 30 7
 abbrev pub half_rate : Rate
 half_rate = record { src = 24000; dst = 48000; lookahead = 1 }
 
-abbrev pub half_given_book : PlayBook
-half_given_book = cut_book Running 8 2
+abbrev pub half_given : PlayState → PlayBook
+half_given state = cut_book state 8 2
 
 -- a book whose seven frames count among the bytes that were played
 abbrev pub ended_book : PlayState → PlayBook
@@ -270,12 +274,20 @@ ended_book state = record (cut_book state 0 0) { done = 108 }
 abbrev pub accepts : ℕ → PlayBook → Turn PlayBook
 accepts count book = outcome_turn book (Makes book (Number count))
 
+-- a request that has nothing more to say
+abbrev pub done : PlayBook → Turn PlayBook
+done book = outcome_turn book (Makes book Done)
+
 -- a write that is refused
 abbrev pub refuses : Errno → PlayBook → Turn PlayBook
 refuses errno book = outcome_turn book (Refuses errno)
 
 -- ---- descriptors
 
+-- a desk that nobody opened
+abbrev pub new_desk : Desk
+new_desk = desk_at_start small_device
+
 -- a client that closed before its two frames were played
 abbrev pub closed_desk : Desk
-closed_desk = after_all small_device (desk_at_start small_device) (opens 0 ∷ Write 0 Inline 0 8 ∷ Close 0 ∷ [])
+closed_desk = after_all small_device new_desk (opens 0 ∷ Write 0 Inline 0 8 ∷ Close 0 ∷ [])

@@ -2,6 +2,7 @@
 use Rattle.std.specs.Prelude.{ℕ, List, [], ◌∷◌, ◌++◌, codes, replicate, Option, Some, None, Bool, true, false}
 use Rattle.pcm_oss.specs.declared.event.Event.{Event}
 use Rattle.pcm_oss.specs.declared.event.Event.TheVariants.{Open, Write, Ioctl, Close, Intr}
+use Rattle.pcm_wave.specs.declared.pool.Pool.{Pool}
 use Rattle.pcm_wave.specs.declared.pool.Source.TheVariants.{Inline}
 use Rattle.pcm_oss.specs.declared.event.Way.TheVariants.{Play}
 use Rattle.pcm_oss.specs.declared.request.Request.{Request}
@@ -14,17 +15,13 @@ use Rattle.pcm_sound.specs.Gains.{GainSet}
 use Rattle.pcm_sound.specs.Runs.{Piece, Run}
 use Rattle.pcm_sound.specs.Story.{story_of}
 use Rattle.pcm_script.specs.declared.script.Script.{Script}
-use Rattle.pcm_rows.specs.Calls.{book_in, cut_in, joined, opens, piece, small_device, times, told_at}
+use Rattle.pcm_rows.specs.Calls.{book_in, cut_in, joined, opens, piece, small_device, times, told_at, usual_book}
 use Rattle.pcm_rows.specs.ClientRates.{half_settings, tail_script, wide_settings}
-use Rattle.pcm_rows.specs.OneClient.{drain_bytes}
+use Rattle.pcm_rows.specs.OneClient.{drain_bytes, two_frame_bytes}
 
 -- a request of the first client
 abbrev pub asks : Request → Event
 asks request = Ioctl 0 request
-
--- two frames
-abbrev pub two_frame_bytes : List ℕ
-two_frame_bytes = 1 ∷ 0 ∷ 2 ∷ 0 ∷ 3 ∷ 0 ∷ 4 ∷ 0 ∷ []
 
 -- ---- shortages
 
@@ -59,7 +56,7 @@ posted_lines = joined (
 
 -- two interrupts were short since the count was told
 abbrev pub posted_book : PlayBook
-posted_book = record (book_in usual_settings Running 16 4 4) { underruns = 2 }
+posted_book = record (usual_book Running 16 4 4) { underruns = 2 }
 
 -- frame 2 is mixed at 4, right behind the silence of the two that were missing
 abbrev pub posted_run : Run
@@ -99,7 +96,7 @@ synced_lines = joined (
 
 -- its run is over, and eight bytes were played and told
 abbrev pub synced_book : PlayBook
-synced_book = record (told_at 8 (book_in usual_settings Setup 0 0 0)) { done = 8 }
+synced_book = record (told_at 8 (usual_book Setup 0 0 0)) { done = 8 }
 
 -- two frames at half the rate of the device, which last for four
 abbrev pub synced_tail_text : List ℕ
@@ -186,6 +183,10 @@ abbrev pub anew_events : List Event
 anew_events =
     opens 0 ∷ Intr 2 ∷ asks (SetPlayVol 0x3264) ∷ asks (SetTrigger 0) ∷ asks (SetFragment 0x00020004) ∷ Intr 1 ∷ Close 0 ∷
     opens 0 ∷ []
+
+-- the gains of both openings, whatever bytes there are
+abbrev pub anew_gains : Pool → List GainSet
+anew_gains pool = (story_of small_device pool anew_events).gains 0
 
 -- ---- refusals
 
@@ -301,7 +302,7 @@ small_ring_lines = joined (
 
 -- its book, which runs
 abbrev pub small_ring_book : PlayBook
-small_ring_book = cut_in 4 2 (book_in usual_settings Running 32 0 0)
+small_ring_book = cut_in 4 2 (usual_book Running 32 0 0)
 
 -- the same fragments with frames of 32 bytes: half a frame fills one
 abbrev pub half_frame_events : List Event
@@ -355,6 +356,13 @@ halted_lines = joined (
     codes "5: ok bytes=8 blocks=0 ptr=8" ∷ codes "6: ok" ∷ codes "7: ok bytes=0 blocks=0 ptr=0" ∷
     codes "8: ok 4" ∷ codes "9: ok" ∷ codes "10: ok 4" ∷ codes "11: ok underruns=1 overruns=0" ∷ codes "12: ok 4" ∷ [])
 
+-- its book behind the halt, and at the end
+abbrev pub halted_book : PlayBook
+halted_book = record (book_in half_settings Setup 0 0 0) { underruns = 1 }
+
+abbrev pub halted_over_book : PlayBook
+halted_over_book = record (book_in half_settings Setup 0 0 0) { done = 4 }
+
 -- the stream that was halted: it started, and isn't drained
 abbrev pub dropped_run : Run
 dropped_run = record {
@@ -380,13 +388,13 @@ second_run = record {
 -- ---- what a run is marked with
 
 -- the runs of a client that writes two frames, and then these events
-abbrev pub runs_of_two_frames : List Event → List Run
-runs_of_two_frames events =
+abbrev pub runs_of_two : List Event → List Run
+runs_of_two events =
     (story_of small_device (record { files = []; capture = None; inline_bytes = two_frame_bytes }) (opens 0 ∷ Write 0 Inline 0 8 ∷ events)).runs 0
 
 -- a run of these frames: where it started, whether no more came, where it was dropped, and its pieces
-abbrev pub run_of_two_frames : Option ℕ → Bool → Option ℕ → List Piece → Run
-run_of_two_frames start drained dropped pieces = record {
+abbrev pub run_of_two : Option ℕ → Bool → Option ℕ → List Piece → Run
+run_of_two start drained dropped pieces = record {
   settings = usual_settings;
   bytes = two_frame_bytes;
   start = start;
@@ -394,6 +402,10 @@ run_of_two_frames start drained dropped pieces = record {
   dropped = dropped;
   pieces = pieces;
 }
+
+-- a run that started with the mix and gave so many frames at once: whether no more came, and where it was dropped
+abbrev pub run_begun : ℕ → Bool → Option ℕ → Run
+run_begun count drained dropped = run_of_two (Some 0) drained dropped (piece 0 0 count 0 ∷ [])
 
 -- ---- volumes
 
@@ -422,7 +434,3 @@ softer_bytes = replicate 16 0 ++ times 2 (0x64 ∷ 0x00 ∷ 0xfd ∷ 0xff ∷ []
 abbrev pub softer_lines : List ℕ
 softer_lines = joined (
     codes "1: ok 0" ∷ codes "2: ok 16" ∷ codes "3: ok" ∷ codes "4: ok 2" ∷ codes "5: ok 12900" ∷ codes "6: ok 2" ∷ codes "7: ok 4" ∷ [])
-
--- half of the gain on the right side, from the third frame on
-abbrev pub softer_from_2 : GainSet
-softer_from_2 = record { position = 2; gain = record { left = 65536; right = 32768 } }

@@ -6,7 +6,7 @@ use Rattle.pcm_wave.specs.declared.pool.Source.TheVariants.{Inline}
 use Rattle.pcm_desk.specs.Device.{DeviceSeen}
 use Rattle.pcm_script.specs.declared.script.Script.{Script}
 use Rattle.pcm_desk.specs.Usual.{usual_device}
-use Rattle.pcm_rows.specs.Calls.{opens, joined}
+use Rattle.pcm_rows.specs.Calls.{opens, joined, stereo_bytes}
 
 -- three clients with a frame each
 abbrev pub three_text : List ℕ → List ℕ → List ℕ → List ℕ
@@ -38,13 +38,27 @@ three_lines = joined (
 
 -- frames of 30000, 10000 and -10000, twice each
 abbrev pub loud_frame : List ℕ
-loud_frame = 0x30 ∷ 0x75 ∷ 0x30 ∷ 0x75 ∷ []
+loud_frame = stereo_bytes (30000 ∷ [])
 
 abbrev pub soft_frame : List ℕ
-soft_frame = 0x10 ∷ 0x27 ∷ 0x10 ∷ 0x27 ∷ []
+soft_frame = stereo_bytes (10000 ∷ [])
 
 abbrev pub negative_frame : List ℕ
 negative_frame = 0xf0 ∷ 0xd8 ∷ 0xf0 ∷ 0xd8 ∷ []
+
+-- the three in an order in which their sum is limited
+abbrev pub limited_text : List ℕ
+limited_text = three_text (codes "30753075") (codes "10271027") (codes "f0d8f0d8")
+
+abbrev pub limited_script : Script
+limited_script = three_script loud_frame soft_frame negative_frame
+
+-- and in an order in which it isn't
+abbrev pub unlimited_text : List ℕ
+unlimited_text = three_text (codes "f0d8f0d8") (codes "30753075") (codes "10271027")
+
+abbrev pub unlimited_script : Script
+unlimited_script = three_script negative_frame loud_frame soft_frame
 
 -- more opens than the device has slots
 abbrev pub opens_text : List ℕ

@@ -36,12 +36,12 @@ abbrev pub interrupts_script : Script
 interrupts_script = record { events = Intr 3 ∷ Intr 256 ∷ []; inline_bytes = []; device_frames = 259 }
 
 -- a line of descriptor 3 for each of these words
-abbrev pub request_lines : List (List ℕ) → List ℕ
-request_lines words = joined (map (λ word. codes "ioctl 3 " ++ word) words)
+abbrev pub ask_lines : List (List ℕ) → List ℕ
+ask_lines words = joined (map (λ word. codes "ioctl 3 " ++ word) words)
 
 -- requests of descriptor 3, and no other event
-abbrev pub requests_script : List Request → Script
-requests_script requests = record { events = map (λ request. Ioctl 3 request) requests; inline_bytes = []; device_frames = 0 }
+abbrev pub ask_script : List Request → Script
+ask_script requests = record { events = map (λ request. Ioctl 3 request) requests; inline_bytes = []; device_frames = 0 }
 
 -- the requests that have no number
 abbrev pub plain_words : List (List ℕ)

@@ -3,25 +3,24 @@
 
 ghost use Rattle.std.specs.Prelude.{◌≡◌, pos, negsuc, [], ◌∷◌, Some, None};
 ghost use Rattle.pcm_format.specs.declared.layout.Layout.TheVariants.{One, Two};
-ghost use Rattle.pcm_desk.specs.Device.{no_filters, play_plan_between, play_rate_between};
+ghost use Rattle.pcm_desk.specs.Device.{no_filters, play_rate_between};
 ghost use Rattle.pcm_desk.specs.Usual.{usual_settings};
-ghost use Rattle.pcm_feeder.specs.declared.stage.Spec.TheVariants.{Matrix, Hold, Linear, Poly, Volume, Depth};
+ghost use Rattle.pcm_feeder.specs.declared.stage.Spec.TheVariants.{Poly, Volume, Depth};
 ghost use Rattle.pcm_feeder.specs.Layouts.{unity};
 ghost use Rattle.pcm_feeder.specs.Stages.{rate_of, scaled_down};
 ghost use Rattle.pcm_rate.specs.Rates.{need, can, len};
 ghost use Rattle.pcm_plan.specs.Plans.{filter_for, plan_play};
 ghost use Rattle.pcm_plan.specs.Through.{outs};
-ghost use Rattle.pcm_rows.specs.ClientRates.{filtered_device, filtered_settings};
-ghost use Rattle.pcm_rows.specs.FilterRows.{three_rows, both_added, four_taps, first_feed_by, doubling, by_rates, only_back, tripling_plan};
-ghost use Rattle.pcm_rows.specs.PlanRows.{doubling_plan};
-ghost use Rattle.pcm_rows.specs.Stages.{mono, two_taps, first_outputs};
+ghost use Rattle.pcm_rows.specs.ClientRates.{filtered_device, filtered_plan, filtered_settings};
+ghost use Rattle.pcm_rows.specs.FilterRows.{three_rows, four_taps, first_feed_by, doubling, by_rates, only_back, tripling_plan, tripling, by_four_thirds, five_and_six, five_and_six_tripled, sums_of, tens, two_sided, two_sided_doubled, high_five_and_six, five_and_six_played};
+ghost use Rattle.pcm_rows.specs.PlanRows.{doubling_plan, plan_of, stages_after};
+ghost use Rattle.pcm_rows.specs.RequestTable.{half_rate};
+ghost use Rattle.pcm_rows.specs.Stages.{made_with, hold_from, levels, line_from, twice_each, two_taps};
 
 /// Three times the rate by three rows: the sums of 5 and -6 are 20, 9, -13, -24, -18 and -6 quarters.
 pub fn three_rows_triple()
-    ensures frames { first_outputs (Poly 16000 48000 1 0 2) three_rows unity
-        (mono (pos 5 ∷ negsuc 5 ∷ [])) 6
-        ≡ mono (pos 5 ∷ pos 2 ∷ negsuc 2 ∷ negsuc 5 ∷ negsuc 3 ∷ negsuc 0 ∷ []) }
-    ensures len { len (rate_of (Poly 16000 48000 1 0 2)) 2 ≡ 6 }
+    ensures frames { made_with three_rows tripling five_and_six 6 ≡ five_and_six_tripled }
+    ensures len { len (rate_of tripling) 2 ≡ 6 }
 {}
 
 /// A sum is rounded to the nearest number, and a half is rounded up, also below zero.
@@ -36,12 +35,8 @@ pub fn halves_round_up()
 
 /// What comes out is limited to 32 bits, on both sides.
 pub fn sums_are_limited()
-    ensures above { first_outputs (doubling 1 2) both_added unity
-        (mono (pos 2147483647 ∷ pos 1 ∷ [])) 4
-        ≡ mono (pos 2147483647 ∷ pos 2147483647 ∷ pos 1 ∷ pos 1 ∷ []) }
-    ensures below { first_outputs (doubling 1 2) both_added unity
-        (mono (negsuc 2147483647 ∷ negsuc 0 ∷ [])) 4
-        ≡ mono (negsuc 2147483647 ∷ negsuc 2147483647 ∷ negsuc 0 ∷ negsuc 0 ∷ []) }
+    ensures above { sums_of (pos 2147483647) (pos 1) ≡ twice_each (pos 2147483647 ∷ pos 1 ∷ []) }
+    ensures below { sums_of (negsuc 2147483647) (negsuc 0) ≡ twice_each (negsuc 2147483647 ∷ negsuc 0 ∷ []) }
     ensures greatest { scaled_down 1 (pos 4294967294) ≡ pos 2147483647 }
     ensures past_greatest { scaled_down 1 (pos 4294967295) ≡ pos 2147483647 }
     ensures least { scaled_down 1 (negsuc 4294967296) ≡ negsuc 2147483647 }
@@ -51,26 +46,19 @@ pub fn sums_are_limited()
 /// The row is the one for the phase, rounded down: outputs 1, 2 and 3 lie three, two and one quarters
 /// past a frame, and the two rows stand for none and for two.
 pub fn rows_are_rounded_down()
-    ensures frames { first_outputs (Poly 24000 32000 1 0 2) two_taps unity
-        (mono (pos 10 ∷ pos 20 ∷ pos 40 ∷ [])) 4
-        ≡ mono (pos 10 ∷ pos 15 ∷ pos 30 ∷ pos 40 ∷ []) }
-    ensures len { len (rate_of (Poly 24000 32000 1 0 2)) 3 ≡ 4 }
+    ensures frames { made_with two_taps by_four_thirds (levels (10 ∷ 20 ∷ 40 ∷ [])) 4 ≡ levels (10 ∷ 15 ∷ 30 ∷ 40 ∷ []) }
+    ensures len { len (rate_of by_four_thirds) 3 ≡ 4 }
 {}
 
 /// Each channel goes through the same row.
 pub fn channels_are_filtered_apart()
-    ensures frames { first_outputs (doubling 2 2) two_taps unity
-        ((pos 10 ∷ negsuc 2 ∷ []) ∷ (pos 20 ∷ pos 4 ∷ []) ∷ []) 4
-        ≡ (pos 10 ∷ negsuc 2 ∷ []) ∷ (pos 15 ∷ pos 1 ∷ []) ∷ (pos 20 ∷ pos 4 ∷ [])
-        ∷ (pos 10 ∷ pos 2 ∷ []) ∷ [] }
+    ensures frames { made_with two_taps (doubling 2 2) two_sided 4 ≡ two_sided_doubled }
 {}
 
 /// Four taps are the frame before an output, the one under it and two behind it. Before the first
 /// frame and past the last there is silence.
 pub fn four_taps_reach_around()
-    ensures frames { first_outputs (doubling 1 4) four_taps unity
-        (mono (pos 1 ∷ pos 10 ∷ pos 100 ∷ [])) 6
-        ≡ mono (pos 432 ∷ pos 432 ∷ pos 321 ∷ pos 321 ∷ pos 210 ∷ pos 210 ∷ []) }
+    ensures frames { made_with four_taps (doubling 1 4) tens 6 ≡ twice_each (pos 432 ∷ pos 321 ∷ pos 210 ∷ []) }
 {}
 
 /// A filter needs half its taps ahead: three frames for the first two outputs by four taps, and 33 by 64.
@@ -86,14 +74,11 @@ pub fn half_the_taps_lie_ahead()
 
 /// A filter eats frames before it can give any: the first two of three.
 pub fn a_filter_eats_ahead()
-    ensures eaten { (first_feed_by four_taps (doubling 1 4) (mono (pos 1 ∷ pos 10 ∷ [])) 6).eaten ≡ 2 }
-    ensures none { (first_feed_by four_taps (doubling 1 4) (mono (pos 1 ∷ pos 10 ∷ [])) 6).given ≡ 0 }
-    ensures given { (first_feed_by four_taps (doubling 1 4)
-        (mono (pos 1 ∷ pos 10 ∷ pos 100 ∷ [])) 6).given ≡ 2 }
-    ensures frames { (first_feed_by four_taps (doubling 1 4)
-        (mono (pos 1 ∷ pos 10 ∷ pos 100 ∷ [])) 6).frames ≡ mono (pos 432 ∷ pos 432 ∷ []) }
-    ensures wanted { (first_feed_by four_taps (doubling 1 4)
-        (mono (pos 1 ∷ pos 10 ∷ pos 100 ∷ pos 0 ∷ [])) 1).eaten ≡ 3 }
+    ensures eaten { (first_feed_by four_taps (doubling 1 4) (levels (1 ∷ 10 ∷ [])) 6).eaten ≡ 2 }
+    ensures none { (first_feed_by four_taps (doubling 1 4) (levels (1 ∷ 10 ∷ [])) 6).given ≡ 0 }
+    ensures given { (first_feed_by four_taps (doubling 1 4) tens 6).given ≡ 2 }
+    ensures frames { (first_feed_by four_taps (doubling 1 4) tens 6).frames ≡ levels (432 ∷ 432 ∷ []) }
+    ensures wanted { (first_feed_by four_taps (doubling 1 4) (levels (1 ∷ 10 ∷ 100 ∷ 0 ∷ [])) 1).eaten ≡ 3 }
 {}
 
 /// The first filter for exactly these rates is taken, wherever it stands, and else the first one for
@@ -111,38 +96,26 @@ pub fn filters_by_their_rates()
 /// From quality 2 on the filter is taken, with its place and its taps; where none is for the rates a
 /// line is drawn, and below 2 always another way is taken. Equal rates need none of them.
 pub fn qualities_among_filters()
-    ensures hold { (doubling_plan by_rates 0).stages
-        ≡ Hold 24000 48000 1 ∷ Matrix One Two ∷ Volume Two ∷ Depth 16 2 ∷ [] }
-    ensures linear { (doubling_plan by_rates 1).stages
-        ≡ Linear 24000 48000 1 ∷ Matrix One Two ∷ Volume Two ∷ Depth 16 2 ∷ [] }
-    ensures two { (doubling_plan by_rates 2).stages
-        ≡ Poly 24000 48000 1 2 4 ∷ Matrix One Two ∷ Volume Two ∷ Depth 16 2 ∷ [] }
-    ensures three { (doubling_plan by_rates 3).stages
-        ≡ Poly 24000 48000 1 2 4 ∷ Matrix One Two ∷ Volume Two ∷ Depth 16 2 ∷ [] }
-    ensures four { (doubling_plan by_rates 4).stages
-        ≡ Poly 24000 48000 1 2 4 ∷ Matrix One Two ∷ Volume Two ∷ Depth 16 2 ∷ [] }
-    ensures line { (doubling_plan only_back 4).stages
-        ≡ Linear 24000 48000 1 ∷ Matrix One Two ∷ Volume Two ∷ Depth 16 2 ∷ [] }
+    ensures hold { (doubling_plan by_rates 0).stages ≡ stages_after (hold_from 24000) }
+    ensures linear { (doubling_plan by_rates 1).stages ≡ stages_after (line_from 24000) }
+    ensures two { (doubling_plan by_rates 2).stages ≡ stages_after (Poly 24000 48000 1 2 4) }
+    ensures three { (doubling_plan by_rates 3).stages ≡ stages_after (Poly 24000 48000 1 2 4) }
+    ensures four { (doubling_plan by_rates 4).stages ≡ stages_after (Poly 24000 48000 1 2 4) }
+    ensures line { (doubling_plan only_back 4).stages ≡ stages_after (line_from 24000) }
     ensures same { (plan_play by_rates 4 usual_settings usual_settings).stages
         ≡ Volume Two ∷ Depth 16 2 ∷ [] }
 {}
 
 /// A device's plans take the filters of its run.
 pub fn plans_of_a_device_with_filters()
-    ensures plan { play_plan_between filtered_device filtered_settings
-        ≡ record { source = One; target = One; stages = Poly 24000 48000 1 0 2 ∷ Volume One ∷ [] } }
-    ensures rate { play_rate_between filtered_device filtered_settings
-        ≡ record { src = 24000; dst = 48000; lookahead = 1 } }
-    ensures low { (play_plan_between (record filtered_device { quality = 1 }) filtered_settings).stages
-        ≡ Linear 24000 48000 1 ∷ Volume One ∷ [] }
+    ensures plan { filtered_plan 2 ≡ plan_of One One (doubling 1 2 ∷ Volume One ∷ []) }
+    ensures rate { play_rate_between filtered_device filtered_settings ≡ half_rate }
+    ensures low { (filtered_plan 1).stages ≡ line_from 24000 ∷ Volume One ∷ [] }
 {}
 
 /// A filter rounds to the nearest of 32 bits, and the depth behind it rounds down: 20, 9, -13, -24,
 /// -18 and -6 quarters of 65536 become 5, 2, -4, -6, -5 and -2 of 16 bits on both sides.
 pub fn plan_triples_the_rate()
-    ensures stages { tripling_plan.stages
-        ≡ Poly 16000 48000 1 0 2 ∷ Matrix One Two ∷ Volume Two ∷ Depth 16 2 ∷ [] }
-    ensures frames { outs tripling_plan three_rows unity (mono (pos 327680 ∷ negsuc 393215 ∷ [])) 0 6
-        ≡ (pos 5 ∷ pos 5 ∷ []) ∷ (pos 2 ∷ pos 2 ∷ []) ∷ (negsuc 3 ∷ negsuc 3 ∷ [])
-        ∷ (negsuc 5 ∷ negsuc 5 ∷ []) ∷ (negsuc 4 ∷ negsuc 4 ∷ []) ∷ (negsuc 1 ∷ negsuc 1 ∷ []) ∷ [] }
+    ensures stages { tripling_plan.stages ≡ stages_after tripling }
+    ensures frames { outs tripling_plan three_rows unity high_five_and_six 0 6 ≡ five_and_six_played }
 {}

@@ -3,29 +3,27 @@
 
 ghost use Rattle.std.specs.Prelude.{◌≡◌, ◌∷◌, ◌++◌, [], codes, replicate, take};
 ghost use Rattle.pcm_desk.specs.Usual.{usual_device};
-ghost use Rattle.pcm_rows.specs.Calls.{small_device, accepted, judged, played, printed, book_after, story_after};
-ghost use Rattle.pcm_rows.specs.ClientFormats.{client_text, client_lines};
-ghost use Rattle.pcm_rows.specs.ClientRates.{opening_text, opening_script, opening_bytes, tail_text, tail_script, tail_lines, tail_book, tail_over_book, tail_run, narrow_device, downmix_text, downmix_script, downmix_lines, wide_events, wide_book, filtered_device, filtered_text, filtered_script, filtered_lines, filtered_book, ahead_device, ahead_frame, ahead_script, ahead_book};
+ghost use Rattle.pcm_rows.specs.Calls.{small_device, accepted, judged, played, printed, book_after, runs_in, silent_ring};
+ghost use Rattle.pcm_rows.specs.ClientFormats.{client_judged, client_lines};
+ghost use Rattle.pcm_rows.specs.ClientRates.{opening_text, opening_script, opening_bytes, step_doubled, tail_text, tail_script, tail_lines, tail_book, tail_over_book, tail_run, narrow_device, downmix_text, downmix_script, downmix_lines, wide_events, wide_book, filtered_device, filtered_text, filtered_script, filtered_lines, filtered_bytes, filtered_book, ahead_device, ahead_frame, ahead_script, ahead_book};
 
 /// An open without settings is one channel of unsigned bytes at 8000, so each of its frames makes
 /// six on both sides, of which the first is the frame itself.
 pub fn six_frames_for_each()
     ensures verdict { judged usual_device opening_text ≡ accepted opening_script }
-    ensures named { judged usual_device
-        (client_text (codes "u8 1 8000") (codes "80867a") (codes "18")) ≡ accepted opening_script }
-    ensures device { played usual_device opening_script ≡ replicate 4096 0 ++ opening_bytes }
+    ensures named { client_judged "u8 1 8000" "80867a" "18" ≡ accepted opening_script }
+    ensures device { played usual_device opening_script ≡ silent_ring ++ opening_bytes }
     ensures lines { printed usual_device opening_script ≡ client_lines (codes "3") (codes "18") }
 {}
 
 /// A drain goes on past the output after which no more is sure: its last frame fades to silence.
 pub fn drain_gives_its_tail()
     ensures verdict { judged small_device tail_text ≡ accepted tail_script }
-    ensures device { played small_device tail_script
-        ≡ replicate 20 0 ++ 50 ∷ 0 ∷ 50 ∷ 0 ∷ 100 ∷ 0 ∷ 100 ∷ 0 ∷ 50 ∷ 0 ∷ 50 ∷ 0 ∷ [] }
+    ensures device { played small_device tail_script ≡ replicate 16 0 ++ step_doubled }
     ensures lines { printed small_device tail_script ≡ tail_lines }
     ensures left { book_after small_device (take 4 tail_script.events) ≡ tail_book }
     ensures over { book_after small_device tail_script.events ≡ tail_over_book }
-    ensures runs { (story_after small_device tail_script).runs 0 ≡ tail_run ∷ [] }
+    ensures runs { runs_in tail_script ≡ tail_run ∷ [] }
 {}
 
 /// Two channels come to one before the rate changes, each time rounded down: 0, 0, 1 and 0.
@@ -48,8 +46,7 @@ pub fn shortage_at_half_the_rate()
 /// -3, 1, 4 and 2.
 pub fn two_taps_at_half_the_rate()
     ensures verdict { judged filtered_device filtered_text ≡ accepted filtered_script }
-    ensures device { played filtered_device filtered_script ≡ replicate 4096 0
-        ++ 0xfd ∷ 0xff ∷ 0xff ∷ 0xff ∷ 1 ∷ 0 ∷ 0 ∷ 0 ∷ 4 ∷ 0 ∷ 0 ∷ 0 ∷ 2 ∷ 0 ∷ 0 ∷ 0 ∷ [] }
+    ensures device { played filtered_device filtered_script ≡ silent_ring ++ filtered_bytes }
     ensures lines { printed filtered_device filtered_script ≡ filtered_lines }
     ensures over { book_after filtered_device (take 4 filtered_script.events) ≡ filtered_book }
 {}

@@ -1,10 +1,9 @@
 //! Every request in every state, and writes and closes beside them.
 #![tactic(auto)]
 
-ghost use Rattle.std.specs.Prelude.{◌≡◌, Ok, true, false};
+ghost use Rattle.std.specs.Prelude.{◌≡◌, true, false};
 ghost use Rattle.pcm_oss.specs.declared.event.Event.TheVariants.{Write, Ioctl, Close};
 ghost use Rattle.pcm_wave.specs.declared.pool.Source.TheVariants.{Inline};
-ghost use Rattle.pcm_oss.specs.declared.reply.Answer.TheVariants.{Done};
 ghost use Rattle.pcm_oss.specs.declared.reply.Errno.TheVariants.{Again, Busy, BadF};
 ghost use Rattle.pcm_oss.specs.declared.request.Request.{Request};
 ghost use Rattle.pcm_oss.specs.declared.request.Request.TheVariants.{Sync};
@@ -13,78 +12,68 @@ ghost use Rattle.pcm_rate.specs.Rates.{unchanged};
 ghost use Rattle.pcm_desk.specs.declared.play_book.PlayBook.{PlayBook};
 ghost use Rattle.pcm_desk.specs.declared.play_book.PlayState.TheVariants.{Free, Setup, Primed, Running, Draining};
 ghost use Rattle.pcm_desk.specs.PlayBooks.{close_turn, write_turn};
-ghost use Rattle.pcm_desk.specs.Desk.{after, play_at, desk_at_start, refusing};
+ghost use Rattle.pcm_desk.specs.Desk.{after, play_at, refusing};
 ghost use Rattle.pcm_desk.specs.PlayRequests.{play_ask};
 ghost use Rattle.pcm_rows.specs.Calls.{small_device};
-ghost use Rattle.pcm_rows.specs.RequestTable.{turns_in, turns_asked, cut_book, setup_book, primed_book, running_book, draining_book, full_book, rows_in_every_state, setup_rows, primed_rows, running_rows, draining_rows, full_rows, full_running_book, full_running_rows, part_book, part_rows, played_book, ended_book, half_rate, half_given_book, accepts, refuses, closed_desk};
+ghost use Rattle.pcm_rows.specs.RequestTable.{AnswersAs, cut_book, setup_book, primed_book, running_book, draining_book, full_book, rows_in_every_state, setup_rows, primed_rows, running_rows, draining_rows, full_rows, full_running_book, full_running_rows, part_book, part_rows, played_book, ended_book, half_rate, half_given, accepts, refuses, done, new_desk, closed_desk};
 
 /// Some requests are answered alike in every state, whatever the book and its rate: what tells of
 /// settings and counts, what is outside its set, a volume, and a halt.
 pub fn requests_in_every_state()
-    ensures { (rate : Rate) (book : PlayBook)
-        → turns_asked rate book (rows_in_every_state book)
-        ≡ turns_in book (rows_in_every_state book) }
+    ensures { (rate : Rate) (book : PlayBook) → AnswersAs rate book (rows_in_every_state book) }
 {}
 
 /// With nothing written all settings are free, and there is nothing to start or to drain.
 pub fn each_request_in_setup()
-    ensures { turns_asked unchanged setup_book setup_rows ≡ turns_in setup_book setup_rows }
+    ensures { AnswersAs unchanged setup_book setup_rows }
 {}
 
 /// What waits with a whole frame is started by a post and by the trigger, and drained by a sync.
 pub fn each_request_when_primed()
-    ensures { turns_asked unchanged primed_book primed_rows ≡ turns_in primed_book primed_rows }
+    ensures { AnswersAs unchanged primed_book primed_rows }
 {}
 
 /// A running channel is only drained or halted.
 pub fn each_request_while_running()
-    ensures { turns_asked unchanged running_book running_rows ≡ turns_in running_book running_rows }
+    ensures { AnswersAs unchanged running_book running_rows }
 {}
 
 /// A drain goes on whatever is asked, but for a halt.
 pub fn each_request_while_draining()
-    ensures { turns_asked unchanged draining_book draining_rows
-        ≡ turns_in draining_book draining_rows }
+    ensures { AnswersAs unchanged draining_book draining_rows }
 {}
 
 /// A full ring refuses no request that its state allows. While the trigger is off, a post starts nothing.
 pub fn each_request_on_a_full_ring()
-    ensures waiting { turns_asked unchanged full_book full_rows ≡ turns_in full_book full_rows }
-    ensures running { turns_asked unchanged full_running_book full_running_rows
-        ≡ turns_in full_running_book full_running_rows }
+    ensures waiting { AnswersAs unchanged full_book full_rows }
+    ensures running { AnswersAs unchanged full_running_book full_running_rows }
 {}
 
 /// A part of a frame alone isn't started, and what would drain it drops it.
 pub fn part_of_a_frame_starts_nothing()
-    ensures requests { turns_asked unchanged part_book part_rows ≡ turns_in part_book part_rows }
+    ensures requests { AnswersAs unchanged part_book part_rows }
     ensures closed { close_turn unchanged part_book ≡ cut_book Free 0 0 }
 {}
 
 /// Where all whole frames were given, a drain is over at once, and a part of a frame is dropped.
 pub fn what_is_played_is_over_at_once()
-    ensures synced { play_ask unchanged Sync played_book
-        ≡ record { book = ended_book Setup; reply = Ok Done } }
+    ensures synced { play_ask unchanged Sync played_book ≡ done (ended_book Setup) }
     ensures closed { close_turn unchanged played_book ≡ ended_book Free }
 {}
 
 /// At half the rate a drain goes on where all that was sure was given, until the last frame has faded.
 pub fn what_is_not_faded_drains()
-    ensures synced { play_ask half_rate Sync half_given_book
-        ≡ record { book = record half_given_book { state = Draining false }; reply = Ok Done } }
-    ensures closed { close_turn half_rate half_given_book
-        ≡ record half_given_book { state = Draining true } }
+    ensures synced { play_ask half_rate Sync (half_given Running) ≡ done (half_given (Draining false)) }
+    ensures closed { close_turn half_rate (half_given Running) ≡ half_given (Draining true) }
 {}
 
 /// Nothing can be asked of a channel that drains after its close, nor of one that nobody opened.
 pub fn no_request_of_a_closed_descriptor()
     ensures draining { (play_at small_device closed_desk 0).state ≡ Draining true }
-    ensures request { (request : Request)
-        → after small_device closed_desk (Ioctl 0 request) ≡ refusing closed_desk BadF }
+    ensures request { (any : Request) → after small_device closed_desk (Ioctl 0 any) ≡ refusing closed_desk BadF }
     ensures written { after small_device closed_desk (Write 0 Inline 8 4) ≡ refusing closed_desk BadF }
     ensures closed { after small_device closed_desk (Close 0) ≡ refusing closed_desk BadF }
-    ensures never { (request : Request)
-        → after small_device (desk_at_start small_device) (Ioctl 63 request)
-        ≡ refusing (desk_at_start small_device) BadF }
+    ensures never { (any : Request) → after small_device new_desk (Ioctl 63 any) ≡ refusing new_desk BadF }
 {}
 
 /// A write takes what fits, and a full fragment starts.

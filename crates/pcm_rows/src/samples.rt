@@ -4,6 +4,7 @@
 
 ghost use Rattle.std.specs.Prelude.{◌≡◌, ◌∷◌, [], codes};
 ghost use Rattle.pcm_format.specs.declared.format.Format.TheVariants.{U8, S8, S16Le, S16Be, U16Le, U16Be, S24Le, S24Be, U24Le, U24Be, S32Le, S32Be, U32Le, U32Be};
+ghost use Rattle.pcm_rows.specs.ClientFormats.{two_of_24_bits};
 ghost use Rattle.pcm_rows.specs.Samples.{edges_in, carried};
 
 /// One byte.
@@ -42,8 +43,7 @@ pub fn edges_of_32_bits()
 
 /// From 24 bits, big-endian, to 16: 384 of the first are one step, and -129 are rounded down to -1.
 pub fn fewer_bits_round_down()
-    ensures { carried S24Be S16Le (0x00 ∷ 0x01 ∷ 0x80 ∷ 0xff ∷ 0xff ∷ 0x7f ∷ [])
-        ≡ 0x01 ∷ 0x00 ∷ 0xff ∷ 0xff ∷ [] }
+    ensures { carried S24Be S16Le two_of_24_bits ≡ 0x01 ∷ 0x00 ∷ 0xff ∷ 0xff ∷ [] }
 {}
 
 /// The midpoint of an unsigned format is silence.

@@ -1,33 +1,25 @@
 //! Several clients in one mix.
 #![tactic(auto, unfolding(crate::proofs::Computing::row))]
 
-ghost use Rattle.std.specs.Prelude.{◌≡◌, ◌∷◌, ◌++◌, [], codes, replicate};
+ghost use Rattle.std.specs.Prelude.{◌≡◌, ◌∷◌, ◌++◌, []};
 ghost use Rattle.pcm_wave.specs.declared.pool.Pool.{Pool};
 ghost use Rattle.pcm_desk.specs.Usual.{usual_device};
 ghost use Rattle.pcm_verdict.specs.Transcript.{transcript};
-ghost use Rattle.pcm_rows.specs.Calls.{accepted, judged, played, printed};
-ghost use Rattle.pcm_rows.specs.SeveralClients.{three_text, three_script, three_lines, loud_frame, soft_frame, negative_frame, opens_text, opens_script, opens_lines, single_device, queue_events, queue_lines};
+ghost use Rattle.pcm_rows.specs.Calls.{accepted, judged, played, printed, silent_ring, stereo_bytes};
+ghost use Rattle.pcm_rows.specs.SeveralClients.{limited_text, limited_script, unlimited_text, unlimited_script, three_lines, loud_frame, opens_text, opens_script, opens_lines, single_device, queue_events, queue_lines};
 
 /// The mix is limited after each addition: 30000 and 10000 stop at 32767, and 10000 less is 22767.
 pub fn three_clients_saturate()
-    ensures verdict { judged usual_device
-        (three_text (codes "30753075") (codes "10271027") (codes "f0d8f0d8"))
-        ≡ accepted (three_script loud_frame soft_frame negative_frame) }
-    ensures device { played usual_device (three_script loud_frame soft_frame negative_frame)
-        ≡ replicate 4096 0 ++ 0xef ∷ 0x58 ∷ 0xef ∷ 0x58 ∷ [] }
-    ensures lines { printed usual_device (three_script loud_frame soft_frame negative_frame)
-        ≡ three_lines }
+    ensures verdict { judged usual_device limited_text ≡ accepted limited_script }
+    ensures device { played usual_device limited_script ≡ silent_ring ++ stereo_bytes (22767 ∷ []) }
+    ensures lines { printed usual_device limited_script ≡ three_lines }
 {}
 
 /// The same frames in other slots pass no limit: -10000, 20000, 30000.
 pub fn three_clients_other_order()
-    ensures verdict { judged usual_device
-        (three_text (codes "f0d8f0d8") (codes "30753075") (codes "10271027"))
-        ≡ accepted (three_script negative_frame loud_frame soft_frame) }
-    ensures device { played usual_device (three_script negative_frame loud_frame soft_frame)
-        ≡ replicate 4096 0 ++ loud_frame }
-    ensures lines { printed usual_device (three_script negative_frame loud_frame soft_frame)
-        ≡ three_lines }
+    ensures verdict { judged usual_device unlimited_text ≡ accepted unlimited_script }
+    ensures device { played usual_device unlimited_script ≡ silent_ring ++ loud_frame }
+    ensures lines { printed usual_device unlimited_script ≡ three_lines }
 {}
 
 /// An open descriptor isn't opened again, and four clients play at once.

@@ -4,7 +4,7 @@
 ghost use Rattle.std.specs.Prelude.{◌≡◌};
 ghost use Rattle.pcm_desk.specs.Usual.{usual_device};
 ghost use Rattle.pcm_rows.specs.Calls.{accepted, judged};
-ghost use Rattle.pcm_rows.specs.Texts.{decorated_text, decorated_script, hex_text, hex_script, interrupts_text, interrupts_script, request_lines, requests_script, plain_words, plain_requests, numbered_words, numbered_requests};
+ghost use Rattle.pcm_rows.specs.Texts.{decorated_text, decorated_script, hex_text, hex_script, interrupts_text, interrupts_script, ask_lines, ask_script, plain_words, plain_requests, numbered_words, numbered_requests};
 
 /// Comments, empty lines, blanks and a carriage return at a line's end say nothing.
 pub fn comments_and_empty_lines()
@@ -24,8 +24,6 @@ pub fn interrupt_without_a_number()
 /// Each request has a line with its name, and with its number where it has one. Whether the number
 /// is in its set is no matter of the text.
 pub fn line_for_each_request()
-    ensures plain { judged usual_device (request_lines plain_words)
-        ≡ accepted (requests_script plain_requests) }
-    ensures numbered { judged usual_device (request_lines numbered_words)
-        ≡ accepted (requests_script numbered_requests) }
+    ensures plain { judged usual_device (ask_lines plain_words) ≡ accepted (ask_script plain_requests) }
+    ensures numbered { judged usual_device (ask_lines numbered_words) ≡ accepted (ask_script numbered_requests) }
 {}
