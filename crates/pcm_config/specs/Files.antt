@@ -24,9 +24,8 @@ is_file file = is_file_name file.name && nat_le 1 (length file.path)
 
 -- a file more, if its path and the others' are texts
 abbrev pub with_file : List ℕ → Option (List ℕ) → Option (List FilePath) → Option (List FilePath)
-with_file name None others = None
-with_file name (Some path) None = None
 with_file name (Some path) (Some others) = Some (record { name = name; path = path } ∷ others)
+with_file name path others = None
 
 -- the files that entries are, if each path is a text
 abbrev pub files_of : List (List ℕ × Data) → Option (List FilePath)

@@ -6,4 +6,5 @@ pub mod Values
 pub mod Files
 pub mod Tables
 pub mod Configs
+pub mod Parts
 pub mod Answers

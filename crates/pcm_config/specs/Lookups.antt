@@ -61,6 +61,9 @@ table_seen value = or_empty (as_table (view value))
 abbrev pub tables_seen : List Value → List Members
 tables_seen values = map table_seen values
 
+abbrev pub borrowed_tables : Bor (List Value) → List Members
+borrowed_tables values = tables_seen values.now
+
 -- the table at a place of the top
 abbrev pub table_in : ConfigPlace → Members → Result Members ConfigRefusal
 table_in place top = do
@@ -74,14 +77,17 @@ values_of (item value others) = value ∷ values_of others
 
 -- a value before others, if all are there
 abbrev pub with_first : {B : Type 0} → Option B → Option (List B) → Option (List B)
-with_first None others = None
-with_first (Some value) None = None
 with_first (Some value) (Some others) = Some (value ∷ others)
+with_first value others = None
 
 -- values as what they must be, if each of them is
 abbrev pub each_as : {A B : Type 0} → (A → Option B) → List A → Option (List B)
 each_as as_kind [] = Some []
 each_as as_kind (value ∷ values) = with_first (as_kind value) (each_as as_kind values)
+
+-- the values that the code sees as what they must be, if each of them is
+abbrev pub each_in : {B : Type 0} → (Data → Option B) → List Value → Option (List B)
+each_in as_kind values = each_as (λ value. as_kind (view value)) values
 
 -- a value as an array, if it is one and each value in it is of a kind
 abbrev pub as_array_of : {B : Type 0} → (Data → Option B) → Data → Option (List B)

@@ -1,18 +1,21 @@
 -- The filters of a configuration: a table for each, what that spells, and what it settles.
 use Rattle.std.specs.Prelude.{ℕ, ℤ, neg_ℤ, int_le, Bool, true, false, not, ◌&&◌, ◌||◌, ◌==◌, ◌*◌, ◌%◌, nat_le, nat_lt, if◌then◌else◌, List, [], ◌∷◌, length, Option, Some, None, Result, Ok, codes}
 use Rattle.std.specs.List.{list_all, flat_map}
+use Rattle.std.specs.Borrow.{Bor}
 use Rattle.std.specs.Str.{bytes_eq}
 use Rattle.pcm_format.specs.declared.settings.TheConstants.{RATE_LEAST, RATE_MOST}
 use Rattle.pcm_feeder.specs.declared.table.Table.{Table}
 use Rattle.pcm_feeder.specs.Filters.{Filters}
 use Rattle.toml.specs.Data.{Data, Members, get_member, as_integer, as_table}
+use Rattle.toml.specs.View.{view}
+use Rattle.toml.specs.declared.value.Value.{Value}
 use Rattle.pcm_config.specs.declared.fault.ConfigKind.TheVariants.{Kind, Range, Count, Missing, Shape, Coef}
 use Rattle.pcm_config.specs.declared.fault.ConfigRefusal.{ConfigRefusal}
 use Rattle.pcm_config.specs.declared.filter.Spelled.{Spelled}
 use Rattle.pcm_feeder.specs.declared.limits.TheConstants.{COEF_MOST, FILTERS, PHASES, SHIFT_MOST, TABLE_COEFS, TAPS}
 use Rattle.pcm_config.specs.declared.place.ConfigPlace.TheVariants.{Tables}
 use Rattle.pcm_config.specs.Judgements.{◌>>=◌, refused, required}
-use Rattle.pcm_config.specs.Lookups.{entries_of, value_at, of_kind, each_as, as_array_of}
+use Rattle.pcm_config.specs.Lookups.{entries_of, value_at, value_seen, of_kind, each_as, as_array_of}
 use Rattle.pcm_config.specs.Rows.{in_range}
 
 -- ---- the array of tables
@@ -55,6 +58,10 @@ spelled_in src dst shift rows = do
   bits ← required Kind Tables (as_integer shift)
   lists ← required Kind Tables (rows_in rows)
   Ok (record { src = from; dst = to; shift = bits; rows = lists })
+
+-- and of the values as the code holds them
+abbrev pub spelled_held : Option (Bor Value) → Option (Bor Value) → Value → Value → Result Spelled ConfigRefusal
+spelled_held src dst shift rows = spelled_in (value_seen src) (value_seen dst) (view shift) (view rows)
 
 -- ---- what a table settles
 
@@ -109,17 +116,19 @@ settled_filter spelled = do
 -- both of two values are there, or neither
 abbrev pub come_together : Option Data → Option Data → Bool
 come_together None None = true
-come_together None (Some dst) = false
-come_together (Some src) None = false
 come_together (Some src) (Some dst) = true
+come_together src dst = false
 
 -- The filter of what stands at the four keys. The shift and the rows must be there, and the rates both or neither.
 abbrev pub filter_with : Option Data → Option Data → Option Data → Option Data → Result Table ConfigRefusal
 filter_with src dst (Some shift) (Some rows) =
     if come_together src dst then spelled_in src dst shift rows >>= settled_filter
     else refused Missing Tables
-filter_with src dst (Some shift) None = refused Missing Tables
-filter_with src dst None rows = refused Missing Tables
+filter_with src dst shift rows = refused Missing Tables
+
+-- and of the values as the code holds them
+abbrev pub filter_held : Option (Bor Value) → Option (Bor Value) → Option (Bor Value) → Option (Bor Value) → Result Table ConfigRefusal
+filter_held src dst shift rows = filter_with (value_seen src) (value_seen dst) (value_seen shift) (value_seen rows)
 
 -- the filter of a table
 unfoldable pub filter_in : Members → Result Table ConfigRefusal

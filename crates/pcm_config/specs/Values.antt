@@ -1,5 +1,5 @@
 -- What a table settles, row after row.
-use Rattle.std.specs.Prelude.{ℕ, ◌*◌, ◌<◌, ◌≤◌, List, Option, Some, None, Result, Ok}
+use Rattle.std.specs.Prelude.{ℕ, ℤ, ◌*◌, ◌<◌, ◌≤◌, List, Option, Some, None, Result, Ok}
 use Rattle.pcm_format.specs.declared.settings.Settings.{Settings}
 use Rattle.pcm_feeder.specs.Limits.{IsRate}
 use Rattle.pcm_desk.specs.declared.device.TheConstants.{QUALITY_MOST}
@@ -7,16 +7,21 @@ use Rattle.pcm_desk.specs.declared.limits.TheConstants.{RING_FRAMES, SLOTS}
 use Rattle.toml.specs.Data.{Members, as_str}
 use Rattle.pcm_config.specs.declared.fault.ConfigRefusal.{ConfigRefusal}
 use Rattle.pcm_config.specs.declared.hardware.Hardware.{Hardware}
+use Rattle.pcm_config.specs.declared.number.NumberRow.{NumberRow}
 use Rattle.pcm_config.specs.declared.place.ConfigPlace.TheVariants.{DeviceCapture}
 use Rattle.pcm_config.specs.declared.slots.Slots.{Slots}
 use Rattle.pcm_config.specs.Judgements.{◌>>=◌, required}
 use Rattle.pcm_config.specs.Lookups.{value_at}
-use Rattle.pcm_config.specs.Rows.{ConfigRow, format_row, channels_row, rate_row, block_row, blocks_row, container_row, play_row, record_row, quality_row}
+use Rattle.pcm_config.specs.Rows.{ConfigRow, numbers, format_row, channels_row, rate_row, block_row, blocks_row, container_row, play_row, record_row, quality_row}
 
 -- what a value means, which must be in its set, or what stands where there is none
 abbrev pub in_row : {A B : Type 0} → ConfigRow A B → Option A → Result B ConfigRefusal
 in_row row None = Ok row.usual
 in_row row (Some value) = required row.fault row.place (row.in_set value)
+
+-- the row of a number that the code names
+abbrev pub number_row : NumberRow → ConfigRow ℤ ℕ
+number_row row = numbers row.place row.least row.most row.usual
 
 -- what a table settles of a row
 abbrev pub settled : {A B : Type 0} → ConfigRow A B → Members → Result B ConfigRefusal

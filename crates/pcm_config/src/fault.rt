@@ -2,6 +2,7 @@
 
 ghost use Rattle.std.specs.Prelude.{◌≡◌};
 ghost use Rattle.pcm_config.specs.declared.fault.ConfigFault.TheVariants.{Refused};
+ghost use Rattle.pcm_config.specs.Judgements.{required};
 
 use crate::ConfigPlace;
 use std::alloc::{AllocError, AllocFailed};
@@ -83,6 +84,20 @@ pub(crate) fn refused(kind: ConfigKind, place: ConfigPlace) -> ConfigFault
     ensures { result ≡ Refused (record { kind = kind; place = place }) }
 {
     ConfigFault::Refused(ConfigRefusal { kind, place })
+}
+
+// What must be there, else it is refused.
+pub(crate) fn required<T: Drop>(
+    kind: ConfigKind,
+    place: ConfigPlace,
+    found: Option<T>,
+) -> Result<T, ConfigRefusal>
+    ensures { result ≡ required kind place found }
+{
+    match found {
+        Some(value) => Ok(value),
+        None => Err(ConfigRefusal { kind, place }),
+    }
 }
 
 impl From<ConfigRefusal> for ConfigFault {

@@ -6,11 +6,11 @@ ghost use Rattle.toml.specs.View.{view};
 ghost use Rattle.pcm_config.specs.Answers.{Reads};
 ghost use Rattle.pcm_config.specs.Judgements.{required};
 ghost use Rattle.pcm_config.specs.Lookups.{members_seen, of_kind, value_seen};
-ghost use Rattle.pcm_config.specs.Tables.{come_together, filter_in, filter_rate, filter_with, settled_filter, shaped, spelled_in};
+ghost use Rattle.pcm_config.specs.Tables.{come_together, filter_held, filter_in, filter_rate, settled_filter, shaped, spelled_held};
 ghost use Rattle.pcm_config.specs.declared.fault.ConfigKind.TheVariants.{Kind, Range};
 ghost use Rattle.pcm_config.specs.declared.place.ConfigPlace.TheVariants.{Tables};
 
-use crate::fault::refused;
+use crate::fault::{refused, required};
 use crate::lookup::member_of;
 use crate::number::in_range;
 use crate::rows::{Row, Rows, rows_in};
@@ -53,7 +53,7 @@ fn filter_with(
     shift: Option<&Value>,
     rows: Option<&Value>,
 ) -> Result<pcm_feeder::Table, ConfigFault>
-    ensures { Reads result (filter_with (value_seen src.entry) (value_seen dst.entry) (value_seen shift.entry) (value_seen rows.entry)) }
+    ensures { Reads result (filter_held src.entry dst.entry shift.entry rows.entry) }
 {
     match (shift, rows) {
         (Some(shift), Some(rows)) if come_together(src, dst) => {
@@ -80,7 +80,7 @@ fn spelled_in(
     shift: &Value,
     rows: &Value,
 ) -> Result<Spelled, ConfigFault>
-    ensures { Reads result (spelled_in (value_seen src.entry) (value_seen dst.entry) (view shift.now) (view rows.now)) }
+    ensures { Reads result (spelled_held src.entry dst.entry shift.now rows.now) }
 {
     let src = integer_of(src)?;
     let dst = integer_of(dst)?;
@@ -106,10 +106,7 @@ fn integer_of(value: Option<&Value>) -> Result<Option<i64>, ConfigRefusal>
 fn integer_in(value: &Value) -> Result<i64, ConfigRefusal>
     ensures { result ≡ required Kind Tables (as_integer (view value.now)) }
 {
-    value.as_integer().ok_or(ConfigRefusal {
-        kind: ConfigKind::Kind,
-        place: ConfigPlace::Tables,
-    })
+    required(ConfigKind::Kind, ConfigPlace::Tables, value.as_integer())
 }
 
 // What is spelled, as a filter.
@@ -136,10 +133,7 @@ fn filter_rate(rate: Option<i64>) -> Option<u32>
 fn ranged(number: Option<u32>) -> Result<u32, ConfigRefusal>
     ensures { result ≡ required Range Tables number }
 {
-    number.ok_or(ConfigRefusal {
-        kind: ConfigKind::Range,
-        place: ConfigPlace::Tables,
-    })
+    required(ConfigKind::Range, ConfigPlace::Tables, number)
 }
 
 // A filter with these rates, this shift and these rows.

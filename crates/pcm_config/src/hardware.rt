@@ -6,6 +6,7 @@ ghost use Rattle.pcm_config.specs.Lookups.{members_seen};
 ghost use Rattle.pcm_config.specs.Rows.{channels_row, container_named, container_row, format_row, layout_with};
 ghost use Rattle.pcm_config.specs.Values.{IsHardware, hardware_in, settings_in, settled};
 
+use crate::fault::required;
 use crate::lookup::{integer_at, text_at};
 use crate::number::{NumberRow, number_in};
 use crate::{ConfigKind, ConfigPlace, ConfigRefusal, Container};
@@ -84,10 +85,7 @@ fn format_in(device: Option<&Table>) -> Result<Format, ConfigRefusal>
     let place = ConfigPlace::DeviceFormat;
     match text_at(device, place)? {
         None => Ok(Format::S16Le),
-        Some(word) => Format::from_name(word.as_bytes()).ok_or(ConfigRefusal {
-            kind: ConfigKind::Name,
-            place,
-        }),
+        Some(word) => required(ConfigKind::Name, place, Format::from_name(word.as_bytes())),
     }
 }
 
@@ -97,10 +95,7 @@ fn layout_in(device: Option<&Table>) -> Result<Layout, ConfigRefusal>
     let place = ConfigPlace::DeviceChannels;
     match integer_at(device, place)? {
         None => Ok(Layout::Two),
-        Some(channels) => layout_with(channels).ok_or(ConfigRefusal {
-            kind: ConfigKind::Range,
-            place,
-        }),
+        Some(channels) => required(ConfigKind::Range, place, layout_with(channels)),
     }
 }
 
@@ -120,10 +115,7 @@ fn container_in(device: Option<&Table>) -> Result<Container, ConfigRefusal>
     let place = ConfigPlace::DeviceContainer;
     match text_at(device, place)? {
         None => Ok(Container::Raw),
-        Some(word) => container_named(word).ok_or(ConfigRefusal {
-            kind: ConfigKind::Name,
-            place,
-        }),
+        Some(word) => required(ConfigKind::Name, place, container_named(word)),
     }
 }
 

@@ -6,6 +6,7 @@ ghost use Rattle.toml.specs.View.{table_view};
 ghost use Rattle.pcm_config.specs.Judgements.{as_seen};
 ghost use Rattle.pcm_config.specs.Lookups.{has_only, is_key_of, member_at, members_seen, table_in, value_at, value_seen};
 
+use crate::fault::required;
 use crate::{ConfigKind, ConfigPlace, ConfigRefusal};
 use toml::{Table, Value};
 
@@ -25,13 +26,7 @@ pub(crate) fn table_in(top: &Table, place: ConfigPlace) -> Result<Option<&Table>
 {
     match member_at(Some(top), place) {
         None => Ok(None),
-        Some(value) => match value.as_table() {
-            Some(table) => Ok(Some(table)),
-            None => Err(ConfigRefusal {
-                kind: ConfigKind::Kind,
-                place,
-            }),
-        },
+        Some(value) => Ok(Some(required(ConfigKind::Kind, place, value.as_table())?)),
     }
 }
 
@@ -44,13 +39,7 @@ pub(crate) fn text_at(
 {
     match member_at(table, place) {
         None => Ok(None),
-        Some(value) => match value.as_str() {
-            Some(text) => Ok(Some(text)),
-            None => Err(ConfigRefusal {
-                kind: ConfigKind::Kind,
-                place,
-            }),
-        },
+        Some(value) => Ok(Some(required(ConfigKind::Kind, place, value.as_str())?)),
     }
 }
 
@@ -63,13 +52,7 @@ pub(crate) fn integer_at(
 {
     match member_at(table, place) {
         None => Ok(None),
-        Some(value) => match value.as_integer() {
-            Some(number) => Ok(Some(number)),
-            None => Err(ConfigRefusal {
-                kind: ConfigKind::Kind,
-                place,
-            }),
-        },
+        Some(value) => Ok(Some(required(ConfigKind::Kind, place, value.as_integer())?)),
     }
 }
 

@@ -2,9 +2,10 @@
 
 ghost use Rattle.std.specs.Prelude.{◌≡◌, ◌≤◌, IfOk, IfSome};
 ghost use Rattle.pcm_config.specs.Lookups.{members_seen};
-ghost use Rattle.pcm_config.specs.Rows.{numbers, in_range};
-ghost use Rattle.pcm_config.specs.Values.{settled};
+ghost use Rattle.pcm_config.specs.Rows.{in_range};
+ghost use Rattle.pcm_config.specs.Values.{number_row, settled};
 
+use crate::fault::required;
 use crate::lookup::integer_at;
 use crate::{ConfigKind, ConfigPlace, ConfigRefusal};
 use toml::Table;
@@ -22,16 +23,17 @@ pub(crate) struct NumberRow {
 pub(crate) fn number_in(table: Option<&Table>, row: NumberRow) -> Result<u32, ConfigRefusal>
     requires least { row.least ≤ row.usual }
     requires most { row.usual ≤ row.most }
-    ensures value { result ≡ settled (numbers row.place row.least row.most row.usual) (members_seen table.entry) }
+    ensures value { result ≡ settled (number_row row) (members_seen table.entry) }
     ensures least { IfOk result (λ number. row.least ≤ number) }
     ensures most { IfOk result (λ number. number ≤ row.most) }
 {
     match integer_at(table, row.place)? {
         None => Ok(row.usual),
-        Some(number) => in_range(row.least, row.most, number).ok_or(ConfigRefusal {
-            kind: ConfigKind::Range,
-            place: row.place,
-        }),
+        Some(number) => required(
+            ConfigKind::Range,
+            row.place,
+            in_range(row.least, row.most, number),
+        ),
     }
 }
 

@@ -8,7 +8,7 @@ ghost use Rattle.pcm_config.specs.declared.place.ConfigPlace.TheVariants.{Top};
 ghost use Rattle.pcm_config.specs.Answers.{Reads};
 ghost use Rattle.pcm_config.specs.Configs.{AreInOrder, HasCapture, IsHeld, IsSettled, config_read, device_seen, document_of, document_read, lists_read, tables_read, top_read, values_read};
 ghost use Rattle.pcm_config.specs.Judgements.{as_seen, required};
-ghost use Rattle.pcm_config.specs.Lookups.{members_seen, tables_seen};
+ghost use Rattle.pcm_config.specs.Parts.{of_lists, of_parts};
 ghost use Rattle.pcm_config.specs.Values.{AreSlots, IsHardware};
 
 use crate::fault::refused;
@@ -47,6 +47,15 @@ const VCHANS: [ConfigPlace; 3] = [
     ConfigPlace::VchansRecord,
     ConfigPlace::VchansQuality,
 ];
+
+// The three tables of a configuration, and those of its filters.
+#[derive(Clone, Copy)]
+pub(crate) struct Parts<'a> {
+    pub(crate) device: Option<&'a Table>,
+    pub(crate) vchans: Option<&'a Table>,
+    pub(crate) files: Option<&'a Table>,
+    pub(crate) tables: &'a [Value],
+}
 
 /// Reads a configuration: all that it settles, or the first fault that applies.
 #[tactic(auto, unfolding(crate::specs::Configs::config_read))]
@@ -103,47 +112,43 @@ fn top_read(alloc: Global, top: &Table) -> Result<Config, ConfigFault>
     let vchans = table_in(top, ConfigPlace::Vchans)?;
     let files = table_in(top, ConfigPlace::Files)?;
     let tables = filter_tables(top)?;
-    tables_read(alloc, device, vchans, files, tables)
+    tables_read(
+        alloc,
+        Parts {
+            device,
+            vchans,
+            files,
+            tables,
+        },
+    )
 }
 
 #[tactic(auto, unfolding(crate::specs::Configs::tables_read))]
-fn tables_read(
-    alloc: Global,
-    device: Option<&Table>,
-    vchans: Option<&Table>,
-    files: Option<&Table>,
-    tables: &[Value],
-) -> Result<Config, ConfigFault>
-    ensures read { Reads result (tables_read (members_seen device.entry) (members_seen vchans.entry) (members_seen files.entry) (tables_seen tables.now)) }
+fn tables_read(alloc: Global, parts: Parts<'_>) -> Result<Config, ConfigFault>
+    ensures read { Reads result (of_parts tables_read parts.entry) }
     ensures settled { IfOk result IsSettled }
 {
-    if !has_only(device, &DEVICE) {
+    if !has_only(parts.device, &DEVICE) {
         return Err(refused(ConfigKind::Key, ConfigPlace::Device));
     }
-    if !has_only(vchans, &VCHANS) {
+    if !has_only(parts.vchans, &VCHANS) {
         return Err(refused(ConfigKind::Key, ConfigPlace::Vchans));
     }
-    if !have_filter_keys(tables) {
+    if !have_filter_keys(parts.tables) {
         return Err(refused(ConfigKind::Key, ConfigPlace::Tables));
     }
-    values_read(alloc, device, vchans, files, tables)
+    values_read(alloc, parts)
 }
 
 #[tactic(auto, unfolding(crate::specs::Configs::values_read))]
-fn values_read(
-    alloc: Global,
-    device: Option<&Table>,
-    vchans: Option<&Table>,
-    files: Option<&Table>,
-    tables: &[Value],
-) -> Result<Config, ConfigFault>
-    ensures read { Reads result (values_read (members_seen device.entry) (members_seen vchans.entry) (members_seen files.entry) (tables_seen tables.now)) }
+fn values_read(alloc: Global, parts: Parts<'_>) -> Result<Config, ConfigFault>
+    ensures read { Reads result (of_parts values_read parts.entry) }
     ensures settled { IfOk result IsSettled }
 {
-    let hardware = hardware_in(device)?;
-    let capture = text_at(device, ConfigPlace::DeviceCapture)?;
-    let slots = slots_in(vchans)?;
-    lists_read(alloc, hardware, capture, slots, files, tables)
+    let hardware = hardware_in(parts.device)?;
+    let capture = text_at(parts.device, ConfigPlace::DeviceCapture)?;
+    let slots = slots_in(parts.vchans)?;
+    lists_read(alloc, hardware, capture, slots, parts)
 }
 
 // The files and the filters, and the whole.
@@ -152,16 +157,15 @@ fn lists_read(
     hardware: Hardware,
     capture: Option<&str>,
     slots: Slots,
-    files: Option<&Table>,
-    tables: &[Value],
+    parts: Parts<'_>,
 ) -> Result<Config, ConfigFault>
     requires hardware { IsHardware hardware }
     requires slots { AreSlots slots }
-    ensures read { Reads result (lists_read hardware (option_copied capture.entry) slots (members_seen files.entry) (tables_seen tables.now)) }
+    ensures read { Reads result (of_lists (lists_read hardware (option_copied capture.entry) slots) parts.entry) }
     ensures settled { IfOk result IsSettled }
 {
-    let files = files_in(alloc, files)?;
-    let tables = filters_in(alloc, tables)?;
+    let files = files_in(alloc, parts.files)?;
+    let tables = filters_in(alloc, parts.tables)?;
     let capture = name_of(alloc, capture)?;
     whole_read(config_with(hardware, capture, slots, files, tables))
 }

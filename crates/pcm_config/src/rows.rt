@@ -4,7 +4,7 @@ ghost use Rattle.std.specs.Prelude.{◌≡◌};
 ghost use Rattle.toml.specs.View.{view};
 ghost use Rattle.pcm_config.specs.Answers.{Reads};
 ghost use Rattle.pcm_config.specs.Judgements.{required};
-ghost use Rattle.pcm_config.specs.Lookups.{each_as};
+ghost use Rattle.pcm_config.specs.Lookups.{each_in};
 ghost use Rattle.pcm_config.specs.Tables.{numbers_in, rows_in};
 ghost use Rattle.pcm_config.specs.declared.fault.ConfigKind.TheVariants.{Kind};
 ghost use Rattle.pcm_config.specs.declared.place.ConfigPlace.TheVariants.{Tables};
@@ -87,7 +87,7 @@ pub(crate) fn rows_in(alloc: Global, value: &Value) -> Result<Rows, ConfigFault>
 }
 
 fn each_row(alloc: Global, values: &[Value]) -> Result<Rows, ConfigFault>
-    ensures { Reads result (required Kind Tables (each_as (λ value. numbers_in (view value)) values.now)) }
+    ensures { Reads result (required Kind Tables (each_in numbers_in values.now)) }
 {
     let mut rows = Vec::new(alloc);
     for value in values {
@@ -107,7 +107,7 @@ fn numbers_in(alloc: Global, value: &Value) -> Result<Row, ConfigFault>
 }
 
 fn each_number(alloc: Global, values: &[Value]) -> Result<Row, ConfigFault>
-    ensures { Reads result (required Kind Tables (each_as (λ value. as_integer (view value)) values.now)) }
+    ensures { Reads result (required Kind Tables (each_in as_integer values.now)) }
 {
     let mut numbers = Vec::new(alloc);
     for value in values {

@@ -6,10 +6,10 @@ ghost use Rattle.toml.specs.Data.{as_table};
 ghost use Rattle.toml.specs.View.{table_view, view};
 ghost use Rattle.pcm_config.specs.Answers.{Reads};
 ghost use Rattle.pcm_config.specs.Judgements.{as_seen};
-ghost use Rattle.pcm_config.specs.Lookups.{as_array_of, table_seen, tables_seen};
+ghost use Rattle.pcm_config.specs.Lookups.{as_array_of, borrowed_tables, table_seen, tables_seen};
 ghost use Rattle.pcm_config.specs.Tables.{filter_in, filter_tables, filters_in, each_filter, has_filter_keys, is_filter_key};
 
-use crate::fault::refused;
+use crate::fault::{refused, required};
 use crate::filter::filter_in;
 use crate::lookup::member_at;
 use crate::{ConfigFault, ConfigKind, ConfigPlace, ConfigRefusal};
@@ -19,20 +19,17 @@ use toml::{Table, Value};
 
 // The tables of filters at the top: each of these values is a table.
 pub(crate) fn filter_tables(top: &Table) -> Result<&[Value], ConfigRefusal>
-    ensures { as_seen (λ values. tables_seen values.now) result ≡ filter_tables (table_view top.now) }
+    ensures { as_seen borrowed_tables result ≡ filter_tables (table_view top.now) }
 {
     match member_at(Some(top), ConfigPlace::Tables) {
         None => Ok(&[]),
-        Some(value) => tables_in(value).ok_or(ConfigRefusal {
-            kind: ConfigKind::Kind,
-            place: ConfigPlace::Tables,
-        }),
+        Some(value) => required(ConfigKind::Kind, ConfigPlace::Tables, tables_in(value)),
     }
 }
 
 // The tables of an array, if it is one and has nothing else.
 fn tables_in(value: &Value) -> Option<&[Value]>
-    ensures { option_map (λ values. tables_seen values.now) result ≡ as_array_of as_table (view value.now) }
+    ensures { option_map borrowed_tables result ≡ as_array_of as_table (view value.now) }
 {
     match value.as_array() {
         Some(values) if are_tables(values) => Some(values.as_slice()),
