@@ -1,10 +1,10 @@
 -- What a conversion stands for: the body that it began with, and how many frames it has given.
-use Rattle.std.specs.Prelude.{◌≡◌, ◌<◌, ◌≤◌, ℕ, ◌*◌, List, length, take, drop}
+use Rattle.std.specs.Prelude.{◌≡◌, ◌<◌, ◌≤◌, ℕ, ◌+◌, ◌*◌, List, ◌++◌, length, take, drop}
 use Rattle.pcm_format.specs.declared.settings.Settings.{Settings}
 use Rattle.pcm_format.specs.Frames.{frame_bytes, frames, whole_frames}
 use Rattle.pcm_feeder.specs.Kept.{Kept}
 use Rattle.pcm_chain.specs.Chains.{ChainStands}
-use Rattle.pcm_convert.specs.Conversions.{without_filters}
+use Rattle.pcm_convert.specs.Conversions.{block_after, block_count, without_filters}
 use Rattle.pcm_convert.specs.declared.conversion.ConversionOf.{ConversionOf}
 
 -- the settings of the bytes that go in
@@ -31,3 +31,18 @@ pub record ConversionStands {B : Type 0} (kept : B → Kept) (conversion : Conve
 -- a conversion has given some frames of a body
 abbrev pub IsUnderWay : {B : Type 0} → (B → Kept) → ConversionOf B → List ℕ → Type 0
 IsUnderWay kept conversion body = (given : ℕ) × ConversionStands kept conversion body given
+
+-- this is the size of the next block, however many frames were given
+abbrev pub IsBlockSize : {B : Type 0} → (B → Kept) → ConversionOf B → List ℕ → ℕ → Type 0
+IsBlockSize kept conversion body size = (given : ℕ) → ConversionStands kept conversion body given
+    → size ≡ block_count (source_in conversion) (target_in conversion) body given * frame_bytes (target_in conversion)
+
+-- the next block of this size is at the front of a buffer, and the rest of it stays
+abbrev pub PutsBlock : {B : Type 0} → (B → Kept) → ConversionOf B → List ℕ → ℕ → List ℕ → List ℕ → Type 0
+PutsBlock kept conversion body size before now = (given : ℕ) → ConversionStands kept conversion body given
+    → now ≡ block_after (source_in conversion) (target_in conversion) body given ++ drop size before
+
+-- a conversion has given the next block, too
+abbrev pub MovesOn : {B : Type 0} → (B → Kept) → ConversionOf B → ConversionOf B → List ℕ → Type 0
+MovesOn kept old new body = (given : ℕ) → ConversionStands kept old body given
+    → ConversionStands kept new body (given + block_count (source_in old) (target_in old) body given)

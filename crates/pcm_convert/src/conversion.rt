@@ -44,10 +44,10 @@ pub struct ConversionOf<B> {
 }
 
 impl<B: Feeder> ConversionOf<B> {
-    ghost use Rattle.std.specs.Prelude.{◌≤◌, ◌++◌, ℕ, List, length, drop, IfOk};
+    ghost use Rattle.std.specs.Prelude.{◌≤◌, ℕ, List, length, IfOk};
     ghost use Rattle.pcm_feeder.specs.Racks.{IsRack};
-    ghost use Rattle.pcm_convert.specs.Conversions.{converted_frames, block_count, block_after};
-    ghost use Rattle.pcm_convert.specs.Stands.{source_in, target_in, ConversionStands, IsUnderWay};
+    ghost use Rattle.pcm_convert.specs.Conversions.{converted_frames};
+    ghost use Rattle.pcm_convert.specs.Stands.{source_in, target_in, ConversionStands, IsBlockSize, IsUnderWay, MovesOn, PutsBlock};
 
     /// A conversion from settings to settings that has given nothing of a body. All its memory is taken here.
     pub fn new(
@@ -111,15 +111,9 @@ impl<B: Feeder> ConversionOf<B> {
         requires room { BLOCK * frame_bytes (target_in self.old) ≤ length out.old }
         ensures source { source_in self.new ≡ source_in self.old }
         ensures target { target_in self.new ≡ target_in self.old }
-        ensures count { (given : ℕ) → ConversionStands B.kept self.old body.now given
-            → result ≡ block_count (source_in self.old) (target_in self.old) body.now given
-            * frame_bytes (target_in self.old) }
-        ensures block { (given : ℕ) → ConversionStands B.kept self.old body.now given
-            → out.new ≡ block_after (source_in self.old) (target_in self.old) body.now given
-            ++ drop result out.old }
-        ensures stands { (given : ℕ) → ConversionStands B.kept self.old body.now given
-            → ConversionStands B.kept self.new body.now
-            (given + block_count (source_in self.old) (target_in self.old) body.now given) }
+        ensures count { IsBlockSize B.kept self.old body.now result }
+        ensures block { PutsBlock B.kept self.old body.now result out.old out.new }
+        ensures stands { MovesOn B.kept self.old self.new body.now }
     {
         self.entered += self.ring.put(&body[self.entered..]);
         let pulled = self.chain.pull(
