@@ -14,6 +14,10 @@ Gives shown (Ok value) judged = judged ≡ Ok (shown value)
 Gives shown (Err (Refused kind)) judged = judged ≡ Err kind
 Gives shown (Err Memory) judged = Unit {0}
 
+-- the same of a value that is left behind
+abbrev pub Leaves : {A B : Type 0} → B → Result A LineFault → Result B ScriptKind → Type 0
+Leaves value answer judged = Gives (λ _. value) answer judged
+
 -- what a line asks for, as it was judged
 abbrev pub Asks : {A : Type 0} → Result A LineFault → Result A ScriptKind → Type 0
 Asks answer judged = Gives (λ asked. asked) answer judged

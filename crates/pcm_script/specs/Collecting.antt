@@ -3,6 +3,7 @@ use Rattle.std.specs.Prelude.{ℕ, ◌+◌, ◌*◌, Bool, ◌&&◌, nat_le, nat
 use Rattle.pcm_oss.specs.declared.event.Event.{Event}
 use Rattle.pcm_oss.specs.declared.event.Event.TheVariants as events
 use Rattle.pcm_wave.specs.declared.pool.Source.TheVariants.{Inline, File}
+use Rattle.pcm_wave.specs.DataFiles.{DataFileSeen}
 use Rattle.pcm_desk.specs.declared.limits.TheConstants.{DEVICE_BYTES, EVENTS}
 use Rattle.pcm_desk.specs.Device.{DeviceSeen, device_frame_bytes}
 use Rattle.pcm_desk.specs.Events.{frames_taken}
@@ -11,6 +12,8 @@ use Rattle.pcm_script.specs.declared.fault.ScriptKind.TheVariants.{Long}
 use Rattle.pcm_script.specs.declared.line_event.LineEvent.{LineEvent}
 use Rattle.pcm_script.specs.declared.line_event.LineEvent.TheVariants.{Open, Write, Send, Read, Ioctl, Close, Intr}
 use Rattle.pcm_script.specs.declared.script.Script.{Script}
+use Rattle.pcm_script.specs.Commands.{line_event}
+use Rattle.pcm_script.specs.Words.{words_of}
 
 -- the bytes that a line names
 abbrev pub own_bytes : LineEvent → List ℕ
@@ -53,3 +56,7 @@ abbrev pub with_line : DeviceSeen → Script → Result (Option LineEvent) Scrip
 with_line device script (Ok None) = Ok script
 with_line device script (Ok (Some line)) = with_event device script line
 with_line device script (Err kind) = Err kind
+
+-- the script with what a line of a text asks for
+abbrev pub with_text : DeviceSeen → List DataFileSeen → Script → List ℕ → Result Script ScriptKind
+with_text device files script text = with_line device script (line_event device files (words_of text))

@@ -3,7 +3,7 @@
 ghost use Rattle.std.specs.Prelude.{◌≡◌, ◌+◌, ◌^◌, ◌<◌, ◌≤◌, length, OnOk};
 ghost use Rattle.pcm_desk.specs.declared.limits.TheConstants.{EVENTS, WRITE_BYTES};
 ghost use Rattle.pcm_desk.specs.Device.{unfiltered};
-ghost use Rattle.pcm_script.specs.Answers.{Gives};
+ghost use Rattle.pcm_script.specs.Answers.{Leaves};
 ghost use Rattle.pcm_script.specs.Collecting.{frames_asked, has_room, own_bytes, script_with, with_event};
 ghost use Rattle.pcm_script.specs.Lines.{empty_script};
 
@@ -64,7 +64,7 @@ impl Draft {
     // Adds the event of a line, where the limits allow it.
     pub(crate) fn add(&mut self, device: &Device, line: &LineEvent) -> Result<(), LineFault>
         requires { length (own_bytes line.now) ≤ WRITE_BYTES }
-        ensures { Gives (λ _. self.new) result (with_event (unfiltered device.now) self.old line.now) }
+        ensures { Leaves self.new result (with_event (unfiltered device.now) self.old line.now) }
     {
         if !self.has_room(device, line.frames()) {
             return Err(LineFault::Refused(ScriptKind::Long));

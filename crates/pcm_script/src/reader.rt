@@ -4,11 +4,9 @@ ghost use Rattle.std.specs.Prelude.{◌≡◌, ◌<◌, ◌≤◌, length, IfOk}
 ghost use Rattle.pcm_desk.specs.declared.limits.TheConstants.{DEVICE_BYTES, EVENTS};
 ghost use Rattle.pcm_desk.specs.Device.{unfiltered};
 ghost use Rattle.pcm_desk.specs.Events.{all_frames_taken};
-ghost use Rattle.pcm_script.specs.Answers.{Gives, Reads};
-ghost use Rattle.pcm_script.specs.Collecting.{with_line};
-ghost use Rattle.pcm_script.specs.Commands.{line_event};
+ghost use Rattle.pcm_script.specs.Answers.{Leaves, Reads};
+ghost use Rattle.pcm_script.specs.Collecting.{with_text};
 ghost use Rattle.pcm_script.specs.Lines.{AllFit, bytes_taken, script_read};
-ghost use Rattle.pcm_script.specs.Words.{words_of};
 
 use crate::command::line_event;
 use crate::draft::Draft;
@@ -66,9 +64,7 @@ fn add_line(
     files: &[DataFile],
     text: &[u8],
 ) -> Result<(), LineFault>
-    ensures { Gives (λ _. draft.new) result
-        (with_line (unfiltered device.now) draft.old
-        (line_event (unfiltered device.now) files.now (words_of text.now))) }
+    ensures { Leaves draft.new result (with_text (unfiltered device.now) files.now draft.old text.now) }
 {
     let words = words_of(alloc, text)?;
     match line_event(alloc, device, files, &words)? {
