@@ -38,6 +38,10 @@ answer_text (Errors underruns overruns) read =
     codes "ok" ++ field (codes "underruns") underruns ++ field (codes "overruns") overruns
 answer_text (Got count) read = codes "ok " ++ decimal count ++ codes " " ++ bytes_text read
 
+-- and of an answer without bytes
+abbrev pub plain_answer : Answer → List ℕ
+plain_answer answer = answer_text answer []
+
 -- the text of a result, and of the bytes that come with it
 abbrev pub result_text : Result Answer Errno → List ℕ → List ℕ
 result_text (Ok answer) read = answer_text answer read

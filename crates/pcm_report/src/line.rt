@@ -1,9 +1,9 @@
 //! The line of one reply.
 
-ghost use Rattle.std.specs.Prelude.{◌≡◌, ◌+◌, ◌≤◌, [], length, take, drop};
+ghost use Rattle.std.specs.Prelude.{◌≡◌, ◌+◌, ◌≤◌, length, take, drop};
 ghost use Rattle.pcm_oss.specs.declared.reply.Answer.TheVariants.{Space, Pointer, Errors, Got};
 ghost use Rattle.pcm_oss.specs.declared.reply.TheConstants.{REPLY_BYTES};
-ghost use Rattle.pcm_report.specs.Lines.{answer_text, errno_word, reply_line, result_text};
+ghost use Rattle.pcm_report.specs.Lines.{answer_text, errno_word, plain_answer, reply_line, result_text};
 ghost use Rattle.pcm_report.specs.Texts.{IsPut};
 
 use crate::texts::{put_bytes, put_field, put_number, put_text};
@@ -93,7 +93,7 @@ fn put_space(
     bytes: u32,
 ) -> usize
     requires room { at + TEXT_BYTES ≤ length out.old }
-    ensures put { IsPut (answer_text (Space fragments fragstotal fragsize bytes) []) at result out.old out.new }
+    ensures put { IsPut (plain_answer (Space fragments fragstotal fragsize bytes)) at result out.old out.new }
     ensures within { result ≤ at + TEXT_BYTES }
 {
     let at = put_text(out, at, "ok");
@@ -105,7 +105,7 @@ fn put_space(
 
 fn put_pointer(out: &mut [u8], at: usize, bytes: u64, blocks: u64, ptr: u32) -> usize
     requires room { at + TEXT_BYTES ≤ length out.old }
-    ensures put { IsPut (answer_text (Pointer bytes blocks ptr) []) at result out.old out.new }
+    ensures put { IsPut (plain_answer (Pointer bytes blocks ptr)) at result out.old out.new }
     ensures within { result ≤ at + TEXT_BYTES }
 {
     let at = put_text(out, at, "ok");
@@ -116,7 +116,7 @@ fn put_pointer(out: &mut [u8], at: usize, bytes: u64, blocks: u64, ptr: u32) -> 
 
 fn put_errors(out: &mut [u8], at: usize, underruns: u32, overruns: u32) -> usize
     requires room { at + TEXT_BYTES ≤ length out.old }
-    ensures put { IsPut (answer_text (Errors underruns overruns) []) at result out.old out.new }
+    ensures put { IsPut (plain_answer (Errors underruns overruns)) at result out.old out.new }
     ensures within { result ≤ at + TEXT_BYTES }
 {
     let at = put_text(out, at, "ok");
