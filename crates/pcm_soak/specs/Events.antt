@@ -36,12 +36,16 @@ question_for choice =
     else if choice == 2 then GetOPtr
     else GetODelay
 
+-- one of so many gets one of so many requests
+abbrev pub request_event : ℕ → ℕ → (ℕ → Request) → Draw Event
+request_event fds choices request_for = do
+  fd ← drawn_below fds
+  choice ← drawn_below choices
+  given (Ioctl fd (request_for choice))
+
 -- one of all six is asked something
 abbrev pub question_event : Draw Event
-question_event = do
-  fd ← drawn_below 6
-  choice ← drawn_below 4
-  given (Ioctl fd (question_for choice))
+question_event = request_event 6 4 question_for
 
 -- one that plays gets a volume, the left side before the right
 abbrev pub volume_event : Draw Event
@@ -65,10 +69,7 @@ order_for choice =
 
 -- one that plays is ordered something
 abbrev pub order_event : Draw Event
-order_event = do
-  fd ← drawn_below 4
-  choice ← drawn_below 8
-  given (Ioctl fd (order_for choice))
+order_event = request_event 4 8 order_for
 
 -- the kind of event for a number below 16
 abbrev pub event_for : ℕ → Draw Event

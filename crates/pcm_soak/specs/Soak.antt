@@ -6,10 +6,11 @@ use Rattle.pcm_format.specs.declared.format.Format.TheVariants.{U8, S16Le, S16Be
 use Rattle.pcm_format.specs.declared.layout.Layout.{Layout}
 use Rattle.pcm_format.specs.declared.layout.Layout.TheVariants.{One, Two, Six}
 use Rattle.pcm_oss.specs.declared.event.Event.{Event}
-use Rattle.pcm_oss.specs.declared.event.Event.TheVariants.{Open, Ioctl}
+use Rattle.pcm_oss.specs.declared.event.Event.TheVariants.{Open, Write, Ioctl, Intr}
 use Rattle.pcm_oss.specs.declared.event.Way.{Way}
 use Rattle.pcm_oss.specs.declared.event.Way.TheVariants.{Play, Record}
-use Rattle.pcm_oss.specs.declared.request.Request.TheVariants.{SetTrigger}
+use Rattle.pcm_oss.specs.declared.request.Request.TheVariants.{GetOSpace, SetPlayVol, SetTrigger}
+use Rattle.pcm_wave.specs.declared.pool.Source.TheVariants.{Inline}
 use Rattle.pcm_desk.specs.Events.{all_frames_taken}
 use Rattle.pcm_script.specs.declared.script.Script.{Script}
 use Rattle.pcm_soak.specs.declared.limits.TheConstants.{DRAWN_EVENTS, INLINE_BYTES}
@@ -60,3 +61,9 @@ soak_script n = record {
   inline_bytes = inline_bytes INLINE_BYTES n;
   device_frames = all_frames_taken (soak_events n);
 }
+
+-- what is drawn from 7 on
+abbrev pub events_of_seven : List Event
+events_of_seven =
+    Ioctl 3 (SetPlayVol 20268) ∷ Intr 4 ∷ Intr 21 ∷ Intr 119 ∷ Write 3 Inline 64 3901 ∷ Ioctl 4 GetOSpace
+    ∷ Write 0 Inline 2207 268 ∷ []

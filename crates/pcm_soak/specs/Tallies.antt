@@ -1,5 +1,5 @@
 -- What a run of a script comes to, added up event by event, and the sum of the device's bytes.
-use Rattle.std.specs.Prelude.{ℕ, ◌+◌, ◌*◌, ◌^◌, ◌≤◌, List, [], ◌∷◌, Result, Ok, Err}
+use Rattle.std.specs.Prelude.{ℕ, ◌+◌, ◌*◌, ◌^◌, ◌≤◌, List, ◌∷◌, Result, Ok, Err}
 use Rattle.std.specs.List.{sum_by}
 use Rattle.pcm_oss.specs.declared.event.Event.{Event}
 use Rattle.pcm_oss.specs.declared.event.Event.TheVariants.{Write}
@@ -49,9 +49,8 @@ tallied tally event reply = record tally {
 
 -- all events, each with its reply
 abbrev pub tally_all : Tally → List Event → List Reply → Tally
-tally_all tally [] replies = tally
-tally_all tally (event ∷ events) [] = tally
 tally_all tally (event ∷ events) (reply ∷ replies) = tally_all (tallied tally event reply) events replies
+tally_all tally events replies = tally
 
 -- the sum of bytes, each as its number
 abbrev pub total : List ℕ → ℕ

@@ -1,15 +1,14 @@
 //! What holds of scripts of numbers: each function here has no work, and its contract is a law.
 
 ghost use Rattle.std.specs.Prelude.{◌≡◌, ◌≤◌, ℕ, [], ◌∷◌, length};
-ghost use Rattle.pcm_oss.specs.declared.event.Event.TheVariants.{Write, Read, Ioctl, Intr};
-ghost use Rattle.pcm_oss.specs.declared.request.Request.TheVariants.{GetODelay, GetOPtr, GetOSpace, SetPlayVol, Speed, Sync};
-ghost use Rattle.pcm_wave.specs.declared.pool.Source.TheVariants.{Inline};
+ghost use Rattle.pcm_oss.specs.declared.event.Event.TheVariants.{Read, Ioctl};
+ghost use Rattle.pcm_oss.specs.declared.request.Request.TheVariants.{GetODelay, GetOPtr, Speed, Sync};
 ghost use Rattle.pcm_desk.specs.declared.limits.TheConstants.{DEVICE_BYTES};
 ghost use Rattle.pcm_desk.specs.Events.{all_frames_taken};
 ghost use Rattle.pcm_desk.specs.Usual.{usual_device};
 ghost use Rattle.pcm_script.specs.Lines.{AllFit, bytes_taken};
 ghost use Rattle.pcm_soak.specs.Events.{drawn_event};
-ghost use Rattle.pcm_soak.specs.Soak.{drawn_events, inline_bytes, soak_script};
+ghost use Rattle.pcm_soak.specs.Soak.{drawn_events, events_of_seven, inline_bytes, soak_script};
 ghost use Rattle.pcm_soak.specs.declared.limits.TheConstants.{SOAK_EVENTS, SOAK_FRAMES};
 
 /// Each event fits the usual device and names bytes that are there, and the device takes no more than it may.
@@ -23,9 +22,7 @@ pub fn soak_scripts_fit()
 
 /// Rows: what is drawn from 7 on, one event of some other numbers, and the first bytes that are written.
 pub fn some_numbers_draw_so()
-    ensures seven { drawn_events 7 7
-        ≡ Ioctl 3 (SetPlayVol 20268) ∷ Intr 4 ∷ Intr 21 ∷ Intr 119 ∷ Write 3 Inline 64 3901 ∷ Ioctl 4 GetOSpace
-        ∷ Write 0 Inline 2207 268 ∷ [] }
+    ensures seven { drawn_events 7 7 ≡ events_of_seven }
     ensures read { (drawn_event 2).value ≡ Read 4 3559 }
     ensures question { (drawn_event 43).value ≡ Ioctl 5 GetOPtr }
     ensures delay { (drawn_event 19).value ≡ Ioctl 1 GetODelay }
