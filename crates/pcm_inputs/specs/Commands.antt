@@ -48,7 +48,5 @@ WriteNoFile command = Unit {0}
 
 -- a command asks for settings within the limits
 abbrev pub AreLimits : Command → Type 0
-AreLimits (Run script out config) = Unit {0}
-AreLimits (Check script config) = Unit {0}
 AreLimits (Convert input out target) = IsRate target.rate × IsWaveFormat target.format
-AreLimits (Soak seed) = Unit {0}
+AreLimits command = Unit {0}
