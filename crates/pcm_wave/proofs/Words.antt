@@ -22,15 +22,17 @@ number_at-first bytes at count within =
     let next : suc at ≡ at + 1 = omega arith in
     ap (λ l. number_of (take (suc count) l)) (drop-cons bytes at 0 within) ∙ ap (λ n. get_or bytes at 0 + 256 * number_of (take count (drop n bytes))) next
 
--- a number of four bytes is made of those of two
-pub number_at-halves : (bytes : List ℕ) (at : ℕ) → at + 4 ≤ length bytes → number_at bytes at 2 + 65536 * number_at bytes (at + 2) 2 ≡ number_at bytes at 4
-number_at-halves bytes at within =
+-- a number of four bytes, byte by byte
+pub number_at-four : (bytes : List ℕ) (at : ℕ) → at + 4 ≤ length bytes
+    → number_at bytes at 4 ≡ get_or bytes at 0 + 256 * get_or bytes (at + 1) 0 + 65536 * get_or bytes (at + 2) 0 + 16777216 * get_or bytes (at + 3) 0
+number_at-four bytes at within =
     let two : at + 1 + 1 ≡ at + 2 = omega arith in
-    let none : number_at bytes (at + 2) 0 ≡ 0 = refl in
-    let low = number_at-first bytes at 1 (omega arith) in
-    let lower : number_at bytes (at + 1) 1 ≡ get_or bytes (at + 1) 0 + 256 * number_at bytes (at + 2) 0 =
-    number_at-first bytes (at + 1) 0 (omega arith) ∙ ap (λ n. get_or bytes (at + 1) 0 + 256 * number_at bytes n 0) two in
-    let all = number_at-first bytes at 3 (omega arith) in
-    let rest : number_at bytes (at + 1) 3 ≡ get_or bytes (at + 1) 0 + 256 * number_at bytes (at + 2) 2 =
+    let three : at + 2 + 1 ≡ at + 3 = omega arith in
+    let none : number_at bytes (at + 3 + 1) 0 ≡ 0 = refl in
+    let first = number_at-first bytes at 3 (omega arith) in
+    let second : number_at bytes (at + 1) 3 ≡ get_or bytes (at + 1) 0 + 256 * number_at bytes (at + 2) 2 =
     number_at-first bytes (at + 1) 2 (omega arith) ∙ ap (λ n. get_or bytes (at + 1) 0 + 256 * number_at bytes n 2) two in
+    let third : number_at bytes (at + 2) 2 ≡ get_or bytes (at + 2) 0 + 256 * number_at bytes (at + 3) 1 =
+    number_at-first bytes (at + 2) 1 (omega arith) ∙ ap (λ n. get_or bytes (at + 2) 0 + 256 * number_at bytes n 1) three in
+    let last = number_at-first bytes (at + 3) 0 (omega arith) in
     omega arith

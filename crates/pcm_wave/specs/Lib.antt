@@ -1,6 +1,7 @@
 pub mod Formats
 pub mod Chunks
 pub mod Waves
+pub mod Laws
 pub mod Walks
 pub mod Headers
 pub mod DataFiles

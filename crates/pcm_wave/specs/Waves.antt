@@ -20,6 +20,10 @@ settings_of wave = record { format = wave.format; layout = wave.layout; rate = w
 abbrev pub wave_with : Settings → ℕ → ℕ → Wave
 wave_with settings at len = record { format = settings.format; layout = settings.layout; rate = settings.rate; at = at; len = len }
 
+-- where its body ends
+abbrev pub wave_end : Wave → ℕ
+wave_end wave = wave.at + wave.len
+
 -- the tag of integer PCM, and that of an extensible format
 abbrev pub pcm_tag : ℕ
 pcm_tag = 1
@@ -53,9 +57,8 @@ checked settings align =
 
 -- the settings of a layout, a rate and a format, if both are there
 abbrev pub settings_from : Option Format → Option Layout → ℕ → ℕ → Option Settings
-settings_from None layout rate align = None
-settings_from (Some format) None rate align = None
 settings_from (Some format) (Some layout) rate align = checked (record { format = format; layout = layout; rate = rate }) align
+settings_from format layout rate align = None
 
 -- the settings that a body of "fmt " tells, of a size and at a place
 abbrev pub settings_told : List ℕ → ℕ → ℕ → Option Settings

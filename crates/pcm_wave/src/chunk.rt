@@ -45,7 +45,7 @@ pub(crate) fn u32_at(bytes: &[u8], at: usize) -> u32
     requires { at + 4 ≤ length bytes.now }
     ensures { result ≡ number_at bytes.now at 4 }
 {
-    u16_at(bytes, at) + 65536 * u16_at(bytes, at + 2)
+    u32::from_le_bytes([bytes[at], bytes[at + 1], bytes[at + 2], bytes[at + 3]])
 }
 
 // The number that two bytes spell, from a place on.
@@ -54,5 +54,5 @@ pub(crate) fn u16_at(bytes: &[u8], at: usize) -> u32
     ensures value { result ≡ number_at bytes.now at 2 }
     ensures range { result < 65536 }
 {
-    u32::from(bytes[at]) + 256 * u32::from(bytes[at + 1])
+    u32::from(u16::from_le_bytes([bytes[at], bytes[at + 1]]))
 }

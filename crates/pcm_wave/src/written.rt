@@ -41,9 +41,7 @@ pub fn header(settings: &Settings, frames: u32) -> [u8; HEADER_BYTES]
 fn four_bytes(number: u32) -> [u8; 4]
     ensures { result ≡ low_bytes 4 number }
 {
-    let [a, b] = two_bytes(number % 65536);
-    let [c, d] = two_bytes(number / 65536);
-    [a, b, c, d]
+    number.to_le_bytes()
 }
 
 // A number as two bytes, the lowest first.
@@ -51,5 +49,5 @@ fn two_bytes(number: u32) -> [u8; 2]
     requires { number < 2 ^ 16 }
     ensures { result ≡ low_bytes 2 number }
 {
-    [(number % 256) as u8, (number / 256) as u8]
+    (number as u16).to_le_bytes()
 }
