@@ -34,7 +34,7 @@ abbrev IsSafe : DeviceSeen → PlayBook → Type 0
 IsSafe device book = PlayIsSafe (play_rate_at device book) book
 
 -- a channel carries it by the plan that its chain goes by
-own_safe : {B : Type 0} (kind : B → Kind) (kept : B → Kept) (filters : Filters) (device : Device) (channel : PlayChannelOf B) → channel.device ≡ device → IsPlayReady kind kept filters channel → IsSafe (seen filters device) channel.book
+own_safe : {B : Type 0} (kind : B → Kind) (kept : B → Kept) (filters : Filters) (device : Device) (channel : PlayChannelOf B) → channel.path.device ≡ device → IsPlayReady kind kept filters channel → IsSafe (seen filters device) channel.book
 own_safe kind kept filters device channel own ready =
     subst (λ (d : Device). IsSafe (seen filters d) channel.book) own
     (safe-at filters channel ready.planned)
@@ -62,7 +62,7 @@ books_safe {B} kind kept filters device desk channels are own ready slot =
 abbrev IsRecordSafe : DeviceSeen → RecordBook → Type 0
 IsRecordSafe device book = RecordIsSafe (record_rate_at device book) book
 
-record_own_safe : {B : Type 0} (kind : B → Kind) (kept : B → Kept) (filters : Filters) (device : Device) (channel : RecordChannelOf B) → channel.device ≡ device → IsRecordReady kind kept filters channel → IsRecordSafe (seen filters device) channel.book
+record_own_safe : {B : Type 0} (kind : B → Kind) (kept : B → Kept) (filters : Filters) (device : Device) (channel : RecordChannelOf B) → channel.path.device ≡ device → IsRecordReady kind kept filters channel → IsRecordSafe (seen filters device) channel.book
 record_own_safe kind kept filters device channel own ready =
     subst (λ (d : Device). IsRecordSafe (seen filters d) channel.book) own
     (recorders.safe-at filters channel ready.planned)

@@ -79,7 +79,7 @@ still kind kept device pool story event before now fits none before_are now_are 
 
 -- a channel that captured frames of its device stands for these too, and for what it kept of them
 stands-captured : {B : Type 0} (kind : B → Kind) (kept : B → Kept) (device : DeviceSeen) (n : ℕ) (more : List Frame) (before now : RecordChannelOf B) (old new : RecordBook) (bytes : List ℕ) (frames : List Frame)
-    → seen (filters_of device) before.device ≡ device → frames_of (channels_of (device_settings device).layout) (interleaved more) ≡ more → old ≡ before.book → now.book ≡ new
+    → seen (filters_of device) before.path.device ≡ device → frames_of (channels_of (device_settings device).layout) (interleaved more) ≡ more → old ≡ before.book → now.book ≡ new
     → RecordMoves kind kept (filters_of device) (frames_of (channels_of (device_settings device).layout) (interleaved more)) (keeping (record_rate_at device before.book) n before.book) before now
     → RecordStands kept (filters_of device) before old bytes frames
     → RecordStands kept (filters_of device) now new (take new.kept (bytes ++ recorded_bytes device old.opening.settings (frames ++ more) old.given (keeping (record_rate_at device old) n old))) (take new.captured (frames ++ more))
@@ -87,7 +87,7 @@ stands-captured kind kept device n more before now old new bytes frames device_i
     let k : ℕ = keeping (record_rate_at device before.book) n before.book in
     let stood = subst (λ (b : RecordBook). RecordStands kept (filters_of device) before b bytes frames) old_is s in
     let stands = m.stands bytes frames stood in
-    let with_input = subst (λ (x : List Frame). RecordStands kept (filters_of device) now now.book (take now.book.kept (bytes ++ recorded_bytes (seen (filters_of device) before.device) before.book.opening.settings (frames ++ x) before.book.given k)) (take now.book.captured (frames ++ x))) input stands in
+    let with_input = subst (λ (x : List Frame). RecordStands kept (filters_of device) now now.book (take now.book.kept (bytes ++ recorded_bytes (seen (filters_of device) before.path.device) before.book.opening.settings (frames ++ x) before.book.given k)) (take now.book.captured (frames ++ x))) input stands in
     let on_device = subst (λ (v : DeviceSeen). RecordStands kept (filters_of device) now now.book (take now.book.kept (bytes ++ recorded_bytes v before.book.opening.settings (frames ++ more) before.book.given k)) (take now.book.captured (frames ++ more))) device_is with_input in
     let of_book = subst (λ (b : RecordBook). RecordStands kept (filters_of device) now now.book (take now.book.kept (bytes ++ recorded_bytes device b.opening.settings (frames ++ more) b.given (keeping (record_rate_at device b) n b))) (take now.book.captured (frames ++ more))) (sym old_is) on_device in
     subst (λ (b : RecordBook). RecordStands kept (filters_of device) now b (take b.kept (bytes ++ recorded_bytes device old.opening.settings (frames ++ more) old.given (keeping (record_rate_at device old) n old))) (take b.captured (frames ++ more))) new_is of_book
@@ -108,7 +108,7 @@ heard {B = B} kind kept device own pool story n before now d captures seen_is ar
     let is = record_at-books device (told device pool story (Intr n)).desk now slot other now_are within in
     let went : record_at device (told device pool story (Intr n)).desk slot ≡ capturing device n old = record_at-capturing device story.desk n slot in
     let input = frames_of-interleaved (channels_of layout) more (channels_of-above layout) (captured_frames-channels layout pool story.desk.handed n captures) in
-    let device_is : seen (filters_of device) (get_or before slot other).device ≡ device = ap (λ (o : Device). seen (filters_of device) o) (are slot other there) ∙ seen_is in
+    let device_is : seen (filters_of device) (get_or before slot other).path.device ≡ device = ap (λ (o : Device). seen (filters_of device) o) (are slot other there) ∙ seen_is in
     let stands = stands-captured kind kept device n more (get_or before slot other) (get_or now slot other) old (capturing device n old) (bytes_kept device story slot) (frames_captured device pool story slot)
     device_is input was (sym is ∙ went) (moves slot other there).moves (s.slots slot other there) in
     let h = recording-hears device pool story n slot d s.valid in

@@ -113,8 +113,8 @@ record-there {B = B} parent descriptors fd held h e is =
 -- ---- channels that play
 
 -- a channel that was lent is of the parent's device
-pub own-lent : {B : Type 0} (device : Device) (channels : List (PlayChannelOf B)) (slot : ℕ) (lent : PlayChannelOf B) → slot < length channels → lent ≡ get_or channels slot lent → PlayAreOf device channels → lent.device ≡ device
-own-lent {B = B} device channels slot lent there is own = ap (λ (channel : PlayChannelOf B). channel.device) is ∙ own slot lent there
+pub own-lent : {B : Type 0} (device : Device) (channels : List (PlayChannelOf B)) (slot : ℕ) (lent : PlayChannelOf B) → slot < length channels → lent ≡ get_or channels slot lent → PlayAreOf device channels → lent.path.device ≡ device
+own-lent {B = B} device channels slot lent there is own = ap (λ (channel : PlayChannelOf B). channel.path.device) is ∙ own slot lent there
 
 -- the books of a parent, one of whose channels changed
 pub books-lent : {B : Type 0} (how : PlayBook → PlayBook) (parent : ParentOf B) (slot : ℕ) (lent new : PlayChannelOf B) (other : PlayBook) → slot < length (play_channels parent) → lent ≡ get_or (play_channels parent) slot lent
@@ -138,8 +138,8 @@ reply-played device turn parent descriptors slot lent answer there is answered =
 
 -- ---- channels that record
 
-pub own-lent_record : {B : Type 0} (device : Device) (channels : List (RecordChannelOf B)) (slot : ℕ) (lent : RecordChannelOf B) → slot < length channels → lent ≡ get_or channels slot lent → RecordAreOf device channels → lent.device ≡ device
-own-lent_record {B = B} device channels slot lent there is own = ap (λ (channel : RecordChannelOf B). channel.device) is ∙ own slot lent there
+pub own-lent_record : {B : Type 0} (device : Device) (channels : List (RecordChannelOf B)) (slot : ℕ) (lent : RecordChannelOf B) → slot < length channels → lent ≡ get_or channels slot lent → RecordAreOf device channels → lent.path.device ≡ device
+own-lent_record {B = B} device channels slot lent there is own = ap (λ (channel : RecordChannelOf B). channel.path.device) is ∙ own slot lent there
 
 pub desk-recorded : {B : Type 0} (device : DeviceSeen) (turn : RecordBook → Turn RecordBook) (parent : ParentOf B) (descriptors : List (Option Held)) (slot : ℕ) (lent new : RecordChannelOf B)
     → slot < length (record_channels parent) → lent ≡ get_or (record_channels parent) slot lent → new.book ≡ (turn lent.book).book

@@ -61,13 +61,13 @@ take_fill count bytes =
     ]
 
 front : {B : Type 0} (kept : B → Kept) (filters : Filters) (count : ℕ) (channel : RecordChannelOf B) (bytes : List ℕ) (frames : List Frame) → RecordStands kept filters channel channel.book bytes frames
-    → take (min count (record_fill_of channel.book)) (drop channel.book.read bytes) ≡ take count channel.ring.bytes
+    → take (min count (record_fill_of channel.book)) (drop channel.book.read bytes) ≡ take count channel.path.ring.bytes
 front kept filters count channel bytes frames s =
-    ap (λ n. take (min count n) (drop channel.book.read bytes)) (sym channel.fill) ∙ ap (take (min count (length channel.ring.bytes))) (sym s.ring_is) ∙ take_fill count channel.ring.bytes
+    ap (λ n. take (min count n) (drop channel.book.read bytes)) (sym channel.fill) ∙ ap (take (min count (length channel.path.ring.bytes))) (sym s.ring_is) ∙ take_fill count channel.path.ring.bytes
 
 -- the bytes of each ring, by slot
 abbrev rings : {B : Type 0} → List (RecordChannelOf B) → List (List ℕ)
-rings recorders = map (λ channel. channel.ring.bytes) recorders
+rings recorders = map (λ channel. channel.path.ring.bytes) recorders
 
 read_held : {B : Type 0} (kept : B → Kept) (filters : Filters) (device : DeviceSeen) (desk : Desk) (recorders : List (RecordChannelOf B)) (bytes : ℕ → List ℕ) (frames : ℕ → List Frame) (count : ℕ) (way : Way) (slot : ℕ)
     → desk.recording ≡ record_books_of recorders → AllRecordStand kept filters recorders bytes frames → slot < slots_of desk way
@@ -79,7 +79,7 @@ read_held {B} kept filters device desk recorders bytes frames count Record slot 
     let channel : RecordChannelOf B = get_or recorders slot (some_channel recorders slot here) in
     ap (λ (b : RecordBook). take (min count (record_fill_of b)) (drop b.read (bytes slot))) (record_at-books device desk recorders slot (some_channel recorders slot here) are here)
     ∙ front kept filters count channel (bytes slot) (frames slot) (stand slot (some_channel recorders slot here) here)
-    ∙ ap (take count) (sym (get_or-map (λ (c : RecordChannelOf B). c.ring.bytes) recorders slot (some_channel recorders slot here) [] here))
+    ∙ ap (take count) (sym (get_or-map (λ (c : RecordChannelOf B). c.path.ring.bytes) recorders slot (some_channel recorders slot here) [] here))
 
 read_found : {B : Type 0} (kept : B → Kept) (filters : Filters) (device : DeviceSeen) (desk : Desk) (recorders : List (RecordChannelOf B)) (bytes : ℕ → List ℕ) (frames : ℕ → List Frame) (count : ℕ) (found : Option Held)
     → desk.recording ≡ record_books_of recorders → AllRecordStand kept filters recorders bytes frames → ((held : Held) → found ≡ Some held → held.slot < slots_of desk held.way)

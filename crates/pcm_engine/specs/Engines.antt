@@ -27,7 +27,7 @@ desk_of engine = desk_with engine.parent engine.descriptors.held
 
 -- the bytes that wait in each ring of a channel that records, by slot
 abbrev pub waiting_in : {B : Type 0} → EngineOf B → List (List ℕ)
-waiting_in engine = map (λ channel. channel.ring.bytes) (record_channels engine.parent)
+waiting_in engine = map (λ channel. channel.path.ring.bytes) (record_channels engine.parent)
 
 -- the engine stands for a list of events, whose bytes are found in a pool
 pub record Stands {B : Type 0} (kept : B → Kept) (engine : EngineOf B) (pool : Pool) (events : List Event) : Type 0 where
@@ -44,8 +44,8 @@ RecordsAreSafe device desk = (slot : ℕ) → RecordIsSafe (record_rate_at devic
 
 -- No ring passes its size: that of a channel has room for the fragments of its book, and the device's is always full.
 pub record RingsHold {B : Type 0} (engine : EngineOf B) : Type 0 where
-  pub playing : All (λ channel. length channel.ring.bytes ≤ ring_bytes channel.book.opening) (play_channels engine.parent)
-  pub recording : All (λ channel. length channel.ring.bytes ≤ ring_bytes channel.book.opening) (record_channels engine.parent)
+  pub playing : All (λ channel. length channel.path.ring.bytes ≤ ring_bytes channel.book.opening) (play_channels engine.parent)
+  pub recording : All (λ channel. length channel.path.ring.bytes ≤ ring_bytes channel.book.opening) (record_channels engine.parent)
   pub device : length engine.parent.ring.bytes ≡ ring_frames (device_of engine) * device_frame_bytes (device_of engine)
 
 -- Each box of the engine is of its place's kind, each channel stands for its book, all books are in order, and no ring passes its

@@ -209,8 +209,8 @@ pub fn close<B: Feeder>(
     requires apart { HoldApart (desk_with parent.old descriptors.old.held) }
     requires own { PlayAreOf parent.old.device (play_channels parent.old) }
     requires recorders_own { RecordAreOf parent.old.device (record_channels parent.old) }
-    requires kinds { All (λ channel. HaveKinds B.kind (boxes_in channel.chain)) (play_channels parent.old) }
-    requires recorders_kinds { All (λ channel. HaveKinds B.kind (boxes_in channel.chain)) (record_channels parent.old) }
+    requires kinds { All (λ channel. HaveKinds B.kind (boxes_in channel.path.chain)) (play_channels parent.old) }
+    requires recorders_kinds { All (λ channel. HaveKinds B.kind (boxes_in channel.path.chain)) (record_channels parent.old) }
     requires count { All (λ channel. channel.book.done + channel.book.written
         < 2 ^ 64) (play_channels parent.old) }
     ensures silent { bytes_due result ≡ 0 }
@@ -242,8 +242,8 @@ fn close_channel<B: Feeder>(parent: &mut ParentOf<B>, held: Held) -> Answer
     requires recording { held.way ≡ Record → held.slot < fixed_len parent.old.recorders }
     requires own { PlayAreOf parent.old.device (play_channels parent.old) }
     requires recorders_own { RecordAreOf parent.old.device (record_channels parent.old) }
-    requires kinds { All (λ channel. HaveKinds B.kind (boxes_in channel.chain)) (play_channels parent.old) }
-    requires recorders_kinds { All (λ channel. HaveKinds B.kind (boxes_in channel.chain)) (record_channels parent.old) }
+    requires kinds { All (λ channel. HaveKinds B.kind (boxes_in channel.path.chain)) (play_channels parent.old) }
+    requires recorders_kinds { All (λ channel. HaveKinds B.kind (boxes_in channel.path.chain)) (record_channels parent.old) }
     requires count { All (λ channel. channel.book.done + channel.book.written
         < 2 ^ 64) (play_channels parent.old) }
     ensures answer { result ≡ Answer.Done }

@@ -13,9 +13,10 @@ use Rattle.pcm_oss.specs.declared.request.Request.{Request}
 use Rattle.pcm_rate.specs.declared.rate.Rate.{Rate}
 use Rattle.pcm_rate.specs.Rates.{IsRatio}
 use Rattle.pcm_plan.specs.Plans.{PlanSeen, rate_in_plan}
-use Rattle.pcm_chain.specs.Chains.{boxes_in, plan_in, ChainStands}
+use Rattle.pcm_chain.specs.Chains.{boxes_in, plan_in}
+use Rattle.pcm_path.specs.Paths.{IsEmpty}
+use Rattle.pcm_path.proofs.Paths.{device-served, planned-as}
 use Rattle.pcm_desk.specs.declared.play_book.PlayBook.{PlayBook}
-use Rattle.pcm_desk.specs.declared.device.Device.{Device}
 use Rattle.pcm_desk.specs.Device.{DeviceSeen, IsDevice, play_plan_between, seen}
 use Rattle.pcm_desk.specs.Desk.{asking, play_rate_at}
 use Rattle.pcm_desk.proofs.Ratios.{ratio-between}
@@ -39,13 +40,6 @@ use Rattle.pcm_play.specs.Channels.{PlayStands, IsPlayPlanned, PlayMoves}
 use Rattle.pcm_play.proofs.Frames.{frames-front}
 use Rattle.pcm_play.proofs.Stands.{stands-taking, stands-empty, stands-state, nothing-more}
 
--- a channel whose device, plan and settings stay goes by the plan that it went by
-pub planned-as : {B : Type 0} (filters : Filters) (old new : PlayChannelOf B) → new.device ≡ old.device → plan_in new.chain ≡ plan_in old.chain → new.book.opening.settings ≡ old.book.opening.settings → IsPlayPlanned filters old → IsPlayPlanned filters new
-planned-as filters old new device plan settings p = record {
-  limits = p.limits;
-  plan_is = plan ∙ p.plan_is ∙ ap (λ (d : Device). play_plan_between (seen filters d) old.book.opening.settings) (sym device) ∙ ap (play_plan_between (seen filters new.device)) (sym settings);
-}
-
 -- a channel that stays stands for what it stood for
 pub moves-nothing : {B : Type 0} (kind : B → Kind) (kept : B → Kept) (filters : Filters) (more : List ℕ) (frames : ℕ) (channel : PlayChannelOf B) → PlayMoves kind kept filters more frames channel channel
 moves-nothing kind kept filters more frames channel = record {
@@ -59,12 +53,12 @@ moves-nothing kind kept filters more frames channel = record {
 }
 
 -- a channel that begins, or whose run is over
-pub moves-ended : {B : Type 0} (kind : B → Kind) (kept : B → Kept) (filters : Filters) (more : List ℕ) (frames : ℕ) (old new : PlayChannelOf B) → HaveKinds kind (boxes_in new.chain) → (IsPlayPlanned filters old → IsPlayPlanned filters new) → new.book.written ≡ 0 → new.book.eaten ≡ 0 → new.book.given ≡ 0
-    → new.ring.bytes ≡ [] → ((tables : Filters) → ChainStands kept tables new.chain [] 0 0) → new.book.done ≤ old.book.done + old.book.written → PlayMoves kind kept filters more frames old new
-moves-ended kind kept filters more frames old new kinds planned written eaten given ring begins done = record {
+pub moves-ended : {B : Type 0} (kind : B → Kind) (kept : B → Kept) (filters : Filters) (more : List ℕ) (frames : ℕ) (old new : PlayChannelOf B) → HaveKinds kind (boxes_in new.path.chain) → (IsPlayPlanned filters old → IsPlayPlanned filters new) → new.book.written ≡ 0 → new.book.eaten ≡ 0 → new.book.given ≡ 0
+    → IsEmpty kept new.path → new.book.done ≤ old.book.done + old.book.written → PlayMoves kind kept filters more frames old new
+moves-ended kind kept filters more frames old new kinds planned written eaten given empty done = record {
   kinds = λ h. kinds;
   planned = planned;
-  stands = λ bytes s. subst (PlayStands kept filters new new.book) (sym (ap (λ n. take n (bytes ++ more)) written)) (stands-empty kept filters new written eaten given ring begins);
+  stands = λ bytes s. subst (PlayStands kept filters new new.book) (sym (ap (λ n. take n (bytes ++ more)) written)) (stands-empty kept filters new written eaten given empty);
   written = omega (arith, written);
   counted = omega (arith, written, done);
   grown = omega (arith, written, done);
@@ -80,10 +74,10 @@ ended rate book ratio safe written =
     (eaten, none.given_none, omega arith, omega arith)
 
 -- a channel whose state alone changed
-pub moves-state : {B : Type 0} (kind : B → Kind) (kept : B → Kept) (filters : Filters) (old new : PlayChannelOf B) → new.device ≡ old.device → new.chain ≡ old.chain → new.ring.bytes ≡ old.ring.bytes → Stays old.book new.book → PlayMoves kind kept filters [] 0 old new
+pub moves-state : {B : Type 0} (kind : B → Kind) (kept : B → Kept) (filters : Filters) (old new : PlayChannelOf B) → new.path.device ≡ old.path.device → new.path.chain ≡ old.path.chain → new.path.ring.bytes ≡ old.path.ring.bytes → Stays old.book new.book → PlayMoves kind kept filters [] 0 old new
 moves-state {B = B} kind kept filters old new device chain ring st = record {
   kinds = λ h. rw chain h;
-  planned = planned-as filters old new device (ap plan_in chain) st.settings;
+  planned = planned-as play_plan_between filters _ _ old.path new.path device (ap plan_in chain) st.settings;
   stands = λ bytes s. subst (PlayStands kept filters new new.book) (sym (nothing-more new.book.written bytes (s.count ∙ sym st.written)))
       (stands-state kept filters old new bytes chain ring st.settings st.eaten st.given st.written st.drains s);
   written = omega (arith, st.written);
@@ -117,41 +111,41 @@ pub record Closed (now : Rate) (old new : PlayBook) : Type 0 where
   pub keeps : Keeps old new
 
 pub book-closed : {B : Type 0} (old : PlayChannelOf B) (new : PlayBook) (between : Rate) (plan : PlanSeen)
-    → new ≡ close_turn between old.book → between ≡ rate_in_plan plan → plan ≡ plan_in old.chain → Closed (rate_in_plan (plan_in old.chain)) old.book new
+    → new ≡ close_turn between old.book → between ≡ rate_in_plan plan → plan ≡ plan_in old.path.chain → Closed (rate_in_plan (plan_in old.path.chain)) old.book new
 book-closed old new between plan turned rate_is plan_is =
-    let now : Rate = rate_in_plan (plan_in old.chain) in
+    let now : Rate = rate_in_plan (plan_in old.path.chain) in
     let is : new ≡ close_turn now old.book = turned ∙ ap (λ (r : Rate). close_turn r old.book) (rate_is ∙ ap (λ (p : PlanSeen). rate_in_plan p) plan_is) in
     let keeps : Keeps old.book new = subst (Keeps old.book) (sym is) (close-keeps now old.book) in
     record {
-      left = leaves_left now old.book new old.ratio (subst (λ (s : Settings). IsRate s.rate) (sym keeps.settings) old.rate)
-          (subst (PlayIsSafe now) (sym is) (safe-close now old.book old.ratio old.safe)) (subst (Leaves old.book) (sym is) (close-leaves now old.book));
+      left = leaves_left now old.book new old.serves.ratio (subst (λ (s : Settings). IsRate s.rate) (sym keeps.settings) old.serves.rate)
+          (subst (PlayIsSafe now) (sym is) (safe-close now old.book old.serves.ratio old.safe)) (subst (Leaves old.book) (sym is) (close-leaves now old.book));
       keeps = keeps;
     }
 
 -- a channel that goes by the plan of some filters: its device, and its book by the device's rate
-pub device-is : {B : Type 0} (filters : Filters) (channel : PlayChannelOf B) → IsPlayPlanned filters channel → IsDevice (seen filters channel.device)
-device-is filters channel p = record { rate = channel.device_rate; mix_rate = channel.device_rate; same = refl; filters = p.limits }
+pub device-is : {B : Type 0} (filters : Filters) (channel : PlayChannelOf B) → IsPlayPlanned filters channel → IsDevice (seen filters channel.path.device)
+device-is filters channel p = device-served play_plan_between filters channel.book.opening channel.book.opening.settings channel.path channel.serves p
 
-pub safe-at : {B : Type 0} (filters : Filters) (channel : PlayChannelOf B) → IsPlayPlanned filters channel → IsSafeAt (seen filters channel.device) channel.book
+pub safe-at : {B : Type 0} (filters : Filters) (channel : PlayChannelOf B) → IsPlayPlanned filters channel → IsSafeAt (seen filters channel.path.device) channel.book
 safe-at filters channel p = subst (λ (plan : PlanSeen). PlayIsSafe (rate_in_plan plan) channel.book) p.plan_is channel.safe
 
 -- a request, by the rate of the chain's plan
 pub asked-is : {B : Type 0} (filters : Filters) (request : Request) (old : PlayChannelOf B) (turn : Turn PlayBook) (between : Rate) (plan : PlanSeen) → IsPlayPlanned filters old
-    → turn ≡ play_ask between request old.book → between ≡ rate_in_plan plan → plan ≡ plan_in old.chain → turn ≡ asking (seen filters old.device) request old.book
+    → turn ≡ play_ask between request old.book → between ≡ rate_in_plan plan → plan ≡ plan_in old.path.chain → turn ≡ asking (seen filters old.path.device) request old.book
 asked-is filters request old turn between plan p turned rate_is plan_is =
     turned ∙ ap (λ (r : Rate). play_ask r request old.book) (rate_is ∙ ap (λ (q : PlanSeen). rate_in_plan q) (plan_is ∙ p.plan_is))
 
 -- what it leaves, at the rate that the book has after it
-pub book-asked : {B : Type 0} (filters : Filters) (request : Request) (old : PlayChannelOf B) (turn : Turn PlayBook) → IsPlayPlanned filters old → turn ≡ asking (seen filters old.device) request old.book
-    → Left (play_rate_at (seen filters old.device) turn.book) old.book turn.book
+pub book-asked : {B : Type 0} (filters : Filters) (request : Request) (old : PlayChannelOf B) (turn : Turn PlayBook) → IsPlayPlanned filters old → turn ≡ asking (seen filters old.path.device) request old.book
+    → Left (play_rate_at (seen filters old.path.device) turn.book) old.book turn.book
 book-asked filters request old turn p asked =
-    let device : DeviceSeen = seen filters old.device in
+    let device : DeviceSeen = seen filters old.path.device in
     let book : PlayBook = old.book in
     let d = device-is filters old p in
     let is : turn.book ≡ (asking device request book).book = ap (λ (t : Turn PlayBook). t.book) asked in
-    let rate : IsRate turn.book.opening.settings.rate = subst (λ (b : PlayBook). IsRate b.opening.settings.rate) (sym is) (ask-rate (play_rate_at device book) request book old.rate) in
+    let rate : IsRate turn.book.opening.settings.rate = subst (λ (b : PlayBook). IsRate b.opening.settings.rate) (sym is) (ask-rate (play_rate_at device book) request book old.serves.rate) in
     leaves_left (play_rate_at device turn.book) book turn.book (ratio-between device turn.book.opening.settings d rate) rate
-    (subst (IsSafeAt device) (sym is) (safe-asking device request book d old.rate (safe-at filters old p)))
+    (subst (IsSafeAt device) (sym is) (safe-asking device request book d old.serves.rate (safe-at filters old p)))
     (subst (Leaves book) (sym is) (ask-leaves (play_rate_at device book) request book (safe-at filters old p)))
 
 -- ---- writes
@@ -174,18 +168,18 @@ pub record IsTaken (accepted : ℕ) (old new : PlayBook) : Type 0 where
   pub more : is_draining old.state ≡ false
   pub is : new ≡ accepting accepted old
 
-pub takes-written : {B : Type 0} (old : PlayChannelOf B) (count accepted : ℕ) (turn : Turn PlayBook) (answer : Answer) → turn ≡ write_turn count old.book → turn.reply ≡ Ok answer → accepted ≡ min count (free_bytes old.ring)
+pub takes-written : {B : Type 0} (old : PlayChannelOf B) (count accepted : ℕ) (turn : Turn PlayBook) (answer : Answer) → turn ≡ write_turn count old.book → turn.reply ≡ Ok answer → accepted ≡ min count (free_bytes old.path.ring)
     → IsTaken accepted old.book turn.book
 takes-written old count accepted turn answer is ok taken =
     let done = write-done count old.book answer (ap (λ (t : Turn PlayBook). t.reply) (sym is) ∙ ok) in
-    let free : free_bytes old.ring ≡ play_free_of old.book = ap (λ k. k - length old.ring.bytes) old.size ∙ ap (λ k. ring_bytes old.book.opening - k) old.fill in
+    let free : free_bytes old.path.ring ≡ play_free_of old.book = ap (λ k. k - length old.path.ring.bytes) old.serves.size ∙ ap (λ k. ring_bytes old.book.opening - k) old.fill in
     record {
       more = done.more;
       is = ap (λ (t : Turn PlayBook). t.book) is ∙ done.is ∙ ap (λ n. accepting n old.book) (sym (taken ∙ ap (min count) free));
     }
 
 -- a channel that took so many bytes from the front of `more`
-pub moves-taking : {B : Type 0} (kind : B → Kind) (kept : B → Kept) (filters : Filters) (more : List ℕ) (accepted : ℕ) (old new : PlayChannelOf B) → new.device ≡ old.device → new.chain ≡ old.chain → new.ring.bytes ≡ old.ring.bytes ++ take accepted more → new.book ≡ accepting accepted old.book
+pub moves-taking : {B : Type 0} (kind : B → Kind) (kept : B → Kept) (filters : Filters) (more : List ℕ) (accepted : ℕ) (old new : PlayChannelOf B) → new.path.device ≡ old.path.device → new.path.chain ≡ old.path.chain → new.path.ring.bytes ≡ old.path.ring.bytes ++ take accepted more → new.book ≡ accepting accepted old.book
     → accepted ≤ length more → accepted ≤ RING_BYTES → is_draining old.book.state ≡ false → old.book.eaten * frame_bytes old.book.opening.settings ≤ old.book.written → PlayMoves kind kept filters more 0 old new
 moves-taking {B = B} kind kept filters more accepted old new device chain ring is within room busy there =
     let a = accepts accepted old.book in
@@ -196,7 +190,7 @@ moves-taking {B = B} kind kept filters more accepted old new device chain ring i
     let long : length (take accepted more) ≡ accepted = omega (arith, length-take accepted more) in
     record {
       kinds = λ h. rw chain h;
-      planned = planned-as filters old new device (ap plan_in chain) settings;
+      planned = planned-as play_plan_between filters _ _ old.path new.path device (ap plan_in chain) settings;
       stands = λ bytes s.
           let front : take new.book.written (bytes ++ more) ≡ bytes ++ take accepted more =
           ap (λ n. take n (bytes ++ more)) (written ∙ (let count = s.count in let e : old.book.written + accepted ≡ length bytes + accepted = omega arith in e)) ∙ take-append-add bytes more accepted in

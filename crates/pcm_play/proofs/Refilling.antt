@@ -37,7 +37,8 @@ use Rattle.pcm_sound.proofs.Stories.{IsSafeAt, safe-mixing}
 use Rattle.pcm_play.specs.declared.channel.PlayChannelOf.{PlayChannelOf}
 use Rattle.pcm_play.specs.Channels.{PlayStands, IsPlayPlanned, PlayMoves}
 use Rattle.pcm_chain.proofs.Waiting.{frames-waiting}
-use Rattle.pcm_play.proofs.Moving.{ended, planned-as, safe-at}
+use Rattle.pcm_path.proofs.Paths.{planned-as}
+use Rattle.pcm_play.proofs.Moving.{ended, safe-at}
 use Rattle.pcm_play.proofs.Stands.{nothing-more, stands-pulled}
 use Rattle.pcm_play.proofs.Refills.{Goes, GoesOrEnds, PullsAsCounted, giving-none, refilled-goes, mixing-some, eaten-written, length-eaten, length-waiting, pulls-counted, front-written}
 
@@ -54,24 +55,24 @@ PullsFor kept tables gain no_more n waiting old new pulled out_old out_new =
 
 -- the frames that wait in a channel's ring
 waiting-is : {B : Type 0} (kept : B → Kept) (filters : Filters) (old : PlayChannelOf B) (bytes : List ℕ) → IsPlayPlanned filters old → old.book.eaten ≤ frames_written old.book → PlayStands kept filters old old.book bytes
-    → waiting_frames (plan_in old.chain) old.book.opening.settings.format old.ring.bytes ≡ drop old.book.eaten (frames old.book.opening.settings bytes)
+    → waiting_frames (plan_in old.path.chain) old.book.opening.settings.format old.path.ring.bytes ≡ drop old.book.eaten (frames old.book.opening.settings bytes)
 waiting-is kept filters old bytes planned within s =
     let settings : Settings = old.book.opening.settings in
-    ap (λ (p : PlanSeen). waiting_frames p settings.format old.ring.bytes) planned.plan_is
-    ∙ ap (waiting_frames (play_plan_between (seen filters old.device) settings) settings.format) s.ring_is
+    ap (λ (p : PlanSeen). waiting_frames p settings.format old.path.ring.bytes) planned.plan_is
+    ∙ ap (waiting_frames (play_plan_between (seen filters old.path.device) settings) settings.format) s.ring_is
     ∙ frames-waiting settings bytes old.book.eaten (let count = s.count in rw count within)
 
 pub pulls-run : {B : Type 0} (kept : B → Kept) (filters : Filters) (old : PlayChannelOf B) (new : ChainOf B) (gain : Gain) (no_more : Bool) (n : ℕ) (pulled : Pulled) (out_old out_new : List ℤ) (bytes : List ℕ)
     → is_started old.book.state ≡ true → IsPlayPlanned filters old → no_more ≡ is_draining old.book.state
-    → PullsFor kept filters gain no_more n (waiting_frames (plan_in old.chain) old.book.opening.settings.format old.ring.bytes) old.chain new pulled out_old out_new
-    → PlayStands kept filters old old.book bytes → PullsRun kept (seen filters old.device) gain n old.book bytes new pulled out_old out_new
+    → PullsFor kept filters gain no_more n (waiting_frames (plan_in old.path.chain) old.book.opening.settings.format old.path.ring.bytes) old.path.chain new pulled out_old out_new
+    → PlayStands kept filters old old.book bytes → PullsRun kept (seen filters old.path.device) gain n old.book bytes new pulled out_old out_new
 pulls-run {B = B} kept filters old new gain no_more n pulled out_old out_new bytes started planned drains pulls s =
-    let device : DeviceSeen = seen filters old.device in
+    let device : DeviceSeen = seen filters old.path.device in
     let book : PlayBook = old.book in
     let all : List Frame = frames book.opening.settings bytes in
     let within = eaten-written (play_rate_at device book) book (safe-at filters old planned) in
     let whole : book.eaten ≤ whole_frames book.opening.settings (length bytes) = (let count = s.count in rw count within) in
-    let at_plan : PullsFor kept (filters_of device) gain (is_draining book.state) n (drop book.eaten all) old.chain new pulled out_old out_new =
+    let at_plan : PullsFor kept (filters_of device) gain (is_draining book.state) n (drop book.eaten all) old.path.chain new pulled out_old out_new =
     rw (drains, waiting-is kept filters old bytes planned within s) at pulls in
     let long : length all ≡ frames_written book = length-frames book.opening.settings bytes ∙ ap (whole_frames book.opening.settings) s.count in
     let p = at_plan (take book.eaten all) s.zeros book.given s.chain_is (λ some.
@@ -164,15 +165,15 @@ turned-pulled kept device gain n book bytes new pulled out_old out_new sum acc s
 
 -- a channel whose run goes on, once its chain was pulled
 pub moves-pulled : {B : Type 0} (kind : B → Kind) (kept : B → Kept) (filters : Filters) (old new : PlayChannelOf B) (n : ℕ) (pulled : Pulled) (gain : Gain) (out_old out_new : List ℤ)
-    → IsPlayPlanned filters old → new.device ≡ old.device → plan_in new.chain ≡ plan_in old.chain → Goes (play_rate_at (seen filters old.device) old.book) n old.book new.book → (HaveKinds kind (boxes_in old.chain) → HaveKinds kind (boxes_in new.chain)) → new.ring.bytes ≡ drop (pulled.eaten * frame_bytes old.book.opening.settings) old.ring.bytes
-    → ((bytes : List ℕ) → PlayStands kept filters old old.book bytes → PullsRun kept (seen filters old.device) gain n old.book bytes new.chain pulled out_old out_new) → PlayMoves kind kept filters [] n old new
+    → IsPlayPlanned filters old → new.path.device ≡ old.path.device → plan_in new.path.chain ≡ plan_in old.path.chain → Goes (play_rate_at (seen filters old.path.device) old.book) n old.book new.book → (HaveKinds kind (boxes_in old.path.chain) → HaveKinds kind (boxes_in new.path.chain)) → new.path.ring.bytes ≡ drop (pulled.eaten * frame_bytes old.book.opening.settings) old.path.ring.bytes
+    → ((bytes : List ℕ) → PlayStands kept filters old old.book bytes → PullsRun kept (seen filters old.path.device) gain n old.book bytes new.path.chain pulled out_old out_new) → PlayMoves kind kept filters [] n old new
 moves-pulled {B = B} kind kept filters old new n pulled gain out_old out_new planned device plan go kinds ring pulls = record {
   kinds = kinds;
-  planned = planned-as filters old new device plan go.settings;
+  planned = planned-as play_plan_between filters _ _ old.path new.path device plan go.settings;
   stands = λ bytes s.
       let p = pulls bytes s in
       subst (PlayStands kept filters new new.book) (sym (nothing-more new.book.written bytes (s.count ∙ sym go.written)))
-      (stands-pulled kept filters old new (play_rate_at (seen filters old.device) old.book) n pulled bytes (eaten-written (play_rate_at (seen filters old.device) old.book) old.book (safe-at filters old planned)) go p.counted ring p.behind s);
+      (stands-pulled kept filters old new (play_rate_at (seen filters old.path.device) old.book) n pulled bytes (eaten-written (play_rate_at (seen filters old.path.device) old.book) old.book (safe-at filters old planned)) go p.counted ring p.behind s);
   written = omega (arith, go.written);
   counted = omega (arith, go.written, go.done);
   grown = omega (arith, go.written, go.done);

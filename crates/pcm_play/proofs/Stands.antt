@@ -9,7 +9,7 @@ use Rattle.pcm_rate.specs.declared.rate.Rate.{Rate}
 use Rattle.pcm_feeder.specs.Filters.{Filters}
 use Rattle.pcm_feeder.specs.Kept.{Kept}
 use Rattle.pcm_chain.specs.declared.chain.Pulled.{Pulled}
-use Rattle.pcm_chain.specs.Chains.{ChainStands}
+use Rattle.pcm_path.specs.Paths.{IsEmpty}
 use Rattle.pcm_chain.specs.Pulls.{StandsBehind}
 use Rattle.pcm_desk.specs.PlayBooks.{is_draining, frames_written}
 use Rattle.pcm_play.specs.declared.channel.PlayChannelOf.{PlayChannelOf}
@@ -17,14 +17,14 @@ use Rattle.pcm_play.specs.Channels.{waiting_of, PlayStands}
 use Rattle.pcm_play.proofs.Refills.{Goes, PullsAsCounted, length-waiting}
 
 -- a channel that begins, or whose run is over, stands for no bytes
-pub stands-empty : {B : Type 0} (kept : B → Kept) (filters : Filters) (channel : PlayChannelOf B) → channel.book.written ≡ 0 → channel.book.eaten ≡ 0 → channel.book.given ≡ 0 → channel.ring.bytes ≡ []
-    → ((tables : Filters) → ChainStands kept tables channel.chain [] 0 0) → PlayStands kept filters channel channel.book []
-stands-empty kept filters channel written eaten given ring begins = record {
+pub stands-empty : {B : Type 0} (kept : B → Kept) (filters : Filters) (channel : PlayChannelOf B) → channel.book.written ≡ 0 → channel.book.eaten ≡ 0 → channel.book.given ≡ 0 → IsEmpty kept channel.path
+    → PlayStands kept filters channel channel.book []
+stands-empty kept filters channel written eaten given empty = record {
   book_is = refl;
   count = sym written;
-  ring_is = ring ∙ nothing-left;
+  ring_is = empty.ring ∙ nothing-left;
   zeros = 0;
-  chain_is = rw (eaten, given) (begins filters);
+  chain_is = rw (eaten, given) (empty.begins filters);
   ended = λ some. absurd (omega arith);
 }
   where
@@ -33,8 +33,8 @@ stands-empty kept filters channel written eaten given ring begins = record {
 
 -- a channel whose run goes on stands for the same bytes, once its chain was pulled
 pub stands-pulled : {B : Type 0} (kept : B → Kept) (filters : Filters) (old new : PlayChannelOf B) (rate : Rate) (n : ℕ) (pulled : Pulled) (bytes : List ℕ) → old.book.eaten ≤ frames_written old.book
-    → Goes rate n old.book new.book → PullsAsCounted rate n old.book pulled → new.ring.bytes ≡ drop (pulled.eaten * frame_bytes old.book.opening.settings) old.ring.bytes
-    → StandsBehind kept filters (is_draining old.book.state) (drop old.book.eaten (frames old.book.opening.settings bytes)) new.chain (take old.book.eaten (frames old.book.opening.settings bytes)) old.book.given pulled
+    → Goes rate n old.book new.book → PullsAsCounted rate n old.book pulled → new.path.ring.bytes ≡ drop (pulled.eaten * frame_bytes old.book.opening.settings) old.path.ring.bytes
+    → StandsBehind kept filters (is_draining old.book.state) (drop old.book.eaten (frames old.book.opening.settings bytes)) new.path.chain (take old.book.eaten (frames old.book.opening.settings bytes)) old.book.given pulled
     → PlayStands kept filters old old.book bytes → PlayStands kept filters new new.book bytes
 stands-pulled kept filters old new rate n pulled bytes within go counted ring behind s =
     let settings : Settings = old.book.opening.settings in
@@ -60,9 +60,9 @@ stands-pulled kept filters old new rate n pulled bytes within go counted ring be
     }
 
 -- a channel that took bytes stands for these too
-pub stands-taking : {B : Type 0} (kept : B → Kept) (filters : Filters) (old new : PlayChannelOf B) (bytes more : List ℕ) → new.chain ≡ old.chain → new.book.opening.settings ≡ old.book.opening.settings → new.book.eaten ≡ old.book.eaten → new.book.given ≡ old.book.given
+pub stands-taking : {B : Type 0} (kept : B → Kept) (filters : Filters) (old new : PlayChannelOf B) (bytes more : List ℕ) → new.path.chain ≡ old.path.chain → new.book.opening.settings ≡ old.book.opening.settings → new.book.eaten ≡ old.book.eaten → new.book.given ≡ old.book.given
     → new.book.written ≡ old.book.written + length more → is_draining old.book.state ≡ false
-    → old.book.eaten * frame_bytes old.book.opening.settings ≤ old.book.written → new.ring.bytes ≡ old.ring.bytes ++ more
+    → old.book.eaten * frame_bytes old.book.opening.settings ≤ old.book.written → new.path.ring.bytes ≡ old.path.ring.bytes ++ more
     → take old.book.eaten (frames old.book.opening.settings (bytes ++ more)) ≡ take old.book.eaten (frames old.book.opening.settings bytes)
     → PlayStands kept filters old old.book bytes → PlayStands kept filters new new.book (bytes ++ more)
 stands-taking kept filters old new bytes more chain settings eaten given written busy within ring front s = record {
@@ -83,7 +83,7 @@ stands-taking kept filters old new bytes more chain settings eaten given written
     ]
 
 -- a channel whose state alone changed stands for the same bytes
-pub stands-state : {B : Type 0} (kept : B → Kept) (filters : Filters) (old new : PlayChannelOf B) (bytes : List ℕ) → new.chain ≡ old.chain → new.ring.bytes ≡ old.ring.bytes → new.book.opening.settings ≡ old.book.opening.settings → new.book.eaten ≡ old.book.eaten → new.book.given ≡ old.book.given
+pub stands-state : {B : Type 0} (kept : B → Kept) (filters : Filters) (old new : PlayChannelOf B) (bytes : List ℕ) → new.path.chain ≡ old.path.chain → new.path.ring.bytes ≡ old.path.ring.bytes → new.book.opening.settings ≡ old.book.opening.settings → new.book.eaten ≡ old.book.eaten → new.book.given ≡ old.book.given
     → new.book.written ≡ old.book.written → (is_draining old.book.state ≡ true → is_draining new.book.state ≡ true)
     → PlayStands kept filters old old.book bytes → PlayStands kept filters new new.book bytes
 stands-state kept filters old new bytes chain ring settings eaten given written drains s = record {

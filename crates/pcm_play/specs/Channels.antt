@@ -4,34 +4,33 @@ use Rattle.pcm_format.specs.Frames.{frame_bytes, frames}
 use Rattle.pcm_feeder.specs.declared.kind.Kind.{Kind}
 use Rattle.pcm_feeder.specs.Filters.{Filters}
 use Rattle.pcm_feeder.specs.Kept.{Kept}
-use Rattle.pcm_feeder.specs.Limits.{AreFilters}
 use Rattle.pcm_feeder.specs.Racks.{HaveKinds}
-use Rattle.pcm_chain.specs.Chains.{boxes_in, plan_in, ChainStands}
+use Rattle.pcm_chain.specs.Chains.{boxes_in, ChainStands}
 use Rattle.pcm_desk.specs.declared.play_book.PlayBook.{PlayBook}
 use Rattle.pcm_desk.specs.Device.{play_plan_between, seen}
 use Rattle.pcm_desk.specs.declared.device.Device.{Device}
 use Rattle.pcm_desk.specs.PlayBooks.{frames_written, is_draining}
 use Rattle.pcm_desk.specs.Desk.{play_unopened}
 use Rattle.pcm_oss.specs.declared.fragments.TheConstants.{RING_BYTES}
+use Rattle.pcm_path.specs.Paths.{IsPlanned}
 use Rattle.pcm_play.specs.declared.channel.PlayChannelOf.{PlayChannelOf}
 
 -- the bytes of a run that were accepted and not yet eaten
 abbrev pub waiting_of : PlayBook → List ℕ → List ℕ
 waiting_of book bytes = drop (book.eaten * frame_bytes book.opening.settings) bytes
 
--- A channel's chain goes by the plan that these filters give for its book's settings.
-pub record IsPlayPlanned {B : Type 0} (filters : Filters) (channel : PlayChannelOf B) : Type 0 where
-  pub limits : AreFilters filters.list
-  pub plan_is : plan_in channel.chain ≡ play_plan_between (seen filters channel.device) channel.book.opening.settings
+-- a channel's chain goes by the plan that these filters give for its book's settings
+abbrev pub IsPlayPlanned : {B : Type 0} → Filters → PlayChannelOf B → Type 0
+IsPlayPlanned filters channel = IsPlanned play_plan_between filters channel.book.opening.settings channel.path
 
 -- A channel stands for a book and all bytes that were accepted in its run: those that were not eaten wait in the ring, and
 -- the chain has eaten the others. It is fed silence once no more comes, behind the last frame.
 pub record PlayStands {B : Type 0} (kept : B → Kept) (filters : Filters) (channel : PlayChannelOf B) (book : PlayBook) (bytes : List ℕ) : Type 0 where
   pub book_is : channel.book ≡ book
   pub count : length bytes ≡ book.written
-  pub ring_is : channel.ring.bytes ≡ waiting_of book bytes
+  pub ring_is : channel.path.ring.bytes ≡ waiting_of book bytes
   pub zeros : ℕ
-  pub chain_is : ChainStands kept filters channel.chain (take book.eaten (frames book.opening.settings bytes)) zeros book.given
+  pub chain_is : ChainStands kept filters channel.path.chain (take book.eaten (frames book.opening.settings bytes)) zeros book.given
   pub ended : 0 < zeros → (is_draining book.state ≡ true) × (book.eaten ≡ frames_written book)
 
 -- a channel stands for its book and some bytes
@@ -41,22 +40,22 @@ pub record PlayStandsForSome {B : Type 0} (kept : B → Kept) (filters : Filters
 
 -- each box of a channel is of its place's kind, its chain goes by its plan, and the channel stands for some bytes
 pub record IsPlayReady {B : Type 0} (kind : B → Kind) (kept : B → Kept) (filters : Filters) (channel : PlayChannelOf B) : Type 0 where
-  pub kinds : HaveKinds kind (boxes_in channel.chain)
+  pub kinds : HaveKinds kind (boxes_in channel.path.chain)
   pub planned : IsPlayPlanned filters channel
   pub stands : PlayStandsForSome kept filters channel
 
 -- nobody has opened the channel yet: it stands for no bytes, its boxes are of the right kinds, and its chain goes by its plan
 pub record IsPlayUnopened {B : Type 0} (kind : B → Kind) (kept : B → Kept) (filters : Filters) (device : Device) (channel : PlayChannelOf B) : Type 0 where
-  pub device_is : channel.device ≡ device
+  pub device_is : channel.path.device ≡ device
   pub book : channel.book ≡ play_unopened (seen filters device)
-  pub kinds : HaveKinds kind (boxes_in channel.chain)
+  pub kinds : HaveKinds kind (boxes_in channel.path.chain)
   pub planned : IsPlayPlanned filters channel
   pub stands : PlayStands kept filters channel channel.book []
 
 -- What an event leaves of a channel, which may take bytes from the front of `more` and give so many frames: whatever bytes
 -- it stood for, it stands for these and what it took, or for none where its run is over.
 pub record PlayMoves {B : Type 0} (kind : B → Kind) (kept : B → Kept) (filters : Filters) (more : List ℕ) (frames : ℕ) (old new : PlayChannelOf B) : Type 0 where
-  pub kinds : HaveKinds kind (boxes_in old.chain) → HaveKinds kind (boxes_in new.chain)
+  pub kinds : HaveKinds kind (boxes_in old.path.chain) → HaveKinds kind (boxes_in new.path.chain)
   pub planned : IsPlayPlanned filters old → IsPlayPlanned filters new
   pub stands : (bytes : List ℕ) → PlayStands kept filters old old.book bytes → PlayStands kept filters new new.book (take new.book.written (bytes ++ more))
   pub written : new.book.written ≤ old.book.written + length more

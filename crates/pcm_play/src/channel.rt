@@ -1,54 +1,46 @@
-//! A channel that plays: its book, the ring with the bytes that wait, and the chain that they go through.
+//! A channel that plays: its book, and the path with the bytes that wait and the chain that they go through.
 
 ghost use Rattle.std.specs.Prelude.{◌≡◌, ◌+◌, ◌*◌, ◌^◌, ◌<◌, ◌≤◌, [], ℕ, List, length, IfOk, OnErr, All};
 ghost use Rattle.pcm_format.specs.Formats.{bits_of};
 ghost use Rattle.pcm_format.specs.Layouts.{channels_of};
 ghost use Rattle.pcm_format.specs.Frames.{frame_bytes};
 ghost use Rattle.pcm_num.specs.Limit.{FitsBits};
-ghost use Rattle.pcm_oss.specs.declared.fragments.TheConstants.{RING_BYTES};
-ghost use Rattle.pcm_rate.specs.Rates.{IsRatio};
 ghost use Rattle.pcm_feeder.specs.Limits.{IsRate};
 ghost use Rattle.pcm_feeder.specs.Racks.{HaveKinds, IsRack};
 ghost use Rattle.pcm_plan.specs.Plans.{rate_in_plan};
 ghost use Rattle.pcm_chain.specs.Chains.{boxes_in, plan_in};
 ghost use Rattle.pcm_desk.specs.Device.{seen};
-ghost use Rattle.pcm_desk.specs.Openings.{ring_bytes};
 ghost use Rattle.pcm_desk.specs.PlayBooks.{is_play_free, play_begun, play_fill_of, write_turn};
 ghost use Rattle.pcm_desk.specs.PlaySafe.{PlayIsSafe};
 ghost use Rattle.pcm_desk.proofs.Props.{book_props};
+ghost use Rattle.pcm_path.specs.Paths.{Serves};
+ghost use Rattle.std.proofs.Props.{props};
 ghost use Rattle.pcm_desk.specs.Desk.{asking, closing, mixing, play_unopened};
 ghost use Rattle.pcm_sound.specs.Added.{turned};
 
 use crate::anew::begin_anew;
-use pcm_chain::ChainOf;
 use pcm_desk::{Device, PlayBook, PlayState};
 use pcm_feeder::{Feeder, RackOf, Tables};
 use pcm_format::Settings;
 use pcm_mix::mix_into;
-use pcm_oss::{Answer, Errno, RING_BYTES, Request, gain_of};
-use pcm_ring::ByteRing;
+use pcm_oss::{Answer, Errno, Request, gain_of};
+use pcm_path::PathOf;
 use std::alloc::{AllocError, Global};
 
 /// A channel of the device that plays.
 #[derive(Drop)]
 pub struct PlayChannelOf<B> {
-    pub device: Device,
     pub book: PlayBook,
-    pub ring: ByteRing,
-    pub chain: ChainOf<B>,
-    ghost device_rate: { IsRate device.settings.rate },
-    ghost rate: { IsRate book.opening.settings.rate },
-    ghost ratio: { IsRatio (rate_in_plan (plan_in chain)) },
-    ghost room: { ring.max ≡ RING_BYTES },
-    ghost size: { ring.size ≡ ring_bytes book.opening },
-    ghost fill: { length ring.bytes ≡ play_fill_of book },
+    pub path: PathOf<B>,
+    ghost serves: { Serves book.opening path } by { Prim.hlevel props },
+    ghost fill: { length path.ring.bytes ≡ play_fill_of book },
     ghost within: { book.eaten * frame_bytes book.opening.settings ≤ book.written },
-    ghost safe: { PlayIsSafe (rate_in_plan (plan_in chain)) book } by { Prim.hlevel book_props },
+    ghost safe: { PlayIsSafe (rate_in_plan (plan_in path.chain)) book } by { Prim.hlevel book_props },
 }
 
 impl<B: Feeder> PlayChannelOf<B> {
     ghost use Rattle.pcm_feeder.specs.Filters.{Filters};
-    ghost use Rattle.pcm_play.specs.Channels.{PlayStands, IsPlayPlanned, PlayMoves, PlayStandsForSome};
+    ghost use Rattle.pcm_play.specs.Channels.{PlayStands, IsPlayPlanned, IsPlayReady, PlayMoves};
 
     /// A channel of a device that nobody has opened.
     pub fn new(
@@ -60,24 +52,18 @@ impl<B: Feeder> PlayChannelOf<B> {
         requires device { IsRate device.settings.rate }
         requires kinds { IsRack B.kind rack }
         ensures book { IfOk result (λ made. made.book ≡ play_unopened (seen tables.now device)) }
-        ensures device { IfOk result (λ made. made.device ≡ device) }
-        ensures kinds { IfOk result (λ made. HaveKinds B.kind (boxes_in made.chain)) }
+        ensures device { IfOk result (λ made. made.path.device ≡ device) }
+        ensures kinds { IfOk result (λ made. HaveKinds B.kind (boxes_in made.path.chain)) }
         ensures planned { IfOk result (λ made. IsPlayPlanned tables.now made) }
         ensures stands { IfOk result (λ made. PlayStands B.kept tables.now made made.book []) }
     {
-        let mut ring = ByteRing::new(alloc, RING_BYTES as usize)?;
-        let mut chain = ChainOf::new(alloc, rack)?;
+        let mut path = PathOf::new(alloc, device, rack)?;
         let book = PlayBook {
             state: PlayState::Free,
             ..PlayBook::begun(device.settings)
         };
-        begin_anew(&device, tables, &book, &mut ring, &mut chain);
-        Ok(PlayChannelOf {
-            device,
-            book,
-            ring,
-            chain,
-        })
+        begin_anew(tables, &book.opening, &mut path);
+        Ok(PlayChannelOf { book, path })
     }
 
     /// Whether nobody has the channel, and nothing of it is left to play.
@@ -90,19 +76,13 @@ impl<B: Feeder> PlayChannelOf<B> {
     /// A new opening begins, whose sound goes through the plan of its settings.
     pub fn begin(&mut self, tables: &Tables, settings: Settings)
         requires rate { IsRate settings.rate }
-        requires kinds { HaveKinds B.kind (boxes_in self.old.chain) }
+        requires kinds { HaveKinds B.kind (boxes_in self.old.path.chain) }
         ensures book { self.new.book ≡ play_begun settings }
-        ensures device { self.new.device ≡ self.old.device }
+        ensures device { self.new.path.device ≡ self.old.path.device }
         ensures moves { PlayMoves B.kind B.kept tables.now [] 0 self.old self.new }
     {
         self.book = PlayBook::begun(settings);
-        begin_anew(
-            &self.device,
-            tables,
-            &self.book,
-            &mut self.ring,
-            &mut self.chain,
-        );
+        begin_anew(tables, &self.book.opening, &mut self.path);
     }
 
     /// Takes the front of `bytes`, as much as fits.
@@ -110,60 +90,53 @@ impl<B: Feeder> PlayChannelOf<B> {
         requires count { self.old.book.written + length bytes.now < 2 ^ 64 }
         ensures book { self.new.book ≡ (write_turn (length bytes.now) self.old.book).book }
         ensures reply { result ≡ (write_turn (length bytes.now) self.old.book).reply }
-        ensures device { self.new.device ≡ self.old.device }
+        ensures device { self.new.path.device ≡ self.old.path.device }
         ensures refused { OnErr result (self.new ≡ self.old) }
         ensures moves { (filters : Filters) → PlayMoves B.kind B.kept filters bytes.now 0 self.old self.new }
     {
         let turn = self.book.write(bytes.len() as u64);
         let answer = turn.reply?;
         // The ring has room for as many as the book accepts.
-        self.ring.put(bytes);
+        self.path.ring.put(bytes);
         self.book = turn.book;
         Ok(answer)
     }
 
     /// Does what a request asks. Where nothing of a run is left, the ring and the chain begin anew, as the book says.
     pub fn ioctl(&mut self, tables: &Tables, request: Request) -> Result<Answer, Errno>
-        requires kinds { HaveKinds B.kind (boxes_in self.old.chain) }
+        requires kinds { HaveKinds B.kind (boxes_in self.old.path.chain) }
         requires planned { IsPlayPlanned tables.now self.old }
         requires count { self.old.book.done + self.old.book.written < 2 ^ 64 }
         ensures book { self.new.book
-            ≡ (asking (seen tables.now self.old.device) request self.old.book).book }
+            ≡ (asking (seen tables.now self.old.path.device) request self.old.book).book }
         ensures reply { result
-            ≡ (asking (seen tables.now self.old.device) request self.old.book).reply }
-        ensures device { self.new.device ≡ self.old.device }
+            ≡ (asking (seen tables.now self.old.path.device) request self.old.book).reply }
+        ensures device { self.new.path.device ≡ self.old.path.device }
         ensures refused { OnErr result (self.new ≡ self.old) }
         ensures moves { PlayMoves B.kind B.kept tables.now [] 0 self.old self.new }
     {
-        let turn = self.book.asked(self.chain.plan().rate(), request);
+        let turn = self.book.asked(self.path.chain.plan().rate(), request);
         let answer = turn.reply?;
         self.book = turn.book;
         if self.book.written == 0 {
-            begin_anew(
-                &self.device,
-                tables,
-                &self.book,
-                &mut self.ring,
-                &mut self.chain,
-            );
+            begin_anew(tables, &self.book.opening, &mut self.path);
         }
         Ok(answer)
     }
 
     /// No descriptor has the channel any more: what was written plays to its end.
     pub fn close(&mut self)
-        requires kinds { HaveKinds B.kind (boxes_in self.old.chain) }
+        requires kinds { HaveKinds B.kind (boxes_in self.old.path.chain) }
         requires count { self.old.book.done + self.old.book.written < 2 ^ 64 }
         ensures book { (filters : Filters) → IsPlayPlanned filters self.old
-            → self.new.book ≡ closing (seen filters self.old.device) self.old.book }
-        ensures device { self.new.device ≡ self.old.device }
+            → self.new.book ≡ closing (seen filters self.old.path.device) self.old.book }
+        ensures device { self.new.path.device ≡ self.old.path.device }
         ensures moves { (filters : Filters) → PlayMoves B.kind B.kept filters [] 0 self.old self.new }
     {
-        let rate = self.chain.plan().rate();
+        let rate = self.path.chain.plan().rate();
         self.book = self.book.closed(rate);
         if self.book.written == 0 {
-            self.ring.clear();
-            self.chain.restart();
+            self.path.restart();
         }
     }
 
@@ -171,41 +144,37 @@ impl<B: Feeder> PlayChannelOf<B> {
     /// `frames` holds them meanwhile.
     pub fn refill(&mut self, tables: &Tables, n: usize, frames: &mut [i32], sum: &mut [i32])
         requires some { 0 < n }
-        requires kinds { HaveKinds B.kind (boxes_in self.old.chain) }
-        requires planned { IsPlayPlanned tables.now self.old }
-        requires stands { PlayStandsForSome B.kept tables.now self.old }
-        requires frames { length frames.old ≡ n * channels_of self.old.device.settings.layout }
-        requires sum { length sum.old ≡ n * channels_of self.old.device.settings.layout }
-        requires fits { All (FitsBits (bits_of self.old.device.settings.format)) sum.old }
+        requires ready { IsPlayReady B.kind B.kept tables.now self.old }
+        requires frames { length frames.old ≡ n * channels_of self.old.path.device.settings.layout }
+        requires sum { length sum.old ≡ n * channels_of self.old.path.device.settings.layout }
+        requires fits { All (FitsBits (bits_of self.old.path.device.settings.format)) sum.old }
         requires count { self.old.book.given + n < 2 ^ 64 }
         requires counted { self.old.book.done + self.old.book.written < 2 ^ 64 }
-        ensures book { self.new.book ≡ mixing (seen tables.now self.old.device) n self.old.book }
-        ensures device { self.new.device ≡ self.old.device }
+        ensures book { self.new.book ≡ mixing (seen tables.now self.old.path.device) n self.old.book }
+        ensures device { self.new.path.device ≡ self.old.path.device }
         ensures moves { PlayMoves B.kind B.kept tables.now [] n self.old self.new }
         ensures sum { (bytes : List ℕ) → PlayStands B.kept tables.now self.old self.old.book bytes
-            → sum.new ≡ turned (seen tables.now self.old.device) n self.old.book bytes sum.old }
-        ensures fits { All (FitsBits (bits_of self.old.device.settings.format)) sum.new }
+            → sum.new ≡ turned (seen tables.now self.old.path.device) n self.old.book bytes sum.old }
+        ensures fits { All (FitsBits (bits_of self.old.path.device.settings.format)) sum.new }
     {
         if !self.book.is_started() {
             return;
         }
-        let settings = self.device.settings;
+        let settings = self.path.device.settings;
         let format = self.book.opening.settings.format;
         let ended = self.book.is_draining();
         let gain = gain_of(self.book.volume);
-        let pulled = self
-            .chain
-            .pull(tables, gain, &mut self.ring, format, ended, n, frames);
+        let PathOf { ring, chain, .. } = &mut self.path;
+        let pulled = chain.pull(tables, gain, ring, format, ended, n, frames);
         let samples = pulled.given * settings.layout.channels();
         mix_into(
             &mut sum[..samples],
             &frames[..samples],
             settings.format.bits(),
         );
-        self.book = self.book.refilled(self.chain.plan().rate(), n as u64);
+        self.book = self.book.refilled(self.path.chain.plan().rate(), n as u64);
         if self.book.written == 0 {
-            self.ring.clear();
-            self.chain.restart();
+            self.path.restart();
         }
     }
 }

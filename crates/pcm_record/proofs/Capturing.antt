@@ -26,7 +26,7 @@ use Rattle.pcm_chain.proofs.Pushing.{count-frames}
 use Rattle.pcm_desk.specs.declared.record_book.RecordBook.{RecordBook}
 use Rattle.pcm_desk.specs.declared.record_book.RecordState.{RecordState}
 use Rattle.pcm_desk.specs.declared.record_book.RecordState.TheVariants.{Free, Setup, Running}
-use Rattle.pcm_desk.specs.Device.{DeviceSeen, IsDevice, seen}
+use Rattle.pcm_desk.specs.Device.{DeviceSeen, IsDevice, record_plan_between, seen}
 use Rattle.pcm_desk.specs.Desk.{capturing, record_rate_at}
 use Rattle.pcm_desk.specs.Openings.{ring_bytes}
 use Rattle.pcm_desk.specs.RecordBooks.{captured, captured_in, captures, coming, is_running, keeping, record_fill_of, record_free_of}
@@ -37,7 +37,8 @@ use Rattle.pcm_sound.specs.Given.{recorded_bytes}
 use Rattle.pcm_sound.proofs.Recordings.{length-recorded}
 use Rattle.pcm_record.specs.declared.channel.RecordChannelOf.{RecordChannelOf}
 use Rattle.pcm_record.specs.Channels.{IsRecordPlanned, RecordMoves, RecordStands}
-use Rattle.pcm_record.proofs.Moving.{device-is, planned-as}
+use Rattle.pcm_path.proofs.Paths.{planned-as}
+use Rattle.pcm_record.proofs.Moving.{device-is}
 use Rattle.pcm_record.proofs.Stands.{stands-as, stands-captured}
 
 -- ---- books
@@ -98,13 +99,13 @@ given-most device n book d rate safe few =
 -- ---- pushes
 
 -- the frames pushed are those of the samples
-pub pushed-is : {B : Type 0} (filters : Filters) (old : RecordChannelOf B) (samples : List ℤ) → IsRecordPlanned filters old → pushed_frames (plan_in old.chain) samples ≡ frames_of (channels_of old.device.settings.layout) samples
+pub pushed-is : {B : Type 0} (filters : Filters) (old : RecordChannelOf B) (samples : List ℤ) → IsRecordPlanned filters old → pushed_frames (plan_in old.path.chain) samples ≡ frames_of (channels_of old.path.device.settings.layout) samples
 pushed-is filters old samples planned = ap (λ (p : PlanSeen). pushed_frames p samples) planned.plan_is
 
 -- so many they are
-pub pushed-count : {B : Type 0} (filters : Filters) (old : RecordChannelOf B) (n : ℕ) (samples : List ℤ) → IsRecordPlanned filters old → length samples ≡ n * channels_of old.device.settings.layout → length (pushed_frames (plan_in old.chain) samples) ≡ n
+pub pushed-count : {B : Type 0} (filters : Filters) (old : RecordChannelOf B) (n : ℕ) (samples : List ℤ) → IsRecordPlanned filters old → length samples ≡ n * channels_of old.path.device.settings.layout → length (pushed_frames (plan_in old.path.chain) samples) ≡ n
 pushed-count filters old n samples planned whole =
-    let layout = old.device.settings.layout in
+    let layout = old.path.device.settings.layout in
     ap length (pushed-is filters old samples planned) ∙ count-frames (channels_of layout) n samples (channels_of-above layout) whole
 
 -- what a push of a channel's chain says, once it is known what the channel stands for
@@ -115,16 +116,16 @@ pub record PushCaptured {B : Type 0} (kept : B → Kept) (filters : Filters) (de
   pub bytes : bytes_new ≡ bytes_old ++ recorded_bytes device book.opening.settings (frames ++ input) book.given (keeping (record_rate_at device book) n book)
 
 pub push-captured : {B : Type 0} (kept : B → Kept) (filters : Filters) (old : RecordChannelOf B) (n : ℕ) (samples : List ℤ) (new : ChainOf B) (pushed : Pushed) (ring bytes : List ℕ) (frames : List Frame)
-    → IsRecordPlanned filters old → length samples ≡ n * channels_of old.device.settings.layout → pushed.kept ≡ min pushed.came (room_for (plan_in old.chain) old.book.opening.settings.format old.ring)
-    → Pushes kept filters old.book.opening.settings.format (pushed_frames (plan_in old.chain) samples) old.chain new frames pushed old.ring.bytes ring → RecordStands kept filters old old.book bytes frames
-    → PushCaptured kept filters (seen filters old.device) n old.book frames (frames_of (channels_of old.device.settings.layout) samples) new pushed old.ring.bytes ring
+    → IsRecordPlanned filters old → length samples ≡ n * channels_of old.path.device.settings.layout → pushed.kept ≡ min pushed.came (room_for (plan_in old.path.chain) old.book.opening.settings.format old.path.ring)
+    → Pushes kept filters old.book.opening.settings.format (pushed_frames (plan_in old.path.chain) samples) old.path.chain new frames pushed old.path.ring.bytes ring → RecordStands kept filters old old.book bytes frames
+    → PushCaptured kept filters (seen filters old.path.device) n old.book frames (frames_of (channels_of old.path.device.settings.layout) samples) new pushed old.path.ring.bytes ring
 push-captured {B = B} kept filters old n samples new pushed ring bytes frames planned whole kept_is p s =
-    let device : DeviceSeen = seen filters old.device in
+    let device : DeviceSeen = seen filters old.path.device in
     let book : RecordBook = old.book in
     let settings : Settings = book.opening.settings in
     let rate : Rate = record_rate_at device book in
-    let plan : PlanSeen = plan_in old.chain in
-    let input : List Frame = frames_of (channels_of old.device.settings.layout) samples in
+    let plan : PlanSeen = plan_in old.path.chain in
+    let input : List Frame = frames_of (channels_of old.path.device.settings.layout) samples in
     let is = planned.plan_is in
     let same : rate_in_plan plan ≡ rate = ap (λ (q : PlanSeen). rate_in_plan q) is in
     let all : pushed_frames plan samples ≡ input = pushed-is filters old samples planned in
@@ -134,24 +135,24 @@ push-captured {B = B} kept filters old n samples new pushed ring bytes frames pl
     ∙ ap (λ k. can rate (length frames + k)) (pushed-count filters old n samples planned whole) ∙ ap (λ k. can rate (k + n)) s.captured in
     let came : pushed.came ≡ coming rate n book =
     p.came ∙ ap (λ k. k - can (rate_in_plan plan) (length frames)) reach ∙ ap (λ k. can rate (book.captured + n) - k) given in
-    let free : free_bytes old.ring ≡ record_free_of book = ap (λ k. k - length old.ring.bytes) old.size ∙ ap (λ k. ring_bytes book.opening - k) old.fill in
-    let room : room_for plan settings.format old.ring ≡ record_free_of book / frame_bytes settings =
-    ap (λ (q : PlanSeen). room_for q settings.format old.ring) is ∙ ap (λ k. k / frame_bytes settings) free in
-    let keeps : pushed.kept ≡ keeping rate n book = kept_is ∙ ap (λ k. min k (room_for plan settings.format old.ring)) came ∙ ap (λ k. min (coming rate n book) k) room in
+    let free : free_bytes old.path.ring ≡ record_free_of book = ap (λ k. k - length old.path.ring.bytes) old.serves.size ∙ ap (λ k. ring_bytes book.opening - k) old.fill in
+    let room : room_for plan settings.format old.path.ring ≡ record_free_of book / frame_bytes settings =
+    ap (λ (q : PlanSeen). room_for q settings.format old.path.ring) is ∙ ap (λ k. k / frame_bytes settings) free in
+    let keeps : pushed.kept ≡ keeping rate n book = kept_is ∙ ap (λ k. min k (room_for plan settings.format old.path.ring)) came ∙ ap (λ k. min (coming rate n book) k) room in
     record {
       came = came;
       keeps = keeps;
       records = subst (λ list. HasRecorded kept filters new (frames ++ list)) all p.records;
       bytes = p.bytes
-          ∙ ap (λ list. old.ring.bytes ++ spelled_frames settings.format (recs plan filters (frames ++ list) (can (rate_in_plan plan) (length frames)) pushed.kept)) all
-          ∙ ap (λ (q : PlanSeen). old.ring.bytes ++ spelled_frames settings.format (recs q filters (frames ++ input) (can (rate_in_plan plan) (length frames)) pushed.kept)) is
-          ∙ ap (λ from. old.ring.bytes ++ recorded_bytes device settings (frames ++ input) from pushed.kept) given
-          ∙ ap (λ count. old.ring.bytes ++ recorded_bytes device settings (frames ++ input) book.given count) keeps;
+          ∙ ap (λ list. old.path.ring.bytes ++ spelled_frames settings.format (recs plan filters (frames ++ list) (can (rate_in_plan plan) (length frames)) pushed.kept)) all
+          ∙ ap (λ (q : PlanSeen). old.path.ring.bytes ++ spelled_frames settings.format (recs q filters (frames ++ input) (can (rate_in_plan plan) (length frames)) pushed.kept)) is
+          ∙ ap (λ from. old.path.ring.bytes ++ recorded_bytes device settings (frames ++ input) from pushed.kept) given
+          ∙ ap (λ count. old.path.ring.bytes ++ recorded_bytes device settings (frames ++ input) book.given count) keeps;
     }
 
 -- the rate of the chain's plan, which a push leaves
-pub rate-pushed : {B : Type 0} (filters : Filters) (old : RecordChannelOf B) (new : ChainOf B) (between : Rate) (plan : PlanSeen) → IsRecordPlanned filters old → between ≡ rate_in_plan plan → plan ≡ plan_in new → plan_in new ≡ plan_in old.chain
-    → between ≡ record_rate_at (seen filters old.device) old.book
+pub rate-pushed : {B : Type 0} (filters : Filters) (old : RecordChannelOf B) (new : ChainOf B) (between : Rate) (plan : PlanSeen) → IsRecordPlanned filters old → between ≡ rate_in_plan plan → plan ≡ plan_in new → plan_in new ≡ plan_in old.path.chain
+    → between ≡ record_rate_at (seen filters old.path.device) old.book
 rate-pushed filters old new between plan planned rate_is plan_is same = rate_is ∙ ap (λ (q : PlanSeen). rate_in_plan q) (plan_is ∙ same ∙ planned.plan_is)
 
 -- the book by that rate
@@ -161,37 +162,37 @@ captured-at device n old new between rate is = is ∙ ap (λ (r : Rate). capture
 -- ---- channels
 
 -- the bytes that were kept
-kept-length : {B : Type 0} (kept : B → Kept) (filters : Filters) (old : RecordChannelOf B) (n : ℕ) (frames input : List Frame) (new : ChainOf B) → IsRecordPlanned filters old → plan_in new ≡ plan_in old.chain → HasRecorded kept filters new (frames ++ input)
-    → let device : DeviceSeen = seen filters old.device in
+kept-length : {B : Type 0} (kept : B → Kept) (filters : Filters) (old : RecordChannelOf B) (n : ℕ) (frames input : List Frame) (new : ChainOf B) → IsRecordPlanned filters old → plan_in new ≡ plan_in old.path.chain → HasRecorded kept filters new (frames ++ input)
+    → let device : DeviceSeen = seen filters old.path.device in
     length (recorded_bytes device old.book.opening.settings (frames ++ input) old.book.given (keeping (record_rate_at device old.book) n old.book)) ≡ keeping (record_rate_at device old.book) n old.book * frame_bytes old.book.opening.settings
 kept-length kept filters old n frames input new planned plan records =
-    let device : DeviceSeen = seen filters old.device in
-    length-recorded device old.book.opening.settings (frames ++ input) old.book.given (keeping (record_rate_at device old.book) n old.book) (device-is filters old planned) old.rate
+    let device : DeviceSeen = seen filters old.path.device in
+    length-recorded device old.book.opening.settings (frames ++ input) old.book.given (keeping (record_rate_at device old.book) n old.book) (device-is filters old planned) old.serves.rate
     (subst (λ (p : PlanSeen). HaveChannels (channels_of p.source) (frames ++ input)) (plan ∙ planned.plan_is) records.frames)
 
 -- the ring holds as many bytes as the book says
-pub fill-captured : {B : Type 0} (kept : B → Kept) (filters : Filters) (old : RecordChannelOf B) (book : RecordBook) (n : ℕ) (frames input : List Frame) (new : ChainOf B) (pushed : Pushed) (ring : List ℕ) → IsRecordPlanned filters old → plan_in new ≡ plan_in old.chain
-    → BookCaptured (seen filters old.device) n old.book book → PushCaptured kept filters (seen filters old.device) n old.book frames input new pushed old.ring.bytes ring → length ring ≡ record_fill_of book
+pub fill-captured : {B : Type 0} (kept : B → Kept) (filters : Filters) (old : RecordChannelOf B) (book : RecordBook) (n : ℕ) (frames input : List Frame) (new : ChainOf B) (pushed : Pushed) (ring : List ℕ) → IsRecordPlanned filters old → plan_in new ≡ plan_in old.path.chain
+    → BookCaptured (seen filters old.path.device) n old.book book → PushCaptured kept filters (seen filters old.path.device) n old.book frames input new pushed old.path.ring.bytes ring → length ring ≡ record_fill_of book
 fill-captured kept filters old book n frames input new pushed ring planned plan b p =
-    let device : DeviceSeen = seen filters old.device in
+    let device : DeviceSeen = seen filters old.path.device in
     let more : List ℕ = recorded_bytes device old.book.opening.settings (frames ++ input) old.book.given (keeping (record_rate_at device old.book) n old.book) in
     let long = kept-length kept filters old n frames input new planned plan p.records in
     let fill = old.fill in
     let within = old.within in
-    omega (arith, ap length p.bytes, length-append old.ring.bytes more, long, b.kept, b.read)
+    omega (arith, ap length p.bytes, length-append old.path.ring.bytes more, long, b.kept, b.read)
 
 -- a channel that is running, once its chain was pushed
-pub moves-captured : {B : Type 0} (kind : B → Kind) (kept : B → Kept) (filters : Filters) (old new : RecordChannelOf B) (n : ℕ) (input : List Frame) (pushed : Pushed) → IsRecordPlanned filters old → new.device ≡ old.device → plan_in new.chain ≡ plan_in old.chain
-    → (HaveKinds kind (boxes_in old.chain) → HaveKinds kind (boxes_in new.chain)) → length input ≡ n → HaveBits 32 input → BookCaptured (seen filters old.device) n old.book new.book
-    → ((bytes : List ℕ) (frames : List Frame) → RecordStands kept filters old old.book bytes frames → PushCaptured kept filters (seen filters old.device) n old.book frames input new.chain pushed old.ring.bytes new.ring.bytes)
-    → RecordMoves kind kept filters input (keeping (record_rate_at (seen filters old.device) old.book) n old.book) old new
+pub moves-captured : {B : Type 0} (kind : B → Kind) (kept : B → Kept) (filters : Filters) (old new : RecordChannelOf B) (n : ℕ) (input : List Frame) (pushed : Pushed) → IsRecordPlanned filters old → new.path.device ≡ old.path.device → plan_in new.path.chain ≡ plan_in old.path.chain
+    → (HaveKinds kind (boxes_in old.path.chain) → HaveKinds kind (boxes_in new.path.chain)) → length input ≡ n → HaveBits 32 input → BookCaptured (seen filters old.path.device) n old.book new.book
+    → ((bytes : List ℕ) (frames : List Frame) → RecordStands kept filters old old.book bytes frames → PushCaptured kept filters (seen filters old.path.device) n old.book frames input new.path.chain pushed old.path.ring.bytes new.path.ring.bytes)
+    → RecordMoves kind kept filters input (keeping (record_rate_at (seen filters old.path.device) old.book) n old.book) old new
 moves-captured {B = B} kind kept filters old new n input pushed planned device plan kinds count bits b pushes = record {
   kinds = kinds;
-  planned = planned-as filters old new device plan b.settings;
+  planned = planned-as record_plan_between filters _ _ old.path new.path device plan b.settings;
   stands = λ bytes frames s.
       let p = pushes bytes frames s in
-      let more : List ℕ = recorded_bytes (seen filters old.device) old.book.opening.settings (frames ++ input) old.book.given (keeping (record_rate_at (seen filters old.device) old.book) n old.book) in
-      let long : length more ≡ keeping (record_rate_at (seen filters old.device) old.book) n old.book * frame_bytes old.book.opening.settings = kept-length kept filters old n frames input new.chain planned plan p.records in
+      let more : List ℕ = recorded_bytes (seen filters old.path.device) old.book.opening.settings (frames ++ input) old.book.given (keeping (record_rate_at (seen filters old.path.device) old.book) n old.book) in
+      let long : length more ≡ keeping (record_rate_at (seen filters old.path.device) old.book) n old.book * frame_bytes old.book.opening.settings = kept-length kept filters old n frames input new.path.chain planned plan p.records in
       let grows : new.book.kept ≡ old.book.kept + length more = omega (arith, b.kept, long) in
       let brings : new.book.captured ≡ old.book.captured + length input = omega (arith, b.captured, count) in
       stands-as kept filters new (bytes ++ more) (take new.book.kept (bytes ++ more)) (frames ++ input) (take new.book.captured (frames ++ input))

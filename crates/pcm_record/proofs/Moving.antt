@@ -13,12 +13,12 @@ use Rattle.pcm_rate.specs.declared.rate.Rate.{Rate}
 use Rattle.pcm_plan.specs.Plans.{PlanSeen, rate_in_plan}
 use Rattle.pcm_chain.specs.declared.chain.ChainOf.{ChainOf}
 use Rattle.pcm_chain.specs.Chains.{boxes_in, plan_in}
-use Rattle.pcm_chain.specs.Pushes.{HasRecorded}
+use Rattle.pcm_path.specs.Paths.{IsEmpty}
+use Rattle.pcm_path.proofs.Paths.{device-served, planned-as}
 use Rattle.pcm_oss.specs.declared.reply.Answer.{Answer}
 use Rattle.pcm_oss.specs.Replies.{bytes_due}
 use Rattle.pcm_desk.specs.declared.record_book.RecordBook.{RecordBook}
 use Rattle.pcm_desk.specs.declared.turn.Turn.{Turn}
-use Rattle.pcm_desk.specs.declared.device.Device.{Device}
 use Rattle.pcm_desk.specs.Device.{DeviceSeen, IsDevice, record_plan_between, record_rate_between, seen}
 use Rattle.pcm_desk.specs.Desk.{record_rate_at}
 use Rattle.pcm_desk.specs.RecordBooks.{is_record_setup, is_running, read_turn, record_fill_of}
@@ -33,20 +33,13 @@ use Rattle.pcm_record.specs.declared.channel.RecordChannelOf.{RecordChannelOf}
 use Rattle.pcm_record.specs.Channels.{IsRecordPlanned, RecordMoves}
 use Rattle.pcm_record.proofs.Stands.{Reads, none-captured, none-kept, stands-as, stands-empty, stands-read}
 
--- a channel whose device, plan and settings stay goes by the plan that it went by
-pub planned-as : {B : Type 0} (filters : Filters) (old new : RecordChannelOf B) → new.device ≡ old.device → plan_in new.chain ≡ plan_in old.chain → new.book.opening.settings ≡ old.book.opening.settings → IsRecordPlanned filters old → IsRecordPlanned filters new
-planned-as filters old new device plan settings p = record {
-  limits = p.limits;
-  plan_is = plan ∙ p.plan_is ∙ ap (λ (d : Device). record_plan_between (seen filters d) old.book.opening.settings) (sym device) ∙ ap (record_plan_between (seen filters new.device)) (sym settings);
-}
-
 -- a channel that stays stands for what it stood for
 pub moves-nothing : {B : Type 0} (kind : B → Kind) (kept : B → Kept) (filters : Filters) (input : List Frame) (count : ℕ) (channel : RecordChannelOf B) → RecordMoves kind kept filters input count channel channel
 moves-nothing kind kept filters input count channel = record {
   kinds = λ h. h;
   planned = λ p. p;
   stands = λ bytes frames s.
-      let more : List ℕ = recorded_bytes (seen filters channel.device) channel.book.opening.settings (frames ++ input) channel.book.given count in
+      let more : List ℕ = recorded_bytes (seen filters channel.path.device) channel.book.opening.settings (frames ++ input) channel.book.given count in
       stands-as kept filters channel bytes (take channel.book.kept (bytes ++ more)) frames (take channel.book.captured (frames ++ input))
       (take_at bytes more channel.book.kept s.count) (take_at frames input channel.book.captured s.captured) s;
   captured = omega arith;
@@ -54,28 +47,28 @@ moves-nothing kind kept filters input count channel = record {
 }
 
 -- a channel that begins, or whose recording is over
-pub moves-ended : {B : Type 0} (kind : B → Kind) (kept : B → Kept) (filters : Filters) (old new : RecordChannelOf B) → HaveKinds kind (boxes_in new.chain) → (IsRecordPlanned filters old → IsRecordPlanned filters new) → IsRecordUnstarted new.book
-    → new.ring.bytes ≡ [] → ((tables : Filters) → HasRecorded kept tables new.chain []) → RecordMoves kind kept filters [] 0 old new
-moves-ended kind kept filters old new kinds planned none ring records = record {
+pub moves-ended : {B : Type 0} (kind : B → Kind) (kept : B → Kept) (filters : Filters) (old new : RecordChannelOf B) → HaveKinds kind (boxes_in new.path.chain) → (IsRecordPlanned filters old → IsRecordPlanned filters new) → IsRecordUnstarted new.book
+    → IsEmpty kept new.path → RecordMoves kind kept filters [] 0 old new
+moves-ended kind kept filters old new kinds planned none empty = record {
   kinds = λ h. kinds;
   planned = planned;
   stands = λ bytes frames s.
-      let all : List ℕ = bytes ++ recorded_bytes (seen filters old.device) old.book.opening.settings (frames ++ []) old.book.given 0 in
+      let all : List ℕ = bytes ++ recorded_bytes (seen filters old.path.device) old.book.opening.settings (frames ++ []) old.book.given 0 in
       stands-as kept filters new [] (take new.book.kept all) [] (take new.book.captured (frames ++ []))
-      (ap (λ n. take n all) none.kept_none) (ap (λ n. take n (frames ++ [])) none.captured_none) (stands-empty kept filters new none ring records);
+      (ap (λ n. take n all) none.kept_none) (ap (λ n. take n (frames ++ [])) none.captured_none) (stands-empty kept filters new none empty);
   captured = omega (arith, none.captured_none);
   kept = omega (arith, none.kept_none);
 }
 
 -- a channel of whose bytes so many were read, or whose state alone changed
-pub moves-read : {B : Type 0} (kind : B → Kind) (kept : B → Kept) (filters : Filters) (count : ℕ) (old new : RecordChannelOf B) → new.device ≡ old.device → new.chain ≡ old.chain → new.ring.bytes ≡ drop count old.ring.bytes → Reads count old.book new.book
+pub moves-read : {B : Type 0} (kind : B → Kind) (kept : B → Kept) (filters : Filters) (count : ℕ) (old new : RecordChannelOf B) → new.path.device ≡ old.path.device → new.path.chain ≡ old.path.chain → new.path.ring.bytes ≡ drop count old.path.ring.bytes → Reads count old.book new.book
     → RecordMoves kind kept filters [] 0 old new
 moves-read {B = B} kind kept filters count old new device chain ring r = record {
   kinds = λ h. subst (λ (c : ChainOf B). HaveKinds kind (boxes_in c)) (sym chain) h;
-  planned = planned-as filters old new device (ap plan_in chain) r.settings;
+  planned = planned-as record_plan_between filters _ _ old.path new.path device (ap plan_in chain) r.settings;
   stands = λ bytes frames s.
-      stands-as kept filters new bytes (take new.book.kept (bytes ++ recorded_bytes (seen filters old.device) old.book.opening.settings (frames ++ []) old.book.given 0)) frames (take new.book.captured (frames ++ []))
-      (none-kept new.book.kept (seen filters old.device) old.book.opening.settings bytes (frames ++ []) old.book.given (s.count ∙ sym r.kept)) (none-captured new.book.captured frames (s.captured ∙ sym r.captured))
+      stands-as kept filters new bytes (take new.book.kept (bytes ++ recorded_bytes (seen filters old.path.device) old.book.opening.settings (frames ++ []) old.book.given 0)) frames (take new.book.captured (frames ++ []))
+      (none-kept new.book.kept (seen filters old.path.device) old.book.opening.settings bytes (frames ++ []) old.book.given (s.count ∙ sym r.kept)) (none-captured new.book.captured frames (s.captured ∙ sym r.captured))
       (stands-read kept filters old new count bytes frames chain ring r s);
   captured = omega (arith, r.captured);
   kept = omega (arith, r.kept);
@@ -86,7 +79,7 @@ pub record IsTaken (count : ℕ) (answer : Answer) (old new : RecordBook) : Type
   pub due : bytes_due (Ok answer) ≡ count
   pub is : new ≡ record old { read = old.read + count }
 
-pub takes-read : {B : Type 0} (old : RecordChannelOf B) (most count : ℕ) (turn : Turn RecordBook) (answer : Answer) → turn ≡ read_turn most old.book → turn.reply ≡ Ok answer → count ≡ min most (length old.ring.bytes)
+pub takes-read : {B : Type 0} (old : RecordChannelOf B) (most count : ℕ) (turn : Turn RecordBook) (answer : Answer) → turn ≡ read_turn most old.book → turn.reply ≡ Ok answer → count ≡ min most (length old.path.ring.bytes)
     → IsTaken count answer old.book turn.book
 takes-read old most count turn answer is ok taken =
     let done = read-done most old.book answer (ap (λ (t : Turn RecordBook). t.reply) (sym is) ∙ ok) in
@@ -111,10 +104,10 @@ pub none-waits : (book : RecordBook) → IsRecordUnstarted book → 0 ≡ record
 none-waits book none = let kept = none.kept_none in omega arith
 
 -- a channel that goes by the plan of some filters: its device, and its book by the device's rate
-pub device-is : {B : Type 0} (filters : Filters) (channel : RecordChannelOf B) → IsRecordPlanned filters channel → IsDevice (seen filters channel.device)
-device-is filters channel p = record { rate = channel.device_rate; mix_rate = channel.device_rate; same = refl; filters = p.limits }
+pub device-is : {B : Type 0} (filters : Filters) (channel : RecordChannelOf B) → IsRecordPlanned filters channel → IsDevice (seen filters channel.path.device)
+device-is filters channel p = device-served record_plan_between filters channel.book.opening channel.book.opening.settings channel.path channel.serves p
 
-pub safe-at : {B : Type 0} (filters : Filters) (channel : RecordChannelOf B) → IsRecordPlanned filters channel → RecordIsSafe (record_rate_at (seen filters channel.device) channel.book) channel.book
+pub safe-at : {B : Type 0} (filters : Filters) (channel : RecordChannelOf B) → IsRecordPlanned filters channel → RecordIsSafe (record_rate_at (seen filters channel.path.device) channel.book) channel.book
 safe-at filters channel p = subst (λ (plan : PlanSeen). RecordIsSafe (rate_in_plan plan) channel.book) p.plan_is channel.safe
 
 -- what a request leaves of a book whose rate is then this one
@@ -125,16 +118,16 @@ pub record Left (now : Rate) (old new : RecordBook) : Type 0 where
   pub goes : is_running new.state ≡ true → Stays old new
 
 -- a request
-pub book-asked : {B : Type 0} (filters : Filters) (request : Request) (old : RecordChannelOf B) (turn : Turn RecordBook) → IsRecordPlanned filters old → turn ≡ record_ask request old.book → Left (record_rate_at (seen filters old.device) turn.book) old.book turn.book
+pub book-asked : {B : Type 0} (filters : Filters) (request : Request) (old : RecordChannelOf B) (turn : Turn RecordBook) → IsRecordPlanned filters old → turn ≡ record_ask request old.book → Left (record_rate_at (seen filters old.path.device) turn.book) old.book turn.book
 book-asked filters request old turn p asked =
-    let device : DeviceSeen = seen filters old.device in
+    let device : DeviceSeen = seen filters old.path.device in
     let book : RecordBook = old.book in
     let is : turn.book ≡ (record_ask request book).book = ap (λ (t : Turn RecordBook). t.book) asked in
     let same : is_record_setup book.state ≡ false → record_rate_at device turn.book ≡ record_rate_at device book =
     λ e. ap (λ (s : Settings). record_rate_between device s) (ap (λ (b : RecordBook). b.opening.settings) is ∙ record-ask-settings request book e) in
     let leaves = record-ask-leaves (record_rate_at device book) request book (safe-at filters old p) in
     record {
-      rate = subst (λ (b : RecordBook). IsRate b.opening.settings.rate) (sym is) (record-ask-rate request book old.rate);
+      rate = subst (λ (b : RecordBook). IsRate b.opening.settings.rate) (sym is) (record-ask-rate request book old.serves.rate);
       safe = subst (RecordIsSafe (record_rate_at device turn.book)) (sym is) (record-safe-ask (record_rate_at device book) (record_rate_at device turn.book) request book same (safe-at filters old p));
       goes = subst (λ (b : RecordBook). is_running b.state ≡ true → Stays book b) (sym is) (λ runs. elim leaves.counts [
         | inl stays ↦ stays

@@ -11,6 +11,7 @@ use Rattle.pcm_feeder.specs.Kept.{Kept}
 use Rattle.pcm_plan.specs.Fits.{HaveBits}
 use Rattle.pcm_chain.specs.declared.chain.ChainOf.{ChainOf}
 use Rattle.pcm_chain.specs.Pushes.{HasRecorded}
+use Rattle.pcm_path.specs.Paths.{IsEmpty}
 use Rattle.pcm_desk.specs.declared.record_book.RecordBook.{RecordBook}
 use Rattle.pcm_desk.specs.Device.{DeviceSeen}
 use Rattle.pcm_desk.specs.RecordSafe.{IsRecordUnstarted}
@@ -19,15 +20,15 @@ use Rattle.pcm_record.specs.declared.channel.RecordChannelOf.{RecordChannelOf}
 use Rattle.pcm_record.specs.Channels.{RecordStands}
 
 -- a channel that begins, or whose recording is over, stands for no bytes and no frames
-pub stands-empty : {B : Type 0} (kept : B → Kept) (filters : Filters) (channel : RecordChannelOf B) → IsRecordUnstarted channel.book → channel.ring.bytes ≡ []
-    → ((tables : Filters) → HasRecorded kept tables channel.chain []) → RecordStands kept filters channel channel.book [] []
-stands-empty kept filters channel none ring records = record {
+pub stands-empty : {B : Type 0} (kept : B → Kept) (filters : Filters) (channel : RecordChannelOf B) → IsRecordUnstarted channel.book → IsEmpty kept channel.path
+    → RecordStands kept filters channel channel.book [] []
+stands-empty kept filters channel none empty = record {
   book_is = refl;
   count = sym none.kept_none;
-  ring_is = ring ∙ ap (λ n. drop n []) (sym none.read_none);
+  ring_is = empty.ring ∙ ap (λ n. drop n []) (sym none.read_none);
   captured = sym none.captured_none;
   bits = All-nil (λ (frame : Frame). All (FitsBits 32) frame);
-  records = records filters;
+  records = empty.records filters;
 }
 
 -- what a channel stands for, told by equal lists
@@ -54,7 +55,7 @@ reads-count count old new is = record {
 }
 
 -- a channel of whose bytes so many were read stands for the same bytes
-pub stands-read : {B : Type 0} (kept : B → Kept) (filters : Filters) (old new : RecordChannelOf B) (count : ℕ) (bytes : List ℕ) (frames : List Frame) → new.chain ≡ old.chain → new.ring.bytes ≡ drop count old.ring.bytes → Reads count old.book new.book
+pub stands-read : {B : Type 0} (kept : B → Kept) (filters : Filters) (old new : RecordChannelOf B) (count : ℕ) (bytes : List ℕ) (frames : List Frame) → new.path.chain ≡ old.path.chain → new.path.ring.bytes ≡ drop count old.path.ring.bytes → Reads count old.book new.book
     → RecordStands kept filters old old.book bytes frames → RecordStands kept filters new new.book bytes frames
 stands-read {B = B} kept filters old new count bytes frames chain ring r s = record {
   book_is = refl;
@@ -66,8 +67,8 @@ stands-read {B = B} kept filters old new count bytes frames chain ring r s = rec
 }
 
 -- a channel that captured more frames, of which more bytes were kept, stands for these too
-pub stands-captured : {B : Type 0} (kept : B → Kept) (filters : Filters) (old new : RecordChannelOf B) (bytes more : List ℕ) (frames input : List Frame) → new.ring.bytes ≡ old.ring.bytes ++ more → new.book.read ≡ old.book.read
-    → old.book.read ≤ old.book.kept → new.book.kept ≡ old.book.kept + length more → new.book.captured ≡ old.book.captured + length input → HaveBits 32 input → HasRecorded kept filters new.chain (frames ++ input)
+pub stands-captured : {B : Type 0} (kept : B → Kept) (filters : Filters) (old new : RecordChannelOf B) (bytes more : List ℕ) (frames input : List Frame) → new.path.ring.bytes ≡ old.path.ring.bytes ++ more → new.book.read ≡ old.book.read
+    → old.book.read ≤ old.book.kept → new.book.kept ≡ old.book.kept + length more → new.book.captured ≡ old.book.captured + length input → HaveBits 32 input → HasRecorded kept filters new.path.chain (frames ++ input)
     → RecordStands kept filters old old.book bytes frames → RecordStands kept filters new new.book (bytes ++ more) (frames ++ input)
 stands-captured kept filters old new bytes more frames input ring read within grows captures bits records s = record {
   book_is = refl;

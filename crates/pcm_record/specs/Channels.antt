@@ -4,17 +4,17 @@ use Rattle.pcm_format.specs.Frames.{Frame}
 use Rattle.pcm_feeder.specs.declared.kind.Kind.{Kind}
 use Rattle.pcm_feeder.specs.Filters.{Filters}
 use Rattle.pcm_feeder.specs.Kept.{Kept}
-use Rattle.pcm_feeder.specs.Limits.{AreFilters}
 use Rattle.pcm_feeder.specs.Racks.{HaveKinds}
 use Rattle.pcm_oss.specs.declared.fragments.TheConstants.{RING_BYTES}
 use Rattle.pcm_plan.specs.Fits.{HaveBits}
-use Rattle.pcm_chain.specs.Chains.{boxes_in, plan_in}
+use Rattle.pcm_chain.specs.Chains.{boxes_in}
 use Rattle.pcm_chain.specs.Pushes.{HasRecorded}
 use Rattle.pcm_desk.specs.declared.record_book.RecordBook.{RecordBook}
 use Rattle.pcm_desk.specs.declared.device.Device.{Device}
 use Rattle.pcm_desk.specs.Device.{record_plan_between, seen}
 use Rattle.pcm_desk.specs.Desk.{record_unopened}
 use Rattle.pcm_sound.specs.Given.{recorded_bytes}
+use Rattle.pcm_path.specs.Paths.{IsPlanned}
 use Rattle.pcm_record.specs.declared.channel.RecordChannelOf.{RecordChannelOf}
 
 -- the bytes that were kept and not yet read
@@ -22,19 +22,18 @@ abbrev pub unread_of : RecordBook → List ℕ → List ℕ
 unread_of book bytes = drop book.read bytes
 
 -- a channel's chain goes by the plan that these filters give for its book's settings
-pub record IsRecordPlanned {B : Type 0} (filters : Filters) (channel : RecordChannelOf B) : Type 0 where
-  pub limits : AreFilters filters.list
-  pub plan_is : plan_in channel.chain ≡ record_plan_between (seen filters channel.device) channel.book.opening.settings
+abbrev pub IsRecordPlanned : {B : Type 0} → Filters → RecordChannelOf B → Type 0
+IsRecordPlanned filters channel = IsPlanned record_plan_between filters channel.book.opening.settings channel.path
 
 -- A channel stands for a book, all bytes that were kept since the start, and all frames of the device that were captured since:
 -- the bytes that were not read wait in the ring, and the chain has eaten the frames and given all that they allow.
 pub record RecordStands {B : Type 0} (kept : B → Kept) (filters : Filters) (channel : RecordChannelOf B) (book : RecordBook) (bytes : List ℕ) (frames : List Frame) : Type 0 where
   pub book_is : channel.book ≡ book
   pub count : length bytes ≡ book.kept
-  pub ring_is : channel.ring.bytes ≡ unread_of book bytes
+  pub ring_is : channel.path.ring.bytes ≡ unread_of book bytes
   pub captured : length frames ≡ book.captured
   pub bits : HaveBits 32 frames
-  pub records : HasRecorded kept filters channel.chain frames
+  pub records : HasRecorded kept filters channel.path.chain frames
 
 -- a channel stands for its book, some bytes and some frames
 pub record RecordStandsForSome {B : Type 0} (kept : B → Kept) (filters : Filters) (channel : RecordChannelOf B) : Type 0 where
@@ -44,27 +43,27 @@ pub record RecordStandsForSome {B : Type 0} (kept : B → Kept) (filters : Filte
 
 -- each box of a channel is of its place's kind, its chain goes by its plan, and the channel stands for some bytes and frames
 pub record IsRecordReady {B : Type 0} (kind : B → Kind) (kept : B → Kept) (filters : Filters) (channel : RecordChannelOf B) : Type 0 where
-  pub kinds : HaveKinds kind (boxes_in channel.chain)
+  pub kinds : HaveKinds kind (boxes_in channel.path.chain)
   pub planned : IsRecordPlanned filters channel
   pub stands : RecordStandsForSome kept filters channel
 
 -- nobody has opened the channel yet: it stands for no bytes and no frames, its boxes are of the right kinds, and its chain goes
 -- by its plan
 pub record IsRecordUnopened {B : Type 0} (kind : B → Kind) (kept : B → Kept) (filters : Filters) (device : Device) (channel : RecordChannelOf B) : Type 0 where
-  pub device_is : channel.device ≡ device
+  pub device_is : channel.path.device ≡ device
   pub book : channel.book ≡ record_unopened (seen filters device)
-  pub kinds : HaveKinds kind (boxes_in channel.chain)
+  pub kinds : HaveKinds kind (boxes_in channel.path.chain)
   pub planned : IsRecordPlanned filters channel
   pub stands : RecordStands kept filters channel channel.book [] []
 
 -- What an event leaves of a channel that may capture `input`, of which so many frames of the client are kept: whatever bytes and
 -- frames it stood for, it stands for these with what was kept and captured, or for none where its recording is over.
 pub record RecordMoves {B : Type 0} (kind : B → Kind) (keeps : B → Kept) (filters : Filters) (input : List Frame) (count : ℕ) (old new : RecordChannelOf B) : Type 0 where
-  pub kinds : HaveKinds kind (boxes_in old.chain) → HaveKinds kind (boxes_in new.chain)
+  pub kinds : HaveKinds kind (boxes_in old.path.chain) → HaveKinds kind (boxes_in new.path.chain)
   pub planned : IsRecordPlanned filters old → IsRecordPlanned filters new
   pub stands : (bytes : List ℕ) (frames : List Frame) → RecordStands keeps filters old old.book bytes frames
       → RecordStands keeps filters new new.book
-      (take new.book.kept (bytes ++ recorded_bytes (seen filters old.device) old.book.opening.settings (frames ++ input) old.book.given count))
+      (take new.book.kept (bytes ++ recorded_bytes (seen filters old.path.device) old.book.opening.settings (frames ++ input) old.book.given count))
       (take new.book.captured (frames ++ input))
   pub captured : new.book.captured ≤ old.book.captured + length input
   pub kept : new.book.kept ≤ old.book.kept + RING_BYTES

@@ -1,11 +1,10 @@
-//! A channel that records: its book, the chain that captured frames go through, and the ring with the bytes that wait.
+//! A channel that records: its book, and the path with the chain that captured frames go through and the bytes that wait.
 
 ghost use Rattle.std.specs.Prelude.{◌≡◌, ◌+◌, ◌*◌, ◌^◌, ◌<◌, ◌≤◌, [], ℕ, List, length, take, drop, IfOk, OnErr};
 ghost use Rattle.pcm_format.specs.Frames.{Frame};
 ghost use Rattle.pcm_format.specs.Layouts.{channels_of};
 ghost use Rattle.pcm_oss.specs.declared.fragments.TheConstants.{RING_BYTES};
 ghost use Rattle.pcm_oss.specs.Replies.{bytes_due};
-ghost use Rattle.pcm_rate.specs.Rates.{IsRatio};
 ghost use Rattle.pcm_feeder.specs.Limits.{IsRate};
 ghost use Rattle.pcm_feeder.specs.Racks.{HaveKinds, IsRack};
 ghost use Rattle.pcm_feeder.specs.Streams.{frames_of};
@@ -13,37 +12,31 @@ ghost use Rattle.pcm_plan.specs.Plans.{rate_in_plan};
 ghost use Rattle.pcm_chain.specs.Chains.{boxes_in, plan_in};
 ghost use Rattle.pcm_desk.specs.declared.limits.TheConstants.{RING_FRAMES};
 ghost use Rattle.pcm_desk.specs.Device.{seen};
-ghost use Rattle.pcm_desk.specs.Openings.{ring_bytes};
 ghost use Rattle.pcm_desk.specs.RecordBooks.{closed, is_record_free, keeping, read_turn, record_begun, record_fill_of};
 ghost use Rattle.pcm_desk.specs.RecordRequests.{record_ask};
 ghost use Rattle.pcm_desk.specs.RecordSafe.{RecordIsSafe};
 ghost use Rattle.pcm_desk.proofs.Props.{record_props};
+ghost use Rattle.pcm_path.specs.Paths.{Serves};
+ghost use Rattle.std.proofs.Props.{props};
 ghost use Rattle.pcm_desk.specs.Desk.{capturing, record_rate_at, record_unopened};
 
 use crate::anew::begin_anew;
-use pcm_chain::ChainOf;
 use pcm_desk::{Device, RecordBook, RecordState};
 use pcm_feeder::{Feeder, RackOf, Tables};
 use pcm_format::Settings;
-use pcm_oss::{Answer, Errno, RING_BYTES, Request};
-use pcm_ring::ByteRing;
+use pcm_oss::{Answer, Errno, Request};
+use pcm_path::PathOf;
 use std::alloc::{AllocError, Global};
 
 /// A channel that records from the device.
 #[derive(Drop)]
 pub struct RecordChannelOf<B> {
-    pub device: Device,
     pub book: RecordBook,
-    pub ring: ByteRing,
-    pub chain: ChainOf<B>,
-    ghost device_rate: { IsRate device.settings.rate },
-    ghost rate: { IsRate book.opening.settings.rate },
-    ghost ratio: { IsRatio (rate_in_plan (plan_in chain)) },
-    ghost room: { ring.max ≡ RING_BYTES },
-    ghost size: { ring.size ≡ ring_bytes book.opening },
-    ghost fill: { length ring.bytes ≡ record_fill_of book },
+    pub path: PathOf<B>,
+    ghost serves: { Serves book.opening path } by { Prim.hlevel props },
+    ghost fill: { length path.ring.bytes ≡ record_fill_of book },
     ghost within: { book.read ≤ book.kept },
-    ghost safe: { RecordIsSafe (rate_in_plan (plan_in chain)) book } by { Prim.hlevel record_props },
+    ghost safe: { RecordIsSafe (rate_in_plan (plan_in path.chain)) book } by { Prim.hlevel record_props },
 }
 
 impl<B: Feeder> RecordChannelOf<B> {
@@ -60,24 +53,18 @@ impl<B: Feeder> RecordChannelOf<B> {
         requires device { IsRate device.settings.rate }
         requires kinds { IsRack B.kind rack }
         ensures book { IfOk result (λ made. made.book ≡ record_unopened (seen tables.now device)) }
-        ensures device { IfOk result (λ made. made.device ≡ device) }
-        ensures kinds { IfOk result (λ made. HaveKinds B.kind (boxes_in made.chain)) }
+        ensures device { IfOk result (λ made. made.path.device ≡ device) }
+        ensures kinds { IfOk result (λ made. HaveKinds B.kind (boxes_in made.path.chain)) }
         ensures planned { IfOk result (λ made. IsRecordPlanned tables.now made) }
         ensures stands { IfOk result (λ made. RecordStands B.kept tables.now made made.book [] []) }
     {
-        let mut ring = ByteRing::new(alloc, RING_BYTES as usize)?;
-        let mut chain = ChainOf::new(alloc, rack)?;
+        let mut path = PathOf::new(alloc, device, rack)?;
         let book = RecordBook {
             state: RecordState::Free,
             ..RecordBook::begun(device.settings)
         };
-        begin_anew(&device, tables, &book, &mut ring, &mut chain);
-        Ok(RecordChannelOf {
-            device,
-            book,
-            ring,
-            chain,
-        })
+        begin_anew(tables, &book.opening, &mut path);
+        Ok(RecordChannelOf { book, path })
     }
 
     /// Whether nobody has the channel.
@@ -90,19 +77,13 @@ impl<B: Feeder> RecordChannelOf<B> {
     /// A new opening begins, whose sound comes through the plan of its settings.
     pub fn begin(&mut self, tables: &Tables, settings: Settings)
         requires rate { IsRate settings.rate }
-        requires kinds { HaveKinds B.kind (boxes_in self.old.chain) }
+        requires kinds { HaveKinds B.kind (boxes_in self.old.path.chain) }
         ensures book { self.new.book ≡ record_begun settings }
-        ensures device { self.new.device ≡ self.old.device }
+        ensures device { self.new.path.device ≡ self.old.path.device }
         ensures moves { RecordMoves B.kind B.kept tables.now [] 0 self.old self.new }
     {
         self.book = RecordBook::begun(settings);
-        begin_anew(
-            &self.device,
-            tables,
-            &self.book,
-            &mut self.ring,
-            &mut self.chain,
-        );
+        begin_anew(tables, &self.book.opening, &mut self.path);
     }
 
     /// Moves the bytes that have waited longest to the front of `out`, as many as there are, and answers how many.
@@ -116,24 +97,24 @@ impl<B: Feeder> RecordChannelOf<B> {
         ensures rest { drop (bytes_due result) out.new ≡ drop (bytes_due result) out.old }
         ensures refused { OnErr result (self.new ≡ self.old) }
         ensures kept { OnErr result (out.new ≡ out.old) }
-        ensures device { self.new.device ≡ self.old.device }
+        ensures device { self.new.path.device ≡ self.old.path.device }
         ensures moves { (filters : Filters) → RecordMoves B.kind B.kept filters [] 0 self.old self.new }
     {
         let turn = self.book.read(out.len() as u64);
         let answer = turn.reply?;
         // As many bytes wait in the ring as the book tells.
-        self.ring.take(out);
+        self.path.ring.take(out);
         self.book = turn.book;
         Ok(answer)
     }
 
     /// Does what a request asks. Where the channel isn't running then, the ring and the chain begin anew, as the book says.
     pub fn ioctl(&mut self, tables: &Tables, request: Request) -> Result<Answer, Errno>
-        requires kinds { HaveKinds B.kind (boxes_in self.old.chain) }
+        requires kinds { HaveKinds B.kind (boxes_in self.old.path.chain) }
         requires planned { IsRecordPlanned tables.now self.old }
         ensures book { self.new.book ≡ (record_ask request self.old.book).book }
         ensures reply { result ≡ (record_ask request self.old.book).reply }
-        ensures device { self.new.device ≡ self.old.device }
+        ensures device { self.new.path.device ≡ self.old.path.device }
         ensures refused { OnErr result (self.new ≡ self.old) }
         ensures moves { RecordMoves B.kind B.kept tables.now [] 0 self.old self.new }
     {
@@ -141,51 +122,45 @@ impl<B: Feeder> RecordChannelOf<B> {
         let answer = turn.reply?;
         self.book = turn.book;
         if !turn.book.is_running() {
-            begin_anew(
-                &self.device,
-                tables,
-                &self.book,
-                &mut self.ring,
-                &mut self.chain,
-            );
+            begin_anew(tables, &self.book.opening, &mut self.path);
         }
         Ok(answer)
     }
 
     /// No descriptor has the channel any more: what wasn't read is dropped.
     pub fn close(&mut self)
-        requires kinds { HaveKinds B.kind (boxes_in self.old.chain) }
+        requires kinds { HaveKinds B.kind (boxes_in self.old.path.chain) }
         ensures book { self.new.book ≡ closed self.old.book }
-        ensures device { self.new.device ≡ self.old.device }
+        ensures device { self.new.path.device ≡ self.old.path.device }
         ensures moves { (filters : Filters) → RecordMoves B.kind B.kept filters [] 0 self.old self.new }
     {
         self.book = self.book.closed();
-        self.ring.clear();
-        self.chain.restart();
+        self.path.restart();
     }
 
     /// Captures so many frames of the device, which are `input`, where the channel is running: all go through the chain, and of the
     /// frames that come of them the first ones are kept, as many as have room.
     pub fn capture(&mut self, tables: &Tables, frames: usize, input: &[i32])
         requires few { frames ≤ RING_FRAMES }
-        requires whole { length input.now ≡ frames * channels_of self.old.device.settings.layout }
+        requires whole { length input.now ≡ frames * channels_of self.old.path.device.settings.layout }
         requires planned { IsRecordPlanned tables.now self.old }
         requires stands { RecordStandsForSome B.kept tables.now self.old }
         requires count { self.old.book.captured + frames < 2 ^ 56 }
         requires kept { self.old.book.kept + RING_BYTES < 2 ^ 64 }
-        ensures book { self.new.book ≡ capturing (seen tables.now self.old.device) frames self.old.book }
-        ensures device { self.new.device ≡ self.old.device }
+        ensures book { self.new.book ≡ capturing (seen tables.now self.old.path.device) frames self.old.book }
+        ensures device { self.new.path.device ≡ self.old.path.device }
         ensures moves { RecordMoves B.kind B.kept tables.now
-            (frames_of (channels_of self.old.device.settings.layout) input.now)
-            (keeping (record_rate_at (seen tables.now self.old.device) self.old.book) frames self.old.book)
+            (frames_of (channels_of self.old.path.device.settings.layout) input.now)
+            (keeping (record_rate_at (seen tables.now self.old.path.device) self.old.book) frames self.old.book)
             self.old self.new }
     {
         if !self.book.is_running() {
             return;
         }
         let format = self.book.opening.settings.format;
-        self.chain.push(tables, input, &mut self.ring, format);
-        self.book = self.book.captured(self.chain.plan().rate(), frames as u64);
+        let PathOf { ring, chain, .. } = &mut self.path;
+        chain.push(tables, input, ring, format);
+        self.book = self.book.captured(self.path.chain.plan().rate(), frames as u64);
     }
 }
 

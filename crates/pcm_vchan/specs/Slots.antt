@@ -19,7 +19,7 @@ play_books_of channels = map (λ channel. channel.book) channels
 
 -- each channel is of one device
 abbrev pub PlayAreOf : {B : Type 0} → Device → List (PlayChannelOf B) → Type 0
-PlayAreOf device channels = All (λ channel. channel.device ≡ device) channels
+PlayAreOf device channels = All (λ channel. channel.path.device ≡ device) channels
 
 -- what holds of each channel, before and after
 abbrev pub Each : {X : Type 0} → (X → X → Type 0) → List X → List X → Type 0
@@ -32,7 +32,7 @@ AllPlayStand kept filters channels streams = (slot : ℕ) (other : PlayChannelOf
 
 -- a channel of this device is ready for an interrupt that mixes so many frames, and its counts have room for them
 pub record IsPlayDue {B : Type 0} (kind : B → Kind) (keeps : B → Kept) (filters : Filters) (device : Device) (frames : ℕ) (channel : PlayChannelOf B) : Type 0 where
-  pub own : channel.device ≡ device
+  pub own : channel.path.device ≡ device
   pub ready : IsPlayReady kind keeps filters channel
   pub given : channel.book.given + frames < 2 ^ 64
   pub counted : channel.book.done + channel.book.written < 2 ^ 64
@@ -45,7 +45,7 @@ record_books_of channels = map (λ channel. channel.book) channels
 
 -- each is of one device
 abbrev pub RecordAreOf : {B : Type 0} → Device → List (RecordChannelOf B) → Type 0
-RecordAreOf device channels = All (λ channel. channel.device ≡ device) channels
+RecordAreOf device channels = All (λ channel. channel.path.device ≡ device) channels
 
 -- each stands for its book, the bytes that were kept in its slot and the frames that were captured there
 abbrev pub AllRecordStand : {B : Type 0} → (B → Kept) → Filters → List (RecordChannelOf B) → (ℕ → List ℕ) → (ℕ → List Frame) → Type 0
@@ -54,7 +54,7 @@ AllRecordStand kept filters channels bytes frames = (slot : ℕ) (other : Record
 
 -- a channel of this device is ready for an interrupt that captures so many frames, and its counts have room for them
 pub record IsRecordDue {B : Type 0} (kind : B → Kind) (keeps : B → Kept) (filters : Filters) (device : Device) (frames : ℕ) (channel : RecordChannelOf B) : Type 0 where
-  pub own : channel.device ≡ device
+  pub own : channel.path.device ≡ device
   pub ready : IsRecordReady kind keeps filters channel
   pub captured : channel.book.captured + frames < 2 ^ 56
   pub kept : channel.book.kept + RING_BYTES < 2 ^ 64

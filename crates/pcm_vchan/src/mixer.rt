@@ -66,7 +66,7 @@ fn mix_slot<B: Feeder>(
     requires fits { All (FitsBits (bits_of device.settings.format)) sum.old }
     ensures others { (at : ℕ) (other : PlayChannelOf B) → at ≢ slot
         → slice_index_or channels.new at other ≡ slice_index_or channels.old at other }
-    ensures own { (other : PlayChannelOf B) → (slice_index_or channels.new slot other).device ≡ device }
+    ensures own { (other : PlayChannelOf B) → (slice_index_or channels.new slot other).path.device ≡ device }
     ensures moves { (other : PlayChannelOf B) → PlayMoves B.kind B.kept tables.now [] n
         (slice_index_or channels.old slot other) (slice_index_or channels.new slot other) }
     ensures book { (other : PlayChannelOf B) → (slice_index_or channels.new slot other).book

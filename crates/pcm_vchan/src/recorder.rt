@@ -47,7 +47,7 @@ fn capture_slot<B: Feeder>(
     requires captured { length captured.now ≡ n * channels_of device.settings.layout }
     ensures others { (at : ℕ) (other : RecordChannelOf B) → at ≢ slot
         → slice_index_or channels.new at other ≡ slice_index_or channels.old at other }
-    ensures own { (other : RecordChannelOf B) → (slice_index_or channels.new slot other).device ≡ device }
+    ensures own { (other : RecordChannelOf B) → (slice_index_or channels.new slot other).path.device ≡ device }
     ensures moves { (other : RecordChannelOf B) → Captures B.kind B.kept (seen tables.now device) n captured.now
         (slice_index_or channels.old slot other) (slice_index_or channels.new slot other) }
 {

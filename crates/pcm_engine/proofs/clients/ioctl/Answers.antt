@@ -42,7 +42,7 @@ ioctl-requires-clause-kinds g c =
     let held = c.in_ok-held.held in
     let e = holding-is (held_by (desk_with parent c.args.descriptors.now.held) c.args.fd) c.in_ok-held.held (sym c.holding.ensures ∙ c.in_ok-held.was) in
     let there = play-there parent c.args.descriptors.now.held c.args.fd held c.requires.apart e c.in-Play.is in
-    subst (λ (channel : PlayChannelOf _). HaveKinds g.B.Feeder.kind (boxes_in channel.chain)) (sym c.play.ensures.value) (c.requires.ready held.slot c.play.result.now there).kinds
+    subst (λ (channel : PlayChannelOf _). HaveKinds g.B.Feeder.kind (boxes_in channel.path.chain)) (sym c.play.ensures.value) (c.requires.ready held.slot c.play.result.now there).kinds
 
 pub ioctl-requires-clause-planned : goal.ioctl-requires-clause-planned
 ioctl-requires-clause-planned g c =
@@ -74,7 +74,7 @@ ioctl-requires-in-Record-clause-kinds g c =
     let held = c.in_ok-held.held in
     let e = holding-is (held_by (desk_with parent c.args.descriptors.now.held) c.args.fd) c.in_ok-held.held (sym c.holding.ensures ∙ c.in_ok-held.was) in
     let there = record-there parent c.args.descriptors.now.held c.args.fd held c.requires.apart e c.in-Record.is in
-    subst (λ (channel : RecordChannelOf _). HaveKinds g.B.Feeder.kind (boxes_in channel.chain)) (sym c.recorder.ensures.value) (c.requires.recorders_ready held.slot c.recorder.result.now there).kinds
+    subst (λ (channel : RecordChannelOf _). HaveKinds g.B.Feeder.kind (boxes_in channel.path.chain)) (sym c.recorder.ensures.value) (c.requires.recorders_ready held.slot c.recorder.result.now there).kinds
 
 pub ioctl-requires-in-Record-clause-planned : goal.ioctl-requires-in-Record-clause-planned
 ioctl-requires-in-Record-clause-planned g c =
@@ -86,7 +86,7 @@ ioctl-requires-in-Record-clause-planned g c =
 
 pub returns-in-Play-clause-silent : goal.returns-in-Play-clause-silent
 returns-in-Play-clause-silent g c =
-    ap bytes_due c.ioctl.ensures.reply ∙ ask-silent (play_rate_at (seen c.args.tables.now c.play.result.now.device) c.play.result.now.book) c.args.request c.play.result.now.book
+    ap bytes_due c.ioctl.ensures.reply ∙ ask-silent (play_rate_at (seen c.args.tables.now c.play.result.now.path.device) c.play.result.now.book) c.args.request c.play.result.now.book
 
 pub returns-in-Play-clause-own : goal.returns-in-Play-clause-own
 returns-in-Play-clause-own g c =
@@ -94,7 +94,7 @@ returns-in-Play-clause-own g c =
     let held = c.in_ok-held.held in
     let e = holding-is (held_by (desk_with parent c.args.descriptors.now.held) c.args.fd) c.in_ok-held.held (sym c.holding.ensures ∙ c.in_ok-held.was) in
     let there = play-there parent c.args.descriptors.now.held c.args.fd held c.requires.apart e c.in-Play.is in
-    own_set (λ (channel : PlayChannelOf _). channel.device) parent.device (play_channels parent) held.slot c.play.result.now c.ioctl.new.self there c.play.ensures.value c.ioctl.ensures.device c.requires.own
+    own_set (λ (channel : PlayChannelOf _). channel.path.device) parent.device (play_channels parent) held.slot c.play.result.now c.ioctl.new.self there c.play.ensures.value c.ioctl.ensures.device c.requires.own
 
 pub returns-in-Play-clause-refused : goal.returns-in-Play-clause-refused
 returns-in-Play-clause-refused g c =
@@ -151,7 +151,7 @@ returns-in-Record-clause-recorders_own g c =
     let held = c.in_ok-held.held in
     let e = holding-is (held_by (desk_with parent c.args.descriptors.now.held) c.args.fd) c.in_ok-held.held (sym c.holding.ensures ∙ c.in_ok-held.was) in
     let there = record-there parent c.args.descriptors.now.held c.args.fd held c.requires.apart e c.in-Record.is in
-    own_set (λ (channel : RecordChannelOf _). channel.device) parent.device (record_channels parent) held.slot c.recorder.result.now c.ioctl-in-Record.new.self there c.recorder.ensures.value c.ioctl-in-Record.ensures.device c.requires.recorders_own
+    own_set (λ (channel : RecordChannelOf _). channel.path.device) parent.device (record_channels parent) held.slot c.recorder.result.now c.ioctl-in-Record.new.self there c.recorder.ensures.value c.ioctl-in-Record.ensures.device c.requires.recorders_own
 
 pub returns-in-Record-clause-refused : goal.returns-in-Record-clause-refused
 returns-in-Record-clause-refused g c =

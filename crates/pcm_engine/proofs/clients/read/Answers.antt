@@ -33,7 +33,7 @@ returns-clause-recorders_own g c =
     let held = channel_of Record c.in_ok-slot.slot in
     let e = recording-is (held_by (desk_with parent c.args.descriptors.now.held) c.args.fd) c.in_ok-slot.slot (sym c.recording.ensures ∙ c.in_ok-slot.was) in
     let there = record-there parent c.args.descriptors.now.held c.args.fd held c.requires.apart e refl in
-    own_set (λ (channel : RecordChannelOf _). channel.device) parent.device (record_channels parent) held.slot c.recorder.result.now c.read.new.self there c.recorder.ensures.value c.read.ensures.device c.requires.recorders_own
+    own_set (λ (channel : RecordChannelOf _). channel.path.device) parent.device (record_channels parent) held.slot c.recorder.result.now c.read.new.self there c.recorder.ensures.value c.read.ensures.device c.requires.recorders_own
 
 pub returns-clause-refused : goal.returns-clause-refused
 returns-clause-refused g c =

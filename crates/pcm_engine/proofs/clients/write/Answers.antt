@@ -46,7 +46,7 @@ returns-clause-own g c =
     let held = channel_of Play c.in_ok-slot.slot in
     let e = playing-is (held_by (desk_with parent c.args.descriptors.now.held) c.args.fd) c.in_ok-slot.slot (sym c.playing.ensures ∙ c.in_ok-slot.was) in
     let there = play-there parent c.args.descriptors.now.held c.args.fd held c.requires.apart e refl in
-    own_set (λ (channel : PlayChannelOf _). channel.device) parent.device (play_channels parent) held.slot c.play.result.now c.write.new.self there c.play.ensures.value c.write.ensures.device c.requires.own
+    own_set (λ (channel : PlayChannelOf _). channel.path.device) parent.device (play_channels parent) held.slot c.play.result.now c.write.new.self there c.play.ensures.value c.write.ensures.device c.requires.own
 
 pub returns-clause-refused : goal.returns-clause-refused
 returns-clause-refused g c =

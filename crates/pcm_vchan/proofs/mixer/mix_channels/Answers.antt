@@ -36,8 +36,8 @@ loop-slot-preserved g c =
     let was = c.loop-slot.invariant.rest i first (omega arith) in
     record {
       own = λ at other h. elim (cases_eq at i) [
-        | inl here ↦ subst (λ (k : ℕ). (get_or c.mix_slot.new.channels k other).device ≡ c.args.device) (sym here) (c.mix_slot.ensures.own other)
-        | inr differ ↦ ap (λ (channel : PlayChannelOf _). channel.device) (c.mix_slot.ensures.others at other differ) ∙ c.loop-slot.invariant.own at other h
+        | inl here ↦ subst (λ (k : ℕ). (get_or c.mix_slot.new.channels k other).path.device ≡ c.args.device) (sym here) (c.mix_slot.ensures.own other)
+        | inr differ ↦ ap (λ (channel : PlayChannelOf _). channel.path.device) (c.mix_slot.ensures.others at other differ) ∙ c.loop-slot.invariant.own at other h
       ];
       moved = λ at other h. elim (cases_lt at i) [
         | inl below ↦ subst (PlayMoves g.B.Feeder.kind g.B.Feeder.kept c.args.tables.now [] n (get_or before at other)) (sym (c.mix_slot.ensures.others at other (omega arith))) (c.loop-slot.invariant.moved at other below)

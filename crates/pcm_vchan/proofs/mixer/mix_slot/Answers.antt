@@ -11,14 +11,8 @@ use Rattle.pcm_play.specs.declared.channel.PlayChannelOf.{PlayChannelOf}
 use Rattle.pcm_play.specs.Channels.{PlayStands, PlayMoves}
 use Rattle.pcm_vchan.proofs.mixer.mix_slot.Goals as goal
 
-pub refill-requires-clause-kinds : goal.refill-requires-clause-kinds
-refill-requires-clause-kinds g c = (c.requires.due c.index-channels-slot.result).ready.kinds
-
-pub refill-requires-clause-planned : goal.refill-requires-clause-planned
-refill-requires-clause-planned g c = (c.requires.due c.index-channels-slot.result).ready.planned
-
-pub refill-requires-clause-stands : goal.refill-requires-clause-stands
-refill-requires-clause-stands g c = (c.requires.due c.index-channels-slot.result).ready.stands
+pub refill-requires-clause-ready : goal.refill-requires-clause-ready
+refill-requires-clause-ready g c = (c.requires.due c.index-channels-slot.result).ready
 
 pub refill-requires-clause-frames : goal.refill-requires-clause-frames
 refill-requires-clause-frames g c = c.requires.frames ∙ ap (λ (d : Device). c.args.n * channels_of d.settings.layout) (sym ((c.requires.due c.index-channels-slot.result).own))
@@ -31,7 +25,7 @@ refill-requires-clause-fits g c = subst (λ (d : Device). All (FitsBits (bits_of
 
 pub returns-clause-own : goal.returns-clause-own
 returns-clause-own g c = λ other.
-    ap (λ (n : PlayChannelOf _). n.device) (get_or-set_same c.args.channels.now c.args.slot c.refill.new.self other c.requires.there)
+    ap (λ (n : PlayChannelOf _). n.path.device) (get_or-set_same c.args.channels.now c.args.slot c.refill.new.self other c.requires.there)
     ∙ c.refill.ensures.device
     ∙ (c.requires.due c.index-channels-slot.result).own
 
@@ -66,7 +60,7 @@ returns-clause-sum g c = λ other bytes stands.
     let before : PlayChannelOf _ = get_or old c.args.slot held in
     let same : before ≡ get_or old c.args.slot other = get_or_default old c.args.slot held other c.requires.there in
     let stood : PlayStands g.B.Feeder.kept c.args.tables.now before before.book bytes = subst (λ (n : PlayChannelOf _). PlayStands g.B.Feeder.kept c.args.tables.now n n.book bytes) (sym same) stands in
-    let by_channel : c.refill.new.sum ≡ turned (seen c.args.tables.now before.device) c.args.n before.book bytes sum = c.refill.ensures.sum bytes stood in
+    let by_channel : c.refill.new.sum ≡ turned (seen c.args.tables.now before.path.device) c.args.n before.book bytes sum = c.refill.ensures.sum bytes stood in
     let of_device : c.refill.new.sum ≡ turned (seen c.args.tables.now c.args.device) c.args.n before.book bytes sum =
     by_channel ∙ ap (λ (d : Device). turned (seen c.args.tables.now d) c.args.n before.book bytes sum) ((c.requires.due held).own) in
     of_device ∙ ap (λ (n : PlayChannelOf _). turned (seen c.args.tables.now c.args.device) c.args.n n.book bytes sum) same

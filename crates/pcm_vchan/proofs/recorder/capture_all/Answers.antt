@@ -26,8 +26,8 @@ loop-slot-preserved g c =
     let Moved : RecordChannelOf _ → RecordChannelOf _ → Type 0 = Captures g.B.Feeder.kind g.B.Feeder.kept device n c.args.captured.now in
     record {
       own = λ at other h. elim (cases_eq at i) [
-        | inl here ↦ subst (λ (k : ℕ). (get_or c.capture_slot.new.channels k other).device ≡ c.args.device) (sym here) (c.capture_slot.ensures.own other)
-        | inr differ ↦ ap (λ (channel : RecordChannelOf _). channel.device) (c.capture_slot.ensures.others at other differ) ∙ c.loop-slot.invariant.own at other h
+        | inl here ↦ subst (λ (k : ℕ). (get_or c.capture_slot.new.channels k other).path.device ≡ c.args.device) (sym here) (c.capture_slot.ensures.own other)
+        | inr differ ↦ ap (λ (channel : RecordChannelOf _). channel.path.device) (c.capture_slot.ensures.others at other differ) ∙ c.loop-slot.invariant.own at other h
       ];
       moved = λ at other h. elim (cases_lt at i) [
         | inl below ↦ subst (Moved (get_or before at other)) (sym (c.capture_slot.ensures.others at other (omega arith))) (c.loop-slot.invariant.moved at other below)

@@ -24,7 +24,7 @@ capture-requires-clause-kept g c = (c.requires.due c.index-channels-slot.result)
 
 pub returns-clause-own : goal.returns-clause-own
 returns-clause-own g c = λ other.
-    ap (λ (n : RecordChannelOf _). n.device) (get_or-set_same c.args.channels.now c.args.slot c.capture.new.self other c.requires.there)
+    ap (λ (n : RecordChannelOf _). n.path.device) (get_or-set_same c.args.channels.now c.args.slot c.capture.new.self other c.requires.there)
     ∙ c.capture.ensures.device
     ∙ (c.requires.due c.index-channels-slot.result).own
 
@@ -33,7 +33,7 @@ returns-clause-moves g c = λ other.
     let held = c.index-channels-slot.result in
     let old = c.args.channels.now in
     let own = (c.requires.due held).own in
-    let moved : Captures g.B.Feeder.kind g.B.Feeder.kept (seen c.args.tables.now (get_or old c.args.slot held).device) c.args.n c.args.captured.now (get_or old c.args.slot held) c.capture.new.self =
+    let moved : Captures g.B.Feeder.kind g.B.Feeder.kept (seen c.args.tables.now (get_or old c.args.slot held).path.device) c.args.n c.args.captured.now (get_or old c.args.slot held) c.capture.new.self =
     record { book = c.capture.ensures.book; moves = c.capture.ensures.moves } in
     let on_device = subst (λ (d : Device). Captures g.B.Feeder.kind g.B.Feeder.kept (seen c.args.tables.now d) c.args.n c.args.captured.now (get_or old c.args.slot held) c.capture.new.self) own moved in
     subst (λ (n : RecordChannelOf _). Captures g.B.Feeder.kind g.B.Feeder.kept (seen c.args.tables.now c.args.device) c.args.n c.args.captured.now (get_or old c.args.slot other) n)

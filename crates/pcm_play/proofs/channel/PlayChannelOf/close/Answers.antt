@@ -1,13 +1,12 @@
-use Rattle.std.proofs.Common.{◌≡◌, ap, sym, subst, ◌∙◌, length, refl}
+use Rattle.std.proofs.Common.{◌≡◌, ap, sym, subst, ◌∙◌, [], length, refl}
 use Rattle.pcm_format.specs.Frames.{frame_bytes}
-use Rattle.pcm_ring.specs.Ring.{Ring}
-use Rattle.pcm_oss.specs.Fragments.{ring_size}
+use Rattle.pcm_desk.specs.Device.{play_plan_between}
+use Rattle.pcm_path.proofs.Paths.{planned-as, serves-as}
 use Rattle.pcm_rate.specs.declared.rate.Rate.{Rate}
-use Rattle.pcm_rate.specs.Rates.{IsRatio}
 use Rattle.pcm_plan.specs.Plans.{PlanSeen, rate_in_plan}
 use Rattle.pcm_desk.specs.PlayBooks.{close_turn}
 use Rattle.pcm_desk.specs.PlaySafe.{PlayIsSafe}
-use Rattle.pcm_play.proofs.Moving.{moves-ended, moves-state, planned-as, book-closed}
+use Rattle.pcm_play.proofs.Moving.{moves-ended, moves-state, book-closed}
 use Rattle.pcm_play.proofs.channel.PlayChannelOf.close.Goals as goal
 
 pub invariant_of-self : goal.invariant_of-self
@@ -16,12 +15,8 @@ invariant_of-self g c =
     let k = book-closed old c.closed-self.result c.rate-rate.result c.plan.result.now c.closed-self.ensures c.rate-rate.ensures.value c.plan.ensures in
     let none = k.left.ended c.if-self-eq0.true in
     record {
-      device_rate = old.device_rate;
-      rate = k.left.rate;
-      ratio = subst (λ (p : PlanSeen). IsRatio (rate_in_plan p)) (sym c.restart.ensures.plan) old.ratio;
-      room = ap (λ (ring : Ring). ring.max) c.clear.ensures ∙ old.room;
-      size = ap (λ (ring : Ring). ring.size) c.clear.ensures ∙ old.size ∙ ap ring_size (sym k.keeps.fragments);
-      fill = ap (λ (ring : Ring). length ring.bytes) c.clear.ensures ∙ none.3;
+      serves = serves-as old.book.opening c.closed-self.result.opening old.path c.restart.new.self [] c.restart.ensures.device c.restart.ensures.plan c.restart.ensures.ring k.keeps.settings k.keeps.fragments old.serves;
+      fill = ap length c.restart.ensures.empty.ring ∙ none.3;
       within = none.2;
       safe = subst (λ (p : PlanSeen). PlayIsSafe (rate_in_plan p) c.closed-self.result) (sym c.restart.ensures.plan) k.left.safe;
     }
@@ -33,11 +28,7 @@ invariant_of-self-else-self-eq0 g c =
     let go = k.left.goes c.if-self-eq0.false in
     let size : frame_bytes c.closed-self.result.opening.settings ≡ frame_bytes old.book.opening.settings = ap frame_bytes go.settings in
     record {
-      device_rate = old.device_rate;
-      rate = k.left.rate;
-      ratio = old.ratio;
-      room = old.room;
-      size = old.size ∙ ap ring_size (sym go.fragments);
+      serves = serves-as old.book.opening c.closed-self.result.opening old.path old.path old.path.ring.bytes refl refl refl go.settings go.fragments old.serves;
       fill = old.fill ∙ sym (rw (go.written, go.eaten, size) refl);
       within = rw (go.eaten, size, go.written) old.within;
       safe = k.left.safe;
@@ -57,7 +48,7 @@ returns-then-self-eq0-clause-moves g c = λ filters.
     let k = book-closed old c.closed-self.result c.rate-rate.result c.plan.result.now c.closed-self.ensures c.rate-rate.ensures.value c.plan.ensures in
     let left = k.left in
     let none = left.ended c.if-self-eq0.true in
-    moves-ended g.B.Feeder.kind g.B.Feeder.kept filters _ 0 old _ c.restart.ensures.kinds (planned-as filters old _ refl c.restart.ensures.plan k.keeps.settings) c.if-self-eq0.true none.0 none.1 (ap (λ (ring : Ring). ring.bytes) c.clear.ensures) c.restart.ensures.begins
+    moves-ended g.B.Feeder.kind g.B.Feeder.kept filters _ 0 old _ c.restart.ensures.kinds (planned-as play_plan_between filters _ _ old.path c.restart.new.self c.restart.ensures.device c.restart.ensures.plan k.keeps.settings) c.if-self-eq0.true none.0 none.1 c.restart.ensures.empty
     (left.done c.if-self-eq0.true)
 
 pub returns-else-self-eq0-clause-moves : goal.returns-else-self-eq0-clause-moves

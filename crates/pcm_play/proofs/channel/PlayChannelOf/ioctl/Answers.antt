@@ -1,8 +1,8 @@
 use Rattle.std.proofs.Common.{◌≡◌, ap, sym, subst, ◌∙◌, length, refl}
 use Rattle.pcm_format.specs.Frames.{frame_bytes}
-use Rattle.pcm_ring.specs.Ring.{Ring}
-use Rattle.pcm_oss.specs.Fragments.{ring_size}
+use Rattle.pcm_path.proofs.Paths.{serves-as}
 use Rattle.pcm_plan.specs.Plans.{PlanSeen, rate_in_plan}
+use Rattle.pcm_desk.specs.declared.device.Device.{Device}
 use Rattle.pcm_desk.specs.Device.{play_plan_between, seen}
 use Rattle.pcm_desk.specs.declared.play_book.PlayBook.{PlayBook}
 use Rattle.pcm_desk.specs.declared.turn.Turn.{Turn}
@@ -31,14 +31,10 @@ invariant_of-self g c =
     (asked-is c.args.tables.now c.args.request old c.asked-turn.result c.rate.result c.plan.result.now c.requires.planned c.asked-turn.ensures c.rate.ensures.value c.plan.ensures) in
     let none = left.ended c.if-self-eq0.true in
     record {
-      device_rate = old.device_rate;
-      rate = left.rate;
-      ratio = c.begin_anew.ensures.ratio;
-      room = ap (λ (ring : Ring). ring.max) c.begin_anew.ensures.ring;
-      size = ap (λ (ring : Ring). ring.size) c.begin_anew.ensures.ring;
-      fill = ap (λ (ring : Ring). length ring.bytes) c.begin_anew.ensures.ring ∙ none.3;
+      serves = c.begin_anew.ensures.serves;
+      fill = ap length c.begin_anew.ensures.empty.ring ∙ none.3;
       within = none.2;
-      safe = subst (λ (p : PlanSeen). PlayIsSafe (rate_in_plan p) c.asked-turn.result.book) (sym c.begin_anew.ensures.plan) left.safe;
+      safe = subst (λ (p : PlanSeen). PlayIsSafe (rate_in_plan p) c.asked-turn.result.book) (sym (c.begin_anew.ensures.planned.plan_is ∙ ap (λ (d : Device). play_plan_between (seen c.args.tables.now d) c.asked-turn.result.book.opening.settings) c.begin_anew.ensures.device)) left.safe;
     }
 
 pub invariant_of-self-else-self-eq0 : goal.invariant_of-self-else-self-eq0
@@ -49,15 +45,11 @@ invariant_of-self-else-self-eq0 g c =
     let go = left.goes c.if-self-eq0.false in
     let size : frame_bytes c.asked-turn.result.book.opening.settings ≡ frame_bytes old.book.opening.settings = ap frame_bytes go.settings in
     record {
-      device_rate = old.device_rate;
-      rate = left.rate;
-      ratio = old.ratio;
-      room = old.room;
-      size = old.size ∙ ap ring_size (sym go.fragments);
+      serves = serves-as old.book.opening c.asked-turn.result.book.opening old.path old.path old.path.ring.bytes refl refl refl go.settings go.fragments old.serves;
       fill = old.fill ∙ sym (rw (go.written, go.eaten, size) refl);
       within = rw (go.eaten, size, go.written) old.within;
       safe = subst (λ (p : PlanSeen). PlayIsSafe (rate_in_plan p) c.asked-turn.result.book)
-          (sym (c.requires.planned.plan_is ∙ ap (play_plan_between (seen c.args.tables.now old.device)) (sym go.settings))) left.safe;
+          (sym (c.requires.planned.plan_is ∙ ap (play_plan_between (seen c.args.tables.now old.path.device)) (sym go.settings))) left.safe;
     }
 
 pub returns-then-self-eq0-clause-moves : goal.returns-then-self-eq0-clause-moves
@@ -67,8 +59,7 @@ returns-then-self-eq0-clause-moves g c =
     (asked-is c.args.tables.now c.args.request old c.asked-turn.result c.rate.result c.plan.result.now c.requires.planned c.asked-turn.ensures c.rate.ensures.value c.plan.ensures) in
     let none = left.ended c.if-self-eq0.true in
     moves-ended g.B.Feeder.kind g.B.Feeder.kept c.args.tables.now _ 0 old _ c.begin_anew.ensures.kinds
-    (λ p. record { limits = c.begin_anew.ensures.limits; plan_is = c.begin_anew.ensures.plan }) c.if-self-eq0.true none.0 none.1
-    (ap (λ (ring : Ring). ring.bytes) c.begin_anew.ensures.ring) c.begin_anew.ensures.begins (left.done c.if-self-eq0.true)
+    (λ p. c.begin_anew.ensures.planned) c.if-self-eq0.true none.0 none.1 c.begin_anew.ensures.empty (left.done c.if-self-eq0.true)
 
 pub returns-else-self-eq0-clause-moves : goal.returns-else-self-eq0-clause-moves
 returns-else-self-eq0-clause-moves g c =
@@ -82,7 +73,7 @@ pub returns-in_err-answer-clause-book : goal.returns-in_err-answer-clause-book
 returns-in_err-answer-clause-book g c =
     let old = c.args.self.now in
     let asked = asked-is c.args.tables.now c.args.request c.args.self.now c.asked-turn.result c.rate.result c.plan.result.now c.requires.planned c.asked-turn.ensures c.rate.ensures.value c.plan.ensures in
-    sym (ask-refused (play_rate_at (seen c.args.tables.now old.device) old.book) c.args.request old.book c.in_err-answer.field-0.0 (ap (λ (t : Turn PlayBook). t.reply) (sym asked) ∙ c.in_err-answer.was))
+    sym (ask-refused (play_rate_at (seen c.args.tables.now old.path.device) old.book) c.args.request old.book c.in_err-answer.field-0.0 (ap (λ (t : Turn PlayBook). t.reply) (sym asked) ∙ c.in_err-answer.was))
 
 pub returns-then-self-eq0-clause-book : goal.returns-then-self-eq0-clause-book
 returns-then-self-eq0-clause-book g c =

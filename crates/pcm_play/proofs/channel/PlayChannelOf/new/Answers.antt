@@ -1,5 +1,4 @@
 use Rattle.std.proofs.Common.{ap}
-use Rattle.pcm_ring.specs.Ring.{Ring}
 use Rattle.pcm_desk.specs.declared.play_book.PlayBook.{PlayBook}
 use Rattle.pcm_play.proofs.Stands.{stands-empty}
 use Rattle.pcm_play.proofs.channel.PlayChannelOf.new.Goals as goal
@@ -7,5 +6,4 @@ use Rattle.pcm_play.proofs.channel.PlayChannelOf.new.Goals as goal
 pub returns-clause-stands : goal.returns-clause-stands
 returns-clause-stands g c =
     let begun = c.begun.ensures in
-    stands-empty g.B.Feeder.kept c.args.tables.now _ (ap (λ (b : PlayBook). b.written) begun) (ap (λ (b : PlayBook). b.eaten) begun) (ap (λ (b : PlayBook). b.given) begun)
-    (ap (λ (ring : Ring). ring.bytes) c.begin_anew.ensures.ring) c.begin_anew.ensures.begins
+    stands-empty g.B.Feeder.kept c.args.tables.now _ (ap (λ (b : PlayBook). b.written) begun) (ap (λ (b : PlayBook). b.eaten) begun) (ap (λ (b : PlayBook). b.given) begun) c.begin_anew.ensures.empty

@@ -2,13 +2,10 @@ use Rattle.std.proofs.Common.{refl, ℕ, ◌*◌, ◌∙◌, All, [], drop, leng
 use Rattle.std.proofs.Math.Nat.{mul-le-mul_right}
 use Rattle.std.proofs.lemmas.List.Elements.{All-append, All-drop}
 use Rattle.pcm_num.specs.Limit.{FitsBits}
-use Rattle.pcm_format.specs.declared.settings.Settings.{Settings}
 use Rattle.pcm_format.specs.Formats.{bits_of, bytes_of}
 use Rattle.pcm_format.specs.Layouts.{channels_of}
 use Rattle.pcm_ring.specs.Ring.{Ring}
-use Rattle.pcm_oss.specs.Fragments.{ring_size}
-use Rattle.pcm_feeder.specs.Limits.{IsRate}
-use Rattle.pcm_rate.specs.Rates.{IsRatio}
+use Rattle.pcm_path.proofs.Paths.{planned-as, serves-as}
 use Rattle.pcm_plan.specs.Plans.{PlanSeen, rate_in_plan}
 use Rattle.pcm_plan.specs.Fits.{HaveTables}
 use Rattle.pcm_chain.specs.Chains.{plan_in}
@@ -16,7 +13,7 @@ use Rattle.pcm_chain.proofs.Standing.{stands-fitted}
 use Rattle.pcm_desk.specs.Device.{play_plan_between, seen}
 use Rattle.pcm_desk.specs.PlaySafe.{PlayIsSafe}
 use Rattle.pcm_desk.proofs.Ratios.{tables-between}
-use Rattle.pcm_play.proofs.Moving.{device-is, moves-ended, moves-nothing, planned-as, safe-at}
+use Rattle.pcm_play.proofs.Moving.{device-is, moves-ended, moves-nothing, safe-at}
 use Rattle.pcm_play.proofs.Refilling.{pulls-run, book-mixed, book-refilled, turned-none, ring-refilled, turned-pulled, moves-pulled}
 use Rattle.pcm_play.proofs.channel.PlayChannelOf.refill.Goals as goal
 
@@ -24,20 +21,20 @@ pub returns-then-not-is_started-clause-moves : goal.returns-then-not-is_started-
 returns-then-not-is_started-clause-moves g c = moves-nothing g.B.Feeder.kind g.B.Feeder.kept c.args.tables.now [] c.args.n c.args.self.now
 
 pub returns-then-not-is_started-clause-sum : goal.returns-then-not-is_started-clause-sum
-returns-then-not-is_started-clause-sum g c = λ bytes s. turned-none (seen c.args.tables.now c.args.self.now.device) c.args.n c.args.self.now.book bytes c.args.sum.now (sym c.if-not-is_started.ensures)
+returns-then-not-is_started-clause-sum g c = λ bytes s. turned-none (seen c.args.tables.now c.args.self.now.path.device) c.args.n c.args.self.now.book bytes c.args.sum.now (sym c.if-not-is_started.ensures)
 
 pub pull-pulled-requires-clause-fitted : goal.pull-pulled-requires-clause-fitted
 pull-pulled-requires-clause-fitted g c =
     let old = c.args.self.now in
-    let stands = c.requires.stands.stands in
-    stands-fitted g.B.Feeder.kept c.args.tables.now old.chain _ stands.zeros old.book.given stands.chain_is
+    let stands = c.requires.ready.stands.stands in
+    stands-fitted g.B.Feeder.kept c.args.tables.now old.path.chain _ stands.zeros old.book.given stands.chain_is
 
 pub pull-pulled-requires-clause-tables : goal.pull-pulled-requires-clause-tables
 pull-pulled-requires-clause-tables g c =
     let old = c.args.self.now in
-    let planned = c.requires.planned in
+    let planned = c.requires.ready.planned in
     subst (λ (p : PlanSeen). HaveTables p.stages c.args.tables.now) (sym planned.plan_is)
-    (tables-between (seen c.args.tables.now old.device) old.book.opening.settings (device-is c.args.tables.now old planned) old.rate)
+    (tables-between (seen c.args.tables.now old.path.device) old.book.opening.settings (device-is c.args.tables.now old planned) old.serves.rate)
 
 pub slice_bounds-mix_into-end-2 : goal.slice_bounds-mix_into-end-2
 slice_bounds-mix_into-end-2 g c =
@@ -54,18 +51,15 @@ slice_bounds-mix_into-end-4 g c =
 pub invariant_of-self : goal.invariant_of-self
 invariant_of-self g c =
     let old = c.args.self.now in
-    let planned = c.requires.planned in
-    let device = seen c.args.tables.now old.device in
-    let k = book-refilled device c.args.n old.book c.refilled-self.result c.rate.result c.plan.result.now c.requires.some (device-is c.args.tables.now old planned) old.rate (safe-at c.args.tables.now old planned) (sym c.if-not-is_started.ensures)
+    let planned = c.requires.ready.planned in
+    let device = seen c.args.tables.now old.path.device in
+    let k = book-refilled device c.args.n old.book c.refilled-self.result c.rate.result c.plan.result.now c.requires.some (device-is c.args.tables.now old planned) old.serves.rate (safe-at c.args.tables.now old planned) (sym c.if-not-is_started.ensures)
     c.refilled-self.ensures c.rate.ensures.value (c.plan.ensures ∙ c.pull-pulled.ensures.plan ∙ planned.plan_is) in
     let none = k.ended c.if-self-eq0.true in
     record {
-      device_rate = old.device_rate;
-      rate = subst (λ (s : Settings). IsRate s.rate) (sym k.settings) old.rate;
-      ratio = subst (λ (p : PlanSeen). IsRatio (rate_in_plan p)) (sym (c.restart.ensures.plan ∙ c.pull-pulled.ensures.plan)) old.ratio;
-      room = ap (λ (ring : Ring). ring.max) c.clear.ensures ∙ ap (λ (ring : Ring). ring.max) c.pull-pulled.ensures.ring ∙ old.room;
-      size = ap (λ (ring : Ring). ring.size) c.clear.ensures ∙ ap (λ (ring : Ring). ring.size) c.pull-pulled.ensures.ring ∙ old.size ∙ ap ring_size (sym k.fragments);
-      fill = ap (λ (ring : Ring). length ring.bytes) c.clear.ensures ∙ none.3;
+      serves = serves-as old.book.opening c.refilled-self.result.opening old.path c.restart.new.self [] c.restart.ensures.device (c.restart.ensures.plan ∙ c.pull-pulled.ensures.plan)
+          (c.restart.ensures.ring ∙ ap (λ (ring : Ring). record ring { bytes = [] }) c.pull-pulled.ensures.ring) k.settings k.fragments old.serves;
+      fill = ap length c.restart.ensures.empty.ring ∙ none.3;
       within = none.2;
       safe = subst (λ (p : PlanSeen). PlayIsSafe (rate_in_plan p) c.refilled-self.result)
           (sym (c.restart.ensures.plan ∙ c.pull-pulled.ensures.plan ∙ planned.plan_is ∙ ap (play_plan_between device) (sym k.settings))) k.safe;
@@ -74,22 +68,18 @@ invariant_of-self g c =
 pub invariant_of-self-else-self-eq0 : goal.invariant_of-self-else-self-eq0
 invariant_of-self-else-self-eq0 g c =
     let old = c.args.self.now in
-    let planned = c.requires.planned in
-    let device = seen c.args.tables.now old.device in
-    let k = book-refilled device c.args.n old.book c.refilled-self.result c.rate.result c.plan.result.now c.requires.some (device-is c.args.tables.now old planned) old.rate (safe-at c.args.tables.now old planned) (sym c.if-not-is_started.ensures)
+    let planned = c.requires.ready.planned in
+    let device = seen c.args.tables.now old.path.device in
+    let k = book-refilled device c.args.n old.book c.refilled-self.result c.rate.result c.plan.result.now c.requires.some (device-is c.args.tables.now old planned) old.serves.rate (safe-at c.args.tables.now old planned) (sym c.if-not-is_started.ensures)
     c.refilled-self.ensures c.rate.ensures.value (c.plan.ensures ∙ c.pull-pulled.ensures.plan ∙ planned.plan_is) in
     let go = k.goes c.if-self-eq0.false in
-    let p = pulls-run g.B.Feeder.kept c.args.tables.now old c.pull-pulled.new.self _ c.is_draining-ended.result c.args.n c.pull-pulled.result c.args.frames.now c.pull-pulled.new.out c.requires.stands.bytes
-    (sym c.if-not-is_started.ensures) c.requires.planned c.is_draining-ended.ensures c.pull-pulled.ensures.pulls c.requires.stands.stands in
+    let p = pulls-run g.B.Feeder.kept c.args.tables.now old c.pull-pulled.new.self _ c.is_draining-ended.result c.args.n c.pull-pulled.result c.args.frames.now c.pull-pulled.new.out c.requires.ready.stands.bytes
+    (sym c.if-not-is_started.ensures) c.requires.ready.planned c.is_draining-ended.ensures c.pull-pulled.ensures.pulls c.requires.ready.stands.stands in
     let r = ring-refilled device c.args.n old.book c.refilled-self.result c.pull-pulled.result k.safe go p.counted in
     let size = ap (λ (q : PlanSeen). c.pull-pulled.result.eaten * (channels_of q.source * bytes_of old.book.opening.settings.format)) planned.plan_is in
     record {
-      device_rate = old.device_rate;
-      rate = subst (λ (s : Settings). IsRate s.rate) (sym k.settings) old.rate;
-      ratio = subst (λ (p : PlanSeen). IsRatio (rate_in_plan p)) (sym c.pull-pulled.ensures.plan) old.ratio;
-      room = ap (λ (ring : Ring). ring.max) c.pull-pulled.ensures.ring ∙ old.room;
-      size = ap (λ (ring : Ring). ring.size) c.pull-pulled.ensures.ring ∙ old.size ∙ ap ring_size (sym k.fragments);
-      fill = ap (λ (ring : Ring). length ring.bytes) c.pull-pulled.ensures.ring ∙ (let long = length-drop (c.pull-pulled.result.eaten * (channels_of (plan_in old.chain).source * bytes_of old.book.opening.settings.format)) old.ring.bytes in
+      serves = serves-as old.book.opening c.refilled-self.result.opening old.path (record old.path { ring = c.pull-pulled.new.ring; chain = c.pull-pulled.new.self }) _ refl c.pull-pulled.ensures.plan c.pull-pulled.ensures.ring k.settings k.fragments old.serves;
+      fill = ap (λ (ring : Ring). length ring.bytes) c.pull-pulled.ensures.ring ∙ (let long = length-drop (c.pull-pulled.result.eaten * (channels_of (plan_in old.path.chain).source * bytes_of old.book.opening.settings.format)) old.path.ring.bytes in
           let fill = old.fill in let left = r.fill in omega arith);
       within = r.within;
       safe = subst (λ (p : PlanSeen). PlayIsSafe (rate_in_plan p) c.refilled-self.result)
@@ -99,60 +89,60 @@ invariant_of-self-else-self-eq0 g c =
 pub returns-then-self-eq0-clause-book : goal.returns-then-self-eq0-clause-book
 returns-then-self-eq0-clause-book g c =
     let old = c.args.self.now in
-    let planned = c.requires.planned in
-    book-mixed (seen c.args.tables.now old.device) c.args.n old.book c.refilled-self.result c.rate.result c.plan.result.now c.requires.some c.refilled-self.ensures c.rate.ensures.value (c.plan.ensures ∙ c.pull-pulled.ensures.plan ∙ planned.plan_is)
+    let planned = c.requires.ready.planned in
+    book-mixed (seen c.args.tables.now old.path.device) c.args.n old.book c.refilled-self.result c.rate.result c.plan.result.now c.requires.some c.refilled-self.ensures c.rate.ensures.value (c.plan.ensures ∙ c.pull-pulled.ensures.plan ∙ planned.plan_is)
 
 pub returns-else-self-eq0-clause-book : goal.returns-else-self-eq0-clause-book
 returns-else-self-eq0-clause-book g c =
     let old = c.args.self.now in
-    let planned = c.requires.planned in
-    book-mixed (seen c.args.tables.now old.device) c.args.n old.book c.refilled-self.result c.rate.result c.plan.result.now c.requires.some c.refilled-self.ensures c.rate.ensures.value (c.plan.ensures ∙ c.pull-pulled.ensures.plan ∙ planned.plan_is)
+    let planned = c.requires.ready.planned in
+    book-mixed (seen c.args.tables.now old.path.device) c.args.n old.book c.refilled-self.result c.rate.result c.plan.result.now c.requires.some c.refilled-self.ensures c.rate.ensures.value (c.plan.ensures ∙ c.pull-pulled.ensures.plan ∙ planned.plan_is)
 
 pub returns-then-self-eq0-clause-moves : goal.returns-then-self-eq0-clause-moves
 returns-then-self-eq0-clause-moves g c =
     let old = c.args.self.now in
-    let planned = c.requires.planned in
-    let k = book-refilled (seen c.args.tables.now old.device) c.args.n old.book c.refilled-self.result c.rate.result c.plan.result.now c.requires.some (device-is c.args.tables.now old planned) old.rate (safe-at c.args.tables.now old planned) (sym c.if-not-is_started.ensures)
+    let planned = c.requires.ready.planned in
+    let k = book-refilled (seen c.args.tables.now old.path.device) c.args.n old.book c.refilled-self.result c.rate.result c.plan.result.now c.requires.some (device-is c.args.tables.now old planned) old.serves.rate (safe-at c.args.tables.now old planned) (sym c.if-not-is_started.ensures)
     c.refilled-self.ensures c.rate.ensures.value (c.plan.ensures ∙ c.pull-pulled.ensures.plan ∙ planned.plan_is) in
     let none = k.ended c.if-self-eq0.true in
     moves-ended g.B.Feeder.kind g.B.Feeder.kept c.args.tables.now _ c.args.n old _ (c.restart.ensures.kinds)
-    (planned-as c.args.tables.now old _ refl (c.restart.ensures.plan ∙ c.pull-pulled.ensures.plan) k.settings) c.if-self-eq0.true none.0 none.1 (ap (λ (ring : Ring). ring.bytes) c.clear.ensures) c.restart.ensures.begins (k.done c.if-self-eq0.true)
+    (planned-as play_plan_between c.args.tables.now _ _ old.path c.restart.new.self c.restart.ensures.device (c.restart.ensures.plan ∙ c.pull-pulled.ensures.plan) k.settings) c.if-self-eq0.true none.0 none.1 c.restart.ensures.empty (k.done c.if-self-eq0.true)
 
 pub returns-else-self-eq0-clause-moves : goal.returns-else-self-eq0-clause-moves
 returns-else-self-eq0-clause-moves g c =
     let old = c.args.self.now in
-    let planned = c.requires.planned in
-    let k = book-refilled (seen c.args.tables.now old.device) c.args.n old.book c.refilled-self.result c.rate.result c.plan.result.now c.requires.some (device-is c.args.tables.now old planned) old.rate (safe-at c.args.tables.now old planned) (sym c.if-not-is_started.ensures)
+    let planned = c.requires.ready.planned in
+    let k = book-refilled (seen c.args.tables.now old.path.device) c.args.n old.book c.refilled-self.result c.rate.result c.plan.result.now c.requires.some (device-is c.args.tables.now old planned) old.serves.rate (safe-at c.args.tables.now old planned) (sym c.if-not-is_started.ensures)
     c.refilled-self.ensures c.rate.ensures.value (c.plan.ensures ∙ c.pull-pulled.ensures.plan ∙ planned.plan_is) in
     moves-pulled g.B.Feeder.kind g.B.Feeder.kept c.args.tables.now old _ c.args.n c.pull-pulled.result _ c.args.frames.now c.pull-pulled.new.out planned refl c.pull-pulled.ensures.plan (k.goes c.if-self-eq0.false) c.pull-pulled.ensures.kinds
-    (ap (λ (ring : Ring). ring.bytes) c.pull-pulled.ensures.ring ∙ ap (λ (q : PlanSeen). drop (c.pull-pulled.result.eaten * (channels_of q.source * bytes_of old.book.opening.settings.format)) old.ring.bytes) planned.plan_is)
+    (ap (λ (ring : Ring). ring.bytes) c.pull-pulled.ensures.ring ∙ ap (λ (q : PlanSeen). drop (c.pull-pulled.result.eaten * (channels_of q.source * bytes_of old.book.opening.settings.format)) old.path.ring.bytes) planned.plan_is)
     (λ bytes s. pulls-run g.B.Feeder.kept c.args.tables.now old c.pull-pulled.new.self _ c.is_draining-ended.result c.args.n c.pull-pulled.result c.args.frames.now c.pull-pulled.new.out bytes
-    (sym c.if-not-is_started.ensures) c.requires.planned c.is_draining-ended.ensures c.pull-pulled.ensures.pulls s)
+    (sym c.if-not-is_started.ensures) c.requires.ready.planned c.is_draining-ended.ensures c.pull-pulled.ensures.pulls s)
 
 pub returns-then-self-eq0-clause-sum : goal.returns-then-self-eq0-clause-sum
 returns-then-self-eq0-clause-sum g c = λ bytes s.
     let old = c.args.self.now in
     let p = pulls-run g.B.Feeder.kept c.args.tables.now old c.pull-pulled.new.self _ c.is_draining-ended.result c.args.n c.pull-pulled.result c.args.frames.now c.pull-pulled.new.out bytes
-    (sym c.if-not-is_started.ensures) c.requires.planned c.is_draining-ended.ensures c.pull-pulled.ensures.pulls s in
-    turned-pulled g.B.Feeder.kept (seen c.args.tables.now old.device) c.gain_of-gain.result c.args.n old.book bytes c.pull-pulled.new.self c.pull-pulled.result c.args.frames.now c.pull-pulled.new.out c.args.sum.now c.mix_into.new.acc c.channels.result c.bits.result
-    (device-is c.args.tables.now old c.requires.planned) old.rate c.gain_of-gain.ensures.value p c.channels.ensures c.bits.ensures c.mix_into.ensures.value
+    (sym c.if-not-is_started.ensures) c.requires.ready.planned c.is_draining-ended.ensures c.pull-pulled.ensures.pulls s in
+    turned-pulled g.B.Feeder.kept (seen c.args.tables.now old.path.device) c.gain_of-gain.result c.args.n old.book bytes c.pull-pulled.new.self c.pull-pulled.result c.args.frames.now c.pull-pulled.new.out c.args.sum.now c.mix_into.new.acc c.channels.result c.bits.result
+    (device-is c.args.tables.now old c.requires.ready.planned) old.serves.rate c.gain_of-gain.ensures.value p c.channels.ensures c.bits.ensures c.mix_into.ensures.value
 
 pub returns-else-self-eq0-clause-sum : goal.returns-else-self-eq0-clause-sum
 returns-else-self-eq0-clause-sum g c = λ bytes s.
     let old = c.args.self.now in
     let p = pulls-run g.B.Feeder.kept c.args.tables.now old c.pull-pulled.new.self _ c.is_draining-ended.result c.args.n c.pull-pulled.result c.args.frames.now c.pull-pulled.new.out bytes
-    (sym c.if-not-is_started.ensures) c.requires.planned c.is_draining-ended.ensures c.pull-pulled.ensures.pulls s in
-    turned-pulled g.B.Feeder.kept (seen c.args.tables.now old.device) c.gain_of-gain.result c.args.n old.book bytes c.pull-pulled.new.self c.pull-pulled.result c.args.frames.now c.pull-pulled.new.out c.args.sum.now c.mix_into.new.acc c.channels.result c.bits.result
-    (device-is c.args.tables.now old c.requires.planned) old.rate c.gain_of-gain.ensures.value p c.channels.ensures c.bits.ensures c.mix_into.ensures.value
+    (sym c.if-not-is_started.ensures) c.requires.ready.planned c.is_draining-ended.ensures c.pull-pulled.ensures.pulls s in
+    turned-pulled g.B.Feeder.kept (seen c.args.tables.now old.path.device) c.gain_of-gain.result c.args.n old.book bytes c.pull-pulled.new.self c.pull-pulled.result c.args.frames.now c.pull-pulled.new.out c.args.sum.now c.mix_into.new.acc c.channels.result c.bits.result
+    (device-is c.args.tables.now old c.requires.ready.planned) old.serves.rate c.gain_of-gain.ensures.value p c.channels.ensures c.bits.ensures c.mix_into.ensures.value
 
 pub returns-then-self-eq0-clause-fits : goal.returns-then-self-eq0-clause-fits
 returns-then-self-eq0-clause-fits g c =
-    All-append (FitsBits (bits_of c.args.self.now.device.settings.format)) c.mix_into.new.acc (drop (c.pull-pulled.result.given * c.channels.result) c.args.sum.now)
+    All-append (FitsBits (bits_of c.args.self.now.path.device.settings.format)) c.mix_into.new.acc (drop (c.pull-pulled.result.given * c.channels.result) c.args.sum.now)
     (subst (λ b. All (FitsBits b) c.mix_into.new.acc) c.bits.ensures c.mix_into.ensures.fits)
-    (All-drop (FitsBits (bits_of c.args.self.now.device.settings.format)) (c.pull-pulled.result.given * c.channels.result) c.args.sum.now c.requires.fits)
+    (All-drop (FitsBits (bits_of c.args.self.now.path.device.settings.format)) (c.pull-pulled.result.given * c.channels.result) c.args.sum.now c.requires.fits)
 
 pub returns-else-self-eq0-clause-fits : goal.returns-else-self-eq0-clause-fits
 returns-else-self-eq0-clause-fits g c =
-    All-append (FitsBits (bits_of c.args.self.now.device.settings.format)) c.mix_into.new.acc (drop (c.pull-pulled.result.given * c.channels.result) c.args.sum.now)
+    All-append (FitsBits (bits_of c.args.self.now.path.device.settings.format)) c.mix_into.new.acc (drop (c.pull-pulled.result.given * c.channels.result) c.args.sum.now)
     (subst (λ b. All (FitsBits b) c.mix_into.new.acc) c.bits.ensures c.mix_into.ensures.fits)
-    (All-drop (FitsBits (bits_of c.args.self.now.device.settings.format)) (c.pull-pulled.result.given * c.channels.result) c.args.sum.now c.requires.fits)
+    (All-drop (FitsBits (bits_of c.args.self.now.path.device.settings.format)) (c.pull-pulled.result.given * c.channels.result) c.args.sum.now c.requires.fits)

@@ -1,12 +1,10 @@
 use Rattle.std.proofs.Common.{◌≡◌, ◌+◌, sym, ap, ◌∙◌, subst, refl, length, take, arith, length-append, length-take}
 use Rattle.pcm_ring.specs.Ring.{Ring}
-use Rattle.pcm_format.specs.declared.settings.Settings.{Settings}
-use Rattle.pcm_feeder.specs.Limits.{IsRate}
 use Rattle.pcm_desk.specs.declared.play_book.PlayBook.{PlayBook}
 use Rattle.pcm_plan.specs.Plans.{rate_in_plan}
 use Rattle.pcm_chain.specs.Chains.{plan_in}
 use Rattle.pcm_desk.specs.PlayBooks.{accepting, play_fill_of}
-use Rattle.pcm_oss.specs.Fragments.{ring_size}
+use Rattle.pcm_path.proofs.Paths.{serves-as}
 use Rattle.pcm_desk.proofs.PlayLeaves.{accepting-adds}
 use Rattle.pcm_desk.proofs.PlaySafe.{safe-accepting}
 use Rattle.pcm_sound.proofs.Slots.{accepts}
@@ -24,19 +22,15 @@ invariant_of-self g c =
     let a = accepts accepted old.book in
     let settings : c.write-turn.result.book.opening.settings ≡ old.book.opening.settings = ap (λ (b : PlayBook). b.opening.settings) is ∙ a.settings in
     let fragments : c.write-turn.result.book.opening.fragments ≡ old.book.opening.fragments = ap (λ (b : PlayBook). b.opening.fragments) is ∙ (accepting-adds accepted old.book).fragments in
-    let length_is : length c.put.new.self.bytes ≡ length old.ring.bytes + accepted =
-    ap (λ (ring : Ring). length ring.bytes) c.put.ensures.kept ∙ omega (arith, length-append old.ring.bytes (take accepted c.args.bytes.now), length-take accepted c.args.bytes.now) in
+    let length_is : length c.put.new.self.bytes ≡ length old.path.ring.bytes + accepted =
+    ap (λ (ring : Ring). length ring.bytes) c.put.ensures.kept ∙ omega (arith, length-append old.path.ring.bytes (take accepted c.args.bytes.now), length-take accepted c.args.bytes.now) in
     record {
-      device_rate = old.device_rate;
-      rate = subst (λ (s : Settings). IsRate s.rate) (sym settings) old.rate;
-      ratio = old.ratio;
-      room = ap (λ (ring : Ring). ring.max) c.put.ensures.kept ∙ old.room;
-      size = ap (λ (ring : Ring). ring.size) c.put.ensures.kept ∙ old.size ∙ ap ring_size (sym fragments);
+      serves = serves-as old.book.opening c.write-turn.result.book.opening old.path (record old.path { ring = c.put.new.self }) _ refl refl c.put.ensures.kept settings fragments old.serves;
       fill = length_is ∙ ap (λ n. n + accepted) old.fill ∙ sym (fill_of-accepting accepted old.book old.within) ∙ sym (ap play_fill_of is);
       within = rw is (within-accepting accepted old.book old.within);
-      safe = subst (PlayIsSafe (rate_in_plan (plan_in old.chain))) (sym is)
-          (safe-accepting (rate_in_plan (plan_in old.chain)) accepted old.book old.ratio written.more
-          (let size = old.size in let fill = old.fill in omega (arith, count)) old.safe);
+      safe = subst (PlayIsSafe (rate_in_plan (plan_in old.path.chain))) (sym is)
+          (safe-accepting (rate_in_plan (plan_in old.path.chain)) accepted old.book old.serves.ratio written.more
+          (let size = old.serves.size in let fill = old.fill in omega (arith, count)) old.safe);
     }
 
 pub returns-clause-moves : goal.returns-clause-moves
@@ -45,4 +39,4 @@ returns-clause-moves g c = λ filters.
     let count = c.put.ensures.count in
     let written = takes-written old (length c.args.bytes.now) c.put.result c.write-turn.result c.in_ok-answer.answer c.write-turn.ensures c.in_ok-answer.was count in
     moves-taking g.B.Feeder.kind g.B.Feeder.kept filters c.args.bytes.now c.put.result old _ refl refl (ap (λ (ring : Ring). ring.bytes) c.put.ensures.kept) written.is
-    (omega (arith, count)) (let size = old.size in omega (arith, count, size, old.safe.fragments.fits)) written.more old.within
+    (omega (arith, count)) (let size = old.serves.size in omega (arith, count, size, old.safe.fragments.fits)) written.more old.within

@@ -1,5 +1,4 @@
 use Rattle.std.proofs.Common.{ap, sym, subst}
-use Rattle.pcm_ring.specs.Ring.{Ring}
 use Rattle.pcm_plan.specs.Plans.{rate_in_plan}
 use Rattle.pcm_chain.specs.Chains.{plan_in}
 use Rattle.pcm_desk.specs.declared.record_book.RecordBook.{RecordBook}
@@ -10,12 +9,12 @@ use Rattle.pcm_record.proofs.channel.RecordChannelOf.begin.Goals as goal
 
 pub invariant_of-self-clause-safe : goal.invariant_of-self-clause-safe
 invariant_of-self-clause-safe g c =
-    subst (RecordIsSafe (rate_in_plan (plan_in c.begin_anew.new.chain))) (sym c.begun-self.ensures) (record-safe-begun (rate_in_plan (plan_in c.begin_anew.new.chain)) c.args.settings)
+    subst (RecordIsSafe (rate_in_plan (plan_in c.begin_anew.new.path.chain))) (sym c.begun-self.ensures) (record-safe-begun (rate_in_plan (plan_in c.begin_anew.new.path.chain)) c.args.settings)
 
 pub returns-clause-moves : goal.returns-clause-moves
 returns-clause-moves g c =
     let begun = c.begun-self.ensures in
     moves-ended g.B.Feeder.kind g.B.Feeder.kept c.args.tables.now c.args.self.now _ c.begin_anew.ensures.kinds
-    (λ p. record { limits = c.begin_anew.ensures.limits; plan_is = c.begin_anew.ensures.plan })
+    (λ p. c.begin_anew.ensures.planned)
     (record { captured_none = ap (λ (b : RecordBook). b.captured) begun; kept_none = ap (λ (b : RecordBook). b.kept) begun; read_none = ap (λ (b : RecordBook). b.read) begun })
-    (ap (λ (ring : Ring). ring.bytes) c.begin_anew.ensures.ring) c.begin_anew.ensures.records
+    c.begin_anew.ensures.empty

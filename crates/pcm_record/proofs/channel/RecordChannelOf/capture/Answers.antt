@@ -1,12 +1,8 @@
 use Rattle.std.proofs.Common.{◌+◌, ◌*◌, ◌^◌, ◌<◌, ap, sym, subst, ◌∙◌, length, refl, arith}
-use Rattle.pcm_format.specs.declared.settings.Settings.{Settings}
 use Rattle.pcm_format.specs.Frames.{frame_bytes}
 use Rattle.pcm_format.specs.Layouts.{channels_of}
-use Rattle.pcm_ring.specs.Ring.{Ring}
-use Rattle.pcm_oss.specs.Fragments.{ring_size}
+use Rattle.pcm_path.proofs.Paths.{serves-as}
 use Rattle.pcm_rate.specs.declared.rate.Rate.{Rate}
-use Rattle.pcm_rate.specs.Rates.{IsRatio}
-use Rattle.pcm_feeder.specs.Limits.{IsRate}
 use Rattle.pcm_feeder.specs.Streams.{frames_of}
 use Rattle.pcm_plan.specs.Fits.{HaveBits, HaveTables}
 use Rattle.pcm_plan.specs.Plans.{PlanSeen, rate_in_plan}
@@ -27,14 +23,14 @@ push-requires-clause-tables g c =
     let old = c.args.self.now in
     let planned = c.requires.planned in
     subst (λ (p : PlanSeen). HaveTables p.stages c.args.tables.now) (sym planned.plan_is)
-    (record-tables-between (seen c.args.tables.now old.device) old.book.opening.settings (device-is c.args.tables.now old planned) old.rate)
+    (record-tables-between (seen c.args.tables.now old.path.device) old.book.opening.settings (device-is c.args.tables.now old planned) old.serves.rate)
 
 pub push-requires-clause-bits : goal.push-requires-clause-bits
 push-requires-clause-bits g c =
     let old = c.args.self.now in
     let planned = c.requires.planned in
     subst (λ (p : PlanSeen). GivesBitsOf old.book.opening.settings.format p c.args.tables.now) (sym planned.plan_is)
-    (record-bits-between (seen c.args.tables.now old.device) old.book.opening.settings (device-is c.args.tables.now old planned) old.rate)
+    (record-bits-between (seen c.args.tables.now old.path.device) old.book.opening.settings (device-is c.args.tables.now old planned) old.serves.rate)
 
 pub push-requires-clause-few : goal.push-requires-clause-few
 push-requires-clause-few g c =
@@ -46,7 +42,7 @@ captured-self-requires-clause-given g c =
     let tables = c.args.tables.now in
     let planned = c.requires.planned in
     let rate = rate-pushed tables old c.push.new.self c.rate.result c.plan.result.now planned c.rate.ensures.value c.plan.ensures c.push.ensures.plan in
-    let most = given-most (seen tables old.device) c.args.frames old.book (device-is tables old planned) old.rate (safe-at tables old planned) c.requires.count in
+    let most = given-most (seen tables old.path.device) c.args.frames old.book (device-is tables old planned) old.serves.rate (safe-at tables old planned) c.requires.count in
     subst (λ (r : Rate). old.book.given + coming r c.args.frames old.book < 2 ^ 64) (sym rate) most
 
 pub captured-self-requires-clause-kept : goal.captured-self-requires-clause-kept
@@ -55,14 +51,14 @@ captured-self-requires-clause-kept g c =
     let tables = c.args.tables.now in
     let planned = c.requires.planned in
     let rate = rate-pushed tables old c.push.new.self c.rate.result c.plan.result.now planned c.rate.ensures.value c.plan.ensures c.push.ensures.plan in
-    let most = kept-most (seen tables old.device) c.args.frames old.book (sym c.if-not-is_running.ensures) (safe-at tables old planned) in
+    let most = kept-most (seen tables old.path.device) c.args.frames old.book (sym c.if-not-is_running.ensures) (safe-at tables old planned) in
     subst (λ (r : Rate). old.book.kept + keeping r c.args.frames old.book * frame_bytes old.book.opening.settings < 2 ^ 64) (sym rate) (omega (arith, most, c.requires.kept))
 
 pub invariant_of-self : goal.invariant_of-self
 invariant_of-self g c =
     let old = c.args.self.now in
     let tables = c.args.tables.now in
-    let device = seen tables old.device in
+    let device = seen tables old.path.device in
     let planned = c.requires.planned in
     let some = c.requires.stands in
     let new = c.captured-self.result in
@@ -70,13 +66,9 @@ invariant_of-self g c =
     let p = push-captured g.B.Feeder.kept tables old c.args.frames c.args.input.now c.push.new.self c.push.result c.push.new.ring.bytes some.bytes some.frames planned c.requires.whole c.push.ensures.kept
     (c.push.ensures.pushes some.frames some.stands.records) some.stands in
     let b = book-captured device c.args.frames old.book c.captured-self.result (sym c.if-not-is_running.ensures) (safe-at tables old planned)
-    (captured-at (seen tables old.device) c.args.frames old.book c.captured-self.result c.rate.result rate c.captured-self.ensures) in
+    (captured-at (seen tables old.path.device) c.args.frames old.book c.captured-self.result c.rate.result rate c.captured-self.ensures) in
     record {
-      device_rate = old.device_rate;
-      rate = subst (λ (s : Settings). IsRate s.rate) (sym b.settings) old.rate;
-      ratio = subst (λ (q : PlanSeen). IsRatio (rate_in_plan q)) (sym c.push.ensures.plan) old.ratio;
-      room = ap (λ (ring : Ring). ring.max) c.push.ensures.ring ∙ old.room;
-      size = ap (λ (ring : Ring). ring.size) c.push.ensures.ring ∙ old.size ∙ ap ring_size (sym b.fragments);
+      serves = serves-as old.book.opening new.opening old.path (record old.path { ring = c.push.new.ring; chain = c.push.new.self }) _ refl c.push.ensures.plan c.push.ensures.ring b.settings b.fragments old.serves;
       fill = fill-captured g.B.Feeder.kept tables old new c.args.frames some.frames _ c.push.new.self c.push.result c.push.new.ring.bytes planned c.push.ensures.plan b p;
       within = b.safe.read;
       safe = subst (λ (q : PlanSeen). RecordIsSafe (rate_in_plan q) new) (sym (c.push.ensures.plan ∙ planned.plan_is)) b.safe;
@@ -88,22 +80,22 @@ returns-clause-book g c =
     let tables = c.args.tables.now in
     let planned = c.requires.planned in
     let rate = rate-pushed tables old c.push.new.self c.rate.result c.plan.result.now planned c.rate.ensures.value c.plan.ensures c.push.ensures.plan in
-    captured-at (seen tables old.device) c.args.frames old.book c.captured-self.result c.rate.result rate c.captured-self.ensures
+    captured-at (seen tables old.path.device) c.args.frames old.book c.captured-self.result c.rate.result rate c.captured-self.ensures
 
 pub returns-clause-moves : goal.returns-clause-moves
 returns-clause-moves g c =
     let old = c.args.self.now in
     let tables = c.args.tables.now in
-    let device = seen tables old.device in
+    let device = seen tables old.path.device in
     let planned = c.requires.planned in
     let some = c.requires.stands in
-    let input = frames_of (channels_of old.device.settings.layout) c.args.input.now in
+    let input = frames_of (channels_of old.path.device.settings.layout) c.args.input.now in
     let rate = rate-pushed tables old c.push.new.self c.rate.result c.plan.result.now planned c.rate.ensures.value c.plan.ensures c.push.ensures.plan in
     let all = pushed-is tables old c.args.input.now planned in
     moves-captured g.B.Feeder.kind g.B.Feeder.kept tables old _ c.args.frames input c.push.result planned refl c.push.ensures.plan c.push.ensures.kinds
     (ap length (sym all) ∙ pushed-count tables old c.args.frames c.args.input.now planned c.requires.whole)
     (subst (HaveBits 32) all c.push.ensures.fits)
     (book-captured device c.args.frames old.book c.captured-self.result (sym c.if-not-is_running.ensures) (safe-at tables old planned)
-    (captured-at (seen tables old.device) c.args.frames old.book c.captured-self.result c.rate.result rate c.captured-self.ensures))
+    (captured-at (seen tables old.path.device) c.args.frames old.book c.captured-self.result c.rate.result rate c.captured-self.ensures))
     (λ bytes frames s. push-captured g.B.Feeder.kept tables old c.args.frames c.args.input.now c.push.new.self c.push.result c.push.new.ring.bytes bytes frames planned c.requires.whole c.push.ensures.kept
     (c.push.ensures.pushes frames s.records) s)

@@ -1,7 +1,7 @@
 use Rattle.std.proofs.Common.{ap, sym, subst, ◌∙◌, length, refl}
-use Rattle.pcm_ring.specs.Ring.{Ring}
-use Rattle.pcm_oss.specs.Fragments.{ring_size}
+use Rattle.pcm_path.proofs.Paths.{serves-as}
 use Rattle.pcm_plan.specs.Plans.{PlanSeen, rate_in_plan}
+use Rattle.pcm_desk.specs.declared.device.Device.{Device}
 use Rattle.pcm_desk.specs.Device.{record_plan_between, seen}
 use Rattle.pcm_desk.specs.declared.record_book.RecordBook.{RecordBook}
 use Rattle.pcm_desk.specs.declared.turn.Turn.{Turn}
@@ -25,14 +25,10 @@ invariant_of-self g c =
     let new = c.asked-turn.result.book in
     let left = book-asked c.args.tables.now c.args.request old c.asked-turn.result c.requires.planned c.asked-turn.ensures in
     record {
-      device_rate = old.device_rate;
-      rate = left.rate;
-      ratio = c.begin_anew.ensures.ratio;
-      room = ap (λ (ring : Ring). ring.max) c.begin_anew.ensures.ring;
-      size = ap (λ (ring : Ring). ring.size) c.begin_anew.ensures.ring;
-      fill = ap (λ (ring : Ring). length ring.bytes) c.begin_anew.ensures.ring ∙ none-waits new (idle-unstarted new.state new (sym c.if-not-is_running.ensures) left.safe.order);
+      serves = c.begin_anew.ensures.serves;
+      fill = ap length c.begin_anew.ensures.empty.ring ∙ none-waits new (idle-unstarted new.state new (sym c.if-not-is_running.ensures) left.safe.order);
       within = left.safe.read;
-      safe = subst (λ (p : PlanSeen). RecordIsSafe (rate_in_plan p) new) (sym c.begin_anew.ensures.plan) left.safe;
+      safe = subst (λ (p : PlanSeen). RecordIsSafe (rate_in_plan p) new) (sym (c.begin_anew.ensures.planned.plan_is ∙ ap (λ (d : Device). record_plan_between (seen c.args.tables.now d) new.opening.settings) c.begin_anew.ensures.device)) left.safe;
     }
 
 pub invariant_of-self-else-not-is_running : goal.invariant_of-self-else-not-is_running
@@ -42,15 +38,11 @@ invariant_of-self-else-not-is_running g c =
     let left = book-asked c.args.tables.now c.args.request old c.asked-turn.result c.requires.planned c.asked-turn.ensures in
     let go = left.goes (sym c.if-not-is_running.ensures) in
     record {
-      device_rate = old.device_rate;
-      rate = left.rate;
-      ratio = old.ratio;
-      room = old.room;
-      size = old.size ∙ ap ring_size (sym go.fragments);
+      serves = serves-as old.book.opening new.opening old.path old.path old.path.ring.bytes refl refl refl go.settings go.fragments old.serves;
       fill = old.fill ∙ stays-fill old.book new go;
       within = left.safe.read;
       safe = subst (λ (p : PlanSeen). RecordIsSafe (rate_in_plan p) new)
-          (sym (c.requires.planned.plan_is ∙ ap (record_plan_between (seen c.args.tables.now old.device)) (sym go.settings))) left.safe;
+          (sym (c.requires.planned.plan_is ∙ ap (record_plan_between (seen c.args.tables.now old.path.device)) (sym go.settings))) left.safe;
     }
 
 pub returns-then-not-is_running-clause-moves : goal.returns-then-not-is_running-clause-moves
@@ -59,9 +51,8 @@ returns-then-not-is_running-clause-moves g c =
     let new = c.asked-turn.result.book in
     let left = book-asked c.args.tables.now c.args.request old c.asked-turn.result c.requires.planned c.asked-turn.ensures in
     moves-ended g.B.Feeder.kind g.B.Feeder.kept c.args.tables.now old _ c.begin_anew.ensures.kinds
-    (λ p. record { limits = c.begin_anew.ensures.limits; plan_is = c.begin_anew.ensures.plan })
-    (idle-unstarted new.state new (sym c.if-not-is_running.ensures) left.safe.order)
-    (ap (λ (ring : Ring). ring.bytes) c.begin_anew.ensures.ring) c.begin_anew.ensures.records
+    (λ p. c.begin_anew.ensures.planned)
+    (idle-unstarted new.state new (sym c.if-not-is_running.ensures) left.safe.order) c.begin_anew.ensures.empty
 
 pub returns-else-not-is_running-clause-moves : goal.returns-else-not-is_running-clause-moves
 returns-else-not-is_running-clause-moves g c =

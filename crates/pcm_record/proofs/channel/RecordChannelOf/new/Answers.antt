@@ -1,5 +1,4 @@
 use Rattle.std.proofs.Common.{ap}
-use Rattle.pcm_ring.specs.Ring.{Ring}
 use Rattle.pcm_desk.specs.declared.record_book.RecordBook.{RecordBook}
 use Rattle.pcm_record.proofs.Stands.{stands-empty}
 use Rattle.pcm_record.proofs.channel.RecordChannelOf.new.Goals as goal
@@ -9,4 +8,4 @@ returns-clause-stands g c =
     let begun = c.begun.ensures in
     stands-empty g.B.Feeder.kept c.args.tables.now _
     (record { captured_none = ap (λ (b : RecordBook). b.captured) begun; kept_none = ap (λ (b : RecordBook). b.kept) begun; read_none = ap (λ (b : RecordBook). b.read) begun })
-    (ap (λ (ring : Ring). ring.bytes) c.begin_anew.ensures.ring) c.begin_anew.ensures.records
+    c.begin_anew.ensures.empty

@@ -9,7 +9,7 @@ pub returns-clause-bytes : goal.returns-clause-bytes
 returns-clause-bytes g c = λ filters bytes frames s.
     let old = c.args.self.now in
     let count = c.take.result in
-    let waiting = old.ring.bytes in
+    let waiting = old.path.ring.bytes in
     let out = c.args.out.now in
     let taken = takes-read old (length out) count c.read-turn.result c.in_ok-answer.answer c.read-turn.ensures c.in_ok-answer.was c.take.ensures.count in
     ap (λ (n : ℕ). take n c.take.new.out) taken.due

@@ -52,7 +52,7 @@ returns-clause-opens g c =
           ∙ ap (set (play_books_of (play_channels old)) c.in-Some.slot) c.begin.ensures.book
           ∙ sym (ap (λ (found : Option ℕ). books_begun found c.args.settings (play_books_of (play_channels old))) found);
       there = there;
-      own = own_set (λ (channel : PlayChannelOf _). channel.device) old.device (play_channels old) c.in-Some.slot c.index_mut.result.now c.begin.new.self there c.index_mut.ensures.value c.begin.ensures.device c.requires.own;
+      own = own_set (λ (channel : PlayChannelOf _). channel.path.device) old.device (play_channels old) c.in-Some.slot c.index_mut.result.now c.begin.new.self there c.index_mut.ensures.value c.begin.ensures.device c.requires.own;
       moves = each_set (PlayMoves g.B.Feeder.kind g.B.Feeder.kept c.args.tables.now [] 0) (play_channels old) c.in-Some.slot c.index_mut.result.now c.begin.new.self there c.index_mut.ensures.value c.begin.ensures.moves
           (moves-nothing g.B.Feeder.kind g.B.Feeder.kept c.args.tables.now [] 0);
       others = refl;

@@ -52,7 +52,7 @@ returns-clause-opens g c =
           ∙ ap (set (record_books_of (record_channels old)) c.in-Some.slot) c.begin.ensures.book
           ∙ sym (ap (λ (found : Option ℕ). record_books_begun found c.args.settings (record_books_of (record_channels old))) found);
       there = there;
-      own = own_set (λ (channel : RecordChannelOf _). channel.device) old.device (record_channels old) c.in-Some.slot c.index_mut.result.now c.begin.new.self there c.index_mut.ensures.value c.begin.ensures.device c.requires.own;
+      own = own_set (λ (channel : RecordChannelOf _). channel.path.device) old.device (record_channels old) c.in-Some.slot c.index_mut.result.now c.begin.new.self there c.index_mut.ensures.value c.begin.ensures.device c.requires.own;
       moves = each_set (RecordMoves g.B.Feeder.kind g.B.Feeder.kept c.args.tables.now [] 0) (record_channels old) c.in-Some.slot c.index_mut.result.now c.begin.new.self there c.index_mut.ensures.value c.begin.ensures.moves
           (moves-nothing g.B.Feeder.kind g.B.Feeder.kept c.args.tables.now [] 0);
       others = refl;

@@ -1,0 +1,35 @@
+-- The path of a channel: what it serves, by which plan, and when nothing is in it.
+use Rattle.std.specs.Prelude.{◌≡◌, []}
+use Rattle.pcm_format.specs.declared.settings.Settings.{Settings}
+use Rattle.pcm_rate.specs.Rates.{IsRatio}
+use Rattle.pcm_feeder.specs.Filters.{Filters}
+use Rattle.pcm_feeder.specs.Kept.{Kept}
+use Rattle.pcm_feeder.specs.Limits.{AreFilters, IsRate}
+use Rattle.pcm_oss.specs.declared.fragments.TheConstants.{RING_BYTES}
+use Rattle.pcm_plan.specs.Plans.{PlanSeen, rate_in_plan}
+use Rattle.pcm_chain.specs.Chains.{plan_in, ChainStands}
+use Rattle.pcm_chain.specs.Pushes.{HasRecorded}
+use Rattle.pcm_desk.specs.declared.opening.Opening.{Opening}
+use Rattle.pcm_desk.specs.Device.{DeviceSeen, seen}
+use Rattle.pcm_desk.specs.Openings.{ring_bytes}
+use Rattle.pcm_path.specs.declared.path.PathOf.{PathOf}
+
+-- A path serves an opening: the rates of device and client are within the limits, those of the chain's plan are above 0, and the
+-- ring has the size that the opening's fragments give, out of the room that the greatest ring takes.
+pub record Serves {B : Type 0} (opening : Opening) (path : PathOf B) : Type 0 where
+  pub device_rate : IsRate path.device.settings.rate
+  pub rate : IsRate opening.settings.rate
+  pub ratio : IsRatio (rate_in_plan (plan_in path.chain))
+  pub room : path.ring.max ≡ RING_BYTES
+  pub size : path.ring.size ≡ ring_bytes opening
+
+-- the filters are within their limits, and the chain goes by the plan that they give between the device and these settings
+pub record IsPlanned {B : Type 0} (between : DeviceSeen → Settings → PlanSeen) (filters : Filters) (settings : Settings) (path : PathOf B) : Type 0 where
+  pub limits : AreFilters filters.list
+  pub plan_is : plan_in path.chain ≡ between (seen filters path.device) settings
+
+-- nothing is in it: no byte waits in the ring, and the chain stands for no frame, whichever the filters are
+pub record IsEmpty {B : Type 0} (kept : B → Kept) (path : PathOf B) : Type 0 where
+  pub ring : path.ring.bytes ≡ []
+  pub begins : (filters : Filters) → ChainStands kept filters path.chain [] 0 0
+  pub records : (filters : Filters) → HasRecorded kept filters path.chain []

@@ -1,0 +1,7 @@
+//! The path between a client and the device: the ring where the client's bytes wait, and the chain that they go through.
+//! Whichever way the sound goes, an opening begins on it and a run ends on it in the same way.
+#![tactic(auto)]
+
+mod path;
+
+pub use path::PathOf;

@@ -1,0 +1,79 @@
+//! What a channel's bytes and frames go through.
+
+ghost use Rattle.std.specs.Prelude.{◌≡◌, [], IfOk};
+ghost use Rattle.pcm_oss.specs.declared.fragments.TheConstants.{RING_BYTES};
+ghost use Rattle.pcm_oss.specs.Fragments.{AreFragments};
+ghost use Rattle.pcm_rate.specs.Rates.{IsRatio};
+ghost use Rattle.pcm_feeder.specs.Limits.{IsRate};
+ghost use Rattle.pcm_feeder.specs.Racks.{HaveKinds, IsRack};
+ghost use Rattle.pcm_plan.specs.Plans.{rate_in_plan};
+ghost use Rattle.pcm_chain.specs.Chains.{boxes_in, plan_in};
+
+use pcm_chain::ChainOf;
+use pcm_desk::{Device, Opening};
+use pcm_feeder::{Feeder, RackOf};
+use pcm_oss::RING_BYTES;
+use pcm_plan::Plan;
+use pcm_ring::ByteRing;
+use std::alloc::{AllocError, Global};
+
+/// The ring and the chain between a client and the device.
+#[derive(Drop)]
+pub struct PathOf<B> {
+    pub device: Device,
+    pub ring: ByteRing,
+    pub chain: ChainOf<B>,
+}
+
+impl<B: Feeder> PathOf<B> {
+    ghost use Rattle.pcm_path.specs.Paths.{IsEmpty, Serves};
+
+    /// A path of a device with the boxes of a rack, for no opening yet. All its memory is taken here.
+    pub fn new(alloc: Global, device: Device, rack: RackOf<B>) -> Result<PathOf<B>, AllocError>
+        requires kinds { IsRack B.kind rack }
+        ensures device { IfOk result (λ made. made.device ≡ device) }
+        ensures room { IfOk result (λ made. made.ring.max ≡ RING_BYTES) }
+        ensures kinds { IfOk result (λ made. HaveKinds B.kind (boxes_in made.chain)) }
+    {
+        let ring = ByteRing::new(alloc, RING_BYTES as usize)?;
+        let chain = ChainOf::new(alloc, rack)?;
+        Ok(PathOf {
+            device,
+            ring,
+            chain,
+        })
+    }
+
+    /// A run of an opening begins: an empty ring, of the size that its fragments give, and a chain that goes by a plan.
+    pub fn begin(&mut self, opening: &Opening, plan: &Plan)
+        requires device { IsRate self.old.device.settings.rate }
+        requires rate { IsRate opening.now.settings.rate }
+        requires fragments { AreFragments opening.now.fragments }
+        requires ratio { IsRatio (rate_in_plan plan.now) }
+        requires room { self.old.ring.max ≡ RING_BYTES }
+        requires kinds { HaveKinds B.kind (boxes_in self.old.chain) }
+        ensures device { self.new.device ≡ self.old.device }
+        ensures plan { plan_in self.new.chain ≡ plan.now }
+        ensures serves { Serves opening.now self.new }
+        ensures kinds { HaveKinds B.kind (boxes_in self.new.chain) }
+        ensures empty { IsEmpty B.kept self.new }
+    {
+        let PathOf { ring, chain, .. } = self;
+        ring.clear();
+        ring.set_size(opening.fragments.size() as usize);
+        chain.reset(plan);
+    }
+
+    /// A run ends, and nothing of it is left: an empty ring of the same size, and a chain that goes by the same plan.
+    pub fn restart(&mut self)
+        requires { HaveKinds B.kind (boxes_in self.old.chain) }
+        ensures device { self.new.device ≡ self.old.device }
+        ensures ring { self.new.ring ≡ record self.old.ring { bytes = [] } }
+        ensures plan { plan_in self.new.chain ≡ plan_in self.old.chain }
+        ensures kinds { HaveKinds B.kind (boxes_in self.new.chain) }
+        ensures empty { IsEmpty B.kept self.new }
+    {
+        self.ring.clear();
+        self.chain.restart();
+    }
+}
