@@ -1,5 +1,5 @@
 -- What the calls on a channel move, from what they leave of its book, its ring and its chain.
-use Rattle.std.proofs.Common.{◌≡◌, ℕ, ◌+◌, ◌-◌, ◌*◌, ◌≤◌, min, false, Ok, List, refl, [], ◌++◌, length, take, length-take, sym, ap, ◌∙◌, subst, inl, inr, arith}
+use Rattle.std.proofs.Common.{◌≡◌, ℕ, ◌+◌, ◌-◌, ◌*◌, ◌≤◌, min, false, Ok, List, [], ◌++◌, length, take, length-take, sym, ap, ◌∙◌, subst, inl, inr, arith}
 use Rattle.std.proofs.Math.Seq.{take-append-add}
 use Rattle.std.proofs.lemmas.List.{take_at}
 use Rattle.pcm_format.specs.Frames.{frame_bytes, whole_frames}

@@ -1,6 +1,9 @@
 -- A channel that plays: what it stands for, and what an event changes of it.
-use Rattle.std.specs.Prelude.{◌≡◌, ℕ, ◌+◌, ◌*◌, ◌<◌, ◌≤◌, true, List, [], ◌++◌, length, take, drop}
+use Rattle.std.specs.Prelude.{◌≡◌, ℕ, ◌+◌, ◌*◌, ◌<◌, ◌≤◌, true, ℤ, List, [], ◌++◌, length, take, drop, All}
+use Rattle.pcm_num.specs.Limit.{FitsBits}
+use Rattle.pcm_format.specs.Formats.{bits_of}
 use Rattle.pcm_format.specs.Frames.{frame_bytes, frames}
+use Rattle.pcm_format.specs.Layouts.{channels_of}
 use Rattle.pcm_feeder.specs.declared.kind.Kind.{Kind}
 use Rattle.pcm_feeder.specs.Filters.{Filters}
 use Rattle.pcm_feeder.specs.Kept.{Kept}
@@ -10,7 +13,8 @@ use Rattle.pcm_desk.specs.declared.play_book.PlayBook.{PlayBook}
 use Rattle.pcm_desk.specs.Device.{play_plan_between, seen}
 use Rattle.pcm_desk.specs.declared.device.Device.{Device}
 use Rattle.pcm_desk.specs.PlayBooks.{frames_written, is_draining}
-use Rattle.pcm_desk.specs.Desk.{play_unopened}
+use Rattle.pcm_desk.specs.Desk.{closing, play_unopened}
+use Rattle.pcm_sound.specs.Added.{turned}
 use Rattle.pcm_oss.specs.declared.fragments.TheConstants.{RING_BYTES}
 use Rattle.pcm_path.specs.Paths.{IsPlanned}
 use Rattle.pcm_play.specs.declared.channel.PlayChannelOf.{PlayChannelOf}
@@ -43,6 +47,20 @@ pub record IsPlayReady {B : Type 0} (kind : B → Kind) (kept : B → Kept) (fil
   pub kinds : HaveKinds kind (boxes_in channel.path.chain)
   pub planned : IsPlayPlanned filters channel
   pub stands : PlayStandsForSome kept filters channel
+
+-- buffers for a block of so many frames of a device: one that holds the frames of a channel, and one whose samples have its bits
+pub record HoldBlock (device : Device) (n : ℕ) (frames sum : List ℤ) : Type 0 where
+  pub frames_whole : length frames ≡ n * channels_of device.settings.layout
+  pub sum_whole : length sum ≡ n * channels_of device.settings.layout
+  pub fits : All (FitsBits (bits_of device.settings.format)) sum
+
+-- whatever bytes a channel stands for, it adds what the rules say of them to a block of so many frames
+abbrev pub AddsTo : {B : Type 0} → (B → Kept) → Filters → Device → ℕ → List ℤ → List ℤ → PlayChannelOf B → Type 0
+AddsTo kept filters device n old new channel = (bytes : List ℕ) → PlayStands kept filters channel channel.book bytes → new ≡ turned (seen filters device) n channel.book bytes old
+
+-- a close leaves the book that the rules say, by whichever filters the chain's plan is of
+abbrev pub ClosesBook : {B : Type 0} → PlayChannelOf B → PlayChannelOf B → Type 0
+ClosesBook old new = (filters : Filters) → IsPlayPlanned filters old → new.book ≡ closing (seen filters old.path.device) old.book
 
 -- nobody has opened the channel yet: it stands for no bytes, its boxes are of the right kinds, and its chain goes by its plan
 pub record IsPlayUnopened {B : Type 0} (kind : B → Kind) (kept : B → Kept) (filters : Filters) (device : Device) (channel : PlayChannelOf B) : Type 0 where

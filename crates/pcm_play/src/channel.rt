@@ -1,8 +1,7 @@
 //! A channel that plays: its book, and the path with the bytes that wait and the chain that they go through.
 
-ghost use Rattle.std.specs.Prelude.{◌≡◌, ◌+◌, ◌*◌, ◌^◌, ◌<◌, ◌≤◌, [], ℕ, List, length, IfOk, OnErr, All};
+ghost use Rattle.std.specs.Prelude.{◌≡◌, ◌+◌, ◌*◌, ◌^◌, ◌<◌, ◌≤◌, [], length, IfOk, OnErr, All};
 ghost use Rattle.pcm_format.specs.Formats.{bits_of};
-ghost use Rattle.pcm_format.specs.Layouts.{channels_of};
 ghost use Rattle.pcm_format.specs.Frames.{frame_bytes};
 ghost use Rattle.pcm_num.specs.Limit.{FitsBits};
 ghost use Rattle.pcm_feeder.specs.Limits.{IsRate};
@@ -15,8 +14,7 @@ ghost use Rattle.pcm_desk.specs.PlaySafe.{PlayIsSafe};
 ghost use Rattle.pcm_desk.proofs.Props.{book_props};
 ghost use Rattle.pcm_path.specs.Paths.{Serves};
 ghost use Rattle.std.proofs.Props.{props};
-ghost use Rattle.pcm_desk.specs.Desk.{asking, closing, mixing, play_unopened};
-ghost use Rattle.pcm_sound.specs.Added.{turned};
+ghost use Rattle.pcm_desk.specs.Desk.{asking, mixing, play_unopened};
 
 use crate::anew::begin_anew;
 use pcm_desk::{Device, PlayBook, PlayState};
@@ -40,7 +38,7 @@ pub struct PlayChannelOf<B> {
 
 impl<B: Feeder> PlayChannelOf<B> {
     ghost use Rattle.pcm_feeder.specs.Filters.{Filters};
-    ghost use Rattle.pcm_play.specs.Channels.{PlayStands, IsPlayPlanned, IsPlayReady, PlayMoves};
+    ghost use Rattle.pcm_play.specs.Channels.{AddsTo, ClosesBook, HoldBlock, IsPlayPlanned, IsPlayReady, PlayMoves, PlayStands};
 
     /// A channel of a device that nobody has opened.
     pub fn new(
@@ -128,8 +126,7 @@ impl<B: Feeder> PlayChannelOf<B> {
     pub fn close(&mut self)
         requires kinds { HaveKinds B.kind (boxes_in self.old.path.chain) }
         requires count { self.old.book.done + self.old.book.written < 2 ^ 64 }
-        ensures book { (filters : Filters) → IsPlayPlanned filters self.old
-            → self.new.book ≡ closing (seen filters self.old.path.device) self.old.book }
+        ensures book { ClosesBook self.old self.new }
         ensures device { self.new.path.device ≡ self.old.path.device }
         ensures moves { (filters : Filters) → PlayMoves B.kind B.kept filters [] 0 self.old self.new }
     {
@@ -145,16 +142,13 @@ impl<B: Feeder> PlayChannelOf<B> {
     pub fn refill(&mut self, tables: &Tables, n: usize, frames: &mut [i32], sum: &mut [i32])
         requires some { 0 < n }
         requires ready { IsPlayReady B.kind B.kept tables.now self.old }
-        requires frames { length frames.old ≡ n * channels_of self.old.path.device.settings.layout }
-        requires sum { length sum.old ≡ n * channels_of self.old.path.device.settings.layout }
-        requires fits { All (FitsBits (bits_of self.old.path.device.settings.format)) sum.old }
+        requires block { HoldBlock self.old.path.device n frames.old sum.old }
         requires count { self.old.book.given + n < 2 ^ 64 }
         requires counted { self.old.book.done + self.old.book.written < 2 ^ 64 }
         ensures book { self.new.book ≡ mixing (seen tables.now self.old.path.device) n self.old.book }
         ensures device { self.new.path.device ≡ self.old.path.device }
         ensures moves { PlayMoves B.kind B.kept tables.now [] n self.old self.new }
-        ensures sum { (bytes : List ℕ) → PlayStands B.kept tables.now self.old self.old.book bytes
-            → sum.new ≡ turned (seen tables.now self.old.path.device) n self.old.book bytes sum.old }
+        ensures sum { AddsTo B.kept tables.now self.old.path.device n sum.old sum.new self.old }
         ensures fits { All (FitsBits (bits_of self.old.path.device.settings.format)) sum.new }
     {
         if !self.book.is_started() {

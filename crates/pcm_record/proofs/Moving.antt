@@ -1,5 +1,5 @@
 -- What the calls on a channel move, from what they leave of its book, its ring and its chain.
-use Rattle.std.proofs.Common.{length, ◌≡◌, ℕ, true, false, Ok, inl, inr, List, [], ◌++◌, take, drop, sym, ap, ◌∙◌, subst, arith, refl, min, ◌+◌}
+use Rattle.std.proofs.Common.{length, ◌≡◌, ℕ, true, false, Ok, inl, inr, List, [], ◌++◌, take, drop, sym, ap, ◌∙◌, subst, arith, min, ◌+◌}
 use Rattle.std.proofs.lemmas.List.{take_at}
 use Rattle.pcm_format.specs.declared.settings.Settings.{Settings}
 use Rattle.pcm_format.specs.Frames.{Frame}

@@ -1,10 +1,15 @@
 -- A channel that records: what it stands for, and what an event changes of it.
-use Rattle.std.specs.Prelude.{◌≡◌, ℕ, ◌+◌, ◌≤◌, List, [], ◌++◌, length, take, drop}
+use Rattle.std.specs.Prelude.{◌≡◌, ℕ, ◌+◌, ◌≤◌, List, [], ◌++◌, length, take, drop, ℤ, Result}
 use Rattle.pcm_format.specs.Frames.{Frame}
+use Rattle.pcm_format.specs.Layouts.{channels_of}
 use Rattle.pcm_feeder.specs.declared.kind.Kind.{Kind}
 use Rattle.pcm_feeder.specs.Filters.{Filters}
 use Rattle.pcm_feeder.specs.Kept.{Kept}
 use Rattle.pcm_feeder.specs.Racks.{HaveKinds}
+use Rattle.pcm_feeder.specs.Streams.{frames_of}
+use Rattle.pcm_oss.specs.declared.reply.Answer.{Answer}
+use Rattle.pcm_oss.specs.declared.reply.Errno.{Errno}
+use Rattle.pcm_oss.specs.Replies.{bytes_due}
 use Rattle.pcm_oss.specs.declared.fragments.TheConstants.{RING_BYTES}
 use Rattle.pcm_plan.specs.Fits.{HaveBits}
 use Rattle.pcm_chain.specs.Chains.{boxes_in}
@@ -12,7 +17,8 @@ use Rattle.pcm_chain.specs.Pushes.{HasRecorded}
 use Rattle.pcm_desk.specs.declared.record_book.RecordBook.{RecordBook}
 use Rattle.pcm_desk.specs.declared.device.Device.{Device}
 use Rattle.pcm_desk.specs.Device.{record_plan_between, seen}
-use Rattle.pcm_desk.specs.Desk.{record_unopened}
+use Rattle.pcm_desk.specs.Desk.{record_rate_at, record_unopened}
+use Rattle.pcm_desk.specs.RecordBooks.{keeping}
 use Rattle.pcm_sound.specs.Given.{recorded_bytes}
 use Rattle.pcm_path.specs.Paths.{IsPlanned}
 use Rattle.pcm_record.specs.declared.channel.RecordChannelOf.{RecordChannelOf}
@@ -47,6 +53,11 @@ pub record IsRecordReady {B : Type 0} (kind : B → Kind) (kept : B → Kept) (f
   pub planned : IsRecordPlanned filters channel
   pub stands : RecordStandsForSome kept filters channel
 
+-- whatever bytes a channel stands for, a read gives those that were kept first and not yet read, as many as its answer says
+abbrev pub GivesUnread : {B : Type 0} → (B → Kept) → RecordChannelOf B → Result Answer Errno → List ℕ → Type 0
+GivesUnread kept channel result out = (filters : Filters) (bytes : List ℕ) (frames : List Frame) → RecordStands kept filters channel channel.book bytes frames
+    → take (bytes_due result) out ≡ take (bytes_due result) (unread_of channel.book bytes)
+
 -- nobody has opened the channel yet: it stands for no bytes and no frames, its boxes are of the right kinds, and its chain goes
 -- by its plan
 pub record IsRecordUnopened {B : Type 0} (kind : B → Kind) (kept : B → Kept) (filters : Filters) (device : Device) (channel : RecordChannelOf B) : Type 0 where
@@ -67,3 +78,9 @@ pub record RecordMoves {B : Type 0} (kind : B → Kind) (keeps : B → Kept) (fi
       (take new.book.captured (frames ++ input))
   pub captured : new.book.captured ≤ old.book.captured + length input
   pub kept : new.book.kept ≤ old.book.kept + RING_BYTES
+
+-- what a capture of n frames leaves of a channel, which are these samples
+abbrev pub CaptureMoves : {B : Type 0} → (B → Kind) → (B → Kept) → Filters → ℕ → List ℤ → RecordChannelOf B → RecordChannelOf B → Type 0
+CaptureMoves kind keeps filters n samples old new =
+    RecordMoves kind keeps filters (frames_of (channels_of old.path.device.settings.layout) samples)
+    (keeping (record_rate_at (seen filters old.path.device) old.book) n old.book) old new

@@ -1,24 +1,22 @@
 //! A channel that records: its book, and the path with the chain that captured frames go through and the bytes that wait.
 
-ghost use Rattle.std.specs.Prelude.{◌≡◌, ◌+◌, ◌*◌, ◌^◌, ◌<◌, ◌≤◌, [], ℕ, List, length, take, drop, IfOk, OnErr};
-ghost use Rattle.pcm_format.specs.Frames.{Frame};
+ghost use Rattle.std.specs.Prelude.{◌≡◌, ◌+◌, ◌*◌, ◌^◌, ◌<◌, ◌≤◌, [], length, drop, IfOk, OnErr};
 ghost use Rattle.pcm_format.specs.Layouts.{channels_of};
 ghost use Rattle.pcm_oss.specs.declared.fragments.TheConstants.{RING_BYTES};
 ghost use Rattle.pcm_oss.specs.Replies.{bytes_due};
 ghost use Rattle.pcm_feeder.specs.Limits.{IsRate};
 ghost use Rattle.pcm_feeder.specs.Racks.{HaveKinds, IsRack};
-ghost use Rattle.pcm_feeder.specs.Streams.{frames_of};
 ghost use Rattle.pcm_plan.specs.Plans.{rate_in_plan};
 ghost use Rattle.pcm_chain.specs.Chains.{boxes_in, plan_in};
 ghost use Rattle.pcm_desk.specs.declared.limits.TheConstants.{RING_FRAMES};
 ghost use Rattle.pcm_desk.specs.Device.{seen};
-ghost use Rattle.pcm_desk.specs.RecordBooks.{closed, is_record_free, keeping, read_turn, record_begun, record_fill_of};
+ghost use Rattle.pcm_desk.specs.RecordBooks.{closed, is_record_free, read_turn, record_begun, record_fill_of};
 ghost use Rattle.pcm_desk.specs.RecordRequests.{record_ask};
 ghost use Rattle.pcm_desk.specs.RecordSafe.{RecordIsSafe};
 ghost use Rattle.pcm_desk.proofs.Props.{record_props};
 ghost use Rattle.pcm_path.specs.Paths.{Serves};
 ghost use Rattle.std.proofs.Props.{props};
-ghost use Rattle.pcm_desk.specs.Desk.{capturing, record_rate_at, record_unopened};
+ghost use Rattle.pcm_desk.specs.Desk.{capturing, record_unopened};
 
 use crate::anew::begin_anew;
 use pcm_desk::{Device, RecordBook, RecordState};
@@ -41,7 +39,7 @@ pub struct RecordChannelOf<B> {
 
 impl<B: Feeder> RecordChannelOf<B> {
     ghost use Rattle.pcm_feeder.specs.Filters.{Filters};
-    ghost use Rattle.pcm_record.specs.Channels.{IsRecordPlanned, RecordMoves, RecordStands, RecordStandsForSome};
+    ghost use Rattle.pcm_record.specs.Channels.{CaptureMoves, GivesUnread, IsRecordPlanned, RecordMoves, RecordStands, RecordStandsForSome};
 
     /// A channel of a device that nobody has opened.
     pub fn new(
@@ -91,9 +89,7 @@ impl<B: Feeder> RecordChannelOf<B> {
         ensures book { self.new.book ≡ (read_turn (length out.old) self.old.book).book }
         ensures reply { result ≡ (read_turn (length out.old) self.old.book).reply }
         ensures within { bytes_due result ≤ length out.old }
-        ensures bytes { (filters : Filters) (bytes : List ℕ) (frames : List Frame)
-            → RecordStands B.kept filters self.old self.old.book bytes frames
-            → take (bytes_due result) out.new ≡ take (bytes_due result) (drop self.old.book.read bytes) }
+        ensures bytes { GivesUnread B.kept self.old result out.new }
         ensures rest { drop (bytes_due result) out.new ≡ drop (bytes_due result) out.old }
         ensures refused { OnErr result (self.new ≡ self.old) }
         ensures kept { OnErr result (out.new ≡ out.old) }
@@ -149,10 +145,7 @@ impl<B: Feeder> RecordChannelOf<B> {
         requires kept { self.old.book.kept + RING_BYTES < 2 ^ 64 }
         ensures book { self.new.book ≡ capturing (seen tables.now self.old.path.device) frames self.old.book }
         ensures device { self.new.path.device ≡ self.old.path.device }
-        ensures moves { RecordMoves B.kind B.kept tables.now
-            (frames_of (channels_of self.old.path.device.settings.layout) input.now)
-            (keeping (record_rate_at (seen tables.now self.old.path.device) self.old.book) frames self.old.book)
-            self.old self.new }
+        ensures moves { CaptureMoves B.kind B.kept tables.now frames input.now self.old self.new }
     {
         if !self.book.is_running() {
             return;

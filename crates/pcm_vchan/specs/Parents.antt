@@ -1,9 +1,14 @@
 -- What a parent is to the rules.
-use Rattle.std.specs.Prelude.{◌≡◌, ℕ, ◌<◌, List, [], length, IfOk, Option, Some, None, Result, Ok, Err, slice_set}
+use Rattle.std.specs.Prelude.{◌≡◌, ℕ, ◌+◌, ◌^◌, ◌<◌, All, ℤ, List, [], length, IfOk, Option, Some, None, Result, Ok, Err, slice_set}
 use Rattle.pcm_fixed.specs.Fixed.{fixed_items}
 use Rattle.pcm_format.specs.declared.settings.Settings.{Settings}
+use Rattle.pcm_format.specs.Frames.{Frame}
 use Rattle.pcm_oss.specs.declared.reply.Errno.{Errno}
 use Rattle.pcm_oss.specs.declared.reply.Errno.TheVariants.{Busy}
+use Rattle.pcm_feeder.specs.Racks.{HaveKinds}
+use Rattle.pcm_chain.specs.Chains.{boxes_in}
+use Rattle.pcm_desk.specs.declared.device.Device.{Device}
+use Rattle.pcm_desk.specs.Device.{seen}
 use Rattle.pcm_desk.specs.declared.play_book.PlayBook.{PlayBook}
 use Rattle.pcm_desk.specs.declared.record_book.RecordBook.{RecordBook}
 use Rattle.pcm_feeder.specs.declared.kind.Kind.{Kind}
@@ -13,11 +18,13 @@ use Rattle.pcm_desk.specs.PlayBooks.{play_begun}
 use Rattle.pcm_desk.specs.RecordBooks.{record_begun}
 use Rattle.pcm_desk.specs.Desk.{least_free_play, least_free_record}
 use Rattle.pcm_play.specs.declared.channel.PlayChannelOf.{PlayChannelOf}
-use Rattle.pcm_play.specs.Channels.{PlayMoves}
+use Rattle.pcm_play.specs.Channels.{IsPlayReady, IsPlayUnopened, PlayMoves}
 use Rattle.pcm_record.specs.declared.channel.RecordChannelOf.{RecordChannelOf}
-use Rattle.pcm_record.specs.Channels.{RecordMoves}
+use Rattle.pcm_record.specs.Channels.{IsRecordReady, IsRecordUnopened, RecordMoves}
 use Rattle.pcm_vchan.specs.declared.parent.ParentOf.{ParentOf}
-use Rattle.pcm_vchan.specs.Slots.{PlayAreOf, Each, RecordAreOf, play_books_of, record_books_of}
+use Rattle.pcm_vchan.specs.Blocks.{TurnsRing}
+use Rattle.pcm_vchan.specs.Captures.{AllCapture}
+use Rattle.pcm_vchan.specs.Slots.{Each, IsPlayDue, IsRecordDue, Mixes, PlayAreOf, RecordAreOf, play_books_of, record_books_of}
 
 -- the channels of a parent, by slot: those that play
 abbrev pub play_channels : {B : Type 0} → ParentOf B → List (PlayChannelOf B)
@@ -33,6 +40,61 @@ play_books parent = play_books_of (play_channels parent)
 
 abbrev pub record_books : {B : Type 0} → ParentOf B → List RecordBook
 record_books parent = record_books_of (record_channels parent)
+
+-- ---- what is repeated of all channels of a parent
+
+-- all are of its device, and ready for a call
+pub record AreServed {B : Type 0} (kind : B → Kind) (kept : B → Kept) (filters : Filters) (parent : ParentOf B) : Type 0 where
+  pub own : PlayAreOf parent.device (play_channels parent)
+  pub recorders_own : RecordAreOf parent.device (record_channels parent)
+  pub ready : All (IsPlayReady kind kept filters) (play_channels parent)
+  pub recorders_ready : All (IsRecordReady kind kept filters) (record_channels parent)
+
+-- all are of its device, and have the boxes of a rack: they may be closed
+pub record AreClosable {B : Type 0} (kind : B → Kind) (parent : ParentOf B) : Type 0 where
+  pub own : PlayAreOf parent.device (play_channels parent)
+  pub recorders_own : RecordAreOf parent.device (record_channels parent)
+  pub kinds : All (λ channel. HaveKinds kind (boxes_in channel.path.chain)) (play_channels parent)
+  pub recorders_kinds : All (λ channel. HaveKinds kind (boxes_in channel.path.chain)) (record_channels parent)
+
+-- the bytes that were accepted since the opening of each fit a count
+abbrev pub TotalsFit : {B : Type 0} → ParentOf B → Type 0
+TotalsFit parent = All (λ channel. channel.book.done + channel.book.written < 2 ^ 64) (play_channels parent)
+
+-- all are ready for an interrupt of so many frames
+pub record AreDue {B : Type 0} (kind : B → Kind) (kept : B → Kept) (filters : Filters) (frames : ℕ) (parent : ParentOf B) : Type 0 where
+  pub playing : All (IsPlayDue kind kept filters parent.device frames) (play_channels parent)
+  pub recording : All (IsRecordDue kind kept filters parent.device frames) (record_channels parent)
+
+-- nobody has opened one that plays
+abbrev pub ArePlayUnopened : {B : Type 0} → (B → Kind) → (B → Kept) → Filters → Device → ParentOf B → Type 0
+ArePlayUnopened kind kept filters device parent = All (IsPlayUnopened kind kept filters device) (play_channels parent)
+
+-- nor one that records
+abbrev pub AreRecordUnopened : {B : Type 0} → (B → Kind) → (B → Kept) → Filters → Device → ParentOf B → Type 0
+AreRecordUnopened kind kept filters device parent = All (IsRecordUnopened kind kept filters device) (record_channels parent)
+
+-- what a call moves of each that plays
+abbrev pub EachPlayMoves : {B : Type 0} → (B → Kind) → (B → Kept) → Filters → List ℕ → ℕ → ParentOf B → ParentOf B → Type 0
+EachPlayMoves kind kept filters more frames old new = Each (PlayMoves kind kept filters more frames) (play_channels old) (play_channels new)
+
+-- and of each that records
+abbrev pub EachRecordMoves : {B : Type 0} → (B → Kind) → (B → Kept) → Filters → List Frame → ℕ → ParentOf B → ParentOf B → Type 0
+EachRecordMoves kind kept filters input count old new = Each (RecordMoves kind kept filters input count) (record_channels old) (record_channels new)
+
+-- the book of each that plays after an interrupt of so many frames
+abbrev pub EachMixes : {B : Type 0} → Filters → ℕ → ParentOf B → ParentOf B → Type 0
+EachMixes filters n old new = Each (Mixes (seen filters old.device) n) (play_channels old) (play_channels new)
+
+-- what it leaves of each that records, where it brings these samples
+abbrev pub EachCaptures : {B : Type 0} → (B → Kind) → (B → Kept) → Filters → ℕ → List ℤ → ParentOf B → ParentOf B → Type 0
+EachCaptures kind kept filters n samples old new = AllCapture kind kept (seen filters old.device) n samples (record_channels old) (record_channels new)
+
+-- and of the parent's ring
+abbrev pub RingTurns : {B : Type 0} → (B → Kept) → Filters → ℕ → ParentOf B → ParentOf B → Type 0
+RingTurns kept filters n old new = TurnsRing kept filters old.device n (play_channels old) old.ring.bytes new.ring.bytes
+
+-- ---- opening a slot
 
 -- the slot that an open takes, where one is free
 abbrev pub slot_or_busy : Option ℕ → Result ℕ Errno
@@ -63,7 +125,7 @@ pub record OpensPlay {B : Type 0} (kind : B → Kind) (kept : B → Kept) (filte
   pub books : play_books new ≡ books_begun (least_free_play (play_books old)) settings (play_books old)
   pub there : IfOk result (λ slot. slot < length (play_channels old))
   pub own : PlayAreOf new.device (play_channels new)
-  pub moves : Each (PlayMoves kind kept filters [] 0) (play_channels old) (play_channels new)
+  pub moves : EachPlayMoves kind kept filters [] 0 old new
   pub others : new.recorders ≡ old.recorders
 
 -- an open of a channel that records
@@ -72,5 +134,5 @@ pub record OpensRecord {B : Type 0} (kind : B → Kind) (kept : B → Kept) (fil
   pub books : record_books new ≡ record_books_begun (least_free_record (record_books old)) settings (record_books old)
   pub there : IfOk result (λ slot. slot < length (record_channels old))
   pub own : RecordAreOf new.device (record_channels new)
-  pub moves : Each (RecordMoves kind kept filters [] 0) (record_channels old) (record_channels new)
+  pub moves : EachRecordMoves kind kept filters [] 0 old new
   pub others : new.channels ≡ old.channels

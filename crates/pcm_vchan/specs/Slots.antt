@@ -1,5 +1,5 @@
 -- The channels of a device, by slot.
-use Rattle.std.specs.Prelude.{◌≡◌, ℕ, ◌+◌, ◌^◌, ◌<◌, List, length, map, slice_index_or, All}
+use Rattle.std.specs.Prelude.{◌≡◌, ◌≢◌, ℕ, ◌+◌, ◌^◌, ◌<◌, List, [], length, map, slice_index_or, All}
 use Rattle.pcm_feeder.specs.declared.kind.Kind.{Kind}
 use Rattle.pcm_feeder.specs.Filters.{Filters}
 use Rattle.pcm_feeder.specs.Kept.{Kept}
@@ -7,9 +7,11 @@ use Rattle.pcm_format.specs.Frames.{Frame}
 use Rattle.pcm_desk.specs.declared.play_book.PlayBook.{PlayBook}
 use Rattle.pcm_desk.specs.declared.record_book.RecordBook.{RecordBook}
 use Rattle.pcm_desk.specs.declared.device.Device.{Device}
+use Rattle.pcm_desk.specs.Desk.{mixing}
+use Rattle.pcm_desk.specs.Device.{DeviceSeen, seen}
 use Rattle.pcm_play.specs.declared.channel.PlayChannelOf.{PlayChannelOf}
 use Rattle.pcm_oss.specs.declared.fragments.TheConstants.{RING_BYTES}
-use Rattle.pcm_play.specs.Channels.{IsPlayReady, PlayStands}
+use Rattle.pcm_play.specs.Channels.{IsPlayReady, PlayMoves, PlayStands}
 use Rattle.pcm_record.specs.declared.channel.RecordChannelOf.{RecordChannelOf}
 use Rattle.pcm_record.specs.Channels.{IsRecordReady, RecordStands}
 
@@ -25,6 +27,22 @@ PlayAreOf device channels = All (λ channel. channel.path.device ≡ device) cha
 abbrev pub Each : {X : Type 0} → (X → X → Type 0) → List X → List X → Type 0
 Each {X} how old new = (slot : ℕ) (other : X) → slot < length old → how (slice_index_or old slot other) (slice_index_or new slot other)
 
+-- what holds of the channel of a slot
+abbrev pub AtSlot : {X : Type 0} → (X → Type 0) → List X → ℕ → Type 0
+AtSlot {X = X} holds channels slot = (other : X) → holds (slice_index_or channels slot other)
+
+-- what holds of the channel of a slot, before and after
+abbrev pub ChangesAt : {X : Type 0} → (X → X → Type 0) → ℕ → List X → List X → Type 0
+ChangesAt {X = X} how slot old new = (other : X) → how (slice_index_or old slot other) (slice_index_or new slot other)
+
+-- all others stay
+abbrev pub OthersStay : {X : Type 0} → ℕ → List X → List X → Type 0
+OthersStay {X = X} slot old new = (at : ℕ) (other : X) → at ≢ slot → slice_index_or new at other ≡ slice_index_or old at other
+
+-- the book of a channel after an interrupt that mixes so many frames
+abbrev pub Mixes : {B : Type 0} → DeviceSeen → ℕ → PlayChannelOf B → PlayChannelOf B → Type 0
+Mixes device n old new = new.book ≡ mixing device n old.book
+
 -- each channel stands for its book and the bytes of its slot
 abbrev pub AllPlayStand : {B : Type 0} → (B → Kept) → Filters → List (PlayChannelOf B) → (ℕ → List ℕ) → Type 0
 AllPlayStand kept filters channels streams = (slot : ℕ) (other : PlayChannelOf _) → slot < length channels
@@ -36,6 +54,12 @@ pub record IsPlayDue {B : Type 0} (kind : B → Kind) (keeps : B → Kept) (filt
   pub ready : IsPlayReady kind keeps filters channel
   pub given : channel.book.given + frames < 2 ^ 64
   pub counted : channel.book.done + channel.book.written < 2 ^ 64
+
+-- what an interrupt that mixes so many frames leaves of the channels of a device
+pub record AreMixed {B : Type 0} (kind : B → Kind) (kept : B → Kept) (filters : Filters) (device : Device) (frames : ℕ) (old new : List (PlayChannelOf B)) : Type 0 where
+  pub own : PlayAreOf device new
+  pub moves : Each (PlayMoves kind kept filters [] frames) old new
+  pub books : Each (Mixes (seen filters device) frames) old new
 
 -- ---- channels that record
 

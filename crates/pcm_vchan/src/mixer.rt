@@ -1,18 +1,15 @@
 //! One block of the mix, from all channels in the order of their slots, and the ring that it goes into.
 
-ghost use Rattle.std.specs.Prelude.{◌≡◌, ◌≢◌, ℕ, pos, List, [], ◌++◌, ◌*◌, ◌<◌, ◌≤◌, length, take, drop, replicate, flat_map, All, IfOk, slice_index_or};
+ghost use Rattle.std.specs.Prelude.{◌≡◌, pos, [], ◌*◌, ◌<◌, ◌≤◌, length, take, replicate, flat_map, All, IfOk};
 ghost use Rattle.pcm_num.specs.Limit.{FitsBits};
 ghost use Rattle.pcm_format.specs.Formats.{bits_of, bytes_of};
 ghost use Rattle.pcm_format.specs.Layouts.{channels_of};
 ghost use Rattle.pcm_format.specs.Frames.{frame_bytes};
 ghost use Rattle.pcm_format.specs.Samples.{spelled};
 ghost use Rattle.pcm_desk.specs.Device.{seen};
-ghost use Rattle.pcm_desk.specs.Desk.{mixing};
-ghost use Rattle.pcm_sound.specs.Added.{turned};
-ghost use Rattle.pcm_play.specs.declared.channel.PlayChannelOf.{PlayChannelOf};
-ghost use Rattle.pcm_vchan.specs.Slots.{AllPlayStand, Each, IsPlayDue, PlayAreOf, play_books_of};
-ghost use Rattle.pcm_play.specs.Channels.{PlayStands, PlayMoves};
-ghost use Rattle.pcm_vchan.specs.Blocks.{block_bytes, block_of, mixed_onto};
+ghost use Rattle.pcm_play.specs.Channels.{AddsTo, HoldBlock, PlayMoves};
+ghost use Rattle.pcm_vchan.specs.Slots.{AreMixed, AtSlot, ChangesAt, IsPlayDue, Mixes, OthersStay};
+ghost use Rattle.pcm_vchan.specs.Blocks.{MixesBlock, MixesOnto, TurnsRing};
 
 use pcm_desk::Device;
 use pcm_feeder::{Feeder, Tables};
@@ -32,14 +29,9 @@ fn mix_channels<B: Feeder>(
 )
     requires some { 0 < n }
     requires due { All (IsPlayDue B.kind B.kept tables.now device n) channels.old }
-    requires frames { length frames.old ≡ n * channels_of device.settings.layout }
-    requires sum { length sum.old ≡ n * channels_of device.settings.layout }
-    requires fits { All (FitsBits (bits_of device.settings.format)) sum.old }
-    ensures own { PlayAreOf device channels.new }
-    ensures moves { Each (PlayMoves B.kind B.kept tables.now [] n) channels.old channels.new }
-    ensures books { Each (λ old new. new.book ≡ mixing (seen tables.now device) n old.book) channels.old channels.new }
-    ensures sum { (streams : ℕ → List ℕ) → AllPlayStand B.kept tables.now channels.old streams
-        → sum.new ≡ mixed_onto (seen tables.now device) n (play_books_of channels.old) streams (length channels.old) sum.old }
+    requires block { HoldBlock device n frames.old sum.old }
+    ensures mixed { AreMixed B.kind B.kept tables.now device n channels.old channels.new }
+    ensures sum { MixesOnto B.kept tables.now device n channels.old sum.old sum.new }
     ensures fits { All (FitsBits (bits_of device.settings.format)) sum.new }
 {
     for slot in 0..channels.len() {
@@ -59,23 +51,13 @@ fn mix_slot<B: Feeder>(
 )
     requires some { 0 < n }
     requires there { slot < length channels.old }
-    requires due { (other : PlayChannelOf B)
-        → IsPlayDue B.kind B.kept tables.now device n (slice_index_or channels.old slot other) }
-    requires frames { length frames.old ≡ n * channels_of device.settings.layout }
-    requires sum { length sum.old ≡ n * channels_of device.settings.layout }
-    requires fits { All (FitsBits (bits_of device.settings.format)) sum.old }
-    ensures others { (at : ℕ) (other : PlayChannelOf B) → at ≢ slot
-        → slice_index_or channels.new at other ≡ slice_index_or channels.old at other }
-    ensures own { (other : PlayChannelOf B) → (slice_index_or channels.new slot other).path.device ≡ device }
-    ensures moves { (other : PlayChannelOf B) → PlayMoves B.kind B.kept tables.now [] n
-        (slice_index_or channels.old slot other) (slice_index_or channels.new slot other) }
-    ensures book { (other : PlayChannelOf B) → (slice_index_or channels.new slot other).book
-        ≡ mixing (seen tables.now device) n (slice_index_or channels.old slot other).book }
-    ensures sum { (other : PlayChannelOf B) (bytes : List ℕ)
-        → PlayStands B.kept tables.now (slice_index_or channels.old slot other)
-        (slice_index_or channels.old slot other).book bytes
-        → sum.new ≡ turned (seen tables.now device) n (slice_index_or channels.old slot other).book
-        bytes sum.old }
+    requires due { AtSlot (IsPlayDue B.kind B.kept tables.now device n) channels.old slot }
+    requires block { HoldBlock device n frames.old sum.old }
+    ensures others { OthersStay slot channels.old channels.new }
+    ensures own { AtSlot (λ channel. channel.path.device ≡ device) channels.new slot }
+    ensures moves { ChangesAt (PlayMoves B.kind B.kept tables.now [] n) slot channels.old channels.new }
+    ensures book { ChangesAt (Mixes (seen tables.now device) n) slot channels.old channels.new }
+    ensures sum { AtSlot (AddsTo B.kept tables.now device n sum.old sum.new) channels.old slot }
     ensures fits { All (FitsBits (bits_of device.settings.format)) sum.new }
 {
     channels[slot].refill(tables, n, frames, sum);
@@ -96,12 +78,8 @@ fn mix_block<B: Feeder>(
     requires bytes { length bytes.old ≡ n * frame_bytes device.settings }
     requires frames { n * channels_of device.settings.layout ≤ length frames.old }
     requires sum { n * channels_of device.settings.layout ≤ length sum.old }
-    ensures own { PlayAreOf device channels.new }
-    ensures moves { Each (PlayMoves B.kind B.kept tables.now [] n) channels.old channels.new }
-    ensures books { Each (λ old new. new.book ≡ mixing (seen tables.now device) n old.book) channels.old channels.new }
-    ensures bytes { (streams : ℕ → List ℕ) → AllPlayStand B.kept tables.now channels.old streams
-        → bytes.new ≡ block_bytes (seen tables.now device)
-        (block_of (seen tables.now device) n (play_books_of channels.old) streams (length channels.old)) }
+    ensures mixed { AreMixed B.kind B.kept tables.now device n channels.old channels.new }
+    ensures bytes { MixesBlock B.kept tables.now device n channels.old bytes.new }
 {
     let samples = n * device.settings.layout.channels();
     let sum = &mut sum[..samples];
@@ -131,16 +109,11 @@ pub fn turn_ring<B: Feeder>(
     requires bytes { n * frame_bytes device.settings ≤ length bytes.old }
     requires frames { n * channels_of device.settings.layout ≤ length frames.old }
     requires sum { n * channels_of device.settings.layout ≤ length sum.old }
-    ensures own { PlayAreOf device channels.new }
-    ensures moves { Each (PlayMoves B.kind B.kept tables.now [] n) channels.old channels.new }
-    ensures books { Each (λ old new. new.book ≡ mixing (seen tables.now device) n old.book) channels.old channels.new }
+    ensures mixed { AreMixed B.kind B.kept tables.now device n channels.old channels.new }
     ensures size { ring.new.size ≡ ring.old.size }
     ensures full { length ring.new.bytes ≡ ring.old.size }
     ensures out { out.new ≡ take (n * frame_bytes device.settings) ring.old.bytes }
-    ensures ring { (streams : ℕ → List ℕ) → AllPlayStand B.kept tables.now channels.old streams
-        → ring.new.bytes ≡ drop (n * frame_bytes device.settings) ring.old.bytes
-        ++ block_bytes (seen tables.now device)
-        (block_of (seen tables.now device) n (play_books_of channels.old) streams (length channels.old)) }
+    ensures ring { TurnsRing B.kept tables.now device n channels.old ring.old.bytes ring.new.bytes }
 {
     let block = &mut bytes[..n * device.settings.frame_bytes()];
     ring.take(out);

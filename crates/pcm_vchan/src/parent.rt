@@ -1,7 +1,7 @@
 //! What all clients share: the slots of a device, its ring, and the buffers in which a block is mixed.
 
 ghost use Rattle.std.specs.Borrow.{sem};
-ghost use Rattle.std.specs.Prelude.{◌≡◌, ◌+◌, ◌*◌, ◌^◌, ◌<◌, ◌≤◌, ◌++◌, [], ℕ, List, length, vec_len, All, OnErr, IfOk, IfSome, take, drop, position, slice_index_or};
+ghost use Rattle.std.specs.Prelude.{◌≡◌, ◌+◌, ◌*◌, ◌^◌, ◌<◌, ◌≤◌, [], length, vec_len, All, OnErr, IfOk, IfSome, take, position, slice_index_or};
 ghost use Rattle.pcm_fixed.specs.Fixed.{fixed_len};
 ghost use Rattle.pcm_format.specs.Frames.{frame_bytes};
 ghost use Rattle.pcm_format.specs.Layouts.{channels_of};
@@ -10,12 +10,11 @@ ghost use Rattle.pcm_feeder.specs.Racks.{AreRacks, list_of};
 ghost use Rattle.pcm_desk.specs.declared.limits.TheConstants.{RING_FRAMES, SLOTS};
 ghost use Rattle.pcm_desk.specs.Device.{seen};
 ghost use Rattle.pcm_desk.specs.PlayBooks.{is_play_free};
-ghost use Rattle.pcm_desk.specs.Desk.{mixing};
 ghost use Rattle.pcm_desk.specs.RecordBooks.{is_record_free};
-ghost use Rattle.pcm_vchan.specs.Slots.{AllPlayStand, Each, IsPlayDue, IsRecordDue, PlayAreOf, RecordAreOf};
-ghost use Rattle.pcm_play.specs.Channels.{IsPlayReady, IsPlayUnopened, PlayMoves};
+ghost use Rattle.pcm_vchan.specs.Slots.{PlayAreOf, RecordAreOf};
+ghost use Rattle.pcm_play.specs.Channels.{IsPlayReady, IsPlayUnopened};
 ghost use Rattle.pcm_record.specs.Channels.{IsRecordReady, IsRecordUnopened};
-ghost use Rattle.pcm_vchan.specs.Blocks.{block_bytes, block_of, silent_block};
+ghost use Rattle.pcm_vchan.specs.Blocks.{silent_ring};
 
 use crate::mixer::{silent_ring, turn_ring};
 use crate::recorder::capture_all;
@@ -55,8 +54,7 @@ pub struct ParentOf<B> {
 
 impl<B: Feeder> ParentOf<B> {
     ghost use Rattle.pcm_oss.specs.declared.event.Way.TheVariants.{Play, Record};
-    ghost use Rattle.pcm_vchan.specs.Captures.{Captures};
-    ghost use Rattle.pcm_vchan.specs.Parents.{play_books, play_channels, record_channels, KeepsOutput, OpensPlay, OpensRecord};
+    ghost use Rattle.pcm_vchan.specs.Parents.{play_channels, record_channels, AreDue, ArePlayUnopened, AreRecordUnopened, AreServed, EachCaptures, EachMixes, EachPlayMoves, KeepsOutput, OpensPlay, OpensRecord, RingTurns};
     ghost use Rattle.pcm_vchan.specs.Lending.{LendsChannel, LendsRecorder};
 
     /// A device that nobody has opened, whose ring is full of silence. Each slot gets a rack: those that play the first
@@ -74,13 +72,10 @@ impl<B: Feeder> ParentOf<B> {
         requires kinds { AreRacks B.kind (list_of racks) }
         ensures device { IfOk result (λ made. made.device ≡ device) }
         ensures slots { IfOk result (λ made. length (play_channels made) ≡ device.play_slots) }
-        ensures channels { IfOk result
-            (λ made. All (IsPlayUnopened B.kind B.kept tables.now device) (play_channels made)) }
+        ensures channels { IfOk result (ArePlayUnopened B.kind B.kept tables.now device) }
         ensures recorders { IfOk result (λ made. length (record_channels made) ≡ device.record_slots) }
-        ensures recording { IfOk result
-            (λ made. All (IsRecordUnopened B.kind B.kept tables.now device) (record_channels made)) }
-        ensures ring { IfOk result (λ made. made.ring.bytes
-            ≡ block_bytes (seen tables.now device) (silent_block (seen tables.now device) device.ring_frames)) }
+        ensures recording { IfOk result (AreRecordUnopened B.kind B.kept tables.now device) }
+        ensures ring { IfOk result (λ made. made.ring.bytes ≡ silent_ring (seen tables.now device)) }
         ensures handed { IfOk result (λ made. made.handed ≡ 0) }
         ensures mixed { IfOk result (λ made. made.mixed ≡ 0) }
     {
@@ -115,10 +110,7 @@ impl<B: Feeder> ParentOf<B> {
         settings: Settings,
     ) -> Result<usize, Errno>
         requires rate { IsRate settings.rate }
-        requires own { PlayAreOf self.old.device (play_channels self.old) }
-        requires recorders_own { RecordAreOf self.old.device (record_channels self.old) }
-        requires ready { All (IsPlayReady B.kind B.kept tables.now) (play_channels self.old) }
-        requires recorders_ready { All (IsRecordReady B.kind B.kept tables.now) (record_channels self.old) }
+        requires served { AreServed B.kind B.kept tables.now self.old }
         ensures play { way ≡ Play → OpensPlay B.kind B.kept tables.now settings self.old self.new result }
         ensures recording { way ≡ Record → OpensRecord B.kind B.kept tables.now settings self.old self.new result }
         ensures output { KeepsOutput self.old self.new }
@@ -187,31 +179,22 @@ impl<B: Feeder> ParentOf<B> {
         requires within { n ≤ self.old.device.ring_frames }
         requires captured { length captured.now ≡ n * channels_of self.old.device.settings.layout }
         requires out { length out.old ≡ n * frame_bytes self.old.device.settings }
-        requires due { All (IsPlayDue B.kind B.kept tables.now self.old.device n) (play_channels self.old) }
-        requires recorders_due { All (IsRecordDue B.kind B.kept tables.now self.old.device n)
-            (record_channels self.old) }
+        requires due { AreDue B.kind B.kept tables.now n self.old }
         requires handed { self.old.handed + n < 2 ^ 64 }
         requires mixed { self.old.mixed + n < 2 ^ 64 }
         ensures device { self.new.device ≡ self.old.device }
         ensures own { PlayAreOf self.new.device (play_channels self.new) }
         ensures slots { length (play_channels self.new) ≡ length (play_channels self.old) }
-        ensures channels { Each (PlayMoves B.kind B.kept tables.now [] n)
-            (play_channels self.old) (play_channels self.new) }
-        ensures books { Each (λ old new. new.book ≡ mixing (seen tables.now self.old.device) n old.book)
-            (play_channels self.old) (play_channels self.new) }
+        ensures channels { EachPlayMoves B.kind B.kept tables.now [] n self.old self.new }
+        ensures books { EachMixes tables.now n self.old self.new }
         ensures recorders_own { RecordAreOf self.new.device (record_channels self.new) }
         ensures recorders_slots { length (record_channels self.new) ≡ length (record_channels self.old) }
-        ensures recorders { Each (Captures B.kind B.kept (seen tables.now self.old.device) n captured.now)
-            (record_channels self.old) (record_channels self.new) }
+        ensures recorders { EachCaptures B.kind B.kept tables.now n captured.now self.old self.new }
         ensures handed { self.new.handed ≡ self.old.handed + n }
         ensures mixed { self.new.mixed ≡ self.old.mixed + n }
         ensures out { out.new
             ≡ take (n * frame_bytes self.old.device.settings) self.old.ring.bytes }
-        ensures ring { (streams : ℕ → List ℕ) → AllPlayStand B.kept tables.now (play_channels self.old) streams
-            → self.new.ring.bytes
-            ≡ drop (n * frame_bytes self.old.device.settings) self.old.ring.bytes
-            ++ block_bytes (seen tables.now self.old.device) (block_of (seen tables.now self.old.device) n
-            (play_books self.old) streams (length (play_channels self.old))) }
+        ensures ring { RingTurns B.kept tables.now n self.old self.new }
     {
         turn_ring(
             self.device,

@@ -1,12 +1,11 @@
 //! What an interrupt brings to all channels that record, in the order of their slots.
 
-ghost use Rattle.std.specs.Prelude.{◌≡◌, ◌≢◌, ℕ, ◌*◌, ◌<◌, ◌≤◌, length, All, slice_index_or};
+ghost use Rattle.std.specs.Prelude.{◌≡◌, ◌*◌, ◌<◌, ◌≤◌, length, All};
 ghost use Rattle.pcm_format.specs.Layouts.{channels_of};
 ghost use Rattle.pcm_desk.specs.declared.limits.TheConstants.{RING_FRAMES};
 ghost use Rattle.pcm_desk.specs.Device.{seen};
-ghost use Rattle.pcm_record.specs.declared.channel.RecordChannelOf.{RecordChannelOf};
-ghost use Rattle.pcm_vchan.specs.Slots.{Each, IsRecordDue, RecordAreOf};
-ghost use Rattle.pcm_vchan.specs.Captures.{Captures};
+ghost use Rattle.pcm_vchan.specs.Slots.{AtSlot, ChangesAt, IsRecordDue, OthersStay, RecordAreOf};
+ghost use Rattle.pcm_vchan.specs.Captures.{AllCapture, Captures};
 
 use pcm_desk::Device;
 use pcm_feeder::{Feeder, Tables};
@@ -24,7 +23,7 @@ pub fn capture_all<B: Feeder>(
     requires due { All (IsRecordDue B.kind B.kept tables.now device n) channels.old }
     requires captured { length captured.now ≡ n * channels_of device.settings.layout }
     ensures own { RecordAreOf device channels.new }
-    ensures moves { Each (Captures B.kind B.kept (seen tables.now device) n captured.now) channels.old channels.new }
+    ensures moves { AllCapture B.kind B.kept (seen tables.now device) n captured.now channels.old channels.new }
 {
     for slot in 0..channels.len() {
         capture_slot(device, tables, channels, slot, n, captured);
@@ -42,14 +41,12 @@ fn capture_slot<B: Feeder>(
 )
     requires there { slot < length channels.old }
     requires few { n ≤ RING_FRAMES }
-    requires due { (other : RecordChannelOf B)
-        → IsRecordDue B.kind B.kept tables.now device n (slice_index_or channels.old slot other) }
+    requires due { AtSlot (IsRecordDue B.kind B.kept tables.now device n) channels.old slot }
     requires captured { length captured.now ≡ n * channels_of device.settings.layout }
-    ensures others { (at : ℕ) (other : RecordChannelOf B) → at ≢ slot
-        → slice_index_or channels.new at other ≡ slice_index_or channels.old at other }
-    ensures own { (other : RecordChannelOf B) → (slice_index_or channels.new slot other).path.device ≡ device }
-    ensures moves { (other : RecordChannelOf B) → Captures B.kind B.kept (seen tables.now device) n captured.now
-        (slice_index_or channels.old slot other) (slice_index_or channels.new slot other) }
+    ensures others { OthersStay slot channels.old channels.new }
+    ensures own { AtSlot (λ channel. channel.path.device ≡ device) channels.new slot }
+    ensures moves { ChangesAt (Captures B.kind B.kept (seen tables.now device) n captured.now)
+        slot channels.old channels.new }
 {
     channels[slot].capture(tables, n, captured);
 }

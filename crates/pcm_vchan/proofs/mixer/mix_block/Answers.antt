@@ -10,20 +10,15 @@ use Rattle.pcm_vchan.specs.Slots.{play_books_of}
 use Rattle.pcm_vchan.specs.Blocks.{block_bytes, mixed_onto}
 use Rattle.pcm_vchan.proofs.mixer.mix_block.Goals as goal
 
-pub mix_channels-requires-clause-fits : goal.mix_channels-requires-clause-fits
-mix_channels-requires-clause-fits g c =
+pub mix_channels-requires-clause-block : goal.mix_channels-requires-clause-block
+mix_channels-requires-clause-block g c =
     let P = FitsBits (bits_of c.args.device.settings.format) in
-    subst (All P) (sym (c.fill.ensures.after (λ y same. same))) (All-replicate P (length (take (c.args.n * c.channels.result) c.args.sum.now)) (pos 0) (silence-fits (bits_of c.args.device.settings.format)))
-
-pub mix_channels-requires-clause-frames : goal.mix_channels-requires-clause-frames
-mix_channels-requires-clause-frames g c =
     let width : c.args.n * c.channels.result ≡ c.args.n * channels_of c.args.device.settings.layout = ap (λ k. c.args.n * k) c.channels.ensures in
-    omega (arith, length-take (c.args.n * c.channels.result) c.args.frames.now, width, c.requires.frames)
-
-pub mix_channels-requires-clause-sum : goal.mix_channels-requires-clause-sum
-mix_channels-requires-clause-sum g c =
-    let width : c.args.n * c.channels.result ≡ c.args.n * channels_of c.args.device.settings.layout = ap (λ k. c.args.n * k) c.channels.ensures in
-    omega (arith, c.fill.ensures.len, length-take (c.args.n * c.channels.result) c.args.sum.now, width, c.requires.sum)
+    record {
+      frames_whole = omega (arith, length-take (c.args.n * c.channels.result) c.args.frames.now, width, c.requires.frames);
+      sum_whole = omega (arith, c.fill.ensures.len, length-take (c.args.n * c.channels.result) c.args.sum.now, width, c.requires.sum);
+      fits = subst (All P) (sym (c.fill.ensures.after (λ y same. same))) (All-replicate P (length (take (c.args.n * c.channels.result) c.args.sum.now)) (pos 0) (silence-fits (bits_of c.args.device.settings.format)));
+    }
 
 pub spell_frames-requires-clause-range : goal.spell_frames-requires-clause-range
 spell_frames-requires-clause-range g c = c.mix_channels.ensures.fits

@@ -22,7 +22,7 @@ loop-slot-init g c = record {
   mixed = λ at other h. absurd (omega arith);
   rest = λ at other h. refl;
   sum = λ streams stand. refl;
-  fits = c.requires.fits;
+  block = c.requires.block;
 }
 
 pub loop-slot-preserved : goal.loop-slot-preserved
@@ -34,6 +34,7 @@ loop-slot-preserved g c =
     let there : i < length before = omega arith in
     let first = some_channel before i there in
     let was = c.loop-slot.invariant.rest i first (omega arith) in
+    let held = c.loop-slot.invariant.block in
     record {
       own = λ at other h. elim (cases_eq at i) [
         | inl here ↦ subst (λ (k : ℕ). (get_or c.mix_slot.new.channels k other).path.device ≡ c.args.device) (sym here) (c.mix_slot.ensures.own other)
@@ -61,7 +62,16 @@ loop-slot-preserved g c =
           let by_slot : c.mix_slot.new.sum ≡ turned device n channel.book (streams i) c.loop-slot.sum = c.mix_slot.ensures.sum first (streams i) stood in
           let onto : c.mix_slot.new.sum ≡ turned device n channel.book (streams i) mixed = by_slot ∙ ap (turned device n channel.book (streams i)) (c.loop-slot.invariant.sum streams stand) in
           onto ∙ mixed-more device n before streams i channel first there was c.args.sum.now);
-      fits = c.mix_slot.ensures.fits;
+      block = record { frames_whole = omega (arith, c.mix_slot.auto.frames, held.frames_whole); sum_whole = omega (arith, c.mix_slot.auto.sum, held.sum_whole); fits = c.mix_slot.ensures.fits };
+    }
+
+pub returns-clause-mixed : goal.returns-clause-mixed
+returns-clause-mixed g c =
+    let last : c.loop-slot.slot ≡ length c.args.channels.now = omega arith in
+    record {
+      own = λ at other h. c.loop-slot.invariant.own at other (omega arith);
+      moves = λ at other h. c.loop-slot.invariant.moved at other (omega arith);
+      books = λ at other h. c.loop-slot.invariant.mixed at other (omega arith);
     }
 
 pub returns-clause-sum : goal.returns-clause-sum

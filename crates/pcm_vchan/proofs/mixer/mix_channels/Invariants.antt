@@ -1,11 +1,9 @@
-use Rattle.std.proofs.Common.{◌≡◌, ℕ, List, ◌<◌, ◌≤◌, [], All, length, slice_index_or}
-use Rattle.pcm_num.specs.Limit.{FitsBits}
-use Rattle.pcm_format.specs.Formats.{bits_of}
+use Rattle.std.proofs.Common.{◌≡◌, ℕ, List, ◌<◌, ◌≤◌, [], length, slice_index_or}
 use Rattle.pcm_desk.specs.Device.{seen}
 use Rattle.pcm_desk.specs.Desk.{mixing}
 use Rattle.pcm_play.specs.declared.channel.PlayChannelOf.{PlayChannelOf}
 use Rattle.pcm_vchan.specs.Slots.{AllPlayStand, play_books_of}
-use Rattle.pcm_play.specs.Channels.{PlayMoves}
+use Rattle.pcm_play.specs.Channels.{HoldBlock, PlayMoves}
 use Rattle.pcm_vchan.specs.Blocks.{mixed_onto}
 use Rattle.pcm_vchan.proofs.mixer.mix_channels.Given as goal
 
@@ -17,5 +15,5 @@ invariant-loop-slot g l = record {
   mixed : (at : ℕ) (other : PlayChannelOf _) → at < l.slot → (slice_index_or l.channels at other).book ≡ mixing (seen l.tables l.fn.device) l.n (slice_index_or l.fn.channels at other).book;
   rest : (at : ℕ) (other : PlayChannelOf _) → l.slot ≤ at → slice_index_or l.channels at other ≡ slice_index_or l.fn.channels at other;
   sum : (streams : ℕ → List ℕ) → AllPlayStand g.B.Feeder.kept l.tables l.fn.channels streams → l.sum ≡ mixed_onto (seen l.tables l.fn.device) l.n (play_books_of l.fn.channels) streams l.slot l.fn.sum;
-  fits : All (FitsBits (bits_of l.fn.device.settings.format)) l.sum;
+  block : HoldBlock l.fn.device l.n l.frames l.sum;
 }

@@ -1,27 +1,20 @@
-use Rattle.std.proofs.Common.{◌≡◌, ◌*◌, [], All, get_or, sym, ap, ◌∙◌, subst, get_or-set_same}
+use Rattle.std.proofs.Common.{◌≡◌, [], All, get_or, sym, ap, ◌∙◌, subst, get_or-set_same}
 use Rattle.std.proofs.lemmas.List.{get_or_default}
 use Rattle.pcm_num.specs.Limit.{FitsBits}
 use Rattle.pcm_format.specs.Formats.{bits_of}
-use Rattle.pcm_format.specs.Layouts.{channels_of}
 use Rattle.pcm_desk.specs.declared.device.Device.{Device}
 use Rattle.pcm_desk.specs.Device.{seen}
 use Rattle.pcm_desk.specs.Desk.{mixing}
 use Rattle.pcm_sound.specs.Added.{turned}
 use Rattle.pcm_play.specs.declared.channel.PlayChannelOf.{PlayChannelOf}
-use Rattle.pcm_play.specs.Channels.{PlayStands, PlayMoves}
+use Rattle.pcm_play.specs.Channels.{HoldBlock, PlayStands, PlayMoves}
 use Rattle.pcm_vchan.proofs.mixer.mix_slot.Goals as goal
 
 pub refill-requires-clause-ready : goal.refill-requires-clause-ready
 refill-requires-clause-ready g c = (c.requires.due c.index-channels-slot.result).ready
 
-pub refill-requires-clause-frames : goal.refill-requires-clause-frames
-refill-requires-clause-frames g c = c.requires.frames ∙ ap (λ (d : Device). c.args.n * channels_of d.settings.layout) (sym ((c.requires.due c.index-channels-slot.result).own))
-
-pub refill-requires-clause-sum : goal.refill-requires-clause-sum
-refill-requires-clause-sum g c = c.requires.sum ∙ ap (λ (d : Device). c.args.n * channels_of d.settings.layout) (sym ((c.requires.due c.index-channels-slot.result).own))
-
-pub refill-requires-clause-fits : goal.refill-requires-clause-fits
-refill-requires-clause-fits g c = subst (λ (d : Device). All (FitsBits (bits_of d.settings.format)) c.args.sum.now) (sym ((c.requires.due c.index-channels-slot.result).own)) c.requires.fits
+pub refill-requires-clause-block : goal.refill-requires-clause-block
+refill-requires-clause-block g c = subst (λ (d : Device). HoldBlock d c.args.n c.args.frames.now c.args.sum.now) (sym ((c.requires.due c.index-channels-slot.result).own)) c.requires.block
 
 pub returns-clause-own : goal.returns-clause-own
 returns-clause-own g c = λ other.

@@ -40,13 +40,13 @@ pub slice_bounds-mix_into-end-2 : goal.slice_bounds-mix_into-end-2
 slice_bounds-mix_into-end-2 g c =
     let more = mul-le-mul_right c.channels.result c.pull-pulled.ensures.most in
     let wide = ap (λ (k : ℕ). c.args.n * k) c.channels.ensures in
-    omega (arith, more, wide, c.requires.sum, length-take (c.pull-pulled.result.given * c.channels.result) c.args.sum.now)
+    omega (arith, more, wide, c.requires.block.sum_whole, length-take (c.pull-pulled.result.given * c.channels.result) c.args.sum.now)
 
 pub slice_bounds-mix_into-end-4 : goal.slice_bounds-mix_into-end-4
 slice_bounds-mix_into-end-4 g c =
     let more = mul-le-mul_right c.channels.result c.pull-pulled.ensures.most in
     let wide = ap (λ (k : ℕ). c.args.n * k) c.channels.ensures in
-    omega (arith, more, wide, c.requires.frames, c.pull-pulled.auto.out, length-take (c.pull-pulled.result.given * c.channels.result) c.pull-pulled.new.out)
+    omega (arith, more, wide, c.requires.block.frames_whole, c.pull-pulled.auto.out, length-take (c.pull-pulled.result.given * c.channels.result) c.pull-pulled.new.out)
 
 pub invariant_of-self : goal.invariant_of-self
 invariant_of-self g c =
@@ -139,10 +139,10 @@ pub returns-then-self-eq0-clause-fits : goal.returns-then-self-eq0-clause-fits
 returns-then-self-eq0-clause-fits g c =
     All-append (FitsBits (bits_of c.args.self.now.path.device.settings.format)) c.mix_into.new.acc (drop (c.pull-pulled.result.given * c.channels.result) c.args.sum.now)
     (subst (λ b. All (FitsBits b) c.mix_into.new.acc) c.bits.ensures c.mix_into.ensures.fits)
-    (All-drop (FitsBits (bits_of c.args.self.now.path.device.settings.format)) (c.pull-pulled.result.given * c.channels.result) c.args.sum.now c.requires.fits)
+    (All-drop (FitsBits (bits_of c.args.self.now.path.device.settings.format)) (c.pull-pulled.result.given * c.channels.result) c.args.sum.now c.requires.block.fits)
 
 pub returns-else-self-eq0-clause-fits : goal.returns-else-self-eq0-clause-fits
 returns-else-self-eq0-clause-fits g c =
     All-append (FitsBits (bits_of c.args.self.now.path.device.settings.format)) c.mix_into.new.acc (drop (c.pull-pulled.result.given * c.channels.result) c.args.sum.now)
     (subst (λ b. All (FitsBits b) c.mix_into.new.acc) c.bits.ensures c.mix_into.ensures.fits)
-    (All-drop (FitsBits (bits_of c.args.self.now.path.device.settings.format)) (c.pull-pulled.result.given * c.channels.result) c.args.sum.now c.requires.fits)
+    (All-drop (FitsBits (bits_of c.args.self.now.path.device.settings.format)) (c.pull-pulled.result.given * c.channels.result) c.args.sum.now c.requires.block.fits)

@@ -1,4 +1,4 @@
-use Rattle.std.proofs.Common.{[], ap, refl, sym, subst}
+use Rattle.std.proofs.Common.{[], ap, sym, subst}
 use Rattle.pcm_desk.specs.Device.{record_plan_between}
 use Rattle.pcm_path.proofs.Paths.{planned-as, serves-as}
 use Rattle.pcm_plan.specs.Plans.{PlanSeen, rate_in_plan}

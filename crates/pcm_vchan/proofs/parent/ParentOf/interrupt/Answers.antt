@@ -20,10 +20,10 @@ rewritten : {A : Type 0} (new old : List A) (n : ℕ) → length new ≡ n → t
 rewritten new old n long = take_at new (drop (length new) old) n long
 
 pub turn_ring-requires-clause-due : goal.turn_ring-requires-clause-due
-turn_ring-requires-clause-due g c = subst (All (IsPlayDue g.B.Feeder.kind g.B.Feeder.kept c.args.tables.now c.args.self.now.device c.args.n)) (sym c.deref_mut.ensures.value) c.requires.due
+turn_ring-requires-clause-due g c = subst (All (IsPlayDue g.B.Feeder.kind g.B.Feeder.kept c.args.tables.now c.args.self.now.device c.args.n)) (sym c.deref_mut.ensures.value) c.requires.due.playing
 
 pub capture_all-requires-clause-due : goal.capture_all-requires-clause-due
-capture_all-requires-clause-due g c = subst (All (IsRecordDue g.B.Feeder.kind g.B.Feeder.kept c.args.tables.now c.args.self.now.device c.args.n)) (sym c.deref_mut-5.ensures.value) c.requires.recorders_due
+capture_all-requires-clause-due g c = subst (All (IsRecordDue g.B.Feeder.kind g.B.Feeder.kept c.args.tables.now c.args.self.now.device c.args.n)) (sym c.deref_mut-5.ensures.value) c.requires.due.recording
 
 pub turn_ring-requires-clause-full : goal.turn_ring-requires-clause-full
 turn_ring-requires-clause-full g c = c.args.self.now.full ∙ sym c.args.self.now.size
@@ -56,13 +56,13 @@ pub returns-clause-channels : goal.returns-clause-channels
 returns-clause-channels g c =
     let old = c.args.self.now in
     let same = rewritten c.turn_ring.new.channels (play_channels old) (fixed_len old.channels) (c.turn_ring.auto.channels ∙ c.deref_mut.ensures.len) in
-    rw same (subst (λ (before : List (PlayChannelOf _)). Each (PlayMoves g.B.Feeder.kind g.B.Feeder.kept c.args.tables.now [] c.args.n) before c.turn_ring.new.channels) c.deref_mut.ensures.value c.turn_ring.ensures.moves)
+    rw same (subst (λ (before : List (PlayChannelOf _)). Each (PlayMoves g.B.Feeder.kind g.B.Feeder.kept c.args.tables.now [] c.args.n) before c.turn_ring.new.channels) c.deref_mut.ensures.value c.turn_ring.ensures.mixed.moves)
 
 pub returns-clause-books : goal.returns-clause-books
 returns-clause-books g c =
     let old = c.args.self.now in
     let same = rewritten c.turn_ring.new.channels (play_channels old) (fixed_len old.channels) (c.turn_ring.auto.channels ∙ c.deref_mut.ensures.len) in
-    rw same (subst (λ (before : List (PlayChannelOf _)). Each (λ (was is : PlayChannelOf _). is.book ≡ mixing (seen c.args.tables.now old.device) c.args.n was.book) before c.turn_ring.new.channels) c.deref_mut.ensures.value c.turn_ring.ensures.books)
+    rw same (subst (λ (before : List (PlayChannelOf _)). Each (λ (was is : PlayChannelOf _). is.book ≡ mixing (seen c.args.tables.now old.device) c.args.n was.book) before c.turn_ring.new.channels) c.deref_mut.ensures.value c.turn_ring.ensures.mixed.books)
 
 pub returns-clause-ring : goal.returns-clause-ring
 returns-clause-ring g c = λ streams stand.
@@ -92,7 +92,7 @@ pub returns-clause-own : goal.returns-clause-own
 returns-clause-own g c =
     let old = c.args.self.now in
     let same = rewritten c.turn_ring.new.channels (play_channels old) (fixed_len old.channels) (c.turn_ring.auto.channels ∙ c.deref_mut.ensures.len) in
-    rw same c.turn_ring.ensures.own
+    rw same c.turn_ring.ensures.mixed.own
 
 pub returns-clause-recorders : goal.returns-clause-recorders
 returns-clause-recorders g c =
