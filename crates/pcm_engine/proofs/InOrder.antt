@@ -24,7 +24,7 @@ use Rattle.pcm_record.specs.Channels.{IsRecordReady}
 use Rattle.pcm_record.proofs.Moving as recorders
 use Rattle.pcm_vchan.specs.Slots.{PlayAreOf, RecordAreOf, play_books_of, record_books_of}
 use Rattle.pcm_vchan.proofs.Channels.{some_channel}
-use Rattle.pcm_vchan.specs.Parents.{play_channels, record_channels}
+use Rattle.pcm_vchan.specs.Parents.{AreClosable, AreServed, play_channels, record_channels}
 use Rattle.pcm_engine.specs.declared.engine.EngineOf.{EngineOf}
 use Rattle.pcm_engine.specs.Engines.{AreReady, BooksAreSafe, RecordsAreSafe, RingsHold, desk_of}
 
@@ -104,4 +104,17 @@ ready-all kind kept engine playing recording = record {
   books = books_safe kind kept engine.tables engine.parent.device (desk_of engine) (play_channels engine.parent) refl engine.own playing;
   records = records_safe kind kept engine.tables engine.parent.device (desk_of engine) (record_channels engine.parent) refl engine.recorders_own recording;
   rings = rings-hold engine;
+}
+
+-- they are ready for a call
+pub served : {B : Type 0} (kind : B → Kind) (kept : B → Kept) (engine : EngineOf B) → AreReady kind kept engine → AreServed kind kept engine.tables engine.parent
+served kind kept engine ready = record { own = engine.own; recorders_own = engine.recorders_own; ready = ready.playing; recorders_ready = ready.recording }
+
+-- and may be closed
+pub closable : {B : Type 0} (kind : B → Kind) (kept : B → Kept) (engine : EngineOf B) → AreReady kind kept engine → AreClosable kind engine.parent
+closable kind kept engine ready = record {
+  own = engine.own;
+  recorders_own = engine.recorders_own;
+  kinds = λ slot other there. (ready.playing slot other there).kinds;
+  recorders_kinds = λ slot other there. (ready.recording slot other there).kinds;
 }

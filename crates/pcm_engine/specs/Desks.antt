@@ -1,9 +1,23 @@
--- What a parent and descriptors are to the rules: a desk.
-use Rattle.std.specs.Prelude.{List, Option}
+-- What a parent and descriptors are to the rules: a desk. And what a call of a client makes of it.
+use Rattle.std.specs.Prelude.{◌≡◌, ℕ, List, All, Option, Result, take}
+use Rattle.pcm_format.specs.Frames.{Frame}
+use Rattle.pcm_feeder.specs.declared.kind.Kind.{Kind}
+use Rattle.pcm_feeder.specs.Filters.{Filters}
+use Rattle.pcm_feeder.specs.Kept.{Kept}
+use Rattle.pcm_oss.specs.declared.reply.Answer.{Answer}
+use Rattle.pcm_oss.specs.declared.reply.Errno.{Errno}
+use Rattle.pcm_oss.specs.declared.request.Request.{Request}
+use Rattle.pcm_oss.specs.Replies.{bytes_due}
 use Rattle.pcm_desk.specs.declared.device.Held.{Held}
-use Rattle.pcm_desk.specs.Desk.{Desk}
+use Rattle.pcm_desk.specs.Device.{DeviceSeen, seen}
+use Rattle.pcm_desk.specs.Desk.{Desk, DeskTurn, by_way, close_on, closing, held_by, ioctl_on, play_at, read_on, record_at, with_play, with_record, write_on}
+use Rattle.pcm_desk.specs.RecordBooks.{closed}
+use Rattle.pcm_play.specs.Channels.{IsPlayReady}
 use Rattle.pcm_vchan.specs.declared.parent.ParentOf.{ParentOf}
-use Rattle.pcm_vchan.specs.Parents.{play_books, record_books}
+use Rattle.pcm_vchan.specs.Parents.{play_books, play_channels, record_books, record_channels}
+use Rattle.pcm_vchan.specs.Slots.{AllRecordStand}
+use Rattle.pcm_engine.specs.declared.descriptors.Descriptors.{Descriptors}
+use Rattle.pcm_engine.specs.Steps.{bytes_read}
 
 -- the desk of a parent and descriptors
 abbrev pub desk_with : {B : Type 0} → ParentOf B → List (Option Held) → Desk
@@ -14,3 +28,63 @@ desk_with parent descriptors = record {
   handed = parent.handed;
   mixed = parent.mixed;
 }
+
+-- ---- turns of the channel that a descriptor holds
+
+-- a write of so many bytes
+abbrev pub write_call : ℕ → ℕ → DeviceSeen → Desk → DeskTurn
+write_call fd count device desk = write_on device (held_by desk fd) desk count
+
+-- a read of at most so many
+abbrev pub read_call : ℕ → ℕ → DeviceSeen → Desk → DeskTurn
+read_call fd count device desk = read_on device (held_by desk fd) desk count
+
+-- a request
+abbrev pub ioctl_call : ℕ → Request → DeviceSeen → Desk → DeskTurn
+ioctl_call fd request device desk = ioctl_on device (held_by desk fd) desk request
+
+-- a close
+abbrev pub close_call : ℕ → DeviceSeen → Desk → DeskTurn
+close_call fd device desk = close_on device (held_by desk fd) desk fd
+
+-- the desk once a channel of either way was closed, whose descriptor is open still
+abbrev pub closed_held : DeviceSeen → Desk → Held → Desk
+closed_held device desk held = by_way held.way
+    (with_play desk held.slot (closing device (play_at device desk held.slot)))
+    (with_record desk held.slot (closed (record_at device desk held.slot)))
+
+-- ---- what a call makes of parent and descriptors
+
+-- by these filters the desk becomes that of a turn
+abbrev pub TurnsBy : {B : Type 0} → Filters → (DeviceSeen → Desk → DeskTurn) → ParentOf B → ParentOf B → Descriptors → Type 0
+TurnsBy filters turn old new descriptors = desk_with new descriptors.held ≡ (turn (seen filters old.device) (desk_with old descriptors.held)).desk
+
+-- and the reply is that of a turn
+abbrev pub RepliesBy : {B : Type 0} → Filters → (DeviceSeen → Desk → DeskTurn) → ParentOf B → Descriptors → Result Answer Errno → Type 0
+RepliesBy filters turn parent descriptors result = result ≡ (turn (seen filters parent.device) (desk_with parent descriptors.held)).reply
+
+-- by whichever filters
+abbrev pub Turns : {B : Type 0} → (DeviceSeen → Desk → DeskTurn) → ParentOf B → ParentOf B → Descriptors → Type 0
+Turns turn old new descriptors = (filters : Filters) → TurnsBy filters turn old new descriptors
+
+abbrev pub Replies : {B : Type 0} → (DeviceSeen → Desk → DeskTurn) → ParentOf B → Descriptors → Result Answer Errno → Type 0
+Replies turn parent descriptors result = (filters : Filters) → RepliesBy filters turn parent descriptors result
+
+-- a close shuts a descriptor, by whichever filters the channels are ready
+abbrev pub Closes : {B : Type 0} → (B → Kind) → (B → Kept) → ℕ → ParentOf B → Descriptors → ParentOf B → Descriptors → Type 0
+Closes kind kept fd old descriptors new shut = (filters : Filters) → All (IsPlayReady kind kept filters) (play_channels old)
+    → desk_with new shut.held ≡ (close_call fd (seen filters old.device) (desk_with old descriptors.held)).desk
+
+-- so it is of the channel alone, whatever the descriptors are
+abbrev pub ClosesHeld : {B : Type 0} → (B → Kind) → (B → Kept) → Held → ParentOf B → ParentOf B → Type 0
+ClosesHeld kind kept held old new = (filters : Filters) (descriptors : List (Option Held)) → All (IsPlayReady kind kept filters) (play_channels old)
+    → desk_with new descriptors ≡ closed_held (seen filters old.device) (desk_with old descriptors) held
+
+-- the bytes that come with an answer
+abbrev pub front_due : Result Answer Errno → List ℕ → List ℕ
+front_due result out = take (bytes_due result) out
+
+-- whatever bytes the channels stand for, a read gets what was kept in its own slot
+abbrev pub ReadsKept : {B : Type 0} → (B → Kept) → ParentOf B → Descriptors → ℕ → ℕ → List ℕ → Type 0
+ReadsKept kept parent descriptors fd count got = (filters : Filters) (bytes : ℕ → List ℕ) (frames : ℕ → List Frame) → AllRecordStand kept filters (record_channels parent) bytes frames
+    → got ≡ bytes_read (seen filters parent.device) (desk_with parent descriptors.held) bytes count (held_by (desk_with parent descriptors.held) fd)

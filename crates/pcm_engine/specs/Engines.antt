@@ -1,6 +1,9 @@
 -- What an engine stands for, and what holds of every one.
-use Rattle.std.specs.Prelude.{◌≡◌, ◌≤◌, ◌*◌, ℕ, List, All, length, map}
+use Rattle.std.specs.Prelude.{◌≡◌, ◌≤◌, ◌*◌, ℕ, List, [], ◌∷◌, ◌++◌, All, length, map}
 use Rattle.pcm_oss.specs.declared.event.Event.{Event}
+use Rattle.pcm_oss.specs.declared.event.Event.TheVariants.{Read}
+use Rattle.pcm_oss.specs.Replies.{Reply}
+use Rattle.pcm_format.specs.Frames.{Frame}
 use Rattle.pcm_wave.specs.declared.pool.Pool.{Pool}
 use Rattle.pcm_feeder.specs.declared.kind.Kind.{Kind}
 use Rattle.pcm_feeder.specs.Kept.{Kept}
@@ -8,14 +11,21 @@ use Rattle.pcm_desk.specs.Device.{DeviceSeen, device_frame_bytes, ring_frames, s
 use Rattle.pcm_desk.specs.Openings.{ring_bytes}
 use Rattle.pcm_desk.specs.PlaySafe.{PlayIsSafe}
 use Rattle.pcm_desk.specs.RecordSafe.{RecordIsSafe}
-use Rattle.pcm_desk.specs.Desk.{Desk, play_at, play_rate_at, record_at, record_rate_at}
+use Rattle.pcm_desk.specs.Desk.{Desk, held_by, play_at, play_rate_at, record_at, record_rate_at}
+use Rattle.pcm_desk.specs.Events.{Fits}
+use Rattle.pcm_sound.specs.DeviceList.{device_text}
+use Rattle.pcm_sound.specs.Plain.{HasNoShortage, plain_text}
+use Rattle.pcm_sound.specs.Pools.{AreAlike, IsLonger}
 use Rattle.pcm_sound.specs.Story.{story_of}
+use Rattle.pcm_sound.specs.StoryReplies.{reply_to}
 use Rattle.pcm_engine.specs.declared.engine.EngineOf.{EngineOf}
 use Rattle.pcm_play.specs.Channels.{IsPlayReady}
 use Rattle.pcm_engine.specs.Desks.{desk_with}
 use Rattle.pcm_record.specs.Channels.{IsRecordReady}
 use Rattle.pcm_engine.specs.Stands.{PartsStand, RecordersStand}
-use Rattle.pcm_vchan.specs.Parents.{play_channels, record_channels}
+use Rattle.pcm_engine.specs.Steps.{ChannelsMove, RecordersMove, bytes_answered, front_taken, ring_after}
+use Rattle.pcm_vchan.specs.Parents.{play_books, play_channels, record_channels}
+use Rattle.pcm_vchan.specs.Slots.{AllPlayStand, AllRecordStand}
 
 -- the engine's device, beside the filters of its run
 abbrev pub device_of : {B : Type 0} → EngineOf B → DeviceSeen
@@ -33,6 +43,66 @@ waiting_in engine = map (λ channel. channel.path.ring.bytes) (record_channels e
 pub record Stands {B : Type 0} (kept : B → Kept) (engine : EngineOf B) (pool : Pool) (events : List Event) : Type 0 where
   pub playing : PartsStand kept (device_of engine) (desk_of engine) (play_channels engine.parent) engine.parent.ring.bytes (story_of (device_of engine) pool events)
   pub recording : RecordersStand kept (device_of engine) pool (record_channels engine.parent) (story_of (device_of engine) pool events)
+
+-- what it stands for with one pool, it stands for with every pool that is the same to those events
+abbrev pub StandsWithAlike : {B : Type 0} → (B → Kept) → EngineOf B → Type 0
+StandsWithAlike kept engine = (one other : Pool) (events : List Event) → AreAlike one other events
+    → Stands kept engine one events → Stands kept engine other events
+
+-- and with every pool that has more bytes behind those that the events name
+abbrev pub StandsWithLonger : {B : Type 0} → (B → Kept) → EngineOf B → Type 0
+StandsWithLonger kept engine = (one other : Pool) (events : List Event) → IsLonger one other → All (Fits (device_of engine) one) events
+    → Stands kept engine one events → Stands kept engine other events
+
+-- ---- a step, whatever events the engine stood for with a pool
+
+-- it stands for these and the event after them
+abbrev pub StandsForNext : {B : Type 0} → (B → Kept) → Pool → Event → EngineOf B → EngineOf B → Type 0
+StandsForNext kept pool event old new = (events : List Event) → Stands kept old pool events
+    → Stands kept new pool (events ++ event ∷ [])
+
+-- it replies what is told after them
+abbrev pub RepliesAsTold : {B : Type 0} → (B → Kept) → Pool → Event → EngineOf B → Reply → Type 0
+RepliesAsTold kept pool event engine reply = (events : List Event) → Stands kept engine pool events
+    → reply ≡ reply_to (device_of engine) (story_of (device_of engine) pool events) event
+
+-- the bytes that it hands over are those by which the device's text grows
+abbrev pub HandsOver : {B : Type 0} → (B → Kept) → Pool → Event → EngineOf B → List ℕ → Type 0
+HandsOver kept pool event engine handed = (events : List Event) → Stands kept engine pool events
+    → device_text (device_of engine) pool (events ++ event ∷ []) ≡ device_text (device_of engine) pool events ++ handed
+
+-- and without a shortage they end the text of the runs from their starts to their ends
+abbrev pub HandsOverPlain : {B : Type 0} → (B → Kept) → Pool → Event → EngineOf B → List ℕ → Type 0
+HandsOverPlain kept pool event engine handed = (events : List Event) → Stands kept engine pool events
+    → HasNoShortage (story_of (device_of engine) pool (events ++ event ∷ []))
+    → plain_text (device_of engine) pool (events ++ event ∷ []) ≡ device_text (device_of engine) pool events ++ handed
+
+-- whatever bytes its channels stand for, the bytes of its reply are those that were kept in the slot of the event
+abbrev pub AnswersKept : {B : Type 0} → (B → Kept) → Event → EngineOf B → List ℕ → Type 0
+AnswersKept kept event engine got = (bytes : ℕ → List ℕ) (frames : ℕ → List Frame) → AllRecordStand kept engine.tables (record_channels engine.parent) bytes frames
+    → got ≡ bytes_answered (device_of engine) (desk_of engine) bytes event
+
+-- those of a read wait at the front of its own ring
+abbrev pub TakesFront : {B : Type 0} → Event → EngineOf B → List ℕ → Type 0
+TakesFront event engine got = (fd count : ℕ) → event ≡ Read fd count
+    → got ≡ front_taken (waiting_in engine) count (held_by (desk_of engine) fd)
+
+-- what it moves of the channels that play
+abbrev pub StepMoves : {B : Type 0} → (B → Kind) → (B → Kept) → Pool → Event → EngineOf B → EngineOf B → Type 0
+StepMoves kind kept pool event old new =
+    ChannelsMove kind kept old.tables pool event (play_channels old.parent) (play_channels new.parent)
+
+-- and of those that record
+abbrev pub StepCaptures : {B : Type 0} → (B → Kind) → (B → Kept) → Pool → Event → EngineOf B → EngineOf B → Type 0
+StepCaptures kind kept pool event old new =
+    RecordersMove kind kept (device_of old) pool old.parent.handed event (record_channels old.parent) (record_channels new.parent)
+
+-- and of the device's ring, whatever bytes its channels stand for
+abbrev pub StepTurns : {B : Type 0} → (B → Kept) → Event → EngineOf B → EngineOf B → Type 0
+StepTurns kept event old new = (streams : ℕ → List ℕ) → AllPlayStand kept old.tables (play_channels old.parent) streams
+    → new.parent.ring.bytes ≡ ring_after (device_of old) event (play_books old.parent) streams (length (play_channels old.parent)) old.parent.ring.bytes
+
+-- ---- what holds of every engine
 
 -- the book of each slot that plays is in order
 abbrev pub BooksAreSafe : DeviceSeen → Desk → Type 0

@@ -20,6 +20,8 @@ use Rattle.pcm_play.specs.Channels.{PlayMoves}
 use Rattle.pcm_record.specs.declared.channel.RecordChannelOf.{RecordChannelOf}
 use Rattle.pcm_record.specs.Channels.{RecordMoves}
 use Rattle.pcm_vchan.specs.Slots.{Each}
+use Rattle.pcm_vchan.specs.declared.parent.ParentOf.{ParentOf}
+use Rattle.pcm_vchan.specs.Parents.{EachCaptures}
 use Rattle.pcm_vchan.specs.Blocks.{block_bytes, block_of}
 use Rattle.pcm_vchan.specs.Captures.{Captures}
 
@@ -42,6 +44,11 @@ abbrev pub RecordersMove : {B : Type 0} → (B → Kind) → (B → Kept) → De
 RecordersMove kind kept device pool handed (Intr n) old new =
     Each (Captures kind kept device n (interleaved (captured_frames (device_settings device).layout pool handed n))) old new
 RecordersMove kind kept device pool handed event old new = Each (RecordMoves kind kept (filters_of device) [] 0) old new
+
+-- an interrupt of n frames brings as many captured frames of a pool to each channel that records
+abbrev pub CapturesPool : {B : Type 0} → (B → Kind) → (B → Kept) → Filters → Pool → ℕ → ParentOf B → ParentOf B → Type 0
+CapturesPool kind kept filters pool n old new =
+    EachCaptures kind kept filters n (interleaved (captured_frames old.device.settings.layout pool old.handed n)) old new
 
 -- the bytes that a read of so many gets of a channel, from those that were kept of its recording: the oldest that no read got
 abbrev pub channel_read : ℕ → Channel → List ℕ → List ℕ

@@ -1,26 +1,17 @@
 //! What clients ask by their descriptors.
 
-ghost use Rattle.std.specs.Prelude.{◌≡◌, ◌+◌, ◌^◌, ◌<◌, ◌≤◌, [], ℕ, List, length, take, All, IsErr, Option, OnErr};
+ghost use Rattle.std.specs.Prelude.{◌≡◌, ◌+◌, ◌^◌, ◌<◌, ◌≤◌, [], length, All, IsErr, OnErr};
 ghost use Rattle.pcm_fixed.specs.Fixed.{fixed_len};
 ghost use Rattle.pcm_feeder.specs.Filters.{Filters};
 ghost use Rattle.pcm_feeder.specs.Limits.{IsRate};
-ghost use Rattle.pcm_feeder.specs.Racks.{HaveKinds};
-ghost use Rattle.pcm_chain.specs.Chains.{boxes_in};
-ghost use Rattle.pcm_desk.specs.declared.limits.TheConstants.{DESCRIPTORS, READ_BYTES};
-ghost use Rattle.pcm_desk.specs.Device.{seen};
 ghost use Rattle.pcm_oss.specs.declared.event.Way.TheVariants.{Play, Record};
-ghost use Rattle.pcm_desk.specs.declared.device.Held.{Held};
-ghost use Rattle.pcm_desk.specs.Desk.{play_at, by_way, close_on, closing, held_by, ioctl_on, open_turn, read_on, record_at, with_play, with_record, write_on};
-ghost use Rattle.pcm_desk.specs.RecordBooks.{closed};
-ghost use Rattle.pcm_desk.specs.Own.{HoldApart};
 ghost use Rattle.pcm_oss.specs.Replies.{bytes_due};
-ghost use Rattle.pcm_format.specs.Frames.{Frame};
-ghost use Rattle.pcm_vchan.specs.Slots.{AllRecordStand, PlayAreOf, Each, RecordAreOf};
-ghost use Rattle.pcm_play.specs.Channels.{IsPlayReady, PlayMoves};
-ghost use Rattle.pcm_record.specs.Channels.{IsRecordReady, RecordMoves};
-ghost use Rattle.pcm_vchan.specs.Parents.{play_channels, record_channels, KeepsOutput};
-ghost use Rattle.pcm_engine.specs.Desks.{desk_with};
-ghost use Rattle.pcm_engine.specs.Steps.{bytes_read};
+ghost use Rattle.pcm_desk.specs.declared.limits.TheConstants.{DESCRIPTORS, READ_BYTES};
+ghost use Rattle.pcm_desk.specs.Desk.{open_turn};
+ghost use Rattle.pcm_desk.specs.Own.{HoldApart};
+ghost use Rattle.pcm_vchan.specs.Slots.{PlayAreOf, RecordAreOf};
+ghost use Rattle.pcm_vchan.specs.Parents.{play_channels, record_channels, AreClosable, AreServed, EachPlayMoves, EachRecordMoves, KeepsOutput, TotalsFit};
+ghost use Rattle.pcm_engine.specs.Desks.{front_due, close_call, desk_with, ioctl_call, read_call, write_call, Closes, ClosesHeld, ReadsKept, Replies, RepliesBy, Turns, TurnsBy};
 
 use crate::descriptors::Descriptors;
 use pcm_desk::Held;
@@ -40,10 +31,7 @@ pub fn open<B: Feeder>(
 ) -> Result<Answer, Errno>
     requires fd { fd < DESCRIPTORS }
     requires rate { IsRate settings.rate }
-    requires own { PlayAreOf parent.old.device (play_channels parent.old) }
-    requires recorders_own { RecordAreOf parent.old.device (record_channels parent.old) }
-    requires ready { All (IsPlayReady B.kind B.kept tables.now) (play_channels parent.old) }
-    requires recorders_ready { All (IsRecordReady B.kind B.kept tables.now) (record_channels parent.old) }
+    requires served { AreServed B.kind B.kept tables.now parent.old }
     ensures silent { bytes_due result ≡ 0 }
     ensures own { PlayAreOf parent.new.device (play_channels parent.new) }
     ensures recorders_own { RecordAreOf parent.new.device (record_channels parent.new) }
@@ -54,10 +42,8 @@ pub fn open<B: Feeder>(
         ≡ (open_turn (desk_with parent.old descriptors.old.held) fd way settings).desk }
     ensures reply { result
         ≡ (open_turn (desk_with parent.old descriptors.old.held) fd way settings).reply }
-    ensures channels { Each (PlayMoves B.kind B.kept tables.now [] 0)
-        (play_channels parent.old) (play_channels parent.new) }
-    ensures recorders { Each (RecordMoves B.kind B.kept tables.now [] 0)
-        (record_channels parent.old) (record_channels parent.new) }
+    ensures channels { EachPlayMoves B.kind B.kept tables.now [] 0 parent.old parent.new }
+    ensures recorders { EachRecordMoves B.kind B.kept tables.now [] 0 parent.old parent.new }
 {
     descriptors.shut(fd)?;
     let slot = parent.open_slot(tables, way, settings)?;
@@ -75,21 +61,15 @@ pub fn write<B: Feeder>(
     requires fd { fd < DESCRIPTORS }
     requires apart { HoldApart (desk_with parent.old descriptors.now.held) }
     requires own { PlayAreOf parent.old.device (play_channels parent.old) }
-    requires count { All (λ channel. channel.book.written + length bytes.now
-        < 2 ^ 64) (play_channels parent.old) }
+    requires count { All (λ c. c.book.written + length bytes.now < 2 ^ 64) (play_channels parent.old) }
     ensures silent { bytes_due result ≡ 0 }
     ensures own { PlayAreOf parent.new.device (play_channels parent.new) }
     ensures recorders { parent.new.recorders ≡ parent.old.recorders }
     ensures output { KeepsOutput parent.old parent.new }
     ensures refused { OnErr result (parent.new ≡ parent.old) }
-    ensures desk { (filters : Filters) → let desk = desk_with parent.old descriptors.now.held in
-        desk_with parent.new descriptors.now.held
-        ≡ (write_on (seen filters parent.old.device) (held_by desk fd) desk (length bytes.now)).desk }
-    ensures reply { (filters : Filters) → let desk = desk_with parent.old descriptors.now.held in
-        result
-        ≡ (write_on (seen filters parent.old.device) (held_by desk fd) desk (length bytes.now)).reply }
-    ensures channels { (filters : Filters) → Each (PlayMoves B.kind B.kept filters bytes.now 0)
-        (play_channels parent.old) (play_channels parent.new) }
+    ensures desk { Turns (write_call fd (length bytes.now)) parent.old parent.new descriptors.now }
+    ensures reply { Replies (write_call fd (length bytes.now)) parent.old descriptors.now result }
+    ensures channels { (filters : Filters) → EachPlayMoves B.kind B.kept filters bytes.now 0 parent.old parent.new }
 {
     let slot = descriptors.playing(fd)?;
     parent.play(slot).write(bytes)
@@ -109,20 +89,12 @@ fn read<B: Feeder>(
     ensures channels { parent.new.channels ≡ parent.old.channels }
     ensures output { KeepsOutput parent.old parent.new }
     ensures refused { OnErr result (parent.new ≡ parent.old) }
-    ensures desk { (filters : Filters) → let desk = desk_with parent.old descriptors.now.held in
-        desk_with parent.new descriptors.now.held
-        ≡ (read_on (seen filters parent.old.device) (held_by desk fd) desk (length out.old)).desk }
-    ensures reply { (filters : Filters) → let desk = desk_with parent.old descriptors.now.held in
-        result ≡ (read_on (seen filters parent.old.device) (held_by desk fd) desk (length out.old)).reply }
+    ensures desk { Turns (read_call fd (length out.old)) parent.old parent.new descriptors.now }
+    ensures reply { Replies (read_call fd (length out.old)) parent.old descriptors.now result }
     ensures within { bytes_due result ≤ length out.old }
     ensures length { length out.new ≡ length out.old }
-    ensures bytes { (filters : Filters) (bytes : ℕ → List ℕ) (frames : ℕ → List Frame)
-        → AllRecordStand B.kept filters (record_channels parent.old) bytes frames
-        → let desk = desk_with parent.old descriptors.now.held in
-        take (bytes_due result) out.new
-        ≡ bytes_read (seen filters parent.old.device) desk bytes (length out.old) (held_by desk fd) }
-    ensures recorders { (filters : Filters) → Each (RecordMoves B.kind B.kept filters [] 0)
-        (record_channels parent.old) (record_channels parent.new) }
+    ensures bytes { ReadsKept B.kept parent.old descriptors.now fd (length out.old) (front_due result out.new) }
+    ensures recorders { (filters : Filters) → EachRecordMoves B.kind B.kept filters [] 0 parent.old parent.new }
 {
     let slot = descriptors.recording(fd)?;
     parent.recorder(slot).read(out)
@@ -144,17 +116,10 @@ pub fn answer_read<B: Feeder>(
     ensures channels { parent.new.channels ≡ parent.old.channels }
     ensures output { KeepsOutput parent.old parent.new }
     ensures refused { IsErr reply.new.result → parent.new ≡ parent.old }
-    ensures desk { (filters : Filters) → let desk = desk_with parent.old descriptors.now.held in
-        desk_with parent.new descriptors.now.held
-        ≡ (read_on (seen filters parent.old.device) (held_by desk fd) desk len).desk }
-    ensures reply { (filters : Filters) → let desk = desk_with parent.old descriptors.now.held in
-        reply.new.result ≡ (read_on (seen filters parent.old.device) (held_by desk fd) desk len).reply }
-    ensures bytes { (filters : Filters) (bytes : ℕ → List ℕ) (frames : ℕ → List Frame)
-        → AllRecordStand B.kept filters (record_channels parent.old) bytes frames
-        → let desk = desk_with parent.old descriptors.now.held in
-        reply.new.bytes ≡ bytes_read (seen filters parent.old.device) desk bytes len (held_by desk fd) }
-    ensures recorders { (filters : Filters) → Each (RecordMoves B.kind B.kept filters [] 0)
-        (record_channels parent.old) (record_channels parent.new) }
+    ensures desk { Turns (read_call fd len) parent.old parent.new descriptors.now }
+    ensures reply { Replies (read_call fd len) parent.old descriptors.now reply.new.result }
+    ensures bytes { ReadsKept B.kept parent.old descriptors.now fd len reply.new.bytes }
+    ensures recorders { (filters : Filters) → EachRecordMoves B.kind B.kept filters [] 0 parent.old parent.new }
 {
     let mut bytes = [0u8; REPLY_BYTES];
     let answer = read(parent, descriptors, fd, &mut bytes[..len as usize]);
@@ -171,26 +136,17 @@ pub fn ioctl<B: Feeder>(
 ) -> Result<Answer, Errno>
     requires fd { fd < DESCRIPTORS }
     requires apart { HoldApart (desk_with parent.old descriptors.now.held) }
-    requires own { PlayAreOf parent.old.device (play_channels parent.old) }
-    requires recorders_own { RecordAreOf parent.old.device (record_channels parent.old) }
-    requires ready { All (IsPlayReady B.kind B.kept tables.now) (play_channels parent.old) }
-    requires recorders_ready { All (IsRecordReady B.kind B.kept tables.now) (record_channels parent.old) }
-    requires count { All (λ channel. channel.book.done + channel.book.written
-        < 2 ^ 64) (play_channels parent.old) }
+    requires served { AreServed B.kind B.kept tables.now parent.old }
+    requires count { TotalsFit parent.old }
     ensures silent { bytes_due result ≡ 0 }
     ensures own { PlayAreOf parent.new.device (play_channels parent.new) }
     ensures recorders_own { RecordAreOf parent.new.device (record_channels parent.new) }
     ensures output { KeepsOutput parent.old parent.new }
     ensures refused { OnErr result (parent.new ≡ parent.old) }
-    ensures desk { let desk = desk_with parent.old descriptors.now.held in
-        desk_with parent.new descriptors.now.held
-        ≡ (ioctl_on (seen tables.now parent.old.device) (held_by desk fd) desk request).desk }
-    ensures reply { let desk = desk_with parent.old descriptors.now.held in
-        result ≡ (ioctl_on (seen tables.now parent.old.device) (held_by desk fd) desk request).reply }
-    ensures channels { Each (PlayMoves B.kind B.kept tables.now [] 0)
-        (play_channels parent.old) (play_channels parent.new) }
-    ensures recorders { Each (RecordMoves B.kind B.kept tables.now [] 0)
-        (record_channels parent.old) (record_channels parent.new) }
+    ensures desk { TurnsBy tables.now (ioctl_call fd request) parent.old parent.new descriptors.now }
+    ensures reply { RepliesBy tables.now (ioctl_call fd request) parent.old descriptors.now result }
+    ensures channels { EachPlayMoves B.kind B.kept tables.now [] 0 parent.old parent.new }
+    ensures recorders { EachRecordMoves B.kind B.kept tables.now [] 0 parent.old parent.new }
 {
     let held = descriptors.holding(fd)?;
     match held.way {
@@ -207,28 +163,18 @@ pub fn close<B: Feeder>(
 ) -> Result<Answer, Errno>
     requires fd { fd < DESCRIPTORS }
     requires apart { HoldApart (desk_with parent.old descriptors.old.held) }
-    requires own { PlayAreOf parent.old.device (play_channels parent.old) }
-    requires recorders_own { RecordAreOf parent.old.device (record_channels parent.old) }
-    requires kinds { All (λ channel. HaveKinds B.kind (boxes_in channel.path.chain)) (play_channels parent.old) }
-    requires recorders_kinds { All (λ channel. HaveKinds B.kind (boxes_in channel.path.chain)) (record_channels parent.old) }
-    requires count { All (λ channel. channel.book.done + channel.book.written
-        < 2 ^ 64) (play_channels parent.old) }
+    requires closable { AreClosable B.kind parent.old }
+    requires count { TotalsFit parent.old }
     ensures silent { bytes_due result ≡ 0 }
     ensures own { PlayAreOf parent.new.device (play_channels parent.new) }
     ensures recorders_own { RecordAreOf parent.new.device (record_channels parent.new) }
     ensures output { KeepsOutput parent.old parent.new }
     ensures refused { OnErr result (parent.new ≡ parent.old) }
     ensures shut { OnErr result (descriptors.new ≡ descriptors.old) }
-    ensures desk { (filters : Filters)
-        → All (IsPlayReady B.kind B.kept filters) (play_channels parent.old) → let desk = desk_with parent.old descriptors.old.held in
-        desk_with parent.new descriptors.new.held
-        ≡ (close_on (seen filters parent.old.device) (held_by desk fd) desk fd).desk }
-    ensures reply { (filters : Filters) → let desk = desk_with parent.old descriptors.old.held in
-        result ≡ (close_on (seen filters parent.old.device) (held_by desk fd) desk fd).reply }
-    ensures channels { (filters : Filters) → Each (PlayMoves B.kind B.kept filters [] 0)
-        (play_channels parent.old) (play_channels parent.new) }
-    ensures recorders { (filters : Filters) → Each (RecordMoves B.kind B.kept filters [] 0)
-        (record_channels parent.old) (record_channels parent.new) }
+    ensures desk { Closes B.kind B.kept fd parent.old descriptors.old parent.new descriptors.new }
+    ensures reply { Replies (close_call fd) parent.old descriptors.old result }
+    ensures channels { (filters : Filters) → EachPlayMoves B.kind B.kept filters [] 0 parent.old parent.new }
+    ensures recorders { (filters : Filters) → EachRecordMoves B.kind B.kept filters [] 0 parent.old parent.new }
 {
     let held = descriptors.holding(fd)?;
     let answer = close_channel(parent, held);
@@ -240,26 +186,15 @@ pub fn close<B: Feeder>(
 fn close_channel<B: Feeder>(parent: &mut ParentOf<B>, held: Held) -> Answer
     requires play { held.way ≡ Play → held.slot < fixed_len parent.old.channels }
     requires recording { held.way ≡ Record → held.slot < fixed_len parent.old.recorders }
-    requires own { PlayAreOf parent.old.device (play_channels parent.old) }
-    requires recorders_own { RecordAreOf parent.old.device (record_channels parent.old) }
-    requires kinds { All (λ channel. HaveKinds B.kind (boxes_in channel.path.chain)) (play_channels parent.old) }
-    requires recorders_kinds { All (λ channel. HaveKinds B.kind (boxes_in channel.path.chain)) (record_channels parent.old) }
-    requires count { All (λ channel. channel.book.done + channel.book.written
-        < 2 ^ 64) (play_channels parent.old) }
+    requires closable { AreClosable B.kind parent.old }
+    requires count { TotalsFit parent.old }
     ensures answer { result ≡ Answer.Done }
     ensures own { PlayAreOf parent.new.device (play_channels parent.new) }
     ensures recorders_own { RecordAreOf parent.new.device (record_channels parent.new) }
     ensures output { KeepsOutput parent.old parent.new }
-    ensures desk { (filters : Filters) (descriptors : List (Option Held))
-        → All (IsPlayReady B.kind B.kept filters) (play_channels parent.old)
-        → let device = seen filters parent.old.device in let desk = desk_with parent.old descriptors in
-        desk_with parent.new descriptors ≡ by_way held.way
-        (with_play desk held.slot (closing device (play_at device desk held.slot)))
-        (with_record desk held.slot (closed (record_at device desk held.slot))) }
-    ensures channels { (filters : Filters) → Each (PlayMoves B.kind B.kept filters [] 0)
-        (play_channels parent.old) (play_channels parent.new) }
-    ensures recorders { (filters : Filters) → Each (RecordMoves B.kind B.kept filters [] 0)
-        (record_channels parent.old) (record_channels parent.new) }
+    ensures desk { ClosesHeld B.kind B.kept held parent.old parent.new }
+    ensures channels { (filters : Filters) → EachPlayMoves B.kind B.kept filters [] 0 parent.old parent.new }
+    ensures recorders { (filters : Filters) → EachRecordMoves B.kind B.kept filters [] 0 parent.old parent.new }
 {
     match held.way {
         Way::Play => {

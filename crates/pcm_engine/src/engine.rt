@@ -1,6 +1,6 @@
 //! The engine and its events.
 
-ghost use Rattle.std.specs.Prelude.{◌≡◌, [], ◌∷◌, ◌++◌, ◌+◌, ◌*◌, ◌<◌, ◌≤◌, length, take, drop, All, List, ℕ, IfOk, IsErr};
+ghost use Rattle.std.specs.Prelude.{◌≡◌, [], ◌+◌, ◌*◌, ◌<◌, ◌≤◌, length, take, drop, All, IfOk, IsErr};
 ghost use Rattle.pcm_fixed.specs.Fixed.{fixed_len};
 ghost use Rattle.pcm_desk.specs.declared.limits.TheConstants.{RING_FRAMES};
 ghost use Rattle.pcm_engine.specs.declared.limits.TheConstants.{STEPS};
@@ -48,22 +48,13 @@ pub struct EngineOf<B> {
 
 impl<B: Feeder> EngineOf<B> {
     ghost use Rattle.pcm_oss.specs.declared.event.Event.{Event};
-    ghost use Rattle.pcm_oss.specs.declared.event.Event.TheVariants.{Read};
     ghost use Rattle.pcm_wave.specs.declared.pool.Pool.{Pool};
     ghost use Rattle.pcm_wave.specs.Pools.{IsCaptureIn};
-    ghost use Rattle.pcm_format.specs.Frames.{Frame};
     ghost use Rattle.pcm_desk.specs.Device.{IsInLimits, device_settings};
-    ghost use Rattle.pcm_desk.specs.Desk.{after, held_by};
+    ghost use Rattle.pcm_desk.specs.Desk.{after};
     ghost use Rattle.pcm_desk.specs.Own.{IsIsolated};
-    ghost use Rattle.pcm_sound.specs.Story.{story_of};
-    ghost use Rattle.pcm_sound.specs.StoryReplies.{reply_to};
-    ghost use Rattle.pcm_sound.specs.DeviceList.{device_text};
-    ghost use Rattle.pcm_sound.specs.Plain.{HasNoShortage, plain_text};
     ghost use Rattle.pcm_feeder.specs.Racks.{AreRacks, list_of};
-    ghost use Rattle.pcm_vchan.specs.Slots.{AllRecordStand, AllPlayStand};
-    ghost use Rattle.pcm_vchan.specs.Parents.{play_books};
-    ghost use Rattle.pcm_engine.specs.Steps.{ChannelsMove, RecordersMove, bytes_answered, front_taken, ring_after};
-    ghost use Rattle.pcm_engine.specs.Engines.{device_of, desk_of, AreReady, BooksAreSafe, IsUnchanged, RecordsAreSafe, RingsHold, Stands, waiting_in};
+    ghost use Rattle.pcm_engine.specs.Engines.{device_of, desk_of, AnswersKept, AreReady, BooksAreSafe, HandsOver, HandsOverPlain, IsUnchanged, RecordsAreSafe, RepliesAsTold, RingsHold, Stands, StandsForNext, StepCaptures, StepMoves, StepTurns, TakesFront};
 
     /// The engine of a device with its filters, before its first event. Its channels pick their stages from the racks, one rack a slot; after
     /// a refusal the racks are dropped. All memory of the engine is taken here.
@@ -121,19 +112,11 @@ impl<B: Feeder> EngineOf<B> {
         ensures rings { RingsHold self.new }
 
         // Whatever it stood for with this pool, it stands for that with the event appended.
-        ensures stands { (events : List Event) → Stands B.kept self.old pool.now events
-            → Stands B.kept self.new pool.now (events ++ event.now ∷ []) }
-        ensures reply { (events : List Event) → Stands B.kept self.old pool.now events
-            → reply.new ≡ reply_to (device_of self.old)
-            (story_of (device_of self.old) pool.now events) event.now }
-        ensures bytes { (events : List Event) → Stands B.kept self.old pool.now events
-            → device_text (device_of self.old) pool.now (events ++ event.now ∷ [])
-            ≡ device_text (device_of self.old) pool.now events ++ take result out.new }
+        ensures stands { StandsForNext B.kept pool.now event.now self.old self.new }
+        ensures reply { RepliesAsTold B.kept pool.now event.now self.old reply.new }
+        ensures bytes { HandsOver B.kept pool.now event.now self.old (take result out.new) }
         // Without a shortage they are those of the runs from their starts to their ends: no count has a part in them.
-        ensures plain { (events : List Event) → Stands B.kept self.old pool.now events
-            → HasNoShortage (story_of (device_of self.old) pool.now (events ++ event.now ∷ []))
-            → plain_text (device_of self.old) pool.now (events ++ event.now ∷ [])
-            ≡ device_text (device_of self.old) pool.now events ++ take result out.new }
+        ensures plain { HandsOverPlain B.kept pool.now event.now self.old (take result out.new) }
 
         ensures refused { IsErr reply.new.result → IsUnchanged self.old self.new }
 
@@ -142,12 +125,8 @@ impl<B: Feeder> EngineOf<B> {
         ensures apart { HoldApart (desk_of self.new) }
         ensures isolated { IsIsolated (device_of self.old) event.now
             (desk_of self.old) (desk_of self.new) reply.new.result }
-        ensures read { (bytes : ℕ → List ℕ) (frames : ℕ → List Frame)
-            → AllRecordStand B.kept self.old.tables (record_channels self.old.parent) bytes frames
-            → reply.new.bytes
-            ≡ bytes_answered (device_of self.old) (desk_of self.old) bytes event.now }
-        ensures taken { (fd count : ℕ) → event.now ≡ Read fd count
-            → reply.new.bytes ≡ front_taken (waiting_in self.old) count (held_by (desk_of self.old) fd) }
+        ensures read { AnswersKept B.kept event.now self.old reply.new.bytes }
+        ensures taken { TakesFront event.now self.old reply.new.bytes }
 
         ensures count { result ≡ bytes_handed (device_of self.old) event.now }
         ensures rest { drop result out.new ≡ drop result out.old }
@@ -180,20 +159,11 @@ impl<B: Feeder> EngineOf<B> {
             ≡ (after (device_of self.old) (desk_of self.old) event.now).desk }
         ensures reply { reply.new.result
             ≡ (after (device_of self.old) (desk_of self.old) event.now).reply }
-        ensures bytes { (bytes : ℕ → List ℕ) (frames : ℕ → List Frame)
-            → AllRecordStand B.kept self.old.tables (record_channels self.old.parent) bytes frames
-            → reply.new.bytes
-            ≡ bytes_answered (device_of self.old) (desk_of self.old) bytes event.now }
+        ensures bytes { AnswersKept B.kept event.now self.old reply.new.bytes }
         ensures refused { IsErr reply.new.result → IsUnchanged self.old self.new }
-        ensures channels { ChannelsMove B.kind B.kept self.old.tables pool.now event.now
-            (play_channels self.old.parent) (play_channels self.new.parent) }
-        ensures recorders { RecordersMove B.kind B.kept (device_of self.old) pool.now self.old.parent.handed event.now
-            (record_channels self.old.parent) (record_channels self.new.parent) }
-        ensures ring { (streams : ℕ → List ℕ)
-            → AllPlayStand B.kept self.old.tables (play_channels self.old.parent) streams
-            → self.new.parent.ring.bytes
-            ≡ ring_after (device_of self.old) event.now (play_books self.old.parent) streams
-            (length (play_channels self.old.parent)) self.old.parent.ring.bytes }
+        ensures channels { StepMoves B.kind B.kept pool.now event.now self.old self.new }
+        ensures recorders { StepCaptures B.kind B.kept pool.now event.now self.old self.new }
+        ensures ring { StepTurns B.kept event.now self.old self.new }
         ensures count { result ≡ bytes_handed (device_of self.old) event.now }
         ensures out { take result out.new ≡ take result self.old.parent.ring.bytes }
         ensures rest { drop result out.new ≡ drop result out.old }

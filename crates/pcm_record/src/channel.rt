@@ -153,7 +153,8 @@ impl<B: Feeder> RecordChannelOf<B> {
         let format = self.book.opening.settings.format;
         let PathOf { ring, chain, .. } = &mut self.path;
         chain.push(tables, input, ring, format);
-        self.book = self.book.captured(self.path.chain.plan().rate(), frames as u64);
+        let rate = self.path.chain.plan().rate();
+        self.book = self.book.captured(rate, frames as u64);
     }
 }
 

@@ -28,7 +28,7 @@ close-requires-in-Record g c =
     let held = c.args.held in
     let below = c.requires.recording c.in-Record.is in
     let there : held.slot < length (record_channels parent) = omega (arith, below, items-count parent.recorders) in
-    record { kinds = subst (λ (channel : RecordChannelOf _). HaveKinds g.B.Feeder.kind (boxes_in channel.path.chain)) (sym c.recorder.ensures.value) (c.requires.recorders_kinds held.slot c.recorder.result.now there) }
+    record { kinds = subst (λ (channel : RecordChannelOf _). HaveKinds g.B.Feeder.kind (boxes_in channel.path.chain)) (sym c.recorder.ensures.value) (c.requires.closable.recorders_kinds held.slot c.recorder.result.now there) }
 
 pub returns-in-Play-clause-own : goal.returns-in-Play-clause-own
 returns-in-Play-clause-own g c =
@@ -36,7 +36,7 @@ returns-in-Play-clause-own g c =
     let held = c.args.held in
     let below = c.requires.play c.in-Play.is in
     let there : held.slot < length (play_channels parent) = omega (arith, below, items-count parent.channels) in
-    own_set (λ (channel : PlayChannelOf _). channel.path.device) parent.device (play_channels parent) held.slot c.play.result.now c.close.new.self there c.play.ensures.value c.close.ensures.device c.requires.own
+    own_set (λ (channel : PlayChannelOf _). channel.path.device) parent.device (play_channels parent) held.slot c.play.result.now c.close.new.self there c.play.ensures.value c.close.ensures.device c.requires.closable.own
 
 pub returns-in-Play-clause-desk : goal.returns-in-Play-clause-desk
 returns-in-Play-clause-desk g c =
@@ -47,7 +47,7 @@ returns-in-Play-clause-desk g c =
     let there : held.slot < length (play_channels parent) = omega (arith, below, items-count parent.channels) in
     let lent = c.play.result.now in
     let device = seen filters parent.device in
-    let own = own-lent parent.device (play_channels parent) held.slot lent there c.play.ensures.value c.requires.own in
+    let own = own-lent parent.device (play_channels parent) held.slot lent there c.play.ensures.value c.requires.closable.own in
     let desk : Desk = desk_with parent descriptors in
     desk-played device (λ (book : PlayBook). record { book = closing device book; reply = Ok Done }) parent descriptors held.slot lent c.close.new.self there c.play.ensures.value
     (c.close.ensures.book filters (subst (IsPlayPlanned filters) (sym c.play.ensures.value) (ready held.slot lent there).planned) ∙ ap (λ (d : Device). closing (seen filters d) lent.book) own)
@@ -71,7 +71,7 @@ returns-in-Record-clause-recorders_own g c =
     let held = c.args.held in
     let below = c.requires.recording c.in-Record.is in
     let there : held.slot < length (record_channels parent) = omega (arith, below, items-count parent.recorders) in
-    own_set (λ (channel : RecordChannelOf _). channel.path.device) parent.device (record_channels parent) held.slot c.recorder.result.now c.close-in-Record.new.self there c.recorder.ensures.value c.close-in-Record.ensures.device c.requires.recorders_own
+    own_set (λ (channel : RecordChannelOf _). channel.path.device) parent.device (record_channels parent) held.slot c.recorder.result.now c.close-in-Record.new.self there c.recorder.ensures.value c.close-in-Record.ensures.device c.requires.closable.recorders_own
 
 pub returns-in-Record-clause-desk : goal.returns-in-Record-clause-desk
 returns-in-Record-clause-desk g c =

@@ -42,7 +42,7 @@ ioctl-requires-clause-kinds g c =
     let held = c.in_ok-held.held in
     let e = holding-is (held_by (desk_with parent c.args.descriptors.now.held) c.args.fd) c.in_ok-held.held (sym c.holding.ensures ∙ c.in_ok-held.was) in
     let there = play-there parent c.args.descriptors.now.held c.args.fd held c.requires.apart e c.in-Play.is in
-    subst (λ (channel : PlayChannelOf _). HaveKinds g.B.Feeder.kind (boxes_in channel.path.chain)) (sym c.play.ensures.value) (c.requires.ready held.slot c.play.result.now there).kinds
+    subst (λ (channel : PlayChannelOf _). HaveKinds g.B.Feeder.kind (boxes_in channel.path.chain)) (sym c.play.ensures.value) (c.requires.served.ready held.slot c.play.result.now there).kinds
 
 pub ioctl-requires-clause-planned : goal.ioctl-requires-clause-planned
 ioctl-requires-clause-planned g c =
@@ -50,7 +50,7 @@ ioctl-requires-clause-planned g c =
     let held = c.in_ok-held.held in
     let e = holding-is (held_by (desk_with parent c.args.descriptors.now.held) c.args.fd) c.in_ok-held.held (sym c.holding.ensures ∙ c.in_ok-held.was) in
     let there = play-there parent c.args.descriptors.now.held c.args.fd held c.requires.apart e c.in-Play.is in
-    subst (IsPlayPlanned c.args.tables.now) (sym c.play.ensures.value) (c.requires.ready held.slot c.play.result.now there).planned
+    subst (IsPlayPlanned c.args.tables.now) (sym c.play.ensures.value) (c.requires.served.ready held.slot c.play.result.now there).planned
 
 pub ioctl-requires-clause-count : goal.ioctl-requires-clause-count
 ioctl-requires-clause-count g c =
@@ -74,7 +74,7 @@ ioctl-requires-in-Record-clause-kinds g c =
     let held = c.in_ok-held.held in
     let e = holding-is (held_by (desk_with parent c.args.descriptors.now.held) c.args.fd) c.in_ok-held.held (sym c.holding.ensures ∙ c.in_ok-held.was) in
     let there = record-there parent c.args.descriptors.now.held c.args.fd held c.requires.apart e c.in-Record.is in
-    subst (λ (channel : RecordChannelOf _). HaveKinds g.B.Feeder.kind (boxes_in channel.path.chain)) (sym c.recorder.ensures.value) (c.requires.recorders_ready held.slot c.recorder.result.now there).kinds
+    subst (λ (channel : RecordChannelOf _). HaveKinds g.B.Feeder.kind (boxes_in channel.path.chain)) (sym c.recorder.ensures.value) (c.requires.served.recorders_ready held.slot c.recorder.result.now there).kinds
 
 pub ioctl-requires-in-Record-clause-planned : goal.ioctl-requires-in-Record-clause-planned
 ioctl-requires-in-Record-clause-planned g c =
@@ -82,7 +82,7 @@ ioctl-requires-in-Record-clause-planned g c =
     let held = c.in_ok-held.held in
     let e = holding-is (held_by (desk_with parent c.args.descriptors.now.held) c.args.fd) c.in_ok-held.held (sym c.holding.ensures ∙ c.in_ok-held.was) in
     let there = record-there parent c.args.descriptors.now.held c.args.fd held c.requires.apart e c.in-Record.is in
-    subst (IsRecordPlanned c.args.tables.now) (sym c.recorder.ensures.value) (c.requires.recorders_ready held.slot c.recorder.result.now there).planned
+    subst (IsRecordPlanned c.args.tables.now) (sym c.recorder.ensures.value) (c.requires.served.recorders_ready held.slot c.recorder.result.now there).planned
 
 pub returns-in-Play-clause-silent : goal.returns-in-Play-clause-silent
 returns-in-Play-clause-silent g c =
@@ -94,7 +94,7 @@ returns-in-Play-clause-own g c =
     let held = c.in_ok-held.held in
     let e = holding-is (held_by (desk_with parent c.args.descriptors.now.held) c.args.fd) c.in_ok-held.held (sym c.holding.ensures ∙ c.in_ok-held.was) in
     let there = play-there parent c.args.descriptors.now.held c.args.fd held c.requires.apart e c.in-Play.is in
-    own_set (λ (channel : PlayChannelOf _). channel.path.device) parent.device (play_channels parent) held.slot c.play.result.now c.ioctl.new.self there c.play.ensures.value c.ioctl.ensures.device c.requires.own
+    own_set (λ (channel : PlayChannelOf _). channel.path.device) parent.device (play_channels parent) held.slot c.play.result.now c.ioctl.new.self there c.play.ensures.value c.ioctl.ensures.device c.requires.served.own
 
 pub returns-in-Play-clause-refused : goal.returns-in-Play-clause-refused
 returns-in-Play-clause-refused g c =
@@ -112,7 +112,7 @@ returns-in-Play-clause-desk g c =
     let e = holding-is (held_by (desk_with parent c.args.descriptors.now.held) c.args.fd) c.in_ok-held.held (sym c.holding.ensures ∙ c.in_ok-held.was) in
     let there = play-there parent c.args.descriptors.now.held c.args.fd held c.requires.apart e c.in-Play.is in
     let lent = c.play.result.now in
-    let own = own-lent parent.device (play_channels parent) held.slot lent there c.play.ensures.value c.requires.own in
+    let own = own-lent parent.device (play_channels parent) held.slot lent there c.play.ensures.value c.requires.served.own in
     desk-played (seen c.args.tables.now parent.device) (asking (seen c.args.tables.now parent.device) c.args.request) parent c.args.descriptors.now.held held.slot lent c.ioctl.new.self there c.play.ensures.value
     (c.ioctl.ensures.book ∙ ap (λ (d : Device). (asking (seen c.args.tables.now d) c.args.request lent.book).book) own)
     ∙ sym (ap (λ (t : DeskTurn). t.desk) (turning-held Play (play_turn (seen c.args.tables.now parent.device) (asking (seen c.args.tables.now parent.device) c.args.request) (desk_with parent c.args.descriptors.now.held)) (record_turn (seen c.args.tables.now parent.device) (record_ask c.args.request) (desk_with parent c.args.descriptors.now.held)) (held_by (desk_with parent c.args.descriptors.now.held) c.args.fd) held (desk_with parent c.args.descriptors.now.held) e c.in-Play.is))
@@ -124,7 +124,7 @@ returns-in-Play-clause-reply g c =
     let e = holding-is (held_by (desk_with parent c.args.descriptors.now.held) c.args.fd) c.in_ok-held.held (sym c.holding.ensures ∙ c.in_ok-held.was) in
     let there = play-there parent c.args.descriptors.now.held c.args.fd held c.requires.apart e c.in-Play.is in
     let lent = c.play.result.now in
-    let own = own-lent parent.device (play_channels parent) held.slot lent there c.play.ensures.value c.requires.own in
+    let own = own-lent parent.device (play_channels parent) held.slot lent there c.play.ensures.value c.requires.served.own in
     reply-played (seen c.args.tables.now parent.device) (asking (seen c.args.tables.now parent.device) c.args.request) parent c.args.descriptors.now.held held.slot lent c.ioctl.result there c.play.ensures.value
     (c.ioctl.ensures.reply ∙ ap (λ (d : Device). (asking (seen c.args.tables.now d) c.args.request lent.book).reply) own)
     ∙ sym (ap (λ (t : DeskTurn). t.reply) (turning-held Play (play_turn (seen c.args.tables.now parent.device) (asking (seen c.args.tables.now parent.device) c.args.request) (desk_with parent c.args.descriptors.now.held)) (record_turn (seen c.args.tables.now parent.device) (record_ask c.args.request) (desk_with parent c.args.descriptors.now.held)) (held_by (desk_with parent c.args.descriptors.now.held) c.args.fd) held (desk_with parent c.args.descriptors.now.held) e c.in-Play.is))
@@ -151,7 +151,7 @@ returns-in-Record-clause-recorders_own g c =
     let held = c.in_ok-held.held in
     let e = holding-is (held_by (desk_with parent c.args.descriptors.now.held) c.args.fd) c.in_ok-held.held (sym c.holding.ensures ∙ c.in_ok-held.was) in
     let there = record-there parent c.args.descriptors.now.held c.args.fd held c.requires.apart e c.in-Record.is in
-    own_set (λ (channel : RecordChannelOf _). channel.path.device) parent.device (record_channels parent) held.slot c.recorder.result.now c.ioctl-in-Record.new.self there c.recorder.ensures.value c.ioctl-in-Record.ensures.device c.requires.recorders_own
+    own_set (λ (channel : RecordChannelOf _). channel.path.device) parent.device (record_channels parent) held.slot c.recorder.result.now c.ioctl-in-Record.new.self there c.recorder.ensures.value c.ioctl-in-Record.ensures.device c.requires.served.recorders_own
 
 pub returns-in-Record-clause-refused : goal.returns-in-Record-clause-refused
 returns-in-Record-clause-refused g c =

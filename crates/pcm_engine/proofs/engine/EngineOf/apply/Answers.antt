@@ -23,6 +23,7 @@ use Rattle.pcm_engine.specs.Steps.{ChannelsMove, RecordersMove, bytes_answered}
 use Rattle.pcm_vchan.proofs.Channels.{play_books_of-mixed, record_books_of-captured}
 use Rattle.pcm_vchan.specs.Parents.{play_channels, record_channels}
 use Rattle.pcm_engine.proofs.Desks.{count-stays, count-within, desk_with-mixed}
+use Rattle.pcm_engine.proofs.InOrder.{closable, served}
 use Rattle.pcm_engine.proofs.Recording.{length-captured}
 use Rattle.pcm_engine.proofs.engine.EngineOf.apply.Goals as goal
 
@@ -72,32 +73,40 @@ invariant_of-self-in-Ioctl g c =
 
 -- what an interrupt relies on holds of every channel, since few steps were taken
 pub interrupt-requires-clause-due : goal.interrupt-requires-clause-due
-interrupt-requires-clause-due g c = λ slot other there.
+interrupt-requires-clause-due g c =
     let old = c.args.self.now in
     let fits = rw c.in-Intr.is at c.requires.fits in
     let within = old.parent.within in
-    let given = old.given slot other there in
-    let counted = old.counted slot other there in
     record {
-      own = old.own slot other there;
-      ready = c.requires.ready.playing slot other there;
-      given = omega (arith, given, within, fits.1, c.requires.count);
-      counted = omega (arith, counted, c.requires.count);
+      playing = λ slot other there.
+          let given = old.given slot other there in
+          let counted = old.counted slot other there in
+          record {
+            own = old.own slot other there;
+            ready = c.requires.ready.playing slot other there;
+            given = omega (arith, given, within, fits.1, c.requires.count);
+            counted = omega (arith, counted, c.requires.count);
+          };
+      recording = λ slot other there.
+          let captured = old.captured_within slot other there in
+          let kept = old.kept slot other there in
+          record {
+            own = old.recorders_own slot other there;
+            ready = c.requires.ready.recording slot other there;
+            captured = omega (arith, captured, within, fits.1, c.requires.count);
+            kept = omega (arith, kept, c.requires.count);
+          };
     }
 
-pub interrupt-requires-clause-recorders_due : goal.interrupt-requires-clause-recorders_due
-interrupt-requires-clause-recorders_due g c = λ slot other there.
-    let old = c.args.self.now in
-    let fits = rw c.in-Intr.is at c.requires.fits in
-    let within = old.parent.within in
-    let captured = old.captured_within slot other there in
-    let kept = old.kept slot other there in
-    record {
-      own = old.recorders_own slot other there;
-      ready = c.requires.ready.recording slot other there;
-      captured = omega (arith, captured, within, fits.1, c.requires.count);
-      kept = omega (arith, kept, c.requires.count);
-    }
+-- every channel is ready for a call
+pub open-answer-requires-clause-served : goal.open-answer-requires-clause-served
+open-answer-requires-clause-served g c = served g.B.Feeder.kind g.B.Feeder.kept c.args.self.now c.requires.ready
+
+pub ioctl-requires-clause-served : goal.ioctl-requires-clause-served
+ioctl-requires-clause-served g c = served g.B.Feeder.kind g.B.Feeder.kept c.args.self.now c.requires.ready
+
+pub close-requires-clause-closable : goal.close-requires-clause-closable
+close-requires-clause-closable g c = closable g.B.Feeder.kind g.B.Feeder.kept c.args.self.now c.requires.ready
 
 pub invariant_of-self-in-Intr : goal.invariant_of-self-in-Intr
 invariant_of-self-in-Intr g c =
@@ -153,6 +162,16 @@ returns-in-Write-clause-recorders g c =
     subst (λ (event : Event). RecordersMove g.B.Feeder.kind g.B.Feeder.kept (device_of old) c.args.pool.now old.parent.handed event (record_channels old.parent) (record_channels c.write.new.parent)) (sym c.in-Write.is)
     (subst (λ (v : Fixed (RecordChannelOf _)). Each (RecordMoves g.B.Feeder.kind g.B.Feeder.kept old.tables [] 0) (record_channels old.parent) (fixed_items v)) (sym c.write.ensures.recorders)
     (λ slot other there. recorders.moves-nothing g.B.Feeder.kind g.B.Feeder.kept old.tables [] 0 (get_or (record_channels old.parent) slot other)))
+
+pub returns-in-Read-clause-desk : goal.returns-in-Read-clause-desk
+returns-in-Read-clause-desk g c =
+    let old = c.args.self.now in
+    c.answer_read.ensures.desk old.tables ∙ sym (ap (λ (event : Event). (after (device_of old) (desk_of old) event).desk) c.in-Read.is)
+
+pub returns-in-Read-clause-reply : goal.returns-in-Read-clause-reply
+returns-in-Read-clause-reply g c =
+    let old = c.args.self.now in
+    c.answer_read.ensures.reply old.tables ∙ sym (ap (λ (event : Event). (after (device_of old) (desk_of old) event).reply) c.in-Read.is)
 
 pub returns-in-Read-clause-bytes : goal.returns-in-Read-clause-bytes
 returns-in-Read-clause-bytes g c = λ bytes frames stand.

@@ -41,7 +41,7 @@ captured-self-requires-clause-given g c =
     let old = c.args.self.now in
     let tables = c.args.tables.now in
     let planned = c.requires.planned in
-    let rate = rate-pushed tables old c.push.new.self c.rate.result c.plan.result.now planned c.rate.ensures.value c.plan.ensures c.push.ensures.plan in
+    let rate = rate-pushed tables old c.push.new.self c.rate-rate.result c.plan.result.now planned c.rate-rate.ensures.value c.plan.ensures c.push.ensures.plan in
     let most = given-most (seen tables old.path.device) c.args.frames old.book (device-is tables old planned) old.serves.rate (safe-at tables old planned) c.requires.count in
     subst (λ (r : Rate). old.book.given + coming r c.args.frames old.book < 2 ^ 64) (sym rate) most
 
@@ -50,7 +50,7 @@ captured-self-requires-clause-kept g c =
     let old = c.args.self.now in
     let tables = c.args.tables.now in
     let planned = c.requires.planned in
-    let rate = rate-pushed tables old c.push.new.self c.rate.result c.plan.result.now planned c.rate.ensures.value c.plan.ensures c.push.ensures.plan in
+    let rate = rate-pushed tables old c.push.new.self c.rate-rate.result c.plan.result.now planned c.rate-rate.ensures.value c.plan.ensures c.push.ensures.plan in
     let most = kept-most (seen tables old.path.device) c.args.frames old.book (sym c.if-not-is_running.ensures) (safe-at tables old planned) in
     subst (λ (r : Rate). old.book.kept + keeping r c.args.frames old.book * frame_bytes old.book.opening.settings < 2 ^ 64) (sym rate) (omega (arith, most, c.requires.kept))
 
@@ -62,11 +62,11 @@ invariant_of-self g c =
     let planned = c.requires.planned in
     let some = c.requires.stands in
     let new = c.captured-self.result in
-    let rate = rate-pushed tables old c.push.new.self c.rate.result c.plan.result.now planned c.rate.ensures.value c.plan.ensures c.push.ensures.plan in
+    let rate = rate-pushed tables old c.push.new.self c.rate-rate.result c.plan.result.now planned c.rate-rate.ensures.value c.plan.ensures c.push.ensures.plan in
     let p = push-captured g.B.Feeder.kept tables old c.args.frames c.args.input.now c.push.new.self c.push.result c.push.new.ring.bytes some.bytes some.frames planned c.requires.whole c.push.ensures.kept
     (c.push.ensures.pushes some.frames some.stands.records) some.stands in
     let b = book-captured device c.args.frames old.book c.captured-self.result (sym c.if-not-is_running.ensures) (safe-at tables old planned)
-    (captured-at (seen tables old.path.device) c.args.frames old.book c.captured-self.result c.rate.result rate c.captured-self.ensures) in
+    (captured-at (seen tables old.path.device) c.args.frames old.book c.captured-self.result c.rate-rate.result rate c.captured-self.ensures) in
     record {
       serves = serves-as old.book.opening new.opening old.path (record old.path { ring = c.push.new.ring; chain = c.push.new.self }) _ refl c.push.ensures.plan c.push.ensures.ring b.settings b.fragments old.serves;
       fill = fill-captured g.B.Feeder.kept tables old new c.args.frames some.frames _ c.push.new.self c.push.result c.push.new.ring.bytes planned c.push.ensures.plan b p;
@@ -79,8 +79,8 @@ returns-clause-book g c =
     let old = c.args.self.now in
     let tables = c.args.tables.now in
     let planned = c.requires.planned in
-    let rate = rate-pushed tables old c.push.new.self c.rate.result c.plan.result.now planned c.rate.ensures.value c.plan.ensures c.push.ensures.plan in
-    captured-at (seen tables old.path.device) c.args.frames old.book c.captured-self.result c.rate.result rate c.captured-self.ensures
+    let rate = rate-pushed tables old c.push.new.self c.rate-rate.result c.plan.result.now planned c.rate-rate.ensures.value c.plan.ensures c.push.ensures.plan in
+    captured-at (seen tables old.path.device) c.args.frames old.book c.captured-self.result c.rate-rate.result rate c.captured-self.ensures
 
 pub returns-clause-moves : goal.returns-clause-moves
 returns-clause-moves g c =
@@ -90,12 +90,12 @@ returns-clause-moves g c =
     let planned = c.requires.planned in
     let some = c.requires.stands in
     let input = frames_of (channels_of old.path.device.settings.layout) c.args.input.now in
-    let rate = rate-pushed tables old c.push.new.self c.rate.result c.plan.result.now planned c.rate.ensures.value c.plan.ensures c.push.ensures.plan in
+    let rate = rate-pushed tables old c.push.new.self c.rate-rate.result c.plan.result.now planned c.rate-rate.ensures.value c.plan.ensures c.push.ensures.plan in
     let all = pushed-is tables old c.args.input.now planned in
     moves-captured g.B.Feeder.kind g.B.Feeder.kept tables old _ c.args.frames input c.push.result planned refl c.push.ensures.plan c.push.ensures.kinds
     (ap length (sym all) ∙ pushed-count tables old c.args.frames c.args.input.now planned c.requires.whole)
     (subst (HaveBits 32) all c.push.ensures.fits)
     (book-captured device c.args.frames old.book c.captured-self.result (sym c.if-not-is_running.ensures) (safe-at tables old planned)
-    (captured-at (seen tables old.path.device) c.args.frames old.book c.captured-self.result c.rate.result rate c.captured-self.ensures))
+    (captured-at (seen tables old.path.device) c.args.frames old.book c.captured-self.result c.rate-rate.result rate c.captured-self.ensures))
     (λ bytes frames s. push-captured g.B.Feeder.kept tables old c.args.frames c.args.input.now c.push.new.self c.push.result c.push.new.ring.bytes bytes frames planned c.requires.whole c.push.ensures.kept
     (c.push.ensures.pushes frames s.records) s)
