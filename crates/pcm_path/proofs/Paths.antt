@@ -5,13 +5,15 @@ use Rattle.pcm_ring.specs.Ring.{Ring}
 use Rattle.pcm_rate.specs.Rates.{IsRatio}
 use Rattle.pcm_feeder.specs.Filters.{Filters}
 use Rattle.pcm_feeder.specs.Limits.{IsRate}
+use Rattle.pcm_oss.specs.declared.event.Way.{Way}
 use Rattle.pcm_oss.specs.Fragments.{ring_size}
 use Rattle.pcm_plan.specs.Plans.{PlanSeen, rate_in_plan}
 use Rattle.pcm_chain.specs.Chains.{plan_in}
 use Rattle.pcm_desk.specs.declared.device.Device.{Device}
 use Rattle.pcm_desk.specs.declared.opening.Opening.{Opening}
-use Rattle.pcm_desk.specs.Device.{DeviceSeen, IsDevice, seen}
+use Rattle.pcm_desk.specs.Device.{IsDevice, seen}
 use Rattle.pcm_path.specs.declared.path.PathOf.{PathOf}
+use Rattle.pcm_path.specs.Ways.{plan_between}
 use Rattle.pcm_path.specs.Paths.{IsPlanned, Serves}
 
 -- where device and plan stay, and the ring but for its bytes, it serves an opening of the same settings and fragments
@@ -26,13 +28,13 @@ serves-as was now old new bytes device plan ring settings fragments s = record {
 }
 
 -- where device, plan and settings stay, it goes by the plan that it went by
-pub planned-as : {B : Type 0} (between : DeviceSeen → Settings → PlanSeen) (filters : Filters) (was now : Settings) (old new : PathOf B) → new.device ≡ old.device → plan_in new.chain ≡ plan_in old.chain → now ≡ was
-    → IsPlanned between filters was old → IsPlanned between filters now new
-planned-as between filters was now old new device plan settings p = record {
+pub planned-as : {B : Type 0} (way : Way) (filters : Filters) (was now : Settings) (old new : PathOf B) → new.device ≡ old.device → plan_in new.chain ≡ plan_in old.chain → now ≡ was
+    → IsPlanned way filters was old → IsPlanned way filters now new
+planned-as way filters was now old new device plan settings p = record {
   limits = p.limits;
-  plan_is = plan ∙ p.plan_is ∙ ap (λ (d : Device). between (seen filters d) was) (sym device) ∙ ap (between (seen filters new.device)) (sym settings);
+  plan_is = plan ∙ p.plan_is ∙ ap (λ (d : Device). plan_between way (seen filters d) was) (sym device) ∙ ap (plan_between way (seen filters new.device)) (sym settings);
 }
 
 -- the device of a path that serves an opening, with the filters of its plan
-pub device-served : {B : Type 0} (between : DeviceSeen → Settings → PlanSeen) (filters : Filters) (opening : Opening) (settings : Settings) (path : PathOf B) → Serves opening path → IsPlanned between filters settings path → IsDevice (seen filters path.device)
-device-served between filters opening settings path s p = record { rate = s.device_rate; mix_rate = s.device_rate; same = refl; filters = p.limits }
+pub device-served : {B : Type 0} (way : Way) (filters : Filters) (opening : Opening) (settings : Settings) (path : PathOf B) → Serves opening path → IsPlanned way filters settings path → IsDevice (seen filters path.device)
+device-served way filters opening settings path s p = record { rate = s.device_rate; mix_rate = s.device_rate; same = refl; filters = p.limits }

@@ -5,13 +5,15 @@ use Rattle.pcm_rate.specs.Rates.{IsRatio}
 use Rattle.pcm_feeder.specs.Filters.{Filters}
 use Rattle.pcm_feeder.specs.Kept.{Kept}
 use Rattle.pcm_feeder.specs.Limits.{AreFilters, IsRate}
+use Rattle.pcm_oss.specs.declared.event.Way.{Way}
 use Rattle.pcm_oss.specs.declared.fragments.TheConstants.{RING_BYTES}
-use Rattle.pcm_plan.specs.Plans.{PlanSeen, rate_in_plan}
+use Rattle.pcm_plan.specs.Plans.{rate_in_plan}
 use Rattle.pcm_chain.specs.Chains.{plan_in, ChainStands}
 use Rattle.pcm_chain.specs.Pushes.{HasRecorded}
 use Rattle.pcm_desk.specs.declared.opening.Opening.{Opening}
-use Rattle.pcm_desk.specs.Device.{DeviceSeen, seen}
+use Rattle.pcm_desk.specs.Device.{seen}
 use Rattle.pcm_desk.specs.Openings.{ring_bytes}
+use Rattle.pcm_path.specs.Ways.{plan_between}
 use Rattle.pcm_path.specs.declared.path.PathOf.{PathOf}
 
 -- A path serves an opening: the rates of device and client are within the limits, those of the chain's plan are above 0, and the
@@ -23,10 +25,11 @@ pub record Serves {B : Type 0} (opening : Opening) (path : PathOf B) : Type 0 wh
   pub room : path.ring.max ≡ RING_BYTES
   pub size : path.ring.size ≡ ring_bytes opening
 
--- the filters are within their limits, and the chain goes by the plan that they give between the device and these settings
-pub record IsPlanned {B : Type 0} (between : DeviceSeen → Settings → PlanSeen) (filters : Filters) (settings : Settings) (path : PathOf B) : Type 0 where
+-- the filters are within their limits, and the chain goes by the plan that they give between a client of a way, with these
+-- settings, and the device
+pub record IsPlanned {B : Type 0} (way : Way) (filters : Filters) (settings : Settings) (path : PathOf B) : Type 0 where
   pub limits : AreFilters filters.list
-  pub plan_is : plan_in path.chain ≡ between (seen filters path.device) settings
+  pub plan_is : plan_in path.chain ≡ plan_between way (seen filters path.device) settings
 
 -- nothing is in it: no byte waits in the ring, and the chain stands for no frame, whichever the filters are
 pub record IsEmpty {B : Type 0} (kept : B → Kept) (path : PathOf B) : Type 0 where

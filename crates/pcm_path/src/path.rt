@@ -4,16 +4,19 @@ ghost use Rattle.std.specs.Prelude.{◌≡◌, [], IfOk};
 ghost use Rattle.pcm_oss.specs.declared.fragments.TheConstants.{RING_BYTES};
 ghost use Rattle.pcm_oss.specs.Fragments.{AreFragments};
 ghost use Rattle.pcm_rate.specs.Rates.{IsRatio};
-ghost use Rattle.pcm_feeder.specs.Limits.{IsRate};
+ghost use Rattle.pcm_feeder.specs.Limits.{AreFilters, IsRate};
 ghost use Rattle.pcm_feeder.specs.Racks.{HaveKinds, IsRack};
 ghost use Rattle.pcm_plan.specs.Plans.{rate_in_plan};
 ghost use Rattle.pcm_chain.specs.Chains.{boxes_in, plan_in};
+ghost use Rattle.pcm_desk.specs.Device.{seen};
+ghost use Rattle.pcm_path.specs.Ways.{plan_between};
 
 use pcm_chain::ChainOf;
 use pcm_desk::{Device, Opening};
-use pcm_feeder::{Feeder, RackOf};
-use pcm_oss::RING_BYTES;
-use pcm_plan::Plan;
+use pcm_feeder::{Feeder, RackOf, Tables};
+use pcm_format::Settings;
+use pcm_oss::{RING_BYTES, Way};
+use pcm_plan::{Plan, plan_play, plan_record};
 use pcm_ring::ByteRing;
 use std::alloc::{AllocError, Global};
 
@@ -26,7 +29,7 @@ pub struct PathOf<B> {
 }
 
 impl<B: Feeder> PathOf<B> {
-    ghost use Rattle.pcm_path.specs.Paths.{IsEmpty, Serves};
+    ghost use Rattle.pcm_path.specs.Paths.{IsEmpty, IsPlanned, Serves};
 
     /// A path of a device with the boxes of a rack, for no opening yet. All its memory is taken here.
     pub fn new(alloc: Global, device: Device, rack: RackOf<B>) -> Result<PathOf<B>, AllocError>
@@ -44,24 +47,25 @@ impl<B: Feeder> PathOf<B> {
         })
     }
 
-    /// A run of an opening begins: an empty ring, of the size that its fragments give, and a chain that goes by a plan.
-    pub fn begin(&mut self, opening: &Opening, plan: &Plan)
+    /// A run of an opening of a way begins: an empty ring, of the size that its fragments give, and a chain that goes by the
+    /// plan of its settings.
+    pub fn begin(&mut self, way: Way, tables: &Tables, opening: &Opening)
         requires device { IsRate self.old.device.settings.rate }
         requires rate { IsRate opening.now.settings.rate }
         requires fragments { AreFragments opening.now.fragments }
-        requires ratio { IsRatio (rate_in_plan plan.now) }
         requires room { self.old.ring.max ≡ RING_BYTES }
         requires kinds { HaveKinds B.kind (boxes_in self.old.chain) }
         ensures device { self.new.device ≡ self.old.device }
-        ensures plan { plan_in self.new.chain ≡ plan.now }
         ensures serves { Serves opening.now self.new }
+        ensures planned { IsPlanned way tables.now opening.now.settings self.new }
         ensures kinds { HaveKinds B.kind (boxes_in self.new.chain) }
         ensures empty { IsEmpty B.kept self.new }
     {
+        let plan = plan_of(way, tables, &self.device, &opening.settings);
         let PathOf { ring, chain, .. } = self;
         ring.clear();
         ring.set_size(opening.fragments.size() as usize);
-        chain.reset(plan);
+        chain.reset(&plan);
     }
 
     /// A run ends, and nothing of it is left: an empty ring of the same size, and a chain that goes by the same plan.
@@ -75,5 +79,19 @@ impl<B: Feeder> PathOf<B> {
     {
         self.ring.clear();
         self.chain.restart();
+    }
+}
+
+// The plan between a client of a way and the device.
+fn plan_of(way: Way, tables: &Tables, device: &Device, client: &Settings) -> Plan
+    requires device { IsRate device.now.settings.rate }
+    requires client { IsRate client.now.rate }
+    ensures value { result ≡ plan_between way (seen tables.now device.now) client.now }
+    ensures limits { AreFilters tables.now.list }
+    ensures ratio { IsRatio (rate_in_plan result) }
+{
+    match way {
+        Way::Play => plan_play(client, &device.settings, device.quality, tables),
+        Way::Record => plan_record(client, &device.settings, device.quality, tables),
     }
 }

@@ -15,9 +15,10 @@ use Rattle.pcm_rate.specs.Rates.{IsRatio}
 use Rattle.pcm_plan.specs.Plans.{PlanSeen, rate_in_plan}
 use Rattle.pcm_chain.specs.Chains.{boxes_in, plan_in}
 use Rattle.pcm_path.specs.Paths.{IsEmpty}
+use Rattle.pcm_oss.specs.declared.event.Way.TheVariants.{Play}
 use Rattle.pcm_path.proofs.Paths.{device-served, planned-as}
 use Rattle.pcm_desk.specs.declared.play_book.PlayBook.{PlayBook}
-use Rattle.pcm_desk.specs.Device.{DeviceSeen, IsDevice, play_plan_between, seen}
+use Rattle.pcm_desk.specs.Device.{DeviceSeen, IsDevice, seen}
 use Rattle.pcm_desk.specs.Desk.{asking, play_rate_at}
 use Rattle.pcm_desk.proofs.Ratios.{ratio-between}
 use Rattle.pcm_desk.specs.Openings.{ring_bytes}
@@ -77,7 +78,7 @@ ended rate book ratio safe written =
 pub moves-state : {B : Type 0} (kind : B → Kind) (kept : B → Kept) (filters : Filters) (old new : PlayChannelOf B) → new.path.device ≡ old.path.device → new.path.chain ≡ old.path.chain → new.path.ring.bytes ≡ old.path.ring.bytes → Stays old.book new.book → PlayMoves kind kept filters [] 0 old new
 moves-state {B = B} kind kept filters old new device chain ring st = record {
   kinds = λ h. rw chain h;
-  planned = planned-as play_plan_between filters _ _ old.path new.path device (ap plan_in chain) st.settings;
+  planned = planned-as Play filters _ _ old.path new.path device (ap plan_in chain) st.settings;
   stands = λ bytes s. subst (PlayStands kept filters new new.book) (sym (nothing-more new.book.written bytes (s.count ∙ sym st.written)))
       (stands-state kept filters old new bytes chain ring st.settings st.eaten st.given st.written st.drains s);
   written = omega (arith, st.written);
@@ -124,7 +125,7 @@ book-closed old new between plan turned rate_is plan_is =
 
 -- a channel that goes by the plan of some filters: its device, and its book by the device's rate
 pub device-is : {B : Type 0} (filters : Filters) (channel : PlayChannelOf B) → IsPlayPlanned filters channel → IsDevice (seen filters channel.path.device)
-device-is filters channel p = device-served play_plan_between filters channel.book.opening channel.book.opening.settings channel.path channel.serves p
+device-is filters channel p = device-served Play filters channel.book.opening channel.book.opening.settings channel.path channel.serves p
 
 pub safe-at : {B : Type 0} (filters : Filters) (channel : PlayChannelOf B) → IsPlayPlanned filters channel → IsSafeAt (seen filters channel.path.device) channel.book
 safe-at filters channel p = subst (λ (plan : PlanSeen). PlayIsSafe (rate_in_plan plan) channel.book) p.plan_is channel.safe
@@ -190,7 +191,7 @@ moves-taking {B = B} kind kept filters more accepted old new device chain ring i
     let long : length (take accepted more) ≡ accepted = omega (arith, length-take accepted more) in
     record {
       kinds = λ h. rw chain h;
-      planned = planned-as play_plan_between filters _ _ old.path new.path device (ap plan_in chain) settings;
+      planned = planned-as Play filters _ _ old.path new.path device (ap plan_in chain) settings;
       stands = λ bytes s.
           let front : take new.book.written (bytes ++ more) ≡ bytes ++ take accepted more =
           ap (λ n. take n (bytes ++ more)) (written ∙ (let count = s.count in let e : old.book.written + accepted ≡ length bytes + accepted = omega arith in e)) ∙ take-append-add bytes more accepted in

@@ -37,6 +37,7 @@ use Rattle.pcm_sound.proofs.Stories.{IsSafeAt, safe-mixing}
 use Rattle.pcm_play.specs.declared.channel.PlayChannelOf.{PlayChannelOf}
 use Rattle.pcm_play.specs.Channels.{PlayStands, IsPlayPlanned, PlayMoves}
 use Rattle.pcm_chain.proofs.Waiting.{frames-waiting}
+use Rattle.pcm_oss.specs.declared.event.Way.TheVariants.{Play}
 use Rattle.pcm_path.proofs.Paths.{planned-as}
 use Rattle.pcm_play.proofs.Moving.{ended, safe-at}
 use Rattle.pcm_play.proofs.Stands.{nothing-more, stands-pulled}
@@ -169,7 +170,7 @@ pub moves-pulled : {B : Type 0} (kind : B → Kind) (kept : B → Kept) (filters
     → ((bytes : List ℕ) → PlayStands kept filters old old.book bytes → PullsRun kept (seen filters old.path.device) gain n old.book bytes new.path.chain pulled out_old out_new) → PlayMoves kind kept filters [] n old new
 moves-pulled {B = B} kind kept filters old new n pulled gain out_old out_new planned device plan go kinds ring pulls = record {
   kinds = kinds;
-  planned = planned-as play_plan_between filters _ _ old.path new.path device plan go.settings;
+  planned = planned-as Play filters _ _ old.path new.path device plan go.settings;
   stands = λ bytes s.
       let p = pulls bytes s in
       subst (PlayStands kept filters new new.book) (sym (nothing-more new.book.written bytes (s.count ∙ sym go.written)))

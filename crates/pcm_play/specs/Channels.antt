@@ -10,12 +10,13 @@ use Rattle.pcm_feeder.specs.Kept.{Kept}
 use Rattle.pcm_feeder.specs.Racks.{HaveKinds}
 use Rattle.pcm_chain.specs.Chains.{boxes_in, ChainStands}
 use Rattle.pcm_desk.specs.declared.play_book.PlayBook.{PlayBook}
-use Rattle.pcm_desk.specs.Device.{play_plan_between, seen}
+use Rattle.pcm_desk.specs.Device.{seen}
 use Rattle.pcm_desk.specs.declared.device.Device.{Device}
 use Rattle.pcm_desk.specs.PlayBooks.{frames_written, is_draining}
 use Rattle.pcm_desk.specs.Desk.{closing, play_unopened}
 use Rattle.pcm_sound.specs.Added.{turned}
 use Rattle.pcm_oss.specs.declared.fragments.TheConstants.{RING_BYTES}
+use Rattle.pcm_oss.specs.declared.event.Way.TheVariants.{Play}
 use Rattle.pcm_path.specs.Paths.{IsPlanned}
 use Rattle.pcm_play.specs.declared.channel.PlayChannelOf.{PlayChannelOf}
 
@@ -25,7 +26,7 @@ waiting_of book bytes = drop (book.eaten * frame_bytes book.opening.settings) by
 
 -- a channel's chain goes by the plan that these filters give for its book's settings
 abbrev pub IsPlayPlanned : {B : Type 0} → Filters → PlayChannelOf B → Type 0
-IsPlayPlanned filters channel = IsPlanned play_plan_between filters channel.book.opening.settings channel.path
+IsPlayPlanned filters channel = IsPlanned Play filters channel.book.opening.settings channel.path
 
 -- A channel stands for a book and all bytes that were accepted in its run: those that were not eaten wait in the ring, and
 -- the chain has eaten the others. It is fed silence once no more comes, behind the last frame.

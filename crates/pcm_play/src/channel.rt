@@ -16,12 +16,11 @@ ghost use Rattle.pcm_path.specs.Paths.{Serves};
 ghost use Rattle.std.proofs.Props.{props};
 ghost use Rattle.pcm_desk.specs.Desk.{asking, mixing, play_unopened};
 
-use crate::anew::begin_anew;
 use pcm_desk::{Device, PlayBook, PlayState};
 use pcm_feeder::{Feeder, RackOf, Tables};
 use pcm_format::Settings;
 use pcm_mix::mix_into;
-use pcm_oss::{Answer, Errno, Request, gain_of};
+use pcm_oss::{Answer, Errno, Request, Way, gain_of};
 use pcm_path::PathOf;
 use std::alloc::{AllocError, Global};
 
@@ -60,7 +59,7 @@ impl<B: Feeder> PlayChannelOf<B> {
             state: PlayState::Free,
             ..PlayBook::begun(device.settings)
         };
-        begin_anew(tables, &book.opening, &mut path);
+        path.begin(Way::Play, tables, &book.opening);
         Ok(PlayChannelOf { book, path })
     }
 
@@ -80,7 +79,7 @@ impl<B: Feeder> PlayChannelOf<B> {
         ensures moves { PlayMoves B.kind B.kept tables.now [] 0 self.old self.new }
     {
         self.book = PlayBook::begun(settings);
-        begin_anew(tables, &self.book.opening, &mut self.path);
+        self.path.begin(Way::Play, tables, &self.book.opening);
     }
 
     /// Takes the front of `bytes`, as much as fits.
@@ -117,7 +116,7 @@ impl<B: Feeder> PlayChannelOf<B> {
         let answer = turn.reply?;
         self.book = turn.book;
         if self.book.written == 0 {
-            begin_anew(tables, &self.book.opening, &mut self.path);
+            self.path.begin(Way::Play, tables, &self.book.opening);
         }
         Ok(answer)
     }

@@ -2,7 +2,6 @@
 //! What stood for a book and the bytes of its run stands, after each call, for the book and bytes that the rules say.
 #![tactic(auto)]
 
-mod anew;
 mod channel;
 
 pub use channel::{PlayChannel, PlayChannelOf};

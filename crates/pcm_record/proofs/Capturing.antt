@@ -26,7 +26,7 @@ use Rattle.pcm_chain.proofs.Pushing.{count-frames}
 use Rattle.pcm_desk.specs.declared.record_book.RecordBook.{RecordBook}
 use Rattle.pcm_desk.specs.declared.record_book.RecordState.{RecordState}
 use Rattle.pcm_desk.specs.declared.record_book.RecordState.TheVariants.{Free, Setup, Running}
-use Rattle.pcm_desk.specs.Device.{DeviceSeen, IsDevice, record_plan_between, seen}
+use Rattle.pcm_desk.specs.Device.{DeviceSeen, IsDevice, seen}
 use Rattle.pcm_desk.specs.Desk.{capturing, record_rate_at}
 use Rattle.pcm_desk.specs.Openings.{ring_bytes}
 use Rattle.pcm_desk.specs.RecordBooks.{captured, captured_in, captures, coming, is_running, keeping, record_fill_of, record_free_of}
@@ -37,6 +37,7 @@ use Rattle.pcm_sound.specs.Given.{recorded_bytes}
 use Rattle.pcm_sound.proofs.Recordings.{length-recorded}
 use Rattle.pcm_record.specs.declared.channel.RecordChannelOf.{RecordChannelOf}
 use Rattle.pcm_record.specs.Channels.{IsRecordPlanned, RecordMoves, RecordStands}
+use Rattle.pcm_oss.specs.declared.event.Way.TheVariants.{Record}
 use Rattle.pcm_path.proofs.Paths.{planned-as}
 use Rattle.pcm_record.proofs.Moving.{device-is}
 use Rattle.pcm_record.proofs.Stands.{stands-as, stands-captured}
@@ -188,7 +189,7 @@ pub moves-captured : {B : Type 0} (kind : B → Kind) (kept : B → Kept) (filte
     → RecordMoves kind kept filters input (keeping (record_rate_at (seen filters old.path.device) old.book) n old.book) old new
 moves-captured {B = B} kind kept filters old new n input pushed planned device plan kinds count bits b pushes = record {
   kinds = kinds;
-  planned = planned-as record_plan_between filters _ _ old.path new.path device plan b.settings;
+  planned = planned-as Record filters _ _ old.path new.path device plan b.settings;
   stands = λ bytes frames s.
       let p = pushes bytes frames s in
       let more : List ℕ = recorded_bytes (seen filters old.path.device) old.book.opening.settings (frames ++ input) old.book.given (keeping (record_rate_at (seen filters old.path.device) old.book) n old.book) in

@@ -14,12 +14,13 @@ use Rattle.pcm_plan.specs.Plans.{PlanSeen, rate_in_plan}
 use Rattle.pcm_chain.specs.declared.chain.ChainOf.{ChainOf}
 use Rattle.pcm_chain.specs.Chains.{boxes_in, plan_in}
 use Rattle.pcm_path.specs.Paths.{IsEmpty}
+use Rattle.pcm_oss.specs.declared.event.Way.TheVariants.{Record}
 use Rattle.pcm_path.proofs.Paths.{device-served, planned-as}
 use Rattle.pcm_oss.specs.declared.reply.Answer.{Answer}
 use Rattle.pcm_oss.specs.Replies.{bytes_due}
 use Rattle.pcm_desk.specs.declared.record_book.RecordBook.{RecordBook}
 use Rattle.pcm_desk.specs.declared.turn.Turn.{Turn}
-use Rattle.pcm_desk.specs.Device.{DeviceSeen, IsDevice, record_plan_between, record_rate_between, seen}
+use Rattle.pcm_desk.specs.Device.{DeviceSeen, IsDevice, record_rate_between, seen}
 use Rattle.pcm_desk.specs.Desk.{record_rate_at}
 use Rattle.pcm_desk.specs.RecordBooks.{is_record_setup, is_running, read_turn, record_fill_of}
 use Rattle.pcm_desk.specs.RecordRequests.{record_ask}
@@ -65,7 +66,7 @@ pub moves-read : {B : Type 0} (kind : B → Kind) (kept : B → Kept) (filters :
     → RecordMoves kind kept filters [] 0 old new
 moves-read {B = B} kind kept filters count old new device chain ring r = record {
   kinds = λ h. subst (λ (c : ChainOf B). HaveKinds kind (boxes_in c)) (sym chain) h;
-  planned = planned-as record_plan_between filters _ _ old.path new.path device (ap plan_in chain) r.settings;
+  planned = planned-as Record filters _ _ old.path new.path device (ap plan_in chain) r.settings;
   stands = λ bytes frames s.
       stands-as kept filters new bytes (take new.book.kept (bytes ++ recorded_bytes (seen filters old.path.device) old.book.opening.settings (frames ++ []) old.book.given 0)) frames (take new.book.captured (frames ++ []))
       (none-kept new.book.kept (seen filters old.path.device) old.book.opening.settings bytes (frames ++ []) old.book.given (s.count ∙ sym r.kept)) (none-captured new.book.captured frames (s.captured ∙ sym r.captured))
@@ -105,7 +106,7 @@ none-waits book none = let kept = none.kept_none in omega arith
 
 -- a channel that goes by the plan of some filters: its device, and its book by the device's rate
 pub device-is : {B : Type 0} (filters : Filters) (channel : RecordChannelOf B) → IsRecordPlanned filters channel → IsDevice (seen filters channel.path.device)
-device-is filters channel p = device-served record_plan_between filters channel.book.opening channel.book.opening.settings channel.path channel.serves p
+device-is filters channel p = device-served Record filters channel.book.opening channel.book.opening.settings channel.path channel.serves p
 
 pub safe-at : {B : Type 0} (filters : Filters) (channel : RecordChannelOf B) → IsRecordPlanned filters channel → RecordIsSafe (record_rate_at (seen filters channel.path.device) channel.book) channel.book
 safe-at filters channel p = subst (λ (plan : PlanSeen). RecordIsSafe (rate_in_plan plan) channel.book) p.plan_is channel.safe

@@ -16,10 +16,11 @@ use Rattle.pcm_chain.specs.Chains.{boxes_in}
 use Rattle.pcm_chain.specs.Pushes.{HasRecorded}
 use Rattle.pcm_desk.specs.declared.record_book.RecordBook.{RecordBook}
 use Rattle.pcm_desk.specs.declared.device.Device.{Device}
-use Rattle.pcm_desk.specs.Device.{record_plan_between, seen}
+use Rattle.pcm_desk.specs.Device.{seen}
 use Rattle.pcm_desk.specs.Desk.{record_rate_at, record_unopened}
 use Rattle.pcm_desk.specs.RecordBooks.{keeping}
 use Rattle.pcm_sound.specs.Given.{recorded_bytes}
+use Rattle.pcm_oss.specs.declared.event.Way.TheVariants.{Record}
 use Rattle.pcm_path.specs.Paths.{IsPlanned}
 use Rattle.pcm_record.specs.declared.channel.RecordChannelOf.{RecordChannelOf}
 
@@ -29,7 +30,7 @@ unread_of book bytes = drop book.read bytes
 
 -- a channel's chain goes by the plan that these filters give for its book's settings
 abbrev pub IsRecordPlanned : {B : Type 0} → Filters → RecordChannelOf B → Type 0
-IsRecordPlanned filters channel = IsPlanned record_plan_between filters channel.book.opening.settings channel.path
+IsRecordPlanned filters channel = IsPlanned Record filters channel.book.opening.settings channel.path
 
 -- A channel stands for a book, all bytes that were kept since the start, and all frames of the device that were captured since:
 -- the bytes that were not read wait in the ring, and the chain has eaten the frames and given all that they allow.

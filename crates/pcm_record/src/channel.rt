@@ -18,11 +18,10 @@ ghost use Rattle.pcm_path.specs.Paths.{Serves};
 ghost use Rattle.std.proofs.Props.{props};
 ghost use Rattle.pcm_desk.specs.Desk.{capturing, record_unopened};
 
-use crate::anew::begin_anew;
 use pcm_desk::{Device, RecordBook, RecordState};
 use pcm_feeder::{Feeder, RackOf, Tables};
 use pcm_format::Settings;
-use pcm_oss::{Answer, Errno, Request};
+use pcm_oss::{Answer, Errno, Request, Way};
 use pcm_path::PathOf;
 use std::alloc::{AllocError, Global};
 
@@ -61,7 +60,7 @@ impl<B: Feeder> RecordChannelOf<B> {
             state: RecordState::Free,
             ..RecordBook::begun(device.settings)
         };
-        begin_anew(tables, &book.opening, &mut path);
+        path.begin(Way::Record, tables, &book.opening);
         Ok(RecordChannelOf { book, path })
     }
 
@@ -81,7 +80,7 @@ impl<B: Feeder> RecordChannelOf<B> {
         ensures moves { RecordMoves B.kind B.kept tables.now [] 0 self.old self.new }
     {
         self.book = RecordBook::begun(settings);
-        begin_anew(tables, &self.book.opening, &mut self.path);
+        self.path.begin(Way::Record, tables, &self.book.opening);
     }
 
     /// Moves the bytes that have waited longest to the front of `out`, as many as there are, and answers how many.
@@ -118,7 +117,7 @@ impl<B: Feeder> RecordChannelOf<B> {
         let answer = turn.reply?;
         self.book = turn.book;
         if !turn.book.is_running() {
-            begin_anew(tables, &self.book.opening, &mut self.path);
+            self.path.begin(Way::Record, tables, &self.book.opening);
         }
         Ok(answer)
     }

@@ -3,7 +3,6 @@
 //! rules say.
 #![tactic(auto)]
 
-mod anew;
 mod channel;
 
 pub use channel::{RecordChannel, RecordChannelOf};

@@ -1,6 +1,6 @@
 use Rattle.std.proofs.Common.{◌≡◌, ap, sym, subst, ◌∙◌, [], length, refl}
 use Rattle.pcm_format.specs.Frames.{frame_bytes}
-use Rattle.pcm_desk.specs.Device.{play_plan_between}
+use Rattle.pcm_oss.specs.declared.event.Way.TheVariants.{Play}
 use Rattle.pcm_path.proofs.Paths.{planned-as, serves-as}
 use Rattle.pcm_rate.specs.declared.rate.Rate.{Rate}
 use Rattle.pcm_plan.specs.Plans.{PlanSeen, rate_in_plan}
@@ -48,7 +48,7 @@ returns-then-self-eq0-clause-moves g c = λ filters.
     let k = book-closed old c.closed-self.result c.rate-rate.result c.plan.result.now c.closed-self.ensures c.rate-rate.ensures.value c.plan.ensures in
     let left = k.left in
     let none = left.ended c.if-self-eq0.true in
-    moves-ended g.B.Feeder.kind g.B.Feeder.kept filters _ 0 old _ c.restart.ensures.kinds (planned-as play_plan_between filters _ _ old.path c.restart.new.self c.restart.ensures.device c.restart.ensures.plan k.keeps.settings) c.if-self-eq0.true none.0 none.1 c.restart.ensures.empty
+    moves-ended g.B.Feeder.kind g.B.Feeder.kept filters _ 0 old _ c.restart.ensures.kinds (planned-as Play filters _ _ old.path c.restart.new.self c.restart.ensures.device c.restart.ensures.plan k.keeps.settings) c.if-self-eq0.true none.0 none.1 c.restart.ensures.empty
     (left.done c.if-self-eq0.true)
 
 pub returns-else-self-eq0-clause-moves : goal.returns-else-self-eq0-clause-moves

@@ -12,14 +12,14 @@ use Rattle.pcm_desk.proofs.Refused.{ask-refused}
 use Rattle.pcm_play.proofs.Moving.{asked-is, book-asked, moves-ended, moves-state}
 use Rattle.pcm_play.proofs.channel.PlayChannelOf.ioctl.Goals as goal
 
-pub begin_anew-requires-clause-rate : goal.begin_anew-requires-clause-rate
-begin_anew-requires-clause-rate g c =
+pub begin-requires-clause-rate : goal.begin-requires-clause-rate
+begin-requires-clause-rate g c =
     let old = c.args.self.now in
     (book-asked c.args.tables.now c.args.request old c.asked-turn.result c.requires.planned
     (asked-is c.args.tables.now c.args.request old c.asked-turn.result c.rate.result c.plan.result.now c.requires.planned c.asked-turn.ensures c.rate.ensures.value c.plan.ensures)).rate
 
-pub begin_anew-requires-clause-fragments : goal.begin_anew-requires-clause-fragments
-begin_anew-requires-clause-fragments g c =
+pub begin-requires-clause-fragments : goal.begin-requires-clause-fragments
+begin-requires-clause-fragments g c =
     let old = c.args.self.now in
     (book-asked c.args.tables.now c.args.request old c.asked-turn.result c.requires.planned
     (asked-is c.args.tables.now c.args.request old c.asked-turn.result c.rate.result c.plan.result.now c.requires.planned c.asked-turn.ensures c.rate.ensures.value c.plan.ensures)).safe.fragments
@@ -31,10 +31,10 @@ invariant_of-self g c =
     (asked-is c.args.tables.now c.args.request old c.asked-turn.result c.rate.result c.plan.result.now c.requires.planned c.asked-turn.ensures c.rate.ensures.value c.plan.ensures) in
     let none = left.ended c.if-self-eq0.true in
     record {
-      serves = c.begin_anew.ensures.serves;
-      fill = ap length c.begin_anew.ensures.empty.ring ∙ none.3;
+      serves = c.begin.ensures.serves;
+      fill = ap length c.begin.ensures.empty.ring ∙ none.3;
       within = none.2;
-      safe = subst (λ (p : PlanSeen). PlayIsSafe (rate_in_plan p) c.asked-turn.result.book) (sym (c.begin_anew.ensures.planned.plan_is ∙ ap (λ (d : Device). play_plan_between (seen c.args.tables.now d) c.asked-turn.result.book.opening.settings) c.begin_anew.ensures.device)) left.safe;
+      safe = subst (λ (p : PlanSeen). PlayIsSafe (rate_in_plan p) c.asked-turn.result.book) (sym (c.begin.ensures.planned.plan_is ∙ ap (λ (d : Device). play_plan_between (seen c.args.tables.now d) c.asked-turn.result.book.opening.settings) c.begin.ensures.device)) left.safe;
     }
 
 pub invariant_of-self-else-self-eq0 : goal.invariant_of-self-else-self-eq0
@@ -58,8 +58,8 @@ returns-then-self-eq0-clause-moves g c =
     let left = book-asked c.args.tables.now c.args.request old c.asked-turn.result c.requires.planned
     (asked-is c.args.tables.now c.args.request old c.asked-turn.result c.rate.result c.plan.result.now c.requires.planned c.asked-turn.ensures c.rate.ensures.value c.plan.ensures) in
     let none = left.ended c.if-self-eq0.true in
-    moves-ended g.B.Feeder.kind g.B.Feeder.kept c.args.tables.now _ 0 old _ c.begin_anew.ensures.kinds
-    (λ p. c.begin_anew.ensures.planned) c.if-self-eq0.true none.0 none.1 c.begin_anew.ensures.empty (left.done c.if-self-eq0.true)
+    moves-ended g.B.Feeder.kind g.B.Feeder.kept c.args.tables.now _ 0 old _ c.begin.ensures.kinds
+    (λ p. c.begin.ensures.planned) c.if-self-eq0.true none.0 none.1 c.begin.ensures.empty (left.done c.if-self-eq0.true)
 
 pub returns-else-self-eq0-clause-moves : goal.returns-else-self-eq0-clause-moves
 returns-else-self-eq0-clause-moves g c =

@@ -5,6 +5,7 @@ use Rattle.pcm_num.specs.Limit.{FitsBits}
 use Rattle.pcm_format.specs.Formats.{bits_of, bytes_of}
 use Rattle.pcm_format.specs.Layouts.{channels_of}
 use Rattle.pcm_ring.specs.Ring.{Ring}
+use Rattle.pcm_oss.specs.declared.event.Way.TheVariants.{Play}
 use Rattle.pcm_path.proofs.Paths.{planned-as, serves-as}
 use Rattle.pcm_plan.specs.Plans.{PlanSeen, rate_in_plan}
 use Rattle.pcm_plan.specs.Fits.{HaveTables}
@@ -106,7 +107,7 @@ returns-then-self-eq0-clause-moves g c =
     c.refilled-self.ensures c.rate.ensures.value (c.plan.ensures ∙ c.pull-pulled.ensures.plan ∙ planned.plan_is) in
     let none = k.ended c.if-self-eq0.true in
     moves-ended g.B.Feeder.kind g.B.Feeder.kept c.args.tables.now _ c.args.n old _ (c.restart.ensures.kinds)
-    (planned-as play_plan_between c.args.tables.now _ _ old.path c.restart.new.self c.restart.ensures.device (c.restart.ensures.plan ∙ c.pull-pulled.ensures.plan) k.settings) c.if-self-eq0.true none.0 none.1 c.restart.ensures.empty (k.done c.if-self-eq0.true)
+    (planned-as Play c.args.tables.now _ _ old.path c.restart.new.self c.restart.ensures.device (c.restart.ensures.plan ∙ c.pull-pulled.ensures.plan) k.settings) c.if-self-eq0.true none.0 none.1 c.restart.ensures.empty (k.done c.if-self-eq0.true)
 
 pub returns-else-self-eq0-clause-moves : goal.returns-else-self-eq0-clause-moves
 returns-else-self-eq0-clause-moves g c =

@@ -9,12 +9,12 @@ use Rattle.pcm_record.proofs.channel.RecordChannelOf.begin.Goals as goal
 
 pub invariant_of-self-clause-safe : goal.invariant_of-self-clause-safe
 invariant_of-self-clause-safe g c =
-    subst (RecordIsSafe (rate_in_plan (plan_in c.begin_anew.new.path.chain))) (sym c.begun-self.ensures) (record-safe-begun (rate_in_plan (plan_in c.begin_anew.new.path.chain)) c.args.settings)
+    subst (RecordIsSafe (rate_in_plan (plan_in c.begin.new.self.chain))) (sym c.begun-self.ensures) (record-safe-begun (rate_in_plan (plan_in c.begin.new.self.chain)) c.args.settings)
 
 pub returns-clause-moves : goal.returns-clause-moves
 returns-clause-moves g c =
     let begun = c.begun-self.ensures in
-    moves-ended g.B.Feeder.kind g.B.Feeder.kept c.args.tables.now c.args.self.now _ c.begin_anew.ensures.kinds
-    (λ p. c.begin_anew.ensures.planned)
+    moves-ended g.B.Feeder.kind g.B.Feeder.kept c.args.tables.now c.args.self.now _ c.begin.ensures.kinds
+    (λ p. c.begin.ensures.planned)
     (record { captured_none = ap (λ (b : RecordBook). b.captured) begun; kept_none = ap (λ (b : RecordBook). b.kept) begun; read_none = ap (λ (b : RecordBook). b.read) begun })
-    c.begin_anew.ensures.empty
+    c.begin.ensures.empty

@@ -1,5 +1,5 @@
 use Rattle.std.proofs.Common.{[], ap, sym, subst}
-use Rattle.pcm_desk.specs.Device.{record_plan_between}
+use Rattle.pcm_oss.specs.declared.event.Way.TheVariants.{Record}
 use Rattle.pcm_path.proofs.Paths.{planned-as, serves-as}
 use Rattle.pcm_plan.specs.Plans.{PlanSeen, rate_in_plan}
 use Rattle.pcm_chain.specs.Chains.{plan_in}
@@ -26,6 +26,6 @@ pub returns-clause-moves : goal.returns-clause-moves
 returns-clause-moves g c = λ filters.
     let old = c.args.self.now in
     let closed = c.closed-self.ensures in
-    moves-ended g.B.Feeder.kind g.B.Feeder.kept filters old _ c.restart.ensures.kinds (planned-as record_plan_between filters _ _ old.path c.restart.new.self c.restart.ensures.device c.restart.ensures.plan (ap (λ (b : RecordBook). b.opening.settings) closed))
+    moves-ended g.B.Feeder.kind g.B.Feeder.kept filters old _ c.restart.ensures.kinds (planned-as Record filters _ _ old.path c.restart.new.self c.restart.ensures.device c.restart.ensures.plan (ap (λ (b : RecordBook). b.opening.settings) closed))
     (record { captured_none = ap (λ (b : RecordBook). b.captured) closed; kept_none = ap (λ (b : RecordBook). b.kept) closed; read_none = ap (λ (b : RecordBook). b.read) closed })
     c.restart.ensures.empty

@@ -11,12 +11,12 @@ use Rattle.pcm_sound.proofs.Recorded.{idle-unstarted}
 use Rattle.pcm_record.proofs.Moving.{book-asked, moves-ended, moves-read, none-waits, stays-fill, stays-reads}
 use Rattle.pcm_record.proofs.channel.RecordChannelOf.ioctl.Goals as goal
 
-pub begin_anew-requires-clause-rate : goal.begin_anew-requires-clause-rate
-begin_anew-requires-clause-rate g c =
+pub begin-requires-clause-rate : goal.begin-requires-clause-rate
+begin-requires-clause-rate g c =
     (book-asked c.args.tables.now c.args.request c.args.self.now c.asked-turn.result c.requires.planned c.asked-turn.ensures).rate
 
-pub begin_anew-requires-clause-fragments : goal.begin_anew-requires-clause-fragments
-begin_anew-requires-clause-fragments g c =
+pub begin-requires-clause-fragments : goal.begin-requires-clause-fragments
+begin-requires-clause-fragments g c =
     (book-asked c.args.tables.now c.args.request c.args.self.now c.asked-turn.result c.requires.planned c.asked-turn.ensures).safe.fragments
 
 pub invariant_of-self : goal.invariant_of-self
@@ -25,10 +25,10 @@ invariant_of-self g c =
     let new = c.asked-turn.result.book in
     let left = book-asked c.args.tables.now c.args.request old c.asked-turn.result c.requires.planned c.asked-turn.ensures in
     record {
-      serves = c.begin_anew.ensures.serves;
-      fill = ap length c.begin_anew.ensures.empty.ring ∙ none-waits new (idle-unstarted new.state new (sym c.if-not-is_running.ensures) left.safe.order);
+      serves = c.begin.ensures.serves;
+      fill = ap length c.begin.ensures.empty.ring ∙ none-waits new (idle-unstarted new.state new (sym c.if-not-is_running.ensures) left.safe.order);
       within = left.safe.read;
-      safe = subst (λ (p : PlanSeen). RecordIsSafe (rate_in_plan p) new) (sym (c.begin_anew.ensures.planned.plan_is ∙ ap (λ (d : Device). record_plan_between (seen c.args.tables.now d) new.opening.settings) c.begin_anew.ensures.device)) left.safe;
+      safe = subst (λ (p : PlanSeen). RecordIsSafe (rate_in_plan p) new) (sym (c.begin.ensures.planned.plan_is ∙ ap (λ (d : Device). record_plan_between (seen c.args.tables.now d) new.opening.settings) c.begin.ensures.device)) left.safe;
     }
 
 pub invariant_of-self-else-not-is_running : goal.invariant_of-self-else-not-is_running
@@ -50,9 +50,9 @@ returns-then-not-is_running-clause-moves g c =
     let old = c.args.self.now in
     let new = c.asked-turn.result.book in
     let left = book-asked c.args.tables.now c.args.request old c.asked-turn.result c.requires.planned c.asked-turn.ensures in
-    moves-ended g.B.Feeder.kind g.B.Feeder.kept c.args.tables.now old _ c.begin_anew.ensures.kinds
-    (λ p. c.begin_anew.ensures.planned)
-    (idle-unstarted new.state new (sym c.if-not-is_running.ensures) left.safe.order) c.begin_anew.ensures.empty
+    moves-ended g.B.Feeder.kind g.B.Feeder.kept c.args.tables.now old _ c.begin.ensures.kinds
+    (λ p. c.begin.ensures.planned)
+    (idle-unstarted new.state new (sym c.if-not-is_running.ensures) left.safe.order) c.begin.ensures.empty
 
 pub returns-else-not-is_running-clause-moves : goal.returns-else-not-is_running-clause-moves
 returns-else-not-is_running-clause-moves g c =

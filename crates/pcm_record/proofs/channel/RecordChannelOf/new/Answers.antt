@@ -8,4 +8,4 @@ returns-clause-stands g c =
     let begun = c.begun.ensures in
     stands-empty g.B.Feeder.kept c.args.tables.now _
     (record { captured_none = ap (λ (b : RecordBook). b.captured) begun; kept_none = ap (λ (b : RecordBook). b.kept) begun; read_none = ap (λ (b : RecordBook). b.read) begun })
-    c.begin_anew.ensures.empty
+    c.begin.ensures.empty
