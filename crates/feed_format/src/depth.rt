@@ -1,76 +1,54 @@
 //! The depth stage.
 
-ghost use Rattle.std.specs.Prelude.{◌≡◌, IfOk, IsOk};
-ghost use Rattle.pcm_feeder.specs.Kept.{unfitted};
 ghost use Rattle.pcm_feeder.specs.Limits.{IsDepth};
 
-use pcm_feeder::{Feeder, Gain, Kind, Moved, Spec, Tables};
+use pcm_feeder::{FrameMap, Gain, Kind, MapFeeder, Spec};
 use pcm_format::bring_to_depth;
-use std::alloc::{AllocError, Global};
 
 /// Takes samples of 32 bits to fewer bits.
-#[derive(Drop)]
-pub struct DepthFeeder {
-    fitted: Option<Fitted>,
-}
+pub type DepthFeeder = MapFeeder<Depth>;
 
-// What the stage was fitted to.
-#[derive(Clone, Copy)]
-struct Fitted {
+/// So many bits for each sample of frames of so many channels.
+#[derive(Drop)]
+pub struct Depth {
     bits: u32,
     channels: usize,
     ghost limits: { IsDepth bits channels },
 }
 
-impl DepthFeeder {
-    ghost use Rattle.feed_format.specs.Depth.{kept_of};
-
-    /// A feeder that nothing is fitted to yet. Takes no memory.
-    pub fn new(alloc: Global) -> Result<DepthFeeder, AllocError>
-        ensures ok { IsOk result }
-        ensures unfitted { IfOk result (λ made. kept_of made ≡ unfitted) }
-    {
-        Ok(DepthFeeder { fitted: None })
-    }
-}
-
-impl Feeder for DepthFeeder {
+impl FrameMap for Depth {
     ghost use Rattle.pcm_feeder.specs.declared.kind.Kind.TheVariants as kinds;
-    ghost use Rattle.feed_format.specs.Depth.{kept_of};
+    ghost use Rattle.pcm_feeder.specs.declared.stage.Spec.TheVariants as specs;
+    ghost use Rattle.pcm_feeder.specs.Stages.{at_bits};
+    ghost use Rattle.pcm_feeder.proofs.Unrated.{maps-depth};
 
-    ghost kind = { λ _. kinds.Depth };
+    ghost kind = { kinds.Depth };
 
-    ghost kept = { kept_of };
+    ghost stage = { λ depth. specs.Depth depth.bits depth.channels };
 
-    fn kind(&self) -> Kind {
+    ghost mapped = { λ depth gain. at_bits depth.bits };
+
+    ghost maps = { λ depth. maps-depth depth.bits depth.channels };
+
+    fn kind() -> Kind {
         Kind::Depth
     }
 
-    fn fit(&mut self, spec: Spec) {
-        if let Spec::Depth { bits, channels } = spec {
-            self.fitted = Some(Fitted { bits, channels });
+    fn of(spec: Spec) -> Option<Depth> {
+        match spec {
+            Spec::Depth { bits, channels } => Some(Depth { bits, channels }),
+            _ => None,
         }
     }
 
-    fn feed(
-        &mut self,
-        tables: &Tables,
-        gain: Gain,
-        input: &[i32],
-        want: usize,
-        output: &mut [i32],
-    ) -> Moved {
-        let Some(fitted) = self.fitted else {
-            return Moved { eaten: 0, given: 0 };
-        };
-        let frames = want.min(input.len() / fitted.channels);
-        let samples = frames * fitted.channels;
+    fn channels(&self) -> usize {
+        self.channels
+    }
+
+    fn put_frames(&self, gain: Gain, input: &[i32], frames: usize, output: &mut [i32]) {
+        let samples = frames * self.channels;
         let front = &mut output[..samples];
         front.copy_from_slice(&input[..samples]);
-        bring_to_depth(front, fitted.bits);
-        Moved {
-            eaten: frames,
-            given: frames,
-        }
+        bring_to_depth(front, self.bits);
     }
 }

@@ -13,7 +13,7 @@ use Rattle.pcm_format.specs.Layouts.{channels_of, positions_of}
 use Rattle.pcm_format.specs.declared.layout.Layout.{Layout}
 use Rattle.pcm_format.specs.declared.layout.Position.{Position}
 use Rattle.pcm_format.proofs.Streams.{channels_of-most, length-positions}
-use Rattle.pcm_feeder.specs.Layouts.{weight, gathered, sum_of}
+use Rattle.pcm_feeder.specs.Layouts.{weight, gathered, in_layout, sum_of}
 use Rattle.feed_matrix.specs.Weights.{row_of, weighted_sum, AreWeights}
 
 -- ---- sums
@@ -90,3 +90,9 @@ row-at from to rows at d are there =
     let count : length front ≡ channels_of to = length-take-le (channels_of to) rows (omega (arith, are.count, channels_of-most to)) in
     sym (get_or-map (take (channels_of from)) front at [] [] (omega (arith, within, count)) ∙ ap (take (channels_of from)) (get_or-take (channels_of to) rows at [] within))
     ∙ ap (λ list. get_or list at []) are.fronts ∙ get_or-map (row_of from to) (positions_of to) at d [] there
+
+-- ---- frames
+
+-- a frame in another layout has a sample for each of its positions
+pub length-in_layout : (from to : Layout) (frame : Frame) → length (in_layout from to frame) ≡ channels_of to
+length-in_layout from to frame = length-map (positions_of to) (λ target. gathered from to target frame) ∙ length-positions to

@@ -1,101 +1,71 @@
 //! The matrix stage.
 
-ghost use Rattle.std.specs.Prelude.{◌≡◌, ◌≤◌, ◌*◌, pos, ◌*ℤ◌, IfOk, IsOk, length, map, take};
+ghost use Rattle.std.specs.Prelude.{◌≡◌, ◌≤◌, pos, ◌*ℤ◌, length};
 ghost use Rattle.pcm_num.specs.Floor.{floor_div};
 ghost use Rattle.pcm_num.specs.Limit.{clamped};
 ghost use Rattle.pcm_format.specs.Layouts.{channels_of};
-ghost use Rattle.pcm_feeder.specs.Kept.{unfitted};
 ghost use Rattle.pcm_feeder.specs.Layouts.{in_layout};
-ghost use Rattle.pcm_feeder.specs.Streams.{frames_of, written};
 ghost use Rattle.feed_matrix.specs.Weights.{weighted_sum, AreAtMostOne, AreWeights};
 
 use crate::weight::weights;
-use pcm_feeder::{Feeder, Gain, Kind, Moved, Spec, Tables};
+use pcm_feeder::{FrameMap, Gain, Kind, MapFeeder, Spec};
 use pcm_format::Layout;
 use pcm_num::{clamp_bits, floor_shift};
-use std::alloc::{AllocError, Global};
 
 /// Brings frames of one layout to another.
-#[derive(Drop)]
-pub struct MatrixFeeder {
-    fitted: Option<Fitted>,
-}
+pub type MatrixFeeder = MapFeeder<Matrix>;
 
-// What the stage was fitted to.
-#[derive(Clone, Copy)]
-struct Fitted {
+/// The weights between two layouts.
+#[derive(Drop)]
+pub struct Matrix {
     from: Layout,
     to: Layout,
     weights: [[u32; 8]; 8],
     ghost table: { AreWeights from to weights },
 }
 
-impl MatrixFeeder {
-    ghost use Rattle.feed_matrix.specs.Matrix.{kept_of};
-
-    /// A feeder that nothing is fitted to yet. Takes no memory.
-    pub fn new(alloc: Global) -> Result<MatrixFeeder, AllocError>
-        ensures ok { IsOk result }
-        ensures unfitted { IfOk result (λ made. kept_of made ≡ unfitted) }
-    {
-        Ok(MatrixFeeder { fitted: None })
-    }
-}
-
-impl Feeder for MatrixFeeder {
+impl FrameMap for Matrix {
     ghost use Rattle.pcm_feeder.specs.declared.kind.Kind.TheVariants as kinds;
-    ghost use Rattle.feed_matrix.specs.Matrix.{kept_of};
+    ghost use Rattle.pcm_feeder.specs.declared.stage.Spec.TheVariants as specs;
+    ghost use Rattle.pcm_feeder.proofs.Unrated.{maps-matrix};
 
-    ghost kind = { λ _. kinds.Matrix };
+    ghost kind = { kinds.Matrix };
 
-    ghost kept = { kept_of };
+    ghost stage = { λ matrix. specs.Matrix matrix.from matrix.to };
 
-    fn kind(&self) -> Kind {
+    ghost mapped = { λ matrix gain. in_layout matrix.from matrix.to };
+
+    ghost maps = { λ matrix. maps-matrix matrix.from matrix.to };
+
+    fn kind() -> Kind {
         Kind::Matrix
     }
 
-    fn fit(&mut self, spec: Spec) {
-        if let Spec::Matrix { from, to } = spec {
-            let weights = weights(from, to);
-            self.fitted = Some(Fitted { from, to, weights });
+    fn of(spec: Spec) -> Option<Matrix> {
+        match spec {
+            Spec::Matrix { from, to } => Some(Matrix {
+                from,
+                to,
+                weights: weights(from, to),
+            }),
+            _ => None,
         }
     }
 
-    fn feed(
-        &mut self,
-        tables: &Tables,
-        gain: Gain,
-        input: &[i32],
-        want: usize,
-        output: &mut [i32],
-    ) -> Moved {
-        let Some(fitted) = &self.fitted else {
-            return Moved { eaten: 0, given: 0 };
-        };
-        let frames = want.min(input.len() / fitted.from.channels());
-        fitted.put_frames(input, frames, output);
-        Moved {
-            eaten: frames,
-            given: frames,
-        }
+    fn channels(&self) -> usize {
+        self.from.channels()
     }
-}
 
-impl Fitted {
-    // Puts the first frames of the input, in the other layout, at the front of the output.
-    fn put_frames(&self, input: &[i32], frames: usize, output: &mut [i32])
-        requires input { frames * channels_of self.now.from ≤ length input.now }
-        requires output { frames * channels_of self.now.to ≤ length output.old }
-        ensures { output.new ≡ written (map (in_layout self.now.from self.now.to)
-            (take frames (frames_of (channels_of self.now.from) input.now))) output.old }
-    {
+    fn put_frames(&self, gain: Gain, input: &[i32], frames: usize, output: &mut [i32]) {
         let (taken, given) = (self.from.channels(), self.to.channels());
         for k in 0..frames {
             let frame = &input[k * taken..k * taken + taken];
             self.put_frame(frame, &mut output[k * given..k * given + given]);
         }
     }
+}
 
+impl Matrix {
     // Puts one frame.
     fn put_frame(&self, frame: &[i32], output: &mut [i32])
         requires frame { length frame.now ≡ channels_of self.now.from }

@@ -1,2 +1,1 @@
-pub mod Volume
 pub mod Gains

@@ -1,89 +1,63 @@
 //! The volume stage.
 
-ghost use Rattle.std.specs.Prelude.{◌≡◌, ◌<◌, ◌≤◌, ◌*◌, length, map, take, IfOk, IsOk};
+ghost use Rattle.std.specs.Prelude.{◌≡◌, ◌<◌, ◌≤◌, ◌*◌, length, map, take};
 ghost use Rattle.pcm_format.specs.Layouts.{channels_of, positions_of};
-ghost use Rattle.pcm_feeder.specs.Kept.{unfitted};
-ghost use Rattle.pcm_feeder.specs.Layouts.{at_gain, side_gain};
+ghost use Rattle.pcm_feeder.specs.Layouts.{side_gain};
 ghost use Rattle.pcm_feeder.specs.Limits.{IsGain};
-ghost use Rattle.pcm_feeder.specs.Streams.{frames_of, written};
-ghost use Rattle.feed_volume.specs.Gains.{at_gains, scaled, AreGains};
+ghost use Rattle.pcm_feeder.specs.Streams.{written};
+ghost use Rattle.feed_volume.specs.Gains.{at_gains, first_at_gains, scaled, AreGains};
 
-use pcm_feeder::{Feeder, Gain, Kind, Moved, Spec, Tables};
+use pcm_feeder::{FrameMap, Gain, Kind, MapFeeder, Spec};
 use pcm_format::Layout;
-use std::alloc::{AllocError, Global};
 
 /// Multiplies each sample by the gain of its side.
+pub type VolumeFeeder = MapFeeder<Volume>;
+
+/// The layout of which each channel is on a side.
 #[derive(Drop)]
-pub struct VolumeFeeder {
-    fitted: Option<Layout>,
+pub struct Volume {
+    layout: Layout,
 }
 
-impl VolumeFeeder {
-    ghost use Rattle.feed_volume.specs.Volume.{kept_of};
-
-    /// A feeder that nothing is fitted to yet. Takes no memory.
-    pub fn new(alloc: Global) -> Result<VolumeFeeder, AllocError>
-        ensures ok { IsOk result }
-        ensures unfitted { IfOk result (λ made. kept_of made ≡ unfitted) }
-    {
-        Ok(VolumeFeeder { fitted: None })
-    }
-}
-
-impl Feeder for VolumeFeeder {
+impl FrameMap for Volume {
     ghost use Rattle.pcm_feeder.specs.declared.kind.Kind.TheVariants as kinds;
-    ghost use Rattle.feed_volume.specs.Volume.{kept_of};
+    ghost use Rattle.pcm_feeder.specs.declared.stage.Spec.TheVariants as specs;
+    ghost use Rattle.pcm_feeder.specs.Layouts.{at_gain};
+    ghost use Rattle.pcm_feeder.proofs.Unrated.{maps-volume};
 
-    ghost kind = { λ _. kinds.Volume };
+    ghost kind = { kinds.Volume };
 
-    ghost kept = { kept_of };
+    ghost stage = { λ volume. specs.Volume volume.layout };
 
-    fn kind(&self) -> Kind {
+    ghost mapped = { λ volume. at_gain volume.layout };
+
+    ghost maps = { λ volume. maps-volume volume.layout };
+
+    fn kind() -> Kind {
         Kind::Volume
     }
 
-    fn fit(&mut self, spec: Spec) {
-        if let Spec::Volume { layout } = spec {
-            self.fitted = Some(layout);
+    fn of(spec: Spec) -> Option<Volume> {
+        match spec {
+            Spec::Volume { layout } => Some(Volume { layout }),
+            _ => None,
         }
     }
 
-    fn feed(
-        &mut self,
-        tables: &Tables,
-        gain: Gain,
-        input: &[i32],
-        want: usize,
-        output: &mut [i32],
-    ) -> Moved {
-        let Some(layout) = self.fitted else {
-            return Moved { eaten: 0, given: 0 };
-        };
-        let frames = want.min(input.len() / layout.channels());
-        put_frames(layout, gain, frames, input, output);
-        Moved {
-            eaten: frames,
-            given: frames,
-        }
+    fn channels(&self) -> usize {
+        self.layout.channels()
     }
-}
 
-// Puts the first frames of the input, at the gain, at the front of the output.
-fn put_frames(layout: Layout, gain: Gain, frames: usize, input: &[i32], output: &mut [i32])
-    requires limits { IsGain gain }
-    requires source { frames * channels_of layout ≤ length input.now }
-    requires room { frames * channels_of layout ≤ length output.old }
-    ensures { output.new ≡ written (map (at_gain layout gain)
-        (take frames (frames_of (channels_of layout) input.now))) output.old }
-{
-    let channels = layout.channels();
-    if gain.left == 65536 && gain.right == 65536 {
-        let samples = frames * channels;
-        output[..samples].copy_from_slice(&input[..samples]);
-        return;
+    fn put_frames(&self, gain: Gain, input: &[i32], frames: usize, output: &mut [i32]) {
+        let channels = self.layout.channels();
+        if gain.left == 65536 && gain.right == 65536 {
+            let samples = frames * channels;
+            output[..samples].copy_from_slice(&input[..samples]);
+            return;
+        }
+        let gains = side_gains(self.layout, gain);
+        put_at_gains(&gains[..channels], frames, input, output);
     }
-    let gains = side_gains(layout, gain);
-    put_at_gains(&gains[..channels], frames, input, output);
 }
 
 // The gain of each channel of a layout. What follows them is of no use.
@@ -106,8 +80,7 @@ fn put_at_gains(gains: &[u32], frames: usize, input: &[i32], output: &mut [i32])
     requires limits { AreGains gains.now }
     requires source { frames * length gains.now ≤ length input.now }
     requires room { frames * length gains.now ≤ length output.old }
-    ensures { output.new ≡ written (map (at_gains gains.now)
-        (take frames (frames_of (length gains.now) input.now))) output.old }
+    ensures { output.new ≡ written (first_at_gains gains.now frames input.now) output.old }
 {
     let channels = gains.len();
     for k in 0..frames {

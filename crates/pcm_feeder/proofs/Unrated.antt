@@ -2,7 +2,6 @@
 use Rattle.std.proofs.Common.{◌≡◌, ◌+◌, ◌*◌, ◌/◌, ◌%◌, min, ℕ, zero, suc, ℤ, pos, ◌+ℤ◌, ◌-ℤ◌, List, [], length, map, take, Some, refl, ap, ◌∙◌, arith}
 use Rattle.std.proofs.lemmas.Int.{ints}
 use Rattle.pcm_format.specs.declared.layout.Layout.{Layout}
-use Rattle.pcm_format.specs.Layouts.{channels_of}
 use Rattle.pcm_format.specs.Frames.{Frame}
 use Rattle.pcm_feeder.specs.declared.stage.Gain.{Gain}
 use Rattle.pcm_feeder.specs.declared.stage.Spec.{Spec}
@@ -11,7 +10,8 @@ use Rattle.pcm_feeder.specs.Filters.{Filters}
 use Rattle.pcm_feeder.specs.Layouts.{in_layout, at_gain}
 use Rattle.pcm_rate.specs.Rates.{unchanged}
 use Rattle.pcm_feeder.specs.Streams.{Stream, frames_of}
-use Rattle.pcm_feeder.specs.Stages.{conv, at_bits}
+use Rattle.pcm_feeder.specs.Laws.{FeedsMapFrames}
+use Rattle.pcm_feeder.specs.Stages.{channels_in, conv, at_bits}
 use Rattle.pcm_feeder.specs.Kept.{Kept, fresh}
 use Rattle.pcm_feeder.specs.Turns.{reach, eaten_by, given_by, Turn, turn, turn_of, fed, MapsFrames}
 use Rattle.pcm_feeder.proofs.Turns.{natural-is, turn-fitted}
@@ -93,17 +93,7 @@ maps-depth bits channels tables gain input want =
 
 -- ---- feeds of interleaved samples
 
-pub fed-matrix : (from to : Layout) (tables : Filters) (gain : Gain) (samples : List ℤ) (want : ℕ)
-    → MapsFrames (Matrix from to) (in_layout from to) (frames_of (channels_of from) samples) want (fed (fresh (Matrix from to)) tables gain samples want)
+pub fed-maps : (spec : Spec) (f : Gain → Frame → Frame) (tables : Filters) (gain : Gain) (samples : List ℤ) (want : ℕ) → FeedsMapFrames spec f
+    → MapsFrames spec (f gain) (frames_of (channels_in spec) samples) want (fed (fresh spec) tables gain samples want)
 unfolding fed
-fed-matrix from to tables gain samples want = maps-matrix from to tables gain (frames_of (channels_of from) samples) want
-
-pub fed-volume : (layout : Layout) (tables : Filters) (gain : Gain) (samples : List ℤ) (want : ℕ)
-    → MapsFrames (Volume layout) (at_gain layout gain) (frames_of (channels_of layout) samples) want (fed (fresh (Volume layout)) tables gain samples want)
-unfolding fed
-fed-volume layout tables gain samples want = maps-volume layout tables gain (frames_of (channels_of layout) samples) want
-
-pub fed-depth : (bits channels : ℕ) (tables : Filters) (gain : Gain) (samples : List ℤ) (want : ℕ)
-    → MapsFrames (Depth bits channels) (at_bits bits) (frames_of channels samples) want (fed (fresh (Depth bits channels)) tables gain samples want)
-unfolding fed
-fed-depth bits channels tables gain samples want = maps-depth bits channels tables gain (frames_of channels samples) want
+fed-maps spec f tables gain samples want maps = maps tables gain (frames_of (channels_in spec) samples) want

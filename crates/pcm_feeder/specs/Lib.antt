@@ -6,6 +6,8 @@ pub mod Layouts
 pub mod Stages
 pub mod Kept
 pub mod Turns
+pub mod Laws
+pub mod Maps
 pub mod Fractions
 pub mod Pace
 pub mod Racks

@@ -1,5 +1,5 @@
 -- What one feed eats, gives and keeps.
-use Rattle.std.specs.Prelude.{◌≡◌, ◌≤◌, ℕ, zero, suc, ◌+◌, ◌-◌, ◌*◌, ◌/◌, ◌%◌, min, max, ℤ, pos, ◌+ℤ◌, ◌-ℤ◌, List, [], ◌++◌, length, map, take, Option, Some, None}
+use Rattle.std.specs.Prelude.{◌≡◌, ◌≤◌, ℕ, zero, suc, ◌+◌, ◌-◌, ◌*◌, ◌/◌, ◌%◌, min, max, ℤ, pos, ◌+ℤ◌, ◌-ℤ◌, List, [], ◌++◌, length, map, take, Option, Some, None, IsSomeAnd}
 use Rattle.std.specs.List.{range_with_len}
 use Rattle.pcm_format.specs.Frames.{Frame}
 use Rattle.pcm_format.specs.Samples.{natural}
@@ -9,7 +9,7 @@ use Rattle.pcm_feeder.specs.declared.stage.Spec.TheVariants.{Matrix, Hold, Linea
 use Rattle.pcm_feeder.specs.Filters.{Filters}
 use Rattle.pcm_rate.specs.declared.rate.Rate.{Rate}
 use Rattle.pcm_rate.specs.Rates.{need, can, div_up}
-use Rattle.pcm_feeder.specs.Streams.{Stream, stream_of, frames_of, HaveChannels}
+use Rattle.pcm_feeder.specs.Streams.{Stream, stream_of, frames_of, HaveChannels, written}
 use Rattle.pcm_feeder.specs.Layouts.{in_layout, at_gain}
 use Rattle.pcm_feeder.specs.Stages.{rate_of, channels_in, channels_out, history, at_bits, table_at, Converter, held, on_line, filtered_frame, outputs}
 use Rattle.pcm_feeder.specs.Limits.{IsGain, HasTable}
@@ -123,6 +123,11 @@ pub record CanFeed (spec : Spec) (tables : Filters) (gain : Gain)
   pub limits : IsGain gain
   pub filter : HasTable spec tables
 
+-- a fitted feeder can be fed so
+abbrev pub CanBeFed : Kept → Filters → Gain → List ℤ → ℕ → List ℤ → Type 0
+CanBeFed kept tables gain input want output =
+    IsSomeAnd kept.spec (λ spec. CanFeed spec tables gain input want output)
+
 -- What a feed means to whoever knows the frames x that were eaten and how many were given: both go
 -- on as far as the counts say, and the frames given are the stage's outputs over all frames eaten.
 pub record Continues (spec : Spec) (tables : Filters) (gain : Gain) (x : List Frame) (before : ℕ)
@@ -145,3 +150,8 @@ pub record MapsFrames (spec : Spec) (f : Frame → Frame) (input : List Frame) (
   pub given : turn.given ≡ min want (length input)
   pub frames : turn.frames ≡ map f (take (min want (length input)) input)
   pub kept : turn.kept ≡ fresh spec
+
+-- the first n frames of the input stand at the front of the output, each turned by itself
+abbrev pub PutsTurned : Spec → (Frame → Frame) → ℕ → List ℤ → List ℤ → List ℤ → Type 0
+PutsTurned spec f n input old new =
+    new ≡ written (map f (take n (frames_of (channels_in spec) input))) old

@@ -4,13 +4,13 @@ use crate::{Gain, Kind, Moved, Spec, Tables};
 
 /// A stage of a chain. What it gives follows from what it keeps and from the arguments alone.
 pub trait Feeder: Drop {
-    ghost use Rattle.std.specs.Prelude.{◌≡◌, ◌≤◌, IsSomeAnd};
+    ghost use Rattle.std.specs.Prelude.{◌≡◌, ◌≤◌};
     ghost use Rattle.pcm_feeder.specs.declared.kind.Kind.{Kind};
     ghost use Rattle.pcm_feeder.specs.Kept.{Kept, fresh};
     ghost use Rattle.pcm_feeder.specs.Limits.{IsSpec};
     ghost use Rattle.pcm_feeder.specs.Kinds.{kind_of};
     ghost use Rattle.pcm_feeder.specs.Streams.{written};
-    ghost use Rattle.pcm_feeder.specs.Turns.{fed, CanFeed};
+    ghost use Rattle.pcm_feeder.specs.Turns.{fed, CanBeFed};
 
     ghost kind: { Self → Kind };
 
@@ -37,8 +37,7 @@ pub trait Feeder: Drop {
         want: usize,
         output: &mut [i32],
     ) -> Moved
-        requires { IsSomeAnd (kept self.old).spec
-            (λ spec. CanFeed spec tables.now gain input.now want output.old) }
+        requires { CanBeFed (kept self.old) tables.now gain input.now want output.old }
         ensures eaten { result.eaten
             ≡ (fed (kept self.old) tables.now gain input.now want).eaten }
         ensures given { result.given

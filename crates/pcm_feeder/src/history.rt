@@ -1,7 +1,7 @@
 //! The last frames that a converter keeps, and those that come behind them.
 
-ghost use Rattle.std.specs.Prelude.{◌≡◌, ◌<◌, ◌≤◌, ◌+◌, ◌*◌, ◌%◌, pos, ◌++◌, length, drop};
-ghost use Rattle.pcm_feeder.specs.Streams.{frames_of, stream_of};
+ghost use Rattle.std.specs.Prelude.{◌≡◌, ◌<◌, ◌≤◌, ◌+◌, ◌*◌, ◌%◌, ◌++◌, length, drop};
+ghost use Rattle.pcm_feeder.specs.Streams.{frame_behind};
 
 /// Lends the frame at a place among those kept and those that come. Both are interleaved samples.
 pub fn frame_among<'a>(
@@ -13,8 +13,7 @@ pub fn frame_among<'a>(
     requires some { 0 < channels }
     requires whole_frames { length kept.now % channels ≡ 0 }
     requires there { (place + 1) * channels ≤ length kept.now + length input.now }
-    ensures value { result.now ≡ stream_of channels
-        (frames_of channels kept.now ++ frames_of channels input.now) (pos place) }
+    ensures value { result.now ≡ frame_behind channels kept.now input.now place }
     ensures len { length result.now ≡ channels }
 {
     let at = place * channels;

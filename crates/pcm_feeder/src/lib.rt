@@ -7,6 +7,7 @@ mod history;
 mod kind;
 mod laws;
 mod limits;
+mod map_feeder;
 mod pace;
 mod rack;
 mod stage;
@@ -20,6 +21,7 @@ pub use laws::{
     outputs_use_what_is_needed, silence_stays_silence, stages_without_a_rate_map_frames,
 };
 pub use limits::{COEF_MOST, FILTERS, PHASES, SHIFT_MOST, TABLE_COEFS, TAPS};
+pub use map_feeder::{FrameMap, MapFeeder};
 pub use pace::{Pace, Step};
 pub use rack::{RACKS, Rack, RackFault, RackOf, Racks, RacksOf, Six, SixOf, WrongCount, WrongKind};
 pub use stage::{Gain, Moved, Spec, UNITY};

@@ -5,7 +5,7 @@ pub returns-clause-joined : goal.returns-clause-joined
 returns-clause-joined c = interleaved-frames_of
 
 pub returns-clause-cut : goal.returns-clause-cut
-returns-clause-cut c = frames_of-interleaved
+returns-clause-cut c channels some list = frames_of-interleaved channels list some
 
 pub returns-clause-channels : goal.returns-clause-channels
 returns-clause-channels c = frames_of-channels

@@ -2,7 +2,7 @@ use Rattle.std.proofs.Common.{◌≡◌, map, take}
 use Rattle.pcm_format.specs.Layouts.{channels_of}
 use Rattle.pcm_feeder.specs.Layouts.{in_layout}
 use Rattle.pcm_feeder.specs.Streams.{frames_of, written}
-use Rattle.feed_matrix.proofs.matrix.Fitted.put_frames.Given as goal
+use Rattle.feed_matrix.proofs.matrix.MatrixFrameMap.put_frames.Given as goal
 
 abbrev pub invariant-loop-k : goal.invariant-loop-k
 invariant-loop-k l =
