@@ -2,7 +2,7 @@
 use Rattle.std.specs.Prelude.{◌≡◌, ◌≤◌, ◌<◌, ℕ, ◌+◌, ◌-◌, ◌*◌, ◌/◌, ◌%◌, max, ℤ, pos, neg_ℤ, ◌+ℤ◌, ◌≤ℤ◌, List, [], ◌++◌, length, drop, replicate, Option, Some, None}
 use Rattle.pcm_format.specs.Frames.{Frame}
 use Rattle.pcm_feeder.specs.declared.stage.Spec.{Spec}
-use Rattle.pcm_feeder.specs.declared.stage.Spec.TheVariants.{Matrix, Hold, Linear, Poly, Volume, Depth}
+use Rattle.pcm_feeder.specs.declared.stage.Spec.TheVariants.{Hold, Linear, Poly}
 use Rattle.pcm_feeder.specs.Filters.{Filters}
 use Rattle.pcm_rate.specs.Rates.{unchanged, need}
 use Rattle.pcm_feeder.specs.Streams.{silence, HaveChannels}
@@ -35,12 +35,10 @@ last_frames channels n x = drop (length x) (replicate n (silence channels) ++ x)
 
 -- what a stage keeps of the past, after it has eaten the frames x
 abbrev pub past : Spec → Filters → List Frame → List Frame
-past (Matrix from to) tables x = []
 past (Hold src dst channels) tables x = last_frames channels 1 x
 past (Linear src dst channels) tables x = last_frames channels 2 x
 past (Poly src dst channels table taps) tables x = last_frames channels taps x
-past (Volume layout) tables x = []
-past (Depth bits channels) tables x = []
+past _ tables x = []
 
 -- as many last frames as before, after more were eaten
 abbrev pub moved_on : List Frame → List Frame → List Frame
@@ -48,12 +46,10 @@ moved_on tail eaten = drop (length eaten) (tail ++ eaten)
 
 -- what a stage keeps of the past, out of what it kept before and the frames eaten since
 abbrev pub past_after : Spec → Filters → List Frame → List Frame → List Frame
-past_after (Matrix from to) tables tail eaten = []
 past_after (Hold src dst channels) tables tail eaten = moved_on tail eaten
 past_after (Linear src dst channels) tables tail eaten = moved_on tail eaten
 past_after (Poly src dst channels table taps) tables tail eaten = moved_on tail eaten
-past_after (Volume layout) tables tail eaten = []
-past_after (Depth bits channels) tables tail eaten = []
+past_after _ tables tail eaten = []
 
 -- a feeder that has eaten the frames x and given so many, all with these tables
 pub record StandsFor (spec : Spec) (tables : Filters) (kept : Kept) (x : List Frame) (given : ℕ)

@@ -35,10 +35,9 @@ shares One FC = share M 46341 ∷ []
 shares Two FC = share FL 46341 ∷ share FR 46341 ∷ []
 shares Four FC = share FL 46341 ∷ share FR 46341 ∷ []
 shares _ FC = same FC
-shares One LFE = []
-shares Two LFE = []
-shares Four LFE = []
-shares _ LFE = same LFE
+shares Six LFE = same LFE
+shares Eight LFE = same LFE
+shares _ LFE = []
 shares One BL = share M 23170 ∷ []
 shares Two BL = share FL 46341 ∷ []
 shares _ BL = same BL
@@ -99,15 +98,13 @@ unity = record { left = 65536; right = 65536 }
 
 -- the gain of a position: that of its side, or the mean of both
 abbrev pub side_gain : Gain → Position → ℕ
-side_gain gain M = (gain.left + gain.right) / 2
 side_gain gain FL = gain.left
 side_gain gain FR = gain.right
-side_gain gain FC = (gain.left + gain.right) / 2
-side_gain gain LFE = (gain.left + gain.right) / 2
 side_gain gain BL = gain.left
 side_gain gain BR = gain.right
 side_gain gain SL = gain.left
 side_gain gain SR = gain.right
+side_gain gain _ = (gain.left + gain.right) / 2
 
 -- a frame times the gain of each position, rounded down
 abbrev pub at_gain : Layout → Gain → Frame → Frame

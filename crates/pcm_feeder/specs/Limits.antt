@@ -4,7 +4,7 @@ use Rattle.pcm_format.specs.declared.settings.TheConstants.{RATE_LEAST, RATE_MOS
 use Rattle.pcm_feeder.specs.declared.limits.TheConstants.{COEF_MOST, FILTERS, PHASES, SHIFT_MOST, TABLE_COEFS, TAPS}
 use Rattle.pcm_feeder.specs.declared.stage.Gain.{Gain}
 use Rattle.pcm_feeder.specs.declared.stage.Spec.{Spec}
-use Rattle.pcm_feeder.specs.declared.stage.Spec.TheVariants.{Matrix, Hold, Linear, Poly, Volume, Depth}
+use Rattle.pcm_feeder.specs.declared.stage.Spec.TheVariants.{Hold, Linear, Poly, Depth}
 use Rattle.pcm_feeder.specs.declared.table.Table.{Table}
 use Rattle.pcm_feeder.specs.Filters.{Filters}
 
@@ -69,12 +69,11 @@ pub record IsDepth (bits channels : ℕ) : Type 0 where
 
 -- what a stage may be fitted to
 abbrev pub IsSpec : Spec → Type 0
-IsSpec (Matrix from to) = Unit {0}
 IsSpec (Hold src dst channels) = IsChange src dst channels
 IsSpec (Linear src dst channels) = IsChange src dst channels
 IsSpec (Poly src dst channels table taps) = IsFilter src dst channels taps
-IsSpec (Volume layout) = Unit {0}
 IsSpec (Depth bits channels) = IsDepth bits channels
+IsSpec _ = Unit {0}
 
 -- a gain of at most one on each side
 pub record IsGain (gain : Gain) : Type 0 where
@@ -83,10 +82,6 @@ pub record IsGain (gain : Gain) : Type 0 where
 
 -- a filter's table is there, with the taps that the stage was fitted to
 abbrev pub HasTable : Spec → Filters → Type 0
-HasTable (Matrix from to) tables = Unit {0}
-HasTable (Hold src dst channels) tables = Unit {0}
-HasTable (Linear src dst channels) tables = Unit {0}
 HasTable (Poly src dst channels table taps) tables =
     IsSomeAnd (slice_get tables.list table) (λ found. found.taps ≡ taps)
-HasTable (Volume layout) tables = Unit {0}
-HasTable (Depth bits channels) tables = Unit {0}
+HasTable _ tables = Unit {0}

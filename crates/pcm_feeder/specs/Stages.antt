@@ -37,21 +37,17 @@ channels_out (Depth bits channels) = channels
 
 -- the rate of a stage
 abbrev pub rate_of : Spec → Rate
-rate_of (Matrix from to) = unchanged
 rate_of (Hold src dst channels) = record { src = src; dst = dst; lookahead = 0 }
 rate_of (Linear src dst channels) = record { src = src; dst = dst; lookahead = 1 }
 rate_of (Poly src dst channels table taps) = record { src = src; dst = dst; lookahead = taps / 2 }
-rate_of (Volume layout) = unchanged
-rate_of (Depth bits channels) = unchanged
+rate_of _ = unchanged
 
 -- how many frames of the past a stage keeps
 abbrev pub history : Spec → ℕ
-history (Matrix from to) = 0
 history (Hold src dst channels) = 1
 history (Linear src dst channels) = 2
 history (Poly src dst channels table taps) = taps
-history (Volume layout) = 0
-history (Depth bits channels) = 0
+history _ = 0
 
 -- a frame at fewer bits, rounded down
 abbrev pub at_bits : ℕ → Frame → Frame
