@@ -6,7 +6,7 @@ use Rattle.pcm_format.specs.Layouts.{channels_of}
 use Rattle.pcm_rate.specs.Rates.{unchanged}
 use Rattle.pcm_feeder.specs.declared.kind.Kind.TheVariants as kinds
 use Rattle.pcm_feeder.specs.declared.stage.Spec.{Spec}
-use Rattle.pcm_feeder.specs.declared.stage.Spec.TheVariants.{Matrix, Hold, Linear, Poly, Volume, Depth}
+use Rattle.pcm_feeder.specs.declared.stage.Spec.TheVariants.{Hold, Linear, Poly, Volume}
 use Rattle.pcm_feeder.specs.Filters.{Filters}
 use Rattle.pcm_feeder.specs.Kinds.{kind_of}
 use Rattle.pcm_feeder.specs.Limits.{IsSpec, HasTable}
@@ -30,22 +30,16 @@ IsUnrated spec = rate_of spec ≡ unchanged
 -- one stage at most changes the rate
 abbrev pub HaveOneRate : List Spec → Type 0
 HaveOneRate [] = Unit {0}
-HaveOneRate (Matrix from to ∷ specs) = HaveOneRate specs
 HaveOneRate (Hold src dst channels ∷ specs) = All IsUnrated specs
 HaveOneRate (Linear src dst channels ∷ specs) = All IsUnrated specs
 HaveOneRate (Poly src dst channels table taps ∷ specs) = All IsUnrated specs
-HaveOneRate (Volume layout ∷ specs) = HaveOneRate specs
-HaveOneRate (Depth bits channels ∷ specs) = HaveOneRate specs
+HaveOneRate (_ ∷ specs) = HaveOneRate specs
 
 -- behind the volume, whose gain may change, no stage changes the rate
 abbrev pub GainIsLate : List Spec → Type 0
 GainIsLate [] = Unit {0}
-GainIsLate (Matrix from to ∷ specs) = GainIsLate specs
-GainIsLate (Hold src dst channels ∷ specs) = GainIsLate specs
-GainIsLate (Linear src dst channels ∷ specs) = GainIsLate specs
-GainIsLate (Poly src dst channels table taps ∷ specs) = GainIsLate specs
 GainIsLate (Volume layout ∷ specs) = All IsUnrated specs
-GainIsLate (Depth bits channels ∷ specs) = GainIsLate specs
+GainIsLate (_ ∷ specs) = GainIsLate specs
 
 -- the stages of a plan fit each other and its ends, and are within their limits
 pub record IsPlan (plan : PlanSeen) : Type 0 where

@@ -1,3 +1,4 @@
 pub mod Plans
 pub mod Through
 pub mod Fits
+pub mod Laws

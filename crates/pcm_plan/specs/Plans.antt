@@ -22,6 +22,10 @@ pub record PlanSeen : Type 0 where
 abbrev pub matrix_stages : Layout → Layout → List Spec
 matrix_stages from to = if channels_of from == channels_of to then [] else Matrix from to ∷ []
 
+-- a list of filters as those of a run
+abbrev pub as_filters : List Table → Filters
+as_filters list = record { list = list }
+
 -- a filter is for these rates
 abbrev pub is_for : ℕ → ℕ → Table → Bool
 is_for src dst table = table.src == src && table.dst == dst
@@ -88,12 +92,10 @@ plan_record tables quality client device = record {
 -- the rate of stages: that of the one that changes it
 abbrev pub rate_among : List Spec → Rate
 rate_among [] = unchanged
-rate_among (Matrix from to ∷ specs) = rate_among specs
 rate_among (Hold src dst channels ∷ specs) = rate_of (Hold src dst channels)
 rate_among (Linear src dst channels ∷ specs) = rate_of (Linear src dst channels)
 rate_among (Poly src dst channels table taps ∷ specs) = rate_of (Poly src dst channels table taps)
-rate_among (Volume layout ∷ specs) = rate_among specs
-rate_among (Depth bits channels ∷ specs) = rate_among specs
+rate_among (_ ∷ specs) = rate_among specs
 
 -- The rate of a plan, whose `need`, `can` and `len` are those of the plan.
 abbrev pub rate_in_plan : PlanSeen → Rate

@@ -2,7 +2,7 @@
 
 ghost use Rattle.std.specs.Prelude.{◌≡◌, ◌<◌, ◌≤◌, ◌+◌, ◌++◌, length, IfSome, position};
 ghost use Rattle.arrayvec.specs.ArrayVec.{array_vec_len};
-ghost use Rattle.pcm_plan.specs.Plans.{converting, matrix_stages, rate_stages, depth_stages, converter_of, filter_or_line, filter_for, is_for};
+ghost use Rattle.pcm_plan.specs.Plans.{converting, matrix_stages, rate_stages, depth_stages, converter_of, filter_or_line, filter_for, as_filters, is_for};
 
 use arrayvec::ArrayVec;
 use pcm_feeder::{Spec, Table};
@@ -18,7 +18,7 @@ pub fn push_converting(
 )
     requires { array_vec_len stages.old ≡ 0 }
     ensures stages { stages.new.items
-        ≡ converting (record { list = filters.now }) quality source.now target.now }
+        ≡ converting (as_filters filters.now) quality source.now target.now }
     ensures room { array_vec_len stages.new ≤ 2 }
 {
     let (from, to) = (source.layout, target.layout);
@@ -54,7 +54,7 @@ fn push_rate(
 )
     requires { array_vec_len stages.old < 4 }
     ensures stages { stages.new.items ≡ stages.old.items
-        ++ rate_stages (record { list = filters.now }) quality src dst channels }
+        ++ rate_stages (as_filters filters.now) quality src dst channels }
     ensures room { array_vec_len stages.new ≤ array_vec_len stages.old + 1 }
 {
     if src != dst {
@@ -74,7 +74,7 @@ pub fn push_depth(stages: &mut ArrayVec<Spec, 4>, bits: u32, channels: usize)
 
 // The converter of a quality.
 fn converter_of(src: u32, dst: u32, channels: usize, quality: u32, filters: &[Table]) -> Spec
-    ensures { result ≡ converter_of (record { list = filters.now }) quality src dst channels }
+    ensures { result ≡ converter_of (as_filters filters.now) quality src dst channels }
 {
     match quality {
         0 => Spec::Hold { src, dst, channels },
@@ -85,8 +85,8 @@ fn converter_of(src: u32, dst: u32, channels: usize, quality: u32, filters: &[Ta
 
 // A converter by the filter for two rates, or by lines where there is none.
 fn filter_or_line(src: u32, dst: u32, channels: usize, filters: &[Table]) -> Spec
-    ensures { result ≡ filter_or_line (record { list = filters.now }) src dst channels
-        (filter_for (record { list = filters.now }) src dst) }
+    ensures { result ≡ filter_or_line (as_filters filters.now) src dst channels
+        (filter_for (as_filters filters.now) src dst) }
 {
     match filter_for(src, dst, filters) {
         Some(table) => Spec::Poly {
@@ -102,7 +102,7 @@ fn filter_or_line(src: u32, dst: u32, channels: usize, filters: &[Table]) -> Spe
 
 // The place of the filter for two rates: the first one for these, else the first one for any.
 fn filter_for(src: u32, dst: u32, filters: &[Table]) -> Option<usize>
-    ensures value { result ≡ filter_for (record { list = filters.now }) src dst }
+    ensures value { result ≡ filter_for (as_filters filters.now) src dst }
     ensures within { IfSome result (λ place. place < length filters.now) }
 {
     match first_for(src, dst, filters) {

@@ -5,7 +5,7 @@ pub returns-clause-count : goal.returns-clause-count
 returns-clause-count c = length-outs
 
 pub returns-clause-channels : goal.returns-clause-channels
-returns-clause-channels c = outs-channels
+returns-clause-channels c plan is tables gain frames from count = outs-channels plan tables gain frames from count is
 
 pub returns-clause-parts : goal.returns-clause-parts
 returns-clause-parts c = outs-add
