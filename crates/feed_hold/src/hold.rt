@@ -1,48 +1,39 @@
 //! The hold stage.
 
-ghost use Rattle.std.specs.Prelude.{◌≡◌, length};
-ghost use Rattle.pcm_feeder.specs.Limits.{AreChannels};
+ghost use Rattle.std.specs.Prelude.{◌≡◌};
 
-use feed_rate::{Interpolator, Point, RateFeeder};
-use pcm_feeder::{Kind, Spec, Tables, frame_among, move_on};
+use feed_rate::{Interpolator, LastFrames, Point, RateFeeder};
+use pcm_feeder::{Kind, Spec, Tables, frame_among};
 use std::alloc::{AllocError, Global};
 
 /// Gives the frame under each output.
 pub type HoldFeeder = RateFeeder<Hold>;
 
-/// The last frame: the first samples of `last`, one for each channel.
+/// The last frame.
 #[derive(Drop)]
 pub struct Hold {
-    channels: usize,
-    last: [i32; 8],
-    ghost limits: { AreChannels channels },
-    ghost room: { length last ≡ 8 },
+    last: LastFrames,
+    ghost one: { last.frames ≡ 1 },
 }
 
 impl Interpolator for Hold {
-    ghost use Rattle.std.specs.Prelude.{take, false};
+    ghost use Rattle.std.specs.Prelude.{false};
     ghost use Rattle.pcm_feeder.specs.declared.kind.Kind.TheVariants as kinds;
-    ghost use Rattle.pcm_feeder.specs.Streams.{frames_of};
-    ghost use Rattle.pcm_feeder.proofs.Frames.{frames_of-channels};
+    ghost use Rattle.feed_rate.specs.LastFrames.{seen_with};
     ghost use Rattle.feed_rate.specs.Methods.Method.{ByFrame};
+    ghost use Rattle.feed_rate.proofs.Histories.{last-channels};
 
     ghost kind = { kinds.Hold };
 
     ghost takes_memory = { false };
 
-    ghost method = { λ hold. ByFrame hold.channels };
+    ghost seen = { λ hold. seen_with hold.last (ByFrame hold.last.channels) };
 
-    ghost tail = { λ hold. frames_of hold.channels (take hold.channels hold.last) };
-
-    ghost passed = { λ _. 0 };
-
-    ghost frames = { λ hold. frames_of-channels hold.channels (take hold.channels hold.last) };
+    ghost frames = { λ hold. last-channels hold.last };
 
     fn new(alloc: Global) -> Result<Hold, AllocError> {
-        Ok(Hold {
-            channels: 1,
-            last: [0; 8],
-        })
+        let last = LastFrames::silent(1, 1);
+        Ok(Hold { last })
     }
 
     fn kind(&self) -> Kind {
@@ -51,30 +42,21 @@ impl Interpolator for Hold {
 
     fn fit(&mut self, spec: Spec) {
         if let Spec::Hold { channels, .. } = spec {
-            let last = [0; 8];
-            *self = Hold { channels, last };
+            self.last = LastFrames::silent(1, channels);
         }
     }
 
     fn channels(&self) -> usize {
-        self.channels
+        self.last.channels
     }
 
-    fn put_frame(
-        &mut self,
-        tables: &Tables,
-        input: &[i32],
-        needed: usize,
-        point: Point,
-        output: &mut [i32],
-    ) {
-        let kept = &self.last[..self.channels];
-        output.copy_from_slice(frame_among(self.channels, kept, input, needed));
+    fn put_frame(&mut self, tables: &Tables, input: &[i32], point: Point, output: &mut [i32]) {
+        let last = &self.last;
+        let frame = frame_among(last.channels, last.samples(), input, point.needed);
+        output.copy_from_slice(frame);
     }
 
     fn eat(&mut self, input: &[i32], eaten: usize) {
-        let mut last = self.last;
-        move_on(&mut last[..self.channels], &input[..eaten * self.channels]);
-        self.last = last;
+        self.last.eat(input, eaten);
     }
 }

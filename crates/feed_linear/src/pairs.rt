@@ -1,7 +1,7 @@
 //! The frames that a line goes between, out of those kept and those that come.
 
-ghost use Rattle.std.specs.Prelude.{◌≡◌, ◌<◌, ◌≤◌, ◌+◌, ◌*◌, pos, ◌++◌, length};
-ghost use Rattle.pcm_feeder.specs.Streams.{frames_of, stream_of};
+ghost use Rattle.std.specs.Prelude.{◌≡◌, ◌<◌, ◌≤◌, ◌+◌, ◌*◌, length};
+ghost use Rattle.pcm_feeder.specs.Streams.{frame_behind};
 
 /// Lends the frame at a place among two frames kept and those that come, and the next.
 pub fn pair_among<'a>(
@@ -13,10 +13,8 @@ pub fn pair_among<'a>(
     requires some { 0 < channels }
     requires two { length kept.now ≡ 2 * channels }
     requires there { place * channels ≤ length input.now }
-    ensures frame { result.0.now ≡ stream_of channels
-        (frames_of channels kept.now ++ frames_of channels input.now) (pos place) }
-    ensures next { result.1.now ≡ stream_of channels
-        (frames_of channels kept.now ++ frames_of channels input.now) (pos (place + 1)) }
+    ensures frame { result.0.now ≡ frame_behind channels kept.now input.now place }
+    ensures next { result.1.now ≡ frame_behind channels kept.now input.now (place + 1) }
     ensures len { length result.0.now ≡ channels }
     ensures next_len { length result.1.now ≡ channels }
 {

@@ -33,11 +33,11 @@ impl Interpolator for Polyphase {
 
     ghost takes_memory = { true };
 
-    ghost method = { λ poly. ByFilter poly.window.channels poly.table poly.window.taps };
-
-    ghost tail = { λ poly. frames_in poly.window };
-
-    ghost passed = { λ poly. poly.passed };
+    ghost seen = { λ poly. record {
+      method = ByFilter poly.window.channels poly.table poly.window.taps;
+      tail = frames_in poly.window;
+      passed = poly.passed;
+    } };
 
     ghost frames = { λ poly. made-channels poly.window.channels poly.window.taps
         (λ i channel. window_sample (fixed_items poly.window.samples) channel (poly.window.at + i)) };
@@ -73,19 +73,12 @@ impl Interpolator for Polyphase {
         self.window.channels()
     }
 
-    fn put_frame(
-        &mut self,
-        tables: &Tables,
-        input: &[i32],
-        needed: usize,
-        point: Point,
-        output: &mut [i32],
-    ) {
+    fn put_frame(&mut self, tables: &Tables, input: &[i32], point: Point, output: &mut [i32]) {
         let filter = &tables.list()[self.table];
         let row = Row::of(filter, row_at(point, filter.phases));
         // Then the frames of the window are those around the output.
-        self.window.eat(input, self.passed, needed);
-        self.passed = needed;
+        self.window.eat(input, self.passed, point.needed);
+        self.passed = point.needed;
         row.put_frame(&self.window, output);
     }
 

@@ -9,7 +9,9 @@ use Rattle.std.proofs.lemmas.List.FromFn.{length-map-range_with_len}
 use Rattle.pcm_format.specs.Frames.{Frame}
 use Rattle.pcm_feeder.specs.Kept.{moved_on}
 use Rattle.pcm_feeder.specs.Streams.{frames_of, interleaved, silence, HaveChannels}
-use Rattle.pcm_feeder.proofs.Frames.{frames_of-interleaved}
+use Rattle.pcm_feeder.proofs.Frames.{frames_of-channels, frames_of-interleaved}
+use Rattle.feed_rate.specs.LastFrames.{frames_kept, kept_after_eating}
+use Rattle.feed_rate.specs.declared.last_frames.LastFrames.{LastFrames}
 use Rattle.pcm_feeder.proofs.Mapped.{frames-there}
 use Rattle.pcm_feeder.proofs.Writing.{frames-moved}
 
@@ -51,3 +53,14 @@ pub made-channels : (c n : ℕ) (sample : ℕ → ℕ → ℤ) → HaveChannels 
 made-channels c n sample =
     let P : Frame → Type 0 = λ frame. length frame ≡ c in
     All-map P (λ i. map (sample i) (range_with_len 0 c)) (range_with_len 0 n) (λ i d below. length-map-range_with_len (sample (get_or (range_with_len 0 n) i d)) 0 c)
+
+-- ---- the last frames of an interpolator that takes none in before a feed ends
+
+-- have their channels
+pub last-channels : (last : LastFrames) → HaveChannels last.channels (frames_kept last)
+last-channels last = frames_of-channels last.channels (take last.len last.samples)
+
+-- and move on at its end
+pub last-on : (last new : LastFrames) (input : List ℤ) (eaten : ℕ) (before : List Frame) → frames_kept new ≡ kept_after_eating last input eaten
+    → frames_kept last ≡ before ++ [] → frames_kept new ≡ moved_on before (take eaten (frames_of last.channels input))
+last-on last new input eaten before is was = is ∙ ap (λ tail. moved_on tail (take eaten (frames_of last.channels input))) (was ∙ append-nil before)

@@ -14,6 +14,7 @@ use Rattle.pcm_feeder.specs.Turns.{step_of, phase_of, reach, eaten_by, given_by}
 use Rattle.pcm_feeder.proofs.Fitted.{natural-below, reach-grows, step-grows, eaten-least}
 use Rattle.pcm_feeder.proofs.Writing.{given-enough, step-within}
 use Rattle.feed_rate.specs.declared.fitted.Fitted.{Fitted}
+use Rattle.feed_rate.specs.declared.point.Point.{Point}
 use Rattle.feed_rate.specs.Methods.{Method, history_by, lookahead_by, converter_by}
 use Rattle.feed_rate.specs.Outputs.{around_place, output_by, output_at}
 
@@ -48,14 +49,14 @@ pub step-on : (pace : Pace) (step next : Step) (j : ℕ) → IsStep pace step j 
 step-on pace step next j at on = omega (arith, at.frames, on.frames, step-grows (rate_by pace) (phase_by pace) j (j + 1) (omega (arith, pace.paced.target.least)) (omega arith))
 
 -- the output at a step is output j from now
-pub output-is : (method : Method) (tables : Filters) (fitted : Fitted) (before : List Frame) (input : List ℤ) (j start dst parts : ℕ) (step : Step) → (rate_by fitted.pace).lookahead ≡ lookahead_by method → IsStep fitted.pace step j
-    → pos start ≡ (pos fitted.used -ℤ ahead_by fitted.pace) → dst ≡ fitted.whole.divisor → parts ≡ step.phase * factor_of fitted.pace
-    → output_by method tables before input (start + step.frames) dst parts ≡ output_at method tables fitted.pace before input j
-output-is method tables fitted before input j start dst parts step level at begins whole phase =
+pub output-is : (method : Method) (tables : Filters) (fitted : Fitted) (before : List Frame) (input : List ℤ) (j start : ℕ) (point : Point) (step : Step) → (rate_by fitted.pace).lookahead ≡ lookahead_by method → IsStep fitted.pace step j
+    → pos start ≡ (pos fitted.used -ℤ ahead_by fitted.pace) → point.needed ≡ start + step.frames → point.whole.divisor ≡ fitted.whole.divisor → point.parts ≡ step.phase * factor_of fitted.pace
+    → output_by method tables before input point ≡ output_at method tables fitted.pace before input j
+output-is method tables fitted before input j start point step level at begins needs whole phase =
     let pace = fitted.pace in
-    let place = pos (history_by method + (start + step.frames)) -ℤ pos (1 + lookahead_by method) in
-    let there : place ≡ (pos (history_by method + step_of (rate_by pace) (phase_by pace) j) -ℤ ahead_by pace) = omega (arith, ints, begins, at.frames, level, fitted.used_is) in
-    ap (λ d. converter_by method tables d parts (around_place method before input place)) (whole ∙ fitted.whole_is)
+    let place = pos (history_by method + point.needed) -ℤ pos (1 + lookahead_by method) in
+    let there : place ≡ (pos (history_by method + step_of (rate_by pace) (phase_by pace) j) -ℤ ahead_by pace) = omega (arith, ints, needs, begins, at.frames, level, fitted.used_is) in
+    ap (λ d. converter_by method tables d point.parts (around_place method before input place)) (whole ∙ fitted.whole_is)
     ∙ ap (λ p. converter_by method tables (rate_by pace).dst p (around_place method before input place)) (phase ∙ at.phase)
     ∙ ap (λ p. converter_by method tables (rate_by pace).dst (phase_of (rate_by pace) (phase_by pace) j) (around_place method before input p)) there
 

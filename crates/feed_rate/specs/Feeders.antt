@@ -26,4 +26,5 @@ kept_by (Some fitted) method tail = kept_at fitted.pace method tail
 -- what a feeder keeps
 abbrev pub kept_of : {I : Type 0} {G : Ghosts I} → RateFeeder I G → Kept
 kept_of {I} {G} feeder =
-    kept_by feeder.fitted (G.method feeder.interpolator) (G.tail feeder.interpolator)
+    let seen = G.seen feeder.interpolator in
+    kept_by feeder.fitted seen.method seen.tail

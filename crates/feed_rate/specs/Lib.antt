@@ -1,3 +1,4 @@
 pub mod Methods
 pub mod Outputs
+pub mod LastFrames
 pub mod Feeders

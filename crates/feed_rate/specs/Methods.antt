@@ -45,7 +45,6 @@ converter_by (ByFilter channels table taps) tables dst =
 
 -- a filter's table is there, with its taps
 abbrev pub HasFilter : Method → Filters → Type 0
-HasFilter (ByFrame channels) tables = Unit {0}
-HasFilter (ByLine channels) tables = Unit {0}
 HasFilter (ByFilter channels table taps) tables =
     IsSomeAnd (slice_get tables.list table) (λ found. found.taps ≡ taps)
+HasFilter _ tables = Unit {0}

@@ -1,13 +1,10 @@
 //! The counts of a fitted converter, and its walk from output to output.
 
-ghost use Rattle.std.specs.Prelude.{◌≡◌, ◌<◌, ◌≤◌, ◌+◌, ◌*◌, ◌^◌, pos, ◌+ℤ◌, length};
-ghost use Rattle.pcm_format.specs.Samples.{natural};
+ghost use Rattle.std.specs.Prelude.{◌≡◌, ◌<◌, ◌≤◌, ◌+◌, ◌*◌, ◌^◌, pos, length};
 ghost use Rattle.pcm_feeder.specs.Limits.{IsRate};
 ghost use Rattle.pcm_feeder.specs.Pace.{rate_by, phase_by, ahead_by, factor_of, IsStep};
-ghost use Rattle.pcm_feeder.specs.Streams.{written};
-ghost use Rattle.pcm_feeder.specs.Turns.{reach};
 ghost use Rattle.feed_rate.specs.Methods.{channels_by, lookahead_by, HasFilter};
-ghost use Rattle.feed_rate.specs.Outputs.{next_frames, tail_after};
+ghost use Rattle.feed_rate.specs.Outputs.{tail_past, AreEnough, PutsNext};
 
 use crate::{Interpolator, Point};
 use pcm_feeder::{Pace, Step, Tables};
@@ -53,19 +50,18 @@ impl Fitted {
         count: usize,
         output: &mut [i32],
     ) -> Step
-        requires level { (rate_by self.now.pace).lookahead ≡ lookahead_by (I.method interpolator.old) }
-        requires rested { I.passed interpolator.old ≡ 0 }
-        requires filter { HasFilter (I.method interpolator.old) tables.now }
-        requires room { count * channels_by (I.method interpolator.old) ≤ length output.old }
-        requires there { eaten * channels_by (I.method interpolator.old) ≤ length input.now }
-        requires enough { reach (rate_by self.now.pace) (phase_by self.now.pace) count
-            ≤ natural (ahead_by self.now.pace +ℤ pos eaten) }
-        ensures frames { output.new ≡ written (next_frames (I.method interpolator.old) tables.now
-            self.now.pace (I.tail interpolator.old) input.now count) output.old }
-        ensures tail { I.tail interpolator.new
-            ≡ tail_after (I.method interpolator.old) (I.tail interpolator.old) input.now eaten }
-        ensures method { I.method interpolator.new ≡ I.method interpolator.old }
-        ensures rested_again { I.passed interpolator.new ≡ 0 }
+        requires level { (rate_by self.now.pace).lookahead ≡ lookahead_by (I.seen interpolator.old).method }
+        requires rested { (I.seen interpolator.old).passed ≡ 0 }
+        requires filter { HasFilter (I.seen interpolator.old).method tables.now }
+        requires room { count * channels_by (I.seen interpolator.old).method ≤ length output.old }
+        requires there { eaten * channels_by (I.seen interpolator.old).method ≤ length input.now }
+        requires enough { AreEnough self.now.pace eaten count }
+        ensures frames { PutsNext self.now.pace (I.seen interpolator.old) tables.now input.now count
+            output.old output.new }
+        ensures tail { (I.seen interpolator.new).tail
+            ≡ tail_past (I.seen interpolator.old) input.now eaten }
+        ensures method { (I.seen interpolator.new).method ≡ (I.seen interpolator.old).method }
+        ensures rested_again { (I.seen interpolator.new).passed ≡ 0 }
         ensures step { IsStep self.now.pace result count }
         ensures short { result.frames < 2 ^ 62 }
     {
@@ -76,9 +72,8 @@ impl Fitted {
         let mut step = pace.first();
         for j in 0..count {
             let at = j * channels;
-            let needed = start + step.frames;
-            let point = Point::at(whole, step.phase * factor);
-            interpolator.put_frame(tables, input, needed, point, &mut output[at..at + channels]);
+            let point = Point::at(start + step.frames, whole, step.phase * factor);
+            interpolator.put_frame(tables, input, point, &mut output[at..at + channels]);
             step = pace.after(step);
         }
         interpolator.eat(input, eaten);

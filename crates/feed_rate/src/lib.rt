@@ -4,9 +4,11 @@
 
 mod fitted;
 mod interpolator;
+mod last_frames;
 mod point;
 mod rate_feeder;
 
 pub use interpolator::Interpolator;
+pub use last_frames::LastFrames;
 pub use point::Point;
 pub use rate_feeder::RateFeeder;

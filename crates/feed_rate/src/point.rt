@@ -4,21 +4,28 @@ ghost use Rattle.std.specs.Prelude.{◌≡◌, ◌<◌};
 
 use pcm_num::Reciprocal;
 
-/// How far an output lies past the frame under it: so many parts of a whole.
+/// Where an output lies: past so many frames of the input that it needs, and so many parts of a
+/// whole past the frame under it.
 #[derive(Clone, Copy)]
 pub struct Point {
+    pub needed: usize,
     pub whole: Reciprocal,
     pub parts: u32,
     ghost inside: { parts < whole.divisor },
 }
 
 impl Point {
-    /// The point so many parts past a frame.
-    pub fn at(whole: Reciprocal, parts: u32) -> Point
+    /// The point that needs so many frames, so many parts past the one under it.
+    pub fn at(needed: usize, whole: Reciprocal, parts: u32) -> Point
         requires { parts < whole.divisor }
+        ensures needed { result.needed ≡ needed }
         ensures whole { result.whole ≡ whole }
         ensures parts { result.parts ≡ parts }
     {
-        Point { whole, parts }
+        Point {
+            needed,
+            whole,
+            parts,
+        }
     }
 }

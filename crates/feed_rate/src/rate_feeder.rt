@@ -20,8 +20,8 @@ pub struct RateFeeder<I: Interpolator> {
     interpolator: I,
     fitted: Option<Fitted>,
     ghost level: { (found : Fitted) → fitted ≡ Some found
-        → (rate_by found.pace).lookahead ≡ lookahead_by (I.method interpolator) },
-    ghost rested: { I.passed interpolator ≡ 0 },
+        → (rate_by found.pace).lookahead ≡ lookahead_by (I.seen interpolator).method },
+    ghost rested: { (I.seen interpolator).passed ≡ 0 },
 }
 
 impl<I: Interpolator> RateFeeder<I> {

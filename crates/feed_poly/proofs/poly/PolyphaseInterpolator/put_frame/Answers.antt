@@ -19,7 +19,7 @@ returns-clause-frame c before was =
     let channels = poly.window.channels in
     let taps = poly.window.taps in
     let tables = c.args.tables.now in
-    let needed = c.args.needed in
+    let needed = c.args.point.needed in
     let point = c.args.point in
     let list = frames_of channels c.args.input.now in
     let now = frames_in c.eat.new.self in
@@ -44,4 +44,4 @@ returns-clause-frame c before was =
 pub returns-clause-tail : goal.returns-clause-tail
 returns-clause-tail c before was =
     let poly = c.args.self.now in
-    eaten-on before (frames_in poly.window) (frames_in c.eat.new.self) (frames_of poly.window.channels c.args.input.now) poly.passed c.args.needed c.requires.order was c.eat.ensures.frames
+    eaten-on before (frames_in poly.window) (frames_in c.eat.new.self) (frames_of poly.window.channels c.args.input.now) poly.passed c.args.point.needed c.requires.order was c.eat.ensures.frames

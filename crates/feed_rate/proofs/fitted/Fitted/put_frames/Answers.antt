@@ -9,8 +9,8 @@ use Rattle.feed_rate.proofs.Methods.{output-channels, all-channels}
 use Rattle.feed_rate.proofs.Walks.{needed-within, eaten-few, step-on, output-is}
 use Rattle.feed_rate.proofs.fitted.Fitted.put_frames.Goals as goal
 
-pub overflow_add-needed : goal.overflow_add-needed
-overflow_add-needed g c =
+pub overflow_add-start : goal.overflow_add-start
+overflow_add-start g c =
     let fitted = c.args.self.now in
     let within = needed-within fitted c.loop-j.j c.args.count c.place-start.result c.args.eaten c.loop-j.step c.loop-j.invariant.step c.loop-j-test.true c.requires.enough c.place-start.ensures in
     let some : c.args.eaten < 2 ^ 64 = search rules in
@@ -27,24 +27,24 @@ slice_bounds-put_frame-end g c =
 pub put_frame-requires-clause-there : goal.put_frame-requires-clause-there
 put_frame-requires-clause-there g c =
     let fitted = c.args.self.now in
-    let channels = channels_by (g.I.Interpolator.method c.args.interpolator.now) in
+    let channels = channels_by (g.I.Interpolator.seen c.args.interpolator.now).method in
     let within = needed-within fitted c.loop-j.j c.args.count c.place-start.result c.args.eaten c.loop-j.step c.loop-j.invariant.step c.loop-j-test.true c.requires.enough c.place-start.ensures in
-    rw c.loop-j.invariant.method (omega (arith, mul-le-mul_right channels within, c.requires.there))
+    rw (c.at-point.ensures.needed, c.loop-j.invariant.method) (omega (arith, mul-le-mul_right channels within, c.requires.there))
 
 pub after-step-requires-clause-short : goal.after-step-requires-clause-short
 after-step-requires-clause-short g c =
     let fitted = c.args.self.now in
     let short = step-short fitted.pace c.loop-j.j c.args.count c.args.eaten c.loop-j.step c.loop-j.invariant.step (omega (arith, c.loop-j-test.true)) c.requires.enough in
     let some : length c.args.input.now < 2 ^ 61 = search rules in
-    let above : 0 < channels_by (g.I.Interpolator.method c.args.interpolator.now) = omega (arith, c.channels-channels.ensures.value, c.channels-channels.ensures.limits.least) in
-    omega (arith, short, some, eaten-few (channels_by (g.I.Interpolator.method c.args.interpolator.now)) c.args.eaten (length c.args.input.now) above c.requires.there)
+    let above : 0 < channels_by (g.I.Interpolator.seen c.args.interpolator.now).method = omega (arith, c.channels-channels.ensures.value, c.channels-channels.ensures.limits.least) in
+    omega (arith, short, some, eaten-few (channels_by (g.I.Interpolator.seen c.args.interpolator.now).method) c.args.eaten (length c.args.input.now) above c.requires.there)
 
 pub loop-j-preserved : goal.loop-j-preserved
 loop-j-preserved g c =
     let by = g.I.Interpolator in
     let fitted = c.args.self.now in
-    let method = by.method c.args.interpolator.now in
-    let tail = by.tail c.args.interpolator.now in
+    let method = (by.seen c.args.interpolator.now).method in
+    let tail = (by.seen c.args.interpolator.now).tail in
     let tables = c.args.tables.now in
     let input = c.args.input.now in
     let now = c.loop-j.interpolator in
@@ -53,16 +53,16 @@ loop-j-preserved g c =
     let point = c.at-point.result in
     let within = needed-within fitted j c.args.count c.place-start.result c.args.eaten step c.loop-j.invariant.step c.loop-j-test.true c.requires.enough c.place-start.ensures in
     let same = c.loop-j.invariant.method in
-    let was : by.tail now ≡ tail_after (by.method now) tail input (by.passed now) = c.loop-j.invariant.tail ∙ ap (λ m. tail_after m tail input (by.passed now)) (sym same) in
+    let was : (by.seen now).tail ≡ tail_after (by.seen now).method tail input (by.seen now).passed = c.loop-j.invariant.tail ∙ ap (λ m. tail_after m tail input (by.seen now).passed) (sym same) in
     let parts : point.parts ≡ step.phase * factor_of fitted.pace = c.at-point.ensures.parts ∙ ap (λ n. step.phase * n) c.factor-factor.ensures in
     let is : c.put_frame.new.output ≡ output_at method tables fitted.pace tail input j =
     c.put_frame.ensures.frame tail was
-    ∙ ap (λ m. output_by m tables tail input (c.place-start.result + step.frames) point.whole.divisor point.parts) same
-    ∙ output-is method tables fitted tail input j c.place-start.result point.whole.divisor point.parts step c.requires.level c.loop-j.invariant.step c.place-start.ensures (ap (λ w. w.divisor) c.at-point.ensures.whole) parts in
+    ∙ ap (λ m. output_by m tables tail input point) same
+    ∙ output-is method tables fitted tail input j c.place-start.result point step c.requires.level c.loop-j.invariant.step c.place-start.ensures c.at-point.ensures.needed (ap (λ w. w.divisor) c.at-point.ensures.whole) parts in
     let have = all-channels (channels_by method) tail input (g.met.I.Interpolator.frames c.args.interpolator.now) in
     let next = c.after-step.ensures j c.loop-j.invariant.step in
-    let there : by.tail c.put_frame.new.self ≡ tail_after method tail input (by.passed c.put_frame.new.self) =
-    c.put_frame.ensures.tail tail was ∙ ap (λ m. tail_after m tail input (by.passed c.put_frame.new.self)) same in
+    let there : (by.seen c.put_frame.new.self).tail ≡ tail_after method tail input (by.seen c.put_frame.new.self).passed =
+    c.put_frame.ensures.tail tail was ∙ ap (λ m. tail_after m tail input (by.seen c.put_frame.new.self).passed) same in
     let on = step-on fitted.pace step c.after-step.result j c.loop-j.invariant.step next in
     rw c.channels-channels.ensures.value (record {
       frames = write-step (channels_by method) (output_at method tables fitted.pace tail input) c.loop-j.output c.put_frame.new.output c.put_frame.new.output c.args.output.now j
@@ -84,5 +84,5 @@ returns-clause-short g c =
     let fitted = c.args.self.now in
     let short = step-short fitted.pace c.loop-j.j c.args.count c.args.eaten c.loop-j.step c.loop-j.invariant.step c.loop-j.auto.j-end c.requires.enough in
     let some : length c.args.input.now < 2 ^ 61 = search rules in
-    let above : 0 < channels_by (g.I.Interpolator.method c.args.interpolator.now) = omega (arith, c.channels-channels.ensures.value, c.channels-channels.ensures.limits.least) in
-    omega (arith, short, some, eaten-few (channels_by (g.I.Interpolator.method c.args.interpolator.now)) c.args.eaten (length c.args.input.now) above c.requires.there)
+    let above : 0 < channels_by (g.I.Interpolator.seen c.args.interpolator.now).method = omega (arith, c.channels-channels.ensures.value, c.channels-channels.ensures.limits.least) in
+    omega (arith, short, some, eaten-few (channels_by (g.I.Interpolator.seen c.args.interpolator.now).method) c.args.eaten (length c.args.input.now) above c.requires.there)

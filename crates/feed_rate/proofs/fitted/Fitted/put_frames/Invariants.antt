@@ -10,10 +10,10 @@ invariant-loop-j g l =
     let by = g.I.Interpolator in
     let entry = l.fn.interpolator in
     record {
-      frames : l.output ≡ written (next_frames (by.method entry) l.tables l.self.pace (by.tail entry) l.input l.j) l.fn.output;
+      frames : l.output ≡ written (next_frames (by.seen entry).method l.tables l.self.pace (by.seen entry).tail l.input l.j) l.fn.output;
       step : IsStep l.self.pace l.step l.j;
-      method : by.method l.interpolator ≡ by.method entry;
-      tail : by.tail l.interpolator ≡ tail_after (by.method entry) (by.tail entry) l.input (by.passed l.interpolator);
-      order : by.passed l.interpolator ≤ l.start + l.step.frames;
-      within : by.passed l.interpolator ≤ l.eaten;
+      method : (by.seen l.interpolator).method ≡ (by.seen entry).method;
+      tail : (by.seen l.interpolator).tail ≡ tail_after (by.seen entry).method (by.seen entry).tail l.input (by.seen l.interpolator).passed;
+      order : (by.seen l.interpolator).passed ≤ l.start + l.step.frames;
+      within : (by.seen l.interpolator).passed ≤ l.eaten;
     }

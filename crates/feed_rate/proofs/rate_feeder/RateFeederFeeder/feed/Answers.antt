@@ -25,8 +25,8 @@ returns g c =
     let by = g.I.Interpolator in
     let feeder = c.args.self.now in
     let fitted = c.in-Some.fitted in
-    let method = by.method feeder.interpolator in
-    let tail = by.tail feeder.interpolator in
+    let method = (by.seen feeder.interpolator).method in
+    let tail = (by.seen feeder.interpolator).tail in
     let tables = c.args.tables.now in
     let eaten = c.eaten-eaten.result in
     let given = c.given-given.result in
@@ -41,9 +41,9 @@ returns g c =
     let given_of : Turn → ℕ = λ turn. turn.given in
     let output_of : Turn → List ℤ = λ turn. written turn.frames c.args.output.now in
     let kept_in : Turn → Kept = λ turn. turn.kept in
-    let kept : kept_at c.moved-fitted.result (by.method c.put_frames-step.new.interpolator) (by.tail c.put_frames-step.new.interpolator) ≡ (turned method tables fitted.pace tail input eaten given).kept =
-    ap (λ s. kept_at c.moved-fitted.result s (by.tail c.put_frames-step.new.interpolator)) c.put_frames-step.ensures.method
-    ∙ kept-is method fitted.pace c.moved-fitted.result tail (by.tail c.put_frames-step.new.interpolator) tables (frames_of (channels_by method) input) eaten given step (feeder.level fitted c.in-Some.is) c.put_frames-step.ensures.step
+    let kept : kept_at c.moved-fitted.result (by.seen c.put_frames-step.new.interpolator).method (by.seen c.put_frames-step.new.interpolator).tail ≡ (turned method tables fitted.pace tail input eaten given).kept =
+    ap (λ s. kept_at c.moved-fitted.result s (by.seen c.put_frames-step.new.interpolator).tail) c.put_frames-step.ensures.method
+    ∙ kept-is method fitted.pace c.moved-fitted.result tail (by.seen c.put_frames-step.new.interpolator).tail tables (frames_of (channels_by method) input) eaten given step (feeder.level fitted c.in-Some.is) c.put_frames-step.ensures.step
     c.moved-fitted.ensures.rate c.moved-fitted.ensures.phase c.moved-fitted.ensures.ahead c.put_frames-step.ensures.tail in
     record {
       eaten = sym (ap eaten_of does);
