@@ -2,11 +2,13 @@
 use Rattle.std.specs.Prelude.{◌≡◌, ◌<◌, ℕ, ◌-◌, List, [], ◌∷◌, ◌++◌, length, replicate, slice_index_or}
 use Rattle.pcm_format.specs.Frames.{Frame}
 use Rattle.pcm_format.specs.Layouts.{channels_of}
+use Rattle.pcm_feeder.specs.declared.kind.Kind.{Kind}
 use Rattle.pcm_feeder.specs.declared.rack.SixOf.{SixOf}
 use Rattle.pcm_feeder.specs.declared.stage.Gain.{Gain}
 use Rattle.pcm_feeder.specs.declared.stage.Spec.{Spec}
 use Rattle.pcm_feeder.specs.Filters.{Filters}
 use Rattle.pcm_feeder.specs.Kept.{Kept, StandsFor}
+use Rattle.pcm_feeder.specs.Racks.{HaveKinds}
 use Rattle.pcm_feeder.specs.Stages.{channels_in, channels_out, conv}
 use Rattle.pcm_feeder.specs.Streams.{Stream, silence, stream_of, HaveChannels}
 use Rattle.pcm_rate.specs.Rates.{need}
@@ -20,6 +22,10 @@ use Rattle.pcm_chain.specs.declared.chain.ChainOf.{ChainOf}
 -- the boxes of a chain
 abbrev pub boxes_in : {B : Type 0} → ChainOf B → SixOf B
 boxes_in chain = chain.boxes
+
+-- each box of a chain is of its place's kind
+abbrev pub IsOfKinds : {B : Type 0} → (B → Kind) → ChainOf B → Type 0
+IsOfKinds kind chain = HaveKinds kind (boxes_in chain)
 
 -- the plan of a chain
 abbrev pub plan_in : {B : Type 0} → ChainOf B → PlanSeen

@@ -3,6 +3,7 @@ use Rattle.std.specs.Prelude.{◌≡◌, ◌<◌, ◌≤◌, ℕ, ◌+◌, ◌-�
 use Rattle.pcm_format.specs.declared.settings.TheConstants.{RATE_LEAST, RATE_MOST}
 use Rattle.pcm_rate.specs.declared.rate.Rate.{Rate}
 use Rattle.pcm_rate.specs.Rates.{IsRatio, IsPeriod, need, can, len}
+use Rattle.pcm_chain.specs.declared.staging.TheConstants.{BLOCK_FRAMES}
 use Rattle.pcm_chain.specs.declared.counts.Counts.{Counts}
 use Rattle.pcm_chain.specs.declared.counts.Advance.{Advance}
 
@@ -32,6 +33,15 @@ pub record AreBounded (rate : Rate) (counts : Counts) : Type 0 where
 abbrev pub fed_in_all : Rate → Counts → ℕ
 fed_in_all rate counts = max counts.eaten (need rate counts.given)
 
+-- so many outputs need no more than a block's frames
+abbrev pub NeedABlock : Rate → Counts → ℕ → Type 0
+NeedABlock rate counts want =
+    need rate (counts.given + want) ≤ fed_in_all rate counts + BLOCK_FRAMES
+
+-- so many frames allow fewer outputs than have room in a block
+abbrev pub AllowABlock : Rate → Counts → ℕ → Type 0
+AllowABlock rate counts frames = can rate (counts.eaten + frames) < counts.given + BLOCK_FRAMES
+
 -- What a block of at most `want` outputs moves, where so many frames wait: it eats what the outputs need, as far as that waits;
 -- it gives what is allowed then; and it eats silence where outputs need more.
 pub record Goes (rate : Rate) (ended : Bool) (counts : Counts) (waiting want : ℕ) (advance : Advance) : Type 0 where
@@ -47,6 +57,16 @@ pub record StandFor (rate : Rate) (counts : Counts) (eaten given : ℕ) : Type 0
   pub eaten_is : eaten ≡ counts.eaten + eaten_before
   pub given_is : given ≡ counts.given + given_before
   pub begun : 0 < given_before → 0 < counts.given
+
+-- counts, moved on by a block
+abbrev pub moved_on_by : Counts → Advance → Counts
+moved_on_by counts advance =
+    record { eaten = counts.eaten + advance.eaten; given = counts.given + advance.given }
+
+-- and so do they after a block, whatever whole periods were left out then
+abbrev pub StandOn : Rate → Counts → Advance → Counts → Type 0
+StandOn rate counts advance new = (eaten given : ℕ) → StandFor rate counts eaten given
+    → StandFor rate new (eaten + advance.eaten) (given + advance.given)
 
 -- what a block moves that eats so many frames, and gives all outputs that are sure then
 abbrev pub eats_all : Rate → Counts → ℕ → Advance

@@ -3,29 +3,41 @@ use Rattle.std.specs.Prelude.{◌≡◌, ◌≤◌, ℕ, ◌*◌, ℤ, List, [],
 use Rattle.pcm_format.specs.Frames.{Frame}
 use Rattle.pcm_feeder.specs.declared.stage.Gain.{Gain}
 use Rattle.pcm_feeder.specs.declared.stage.Spec.{Spec}
-use Rattle.pcm_feeder.specs.declared.stage.Spec.TheVariants.{Matrix, Hold, Linear, Poly, Volume, Depth}
+use Rattle.pcm_feeder.specs.declared.stage.Spec.TheVariants.{Hold, Linear, Poly}
 use Rattle.pcm_feeder.specs.Filters.{Filters}
 use Rattle.pcm_feeder.specs.Kept.{Kept}
 use Rattle.pcm_feeder.specs.Streams.{frames_of}
-use Rattle.pcm_feeder.specs.Turns.{Turn, turn}
+use Rattle.pcm_feeder.specs.Turns.{Turn, turn, fed}
+use Rattle.pcm_feeder.specs.Stages.{channels_in}
+use Rattle.pcm_feeder.specs.declared.rack.SixOf.{SixOf}
+use Rattle.pcm_fixed.specs.Fixed.{fixed_items}
 use Rattle.pcm_plan.specs.Fits.{Follow}
+use Rattle.pcm_chain.specs.declared.staging.Staging.{Staging}
+use Rattle.pcm_chain.specs.Boxes.{kept_in}
 
 -- the first n frames of samples
 abbrev pub first_frames : ℕ → ℕ → List ℤ → List Frame
 first_frames n channels samples = frames_of channels (take (n * channels) samples)
 
+-- the first n frames of a staging
+abbrev pub first_staged : ℕ → ℕ → Staging → List Frame
+first_staged n channels staging = first_frames n channels (fixed_items staging.now)
+
 -- how many frames a stage is asked for: a converter for those that are wanted, another for as many as it is offered
 abbrev pub asked : Spec → ℕ → ℕ → ℕ
-asked (Matrix from to) want offered = offered
 asked (Hold src dst channels) want offered = want
 asked (Linear src dst channels) want offered = want
 asked (Poly src dst channels table taps) want offered = want
-asked (Volume layout) want offered = offered
-asked (Depth bits channels) want offered = offered
+asked _ want offered = offered
 
 -- what a stage does that is offered frames
 abbrev pub turn_in : (Spec → Kept) → Filters → Gain → ℕ → Spec → List Frame → Turn
 turn_in keeps tables gain want spec input = turn (keeps spec) tables gain input (asked spec want (length input))
+
+-- a feed of the first n samples' frames to the box of a stage
+abbrev pub fed_in : {B : Type 0} → (B → Kept) → SixOf B → Spec → Filters → Gain → ℕ → ℕ → List ℤ → Turn
+fed_in kept six spec tables gain n want input =
+    fed (kept_in kept six spec) tables gain (take (n * channels_in spec) input) (asked spec want n)
 
 -- the frames that come out of stages, each offered what the one before it gives
 abbrev pub fed_through : (Spec → Kept) → Filters → Gain → ℕ → List Spec → List Frame → List Frame

@@ -4,3 +4,4 @@ pub mod Feeds
 pub mod Chains
 pub mod Pulls
 pub mod Pushes
+pub mod Rings

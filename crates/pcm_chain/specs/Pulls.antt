@@ -12,6 +12,7 @@ use Rattle.pcm_feeder.specs.Kept.{Kept}
 use Rattle.pcm_feeder.specs.Streams.{frames_of, written}
 use Rattle.pcm_plan.specs.Plans.{PlanSeen, rate_in_plan}
 use Rattle.pcm_plan.specs.Through.{outs}
+use Rattle.pcm_ring.specs.Ring.{Ring}
 use Rattle.pcm_chain.specs.declared.chain.ChainOf.{ChainOf}
 use Rattle.pcm_chain.specs.declared.chain.Pulled.{Pulled}
 use Rattle.pcm_chain.specs.Chains.{plan_in, ChainStands}
@@ -48,3 +49,12 @@ pub record Pulls {B : Type 0} (kept : B → Kept) (tables : Filters) (gain : Gai
   pub far : PullsAsFar (rate_in_plan (plan_in old)) ended want (length x) (length waiting) before pulled
   pub frames : out_new ≡ written (outs (plan_in old) tables gain (x ++ waiting) before pulled.given) out_old
   pub stands : StandsBehind kept tables ended waiting new x before pulled
+
+-- a pull means that to whoever knows them, where silence was eaten only past the end
+abbrev pub PullsOn : {B : Type 0} → (B → Kept) → Filters → Gain → Bool → ℕ → Format → Ring
+    → ChainOf B → ChainOf B → Pulled → List ℤ → List ℤ → Type 0
+PullsOn kept tables gain ended want format ring old new pulled out_old out_new =
+    (x : List Frame) (zeros before : ℕ) → ChainStands kept tables old x zeros before
+    → IsPastTheEnd ended zeros (waiting_frames (plan_in old) format ring.bytes)
+    → Pulls kept tables gain ended want (waiting_frames (plan_in old) format ring.bytes)
+    old new x before pulled out_old out_new

@@ -54,3 +54,11 @@ pub record Pushes {B : Type 0} (kept : B → Kept) (tables : Filters) (format : 
   pub records : HasRecorded kept tables new (x ++ input)
   pub bytes : bytes_new ≡ bytes_old ++ spelled_frames format
       (recs (plan_in old) tables (x ++ input) (can (rate_in_plan (plan_in old)) (length x)) pushed.kept)
+
+-- a push of samples means that to whoever knows them
+abbrev pub PushesOn : {B : Type 0} → (B → Kept) → Filters → Format → List ℤ
+    → ChainOf B → ChainOf B → Pushed → Ring → Ring → Type 0
+PushesOn kept tables format input old new pushed ring_old ring_new =
+    (x : List Frame) → HasRecorded kept tables old x
+    → Pushes kept tables format (pushed_frames (plan_in old) input)
+    old new x pushed ring_old.bytes ring_new.bytes

@@ -48,27 +48,25 @@ pub struct Pushed {
 }
 
 impl<B: Feeder> ChainOf<B> {
-    ghost use Rattle.std.specs.Prelude.{◌+◌, ◌<◌, ◌%◌, ℕ, List, [], length, drop, min, All, IfOk};
+    ghost use Rattle.std.specs.Prelude.{◌+◌, ◌<◌, ◌%◌, [], length, min, All, IfOk};
     ghost use Rattle.pcm_num.specs.Limit.{FitsBits};
-    ghost use Rattle.pcm_format.specs.Formats.{bytes_of};
-    ghost use Rattle.pcm_format.specs.Frames.{Frame};
     ghost use Rattle.pcm_format.specs.Layouts.{channels_of};
-    ghost use Rattle.pcm_rate.specs.Rates.{can, need};
     ghost use Rattle.pcm_feeder.specs.Filters.{Filters};
     ghost use Rattle.pcm_feeder.specs.Limits.{IsGain};
-    ghost use Rattle.pcm_feeder.specs.Racks.{HaveKinds, IsRack, boxes_of};
+    ghost use Rattle.pcm_feeder.specs.Racks.{IsRack, boxes_of};
     ghost use Rattle.pcm_plan.specs.Fits.{HaveBits, HaveTables};
-    ghost use Rattle.pcm_chain.specs.Chains.{boxes_in, counts_in, plan_in, AreFitted, ChainStands};
-    ghost use Rattle.pcm_chain.specs.Counts.{fed_in_all};
-    ghost use Rattle.pcm_chain.specs.Pulls.{waiting_frames, IsPastTheEnd, Pulls};
-    ghost use Rattle.pcm_chain.specs.Pushes.{pushed_frames, room_for, GivesBitsOf, HasRecorded, HasRecordedSome, Pushes};
+    ghost use Rattle.pcm_chain.specs.Chains.{boxes_in, counts_in, plan_in, AreFitted, IsOfKinds, ChainStands};
+    ghost use Rattle.pcm_chain.specs.Counts.{NeedABlock, AllowABlock};
+    ghost use Rattle.pcm_chain.specs.Pulls.{waiting_frames, PullsOn};
+    ghost use Rattle.pcm_chain.specs.Pushes.{pushed_frames, room_for, GivesBitsOf, HasRecorded, HasRecordedSome, PushesOn};
+    ghost use Rattle.pcm_chain.specs.Rings.{taken_bytes, put_bytes, without_bytes, GrowsBy};
     ghost use Rattle.pcm_chain.specs.declared.staging.TheConstants.{BLOCK_FRAMES};
     ghost use Rattle.pcm_chain.specs.declared.chain.TheConstants.{PUSHED_FRAMES};
 
     /// A chain with the boxes of a rack and no stage. All memory of the chain is taken here.
     pub fn new(alloc: Global, rack: RackOf<B>) -> Result<ChainOf<B>, AllocError>
         ensures boxes { IfOk result (λ made. boxes_in made ≡ boxes_of rack) }
-        ensures kinds { IsRack B.kind rack → IfOk result (λ made. HaveKinds B.kind (boxes_in made)) }
+        ensures kinds { IsRack B.kind rack → IfOk result (IsOfKinds B.kind) }
         ensures plan { IfOk result (λ made. (plan_in made).stages ≡ []) }
     {
         let staging = Staging::new(alloc)?;
@@ -91,9 +89,9 @@ impl<B: Feeder> ChainOf<B> {
 
     /// An empty stream by a plan begins. Takes no memory.
     pub fn reset(&mut self, plan: &Plan)
-        requires kinds { HaveKinds B.kind (boxes_in self.old) }
+        requires kinds { IsOfKinds B.kind self.old }
         ensures plan { plan_in self.new ≡ plan.now }
-        ensures kinds { HaveKinds B.kind (boxes_in self.new) }
+        ensures kinds { IsOfKinds B.kind self.new }
         ensures fitted { AreFitted B.kept self.new }
         ensures begins { (tables : Filters) → ChainStands B.kept tables self.new [] 0 0 }
         ensures records { (tables : Filters) → HasRecorded B.kept tables self.new [] }
@@ -106,9 +104,9 @@ impl<B: Feeder> ChainOf<B> {
 
     /// An empty stream by the same plan begins. Takes no memory.
     pub fn restart(&mut self)
-        requires { HaveKinds B.kind (boxes_in self.old) }
+        requires { IsOfKinds B.kind self.old }
         ensures plan { plan_in self.new ≡ plan_in self.old }
-        ensures kinds { HaveKinds B.kind (boxes_in self.new) }
+        ensures kinds { IsOfKinds B.kind self.new }
         ensures fitted { AreFitted B.kept self.new }
         ensures begins { (tables : Filters) → ChainStands B.kept tables self.new [] 0 0 }
         ensures records { (tables : Filters) → HasRecorded B.kept tables self.new [] }
@@ -134,19 +132,13 @@ impl<B: Feeder> ChainOf<B> {
         requires tables { HaveTables (plan_in self.old).stages tables.now }
         requires room { want * channels_of (plan_in self.old).target ≤ length out.old }
         ensures plan { plan_in self.new ≡ plan_in self.old }
-        ensures kinds { HaveKinds B.kind (boxes_in self.old) → HaveKinds B.kind (boxes_in self.new) }
+        ensures kinds { IsOfKinds B.kind self.old → IsOfKinds B.kind self.new }
         ensures fitted { AreFitted B.kept self.new }
         ensures most { result.given ≤ want }
-        ensures ring { ring.new ≡ record ring.old {
-          bytes = drop (result.eaten
-              * (channels_of (plan_in self.old).source * bytes_of format)) ring.old.bytes;
-        } }
-        ensures pulls { (x : List Frame) (zeros before : ℕ)
-            → ChainStands B.kept tables.now self.old x zeros before
-            → IsPastTheEnd ended zeros (waiting_frames (plan_in self.old) format ring.old.bytes)
-            → Pulls B.kept tables.now gain ended want
-            (waiting_frames (plan_in self.old) format ring.old.bytes)
-            self.old self.new x before result out.old out.new }
+        ensures ring { ring.new
+            ≡ without_bytes (taken_bytes (plan_in self.old) format result.eaten) ring.old }
+        ensures pulls { PullsOn B.kept tables.now gain ended want format ring.old
+            self.old self.new result out.old out.new }
     {
         let waiting = ring.fill() / (self.plan.source().channels() * format.bytes());
         let channels = self.plan.target().channels();
@@ -185,24 +177,17 @@ impl<B: Feeder> ChainOf<B> {
             ≡ length (waiting_frames (plan_in self.old) format ring.old.bytes) }
         requires some { 0 < want }
         requires few { want ≤ BLOCK_FRAMES }
-        requires reach { need (rate_in_plan (plan_in self.old)) ((counts_in self.old).given + want)
-            ≤ fed_in_all (rate_in_plan (plan_in self.old)) (counts_in self.old) + BLOCK_FRAMES }
+        requires reach { NeedABlock (rate_in_plan (plan_in self.old)) (counts_in self.old) want }
         requires room { want * channels_of (plan_in self.old).target ≤ length out.old }
         ensures plan { plan_in self.new ≡ plan_in self.old }
-        ensures kinds { HaveKinds B.kind (boxes_in self.old) → HaveKinds B.kind (boxes_in self.new) }
+        ensures kinds { IsOfKinds B.kind self.old → IsOfKinds B.kind self.new }
         ensures fitted { AreFitted B.kept self.new }
         ensures most { result.given ≤ want }
         ensures there { result.eaten ≤ waiting }
-        ensures ring { ring.new ≡ record ring.old {
-          bytes = drop (result.eaten
-              * (channels_of (plan_in self.old).source * bytes_of format)) ring.old.bytes;
-        } }
-        ensures pulls { (x : List Frame) (zeros before : ℕ)
-            → ChainStands B.kept tables.now self.old x zeros before
-            → IsPastTheEnd ended zeros (waiting_frames (plan_in self.old) format ring.old.bytes)
-            → Pulls B.kept tables.now gain ended want
-            (waiting_frames (plan_in self.old) format ring.old.bytes)
-            self.old self.new x before result out.old out.new }
+        ensures ring { ring.new
+            ≡ without_bytes (taken_bytes (plan_in self.old) format result.eaten) ring.old }
+        ensures pulls { PullsOn B.kept tables.now gain ended want format ring.old
+            self.old self.new result out.old out.new }
     {
         let source = self.plan.source().channels();
         let rate = self.plan.rate();
@@ -246,15 +231,14 @@ impl<B: Feeder> ChainOf<B> {
         requires whole { length input.now % channels_of (plan_in self.old).source ≡ 0 }
         requires few { length (pushed_frames (plan_in self.old) input.now) ≤ PUSHED_FRAMES }
         ensures plan { plan_in self.new ≡ plan_in self.old }
-        ensures kinds { HaveKinds B.kind (boxes_in self.old) → HaveKinds B.kind (boxes_in self.new) }
+        ensures kinds { IsOfKinds B.kind self.old → IsOfKinds B.kind self.new }
         ensures records { HasRecordedSome B.kept tables.now self.new }
         // The type of the samples keeps them within 32 bits.
         ensures fits { HaveBits 32 (pushed_frames (plan_in self.old) input.now) }
         ensures kept { result.kept ≡ min result.came (room_for (plan_in self.old) format ring.old) }
         ensures ring { ring.new ≡ record ring.old { bytes = ring.new.bytes } }
-        ensures pushes { (x : List Frame) → HasRecorded B.kept tables.now self.old x
-            → Pushes B.kept tables.now format (pushed_frames (plan_in self.old) input.now)
-            self.old self.new x result ring.old.bytes ring.new.bytes }
+        ensures pushes { PushesOn B.kept tables.now format input.now
+            self.old self.new result ring.old ring.new }
     {
         let channels = self.plan.source().channels();
         let frames = input.len() / channels;
@@ -287,20 +271,17 @@ impl<B: Feeder> ChainOf<B> {
         requires bits { GivesBitsOf format (plan_in self.old) tables.now }
         requires whole { length input.now ≡ frames * channels_of (plan_in self.old).source }
         requires few { frames ≤ BLOCK_FRAMES }
-        requires reach { can (rate_in_plan (plan_in self.old)) ((counts_in self.old).eaten + frames)
-            < (counts_in self.old).given + BLOCK_FRAMES }
+        requires reach { AllowABlock (rate_in_plan (plan_in self.old)) (counts_in self.old) frames }
         ensures plan { plan_in self.new ≡ plan_in self.old }
-        ensures kinds { HaveKinds B.kind (boxes_in self.old) → HaveKinds B.kind (boxes_in self.new) }
+        ensures kinds { IsOfKinds B.kind self.old → IsOfKinds B.kind self.new }
         ensures records { HasRecordedSome B.kept tables.now self.new }
         ensures fits { All (FitsBits 32) input.now }
         ensures most { result.came ≤ BLOCK_FRAMES }
         ensures kept { result.kept ≡ min result.came (room_for (plan_in self.old) format ring.old) }
-        ensures count { length ring.new.bytes ≡ length ring.old.bytes
-            + result.kept * (channels_of (plan_in self.old).target * bytes_of format) }
+        ensures count { GrowsBy (put_bytes (plan_in self.old) format result.kept) ring.old ring.new }
         ensures ring { ring.new ≡ record ring.old { bytes = ring.new.bytes } }
-        ensures pushes { (x : List Frame) → HasRecorded B.kept tables.now self.old x
-            → Pushes B.kept tables.now format (pushed_frames (plan_in self.old) input.now)
-            self.old self.new x result ring.old.bytes ring.new.bytes }
+        ensures pushes { PushesOn B.kept tables.now format input.now
+            self.old self.new result ring.old ring.new }
     {
         let source = self.plan.source().channels();
         let target = self.plan.target().channels();

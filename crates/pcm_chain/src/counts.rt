@@ -1,8 +1,8 @@
 //! How many frames a chain has eaten and given.
 
-ghost use Rattle.std.specs.Prelude.{◌≡◌, ◌<◌, ◌≤◌, ◌+◌, ◌-◌, min, ℕ};
+ghost use Rattle.std.specs.Prelude.{◌≡◌, ◌<◌, ◌≤◌, ◌+◌, ◌-◌, min};
 ghost use Rattle.pcm_rate.specs.Rates.{IsPeriod, need, can};
-ghost use Rattle.pcm_chain.specs.Counts.{allowed_in_all, eats_all, fed_in_all, AreBounded, Goes, IsNear, InTime, StandFor};
+ghost use Rattle.pcm_chain.specs.Counts.{allowed_in_all, eats_all, fed_in_all, moved_on_by, AreBounded, Goes, IsNear, InTime, NeedABlock, AllowABlock, StandOn};
 ghost use Rattle.pcm_chain.specs.declared.staging.TheConstants.{BLOCK_FRAMES};
 
 use crate::staging::BLOCK_FRAMES;
@@ -41,7 +41,7 @@ impl Counts {
         ensures some { 0 < result }
         ensures wanted { result ≤ want }
         ensures few { result ≤ BLOCK_FRAMES }
-        ensures reach { need rate (self.given + result) ≤ fed_in_all rate self + BLOCK_FRAMES }
+        ensures reach { NeedABlock rate self result }
     {
         let allowed = rate.can(self.fed(rate) + BLOCK_FRAMES as u64);
         let more = allowed - u128::from(self.given);
@@ -62,7 +62,7 @@ impl Counts {
         requires near { IsNear rate }
         requires bounded { AreBounded rate self }
         requires few { want ≤ BLOCK_FRAMES }
-        requires reach { need rate (self.given + want) ≤ fed_in_all rate self + BLOCK_FRAMES }
+        requires reach { NeedABlock rate self want }
         ensures goes { Goes rate ended self waiting want result }
         ensures block { result.eaten + result.silent ≤ BLOCK_FRAMES }
         ensures given { result.given ≤ want }
@@ -103,7 +103,7 @@ impl Counts {
         ensures some { 0 < result }
         ensures offered { result ≤ offered }
         ensures few { result ≤ BLOCK_FRAMES }
-        ensures reach { can rate (self.eaten + result) < self.given + BLOCK_FRAMES }
+        ensures reach { AllowABlock rate self result }
     {
         let past = rate.need(self.given + BLOCK_FRAMES as u64) as u64;
         let more = past - 1 - self.eaten;
@@ -115,7 +115,7 @@ impl Counts {
         requires near { IsNear rate }
         requires bounded { AreBounded rate self }
         requires few { frames ≤ BLOCK_FRAMES }
-        requires reach { can rate (self.eaten + frames) < self.given + BLOCK_FRAMES }
+        requires reach { AllowABlock rate self frames }
         ensures { result ≡ eats_all rate self frames }
     {
         let allowed = rate.can(self.eaten + frames as u64);
@@ -130,7 +130,7 @@ impl Counts {
     pub fn after(self, rate: Rate, period: (u32, u32), advance: Advance) -> Counts
         requires near { IsNear rate }
         requires bounded { AreBounded rate self }
-        requires in_time { InTime rate (record { eaten = self.eaten + advance.eaten; given = self.given + advance.given }) }
+        requires in_time { InTime rate (moved_on_by self advance) }
         requires few { advance.given ≤ BLOCK_FRAMES }
         requires eaten { advance.eaten ≤ BLOCK_FRAMES }
         requires period { IsPeriod rate period.0 period.1 }
@@ -138,8 +138,7 @@ impl Counts {
         requires outputs { 0 < period.1 }
         requires within { period.1 ≤ rate.dst }
         ensures bounded { AreBounded rate result }
-        ensures stands { (eaten given : ℕ) → StandFor rate self eaten given
-            → StandFor rate result (eaten + advance.eaten) (given + advance.given) }
+        ensures stands { StandOn rate self advance result }
     {
         let (frames, outputs) = (u64::from(period.0), u64::from(period.1));
         let eaten = self.eaten + advance.eaten as u64;

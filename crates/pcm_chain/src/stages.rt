@@ -1,11 +1,9 @@
 //! The boxes of stages, fitted and fed one after another.
 
-ghost use Rattle.std.specs.Prelude.{◌≡◌, ◌≢◌, ◌≤◌, ◌*◌, length, take, All};
-ghost use Rattle.pcm_fixed.specs.Fixed.{fixed_items};
+ghost use Rattle.std.specs.Prelude.{◌≡◌, ◌≤◌, ◌*◌, length, All};
 ghost use Rattle.pcm_rate.specs.Rates.{unchanged};
 ghost use Rattle.pcm_feeder.specs.declared.stage.Spec.{Spec};
 ghost use Rattle.pcm_feeder.specs.Kept.{fresh, IsFitted};
-ghost use Rattle.pcm_feeder.specs.Kinds.{kind_of};
 ghost use Rattle.pcm_feeder.specs.Limits.{AreChannels, IsSpec, IsGain, HasTable};
 ghost use Rattle.pcm_feeder.specs.Racks.{HaveKinds};
 ghost use Rattle.pcm_feeder.specs.Stages.{channels_in, channels_out};
@@ -13,8 +11,8 @@ ghost use Rattle.pcm_feeder.specs.Streams.{written};
 ghost use Rattle.pcm_feeder.specs.Turns.{fed};
 ghost use Rattle.pcm_plan.specs.Plans.{rate_among};
 ghost use Rattle.pcm_plan.specs.Fits.{AreDistinct, HaveTables};
-ghost use Rattle.pcm_chain.specs.Boxes.{kept_in, HaveFitted};
-ghost use Rattle.pcm_chain.specs.Feeds.{asked, fed_through, first_frames, AreFed, HaveRoom};
+ghost use Rattle.pcm_chain.specs.Boxes.{kept_in, HaveFitted, KeepOthers, KeepAllOthers};
+ghost use Rattle.pcm_chain.specs.Feeds.{asked, fed_in, fed_through, first_staged, AreFed, HaveRoom};
 ghost use Rattle.pcm_chain.specs.declared.staging.TheConstants.{BLOCK_FRAMES};
 
 use crate::staging::Staging;
@@ -39,8 +37,7 @@ fn fit_stage<B: Feeder>(boxes: &mut SixOf<B>, spec: Spec)
     requires limits { IsSpec spec }
     ensures kinds { HaveKinds B.kind boxes.new }
     ensures fresh { kept_in B.kept boxes.new spec ≡ fresh spec }
-    ensures others { (other : Spec) → kind_of other ≢ kind_of spec
-        → kept_in B.kept boxes.new other ≡ kept_in B.kept boxes.old other }
+    ensures others { KeepOthers B.kept spec boxes.old boxes.new }
 {
     match spec {
         Spec::Matrix { .. } => boxes.matrix.fit(spec),
@@ -76,14 +73,13 @@ pub fn feed_stages<B: Feeder>(
     requires level { rate_among stages.now ≡ unchanged → frames ≤ want }
     requires room { HaveRoom source stages.now want (length out.old) }
     ensures kinds { HaveKinds B.kind boxes.old → HaveKinds B.kind boxes.new }
-    ensures others { (other : Spec) → All (λ spec. kind_of other ≢ kind_of spec) stages.now
-        → kept_in B.kept boxes.new other ≡ kept_in B.kept boxes.old other }
+    ensures others { KeepAllOthers B.kept stages.now boxes.old boxes.new }
     ensures fed { AreFed (kept_in B.kept boxes.old) (kept_in B.kept boxes.new) tables.now gain want
-        stages.now (first_frames frames source (fixed_items staging.old.now)) }
+        stages.now (first_staged frames source staging.old) }
     ensures given { result ≡ length (fed_through (kept_in B.kept boxes.old) tables.now gain want
-        stages.now (first_frames frames source (fixed_items staging.old.now))) }
+        stages.now (first_staged frames source staging.old)) }
     ensures out { out.new ≡ written (fed_through (kept_in B.kept boxes.old) tables.now gain want
-        stages.now (first_frames frames source (fixed_items staging.old.now))) out.old }
+        stages.now (first_staged frames source staging.old)) out.old }
 {
     if stages.is_empty() {
         let samples = frames * source;
@@ -138,15 +134,14 @@ fn feed_stage<B: Feeder>(
     requires source { frames * channels_in spec ≤ length input.now }
     requires room { asked spec want frames * channels_out spec ≤ length output.old }
     ensures kinds { HaveKinds B.kind boxes.old → HaveKinds B.kind boxes.new }
-    ensures kept { kept_in B.kept boxes.new spec ≡ (fed (kept_in B.kept boxes.old spec) tables.now gain
-        (take (frames * channels_in spec) input.now) (asked spec want frames)).kept }
-    ensures others { (other : Spec) → kind_of other ≢ kind_of spec
-        → kept_in B.kept boxes.new other ≡ kept_in B.kept boxes.old other }
-    ensures given { result ≡ (fed (kept_in B.kept boxes.old spec) tables.now gain
-        (take (frames * channels_in spec) input.now) (asked spec want frames)).given }
+    ensures kept { kept_in B.kept boxes.new spec
+        ≡ (fed_in B.kept boxes.old spec tables.now gain frames want input.now).kept }
+    ensures others { KeepOthers B.kept spec boxes.old boxes.new }
+    ensures given { result
+        ≡ (fed_in B.kept boxes.old spec tables.now gain frames want input.now).given }
     ensures most { result ≤ asked spec want frames }
-    ensures frames { output.new ≡ written (fed (kept_in B.kept boxes.old spec) tables.now gain
-        (take (frames * channels_in spec) input.now) (asked spec want frames)).frames output.old }
+    ensures frames { output.new ≡ written
+        (fed_in B.kept boxes.old spec tables.now gain frames want input.now).frames output.old }
 {
     let input = &input[..frames * channels_in(spec)];
     let moved = match spec {

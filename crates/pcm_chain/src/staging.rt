@@ -1,11 +1,12 @@
 //! Where the frames of a block lie between its stages.
 
-ghost use Rattle.std.specs.Prelude.{◌≡◌, ◌≤◌, ◌+◌, ◌*◌, ◌/◌, ◌++◌, min, pos, length, take, drop, replicate, flat_map, All};
+ghost use Rattle.std.specs.Prelude.{◌≡◌, ◌≤◌, ◌+◌, ◌*◌, ◌/◌, min, length, take, All};
 ghost use Rattle.pcm_fixed.specs.Fixed.{fixed_items, fixed_len};
 ghost use Rattle.pcm_num.specs.Limit.{FitsBits};
 ghost use Rattle.pcm_format.specs.Formats.{bits_of, bytes_of};
 ghost use Rattle.pcm_format.specs.Samples.{samples, spelled};
 ghost use Rattle.pcm_ring.specs.Ring.{free_bytes};
+ghost use Rattle.pcm_chain.specs.Rings.{staged, with_samples, without_bytes};
 ghost use Rattle.pcm_feeder.specs.Limits.{AreChannels};
 ghost use Rattle.pcm_chain.specs.declared.staging.TheConstants.{BLOCK_FRAMES, BLOCK_SAMPLES, BLOCK_BYTES};
 
@@ -47,10 +48,9 @@ impl Staging {
     pub fn load(&mut self, ring: &mut ByteRing, format: Format, count: usize, silent: usize)
         requires within { count + silent ≤ BLOCK_SAMPLES }
         requires waiting { count * bytes_of format ≤ length ring.old.bytes }
-        ensures ring { ring.new
-            ≡ record ring.old { bytes = drop (count * bytes_of format) ring.old.bytes } }
+        ensures ring { ring.new ≡ without_bytes (count * bytes_of format) ring.old }
         ensures loaded { take (count + silent) (fixed_items self.new.now)
-            ≡ samples format (take (count * bytes_of format) ring.old.bytes) ++ replicate silent (pos 0) }
+            ≡ staged format count silent ring.old }
     {
         load_front(ring, format, count, &mut self.bytes, &mut self.now);
         self.now[count..count + silent].fill(0);
@@ -79,10 +79,7 @@ impl Staging {
         requires samples { count * channels ≤ length samples.now }
         requires range { All (FitsBits (bits_of format)) (take (count * channels) samples.now) }
         ensures kept { result ≡ min count (free_bytes ring.old / (channels * bytes_of format)) }
-        ensures ring { ring.new ≡ record ring.old {
-          bytes = ring.old.bytes
-              ++ flat_map (spelled format) (take (result * channels) samples.now);
-        } }
+        ensures ring { ring.new ≡ with_samples format (take (result * channels) samples.now) ring.old }
     {
         let size = channels * format.bytes();
         let kept = count.min(ring.free() / size);
@@ -109,8 +106,7 @@ fn load_front(
     requires waiting { count * bytes_of format ≤ length ring.old.bytes }
     requires bytes { count * bytes_of format ≤ length bytes.old }
     requires frames { count ≤ length frames.old }
-    ensures ring { ring.new
-        ≡ record ring.old { bytes = drop (count * bytes_of format) ring.old.bytes } }
+    ensures ring { ring.new ≡ without_bytes (count * bytes_of format) ring.old }
     ensures loaded { take count frames.new
         ≡ samples format (take (count * bytes_of format) ring.old.bytes) }
 {
@@ -135,8 +131,7 @@ fn spell_behind(ring: &mut ByteRing, format: Format, samples: &[i32], bytes: &mu
     requires bytes { length samples.now * bytes_of format ≤ length bytes.old }
     requires room { length samples.now * bytes_of format ≤ free_bytes ring.old }
     requires range { All (FitsBits (bits_of format)) samples.now }
-    ensures ring { ring.new
-        ≡ record ring.old { bytes = ring.old.bytes ++ flat_map (spelled format) samples.now } }
+    ensures ring { ring.new ≡ with_samples format samples.now ring.old }
 {
     let spelled = &mut bytes[..samples.len() * format.bytes()];
     spell_frames(format, samples, spelled);
