@@ -4,7 +4,7 @@ ghost use Rattle.std.specs.Prelude.{◌≡◌, ◌<◌, ◌≤◌, ◌-◌, ◌*
 ghost use Rattle.pcm_feeder.specs.Limits.{IsCoef, IsTable};
 ghost use Rattle.pcm_feeder.specs.declared.limits.TheConstants.{SHIFT_MOST, TAPS};
 ghost use Rattle.pcm_feeder.specs.Stages.{scaled_down};
-ghost use Rattle.feed_poly.specs.Rows.{row_in, weighted, row_frame};
+ghost use Rattle.feed_poly.specs.Rows.{row_in, weighted};
 
 use crate::window::Window;
 use pcm_feeder::Table;
@@ -22,7 +22,7 @@ pub struct Row<'a> {
 }
 
 impl<'a> Row<'a> {
-    ghost use Rattle.feed_poly.specs.Window.{frames_in};
+    ghost use Rattle.feed_poly.specs.Window.{window_by};
 
     /// A row of a filter.
     pub fn of(table: &'a Table, row: usize) -> Row<'a>
@@ -43,8 +43,7 @@ impl<'a> Row<'a> {
     pub fn put_frame(self, window: &Window, output: &mut [i32])
         requires taps { length self.coefs.now ≡ window.now.taps }
         requires room { length output.old ≡ window.now.channels }
-        ensures { output.new
-            ≡ row_frame self.entry.shift self.entry.coefs.now window.now.channels (frames_in window.now) }
+        ensures { output.new ≡ window_by self.entry.shift self.entry.coefs.now window.now }
     {
         for channel in 0..window.channels() {
             output[channel] = self.sample(window.channel(channel));

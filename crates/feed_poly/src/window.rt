@@ -1,11 +1,11 @@
 //! The last frames of a stream.
 
-ghost use Rattle.std.specs.Prelude.{◌≡◌, ◌<◌, ◌≤◌, ◌+◌, ◌*◌, [], ◌∷◌, length, take, drop, replicate, IfOk};
+ghost use Rattle.std.specs.Prelude.{◌≡◌, ◌<◌, ◌≤◌, ◌+◌, ◌*◌, [], ◌∷◌, length, replicate, IfOk};
 ghost use Rattle.pcm_fixed.specs.Fixed.{fixed_items, fixed_len};
 ghost use Rattle.pcm_feeder.specs.Kept.{moved_on};
 ghost use Rattle.pcm_feeder.specs.Limits.{AreChannels};
 ghost use Rattle.pcm_feeder.specs.declared.limits.TheConstants.{TAPS};
-ghost use Rattle.pcm_feeder.specs.Streams.{frames_of, silence};
+ghost use Rattle.pcm_feeder.specs.Streams.{silence};
 ghost use Rattle.feed_poly.specs.Places.{IsTwice, ArePut};
 ghost use Rattle.feed_poly.specs.Rows.{channel_in};
 
@@ -36,7 +36,7 @@ pub struct Window {
 }
 
 impl Window {
-    ghost use Rattle.feed_poly.specs.Window.{frames_in};
+    ghost use Rattle.feed_poly.specs.Window.{frames_after, frames_in};
 
     /// A silent window. All memory is taken here, for 64 frames of eight channels.
     pub fn new(alloc: Global) -> Result<Window, AllocError>
@@ -70,8 +70,7 @@ impl Window {
     pub fn eat(&mut self, input: &[i32], from: usize, to: usize)
         requires order { from ≤ to }
         requires there { to * self.old.channels ≤ length input.now }
-        ensures frames { frames_in self.new ≡ moved_on (frames_in self.old)
-            (drop from (take to (frames_of self.old.channels input.now))) }
+        ensures frames { frames_in self.new ≡ frames_after self.old input.now from to }
         ensures channels { self.new.channels ≡ self.old.channels }
         ensures taps { self.new.taps ≡ self.old.taps }
     {

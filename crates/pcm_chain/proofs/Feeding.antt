@@ -28,7 +28,7 @@ use Rattle.pcm_feeder.proofs.Turns.{turn-continues, turn-fitted, fed-fitted}
 use Rattle.pcm_plan.specs.Plans.{rate_among}
 use Rattle.pcm_plan.specs.Fits.{Follow, AreDistinct, HaveTables}
 use Rattle.pcm_chain.specs.Boxes.{kept_in, HaveFitted}
-use Rattle.pcm_chain.specs.Feeds.{asked, first_frames, turn_in, fed_through, AreFed, HaveRoom}
+use Rattle.pcm_chain.specs.Feeds.{asked, first_frames, turn_in, fed_through, AreFed, GoneThrough, HaveRoom}
 
 -- ---- what a stage asks
 
@@ -246,11 +246,6 @@ given-front keeps tables gain want spec n given source samples next old is fits 
     ∙ frames-written (channels_out spec) done.given done.frames old (omega (arith, out.least)) shape.channels shape.count
 
 -- frames that went through one stage, and then through the others, went through all
-pub record GoneThrough (old new : Spec → Kept) (tables : Filters) (gain : Gain) (want : ℕ) (stages : List Spec) (input : List Frame) (count : ℕ) (before after : List ℤ) : Type 0 where
-  pub fed : AreFed old new tables gain want stages input
-  pub given : count ≡ length (fed_through old tables gain want stages input)
-  pub out : after ≡ written (fed_through old tables gain want stages input) before
-
 pub gone-on : {B : Type 0} (kept : B → Kept) (old mid new : SixOf B) (tables : Filters) (gain : Gain) (want : ℕ) (stages : List Spec) (spec : Spec) (rest : List Spec) (input next : List Frame) (given : ℕ) (before after : List ℤ)
     → stages ≡ spec ∷ rest → AreDistinct stages
     → ((other : Spec) → kind_of other ≢ kind_of spec → kept_in kept mid other ≡ kept_in kept old other)

@@ -6,7 +6,7 @@ use Rattle.pcm_feeder.specs.declared.stage.Spec.{Spec}
 use Rattle.pcm_feeder.specs.declared.stage.Spec.TheVariants.{Hold, Linear, Poly}
 use Rattle.pcm_feeder.specs.Filters.{Filters}
 use Rattle.pcm_feeder.specs.Kept.{Kept}
-use Rattle.pcm_feeder.specs.Streams.{frames_of}
+use Rattle.pcm_feeder.specs.Streams.{frames_of, written}
 use Rattle.pcm_feeder.specs.Turns.{Turn, turn, fed}
 use Rattle.pcm_feeder.specs.Stages.{channels_in}
 use Rattle.pcm_feeder.specs.declared.rack.SixOf.{SixOf}
@@ -51,6 +51,14 @@ AreFed old new tables gain want [] input = Unit {0}
 AreFed old new tables gain want (spec ∷ specs) input =
     (new spec ≡ (turn_in old tables gain want spec input).kept)
     × AreFed old new tables gain want specs (turn_in old tables gain want spec input).frames
+
+-- Frames went through stages: each keeps what it does then, and so many frames came out and stand at
+-- the front of an output.
+pub record GoneThrough (old new : Spec → Kept) (tables : Filters) (gain : Gain) (want : ℕ)
+    (stages : List Spec) (input : List Frame) (count : ℕ) (before after : List ℤ) : Type 0 where
+  pub fed : AreFed old new tables gain want stages input
+  pub given : count ≡ length (fed_through old tables gain want stages input)
+  pub out : after ≡ written (fed_through old tables gain want stages input) before
 
 -- stages that take frames of so many channels, and whose last one has room for so many frames
 pub record HaveRoom (source : ℕ) (specs : List Spec) (want room : ℕ) : Type 0 where

@@ -8,11 +8,10 @@ ghost use Rattle.pcm_feeder.specs.Limits.{AreChannels, IsSpec, IsGain, HasTable}
 ghost use Rattle.pcm_feeder.specs.Racks.{HaveKinds};
 ghost use Rattle.pcm_feeder.specs.Stages.{channels_in, channels_out};
 ghost use Rattle.pcm_feeder.specs.Streams.{written};
-ghost use Rattle.pcm_feeder.specs.Turns.{fed};
 ghost use Rattle.pcm_plan.specs.Plans.{rate_among};
 ghost use Rattle.pcm_plan.specs.Fits.{AreDistinct, HaveTables};
 ghost use Rattle.pcm_chain.specs.Boxes.{kept_in, HaveFitted, KeepOthers, KeepAllOthers};
-ghost use Rattle.pcm_chain.specs.Feeds.{asked, fed_in, fed_through, first_staged, AreFed, HaveRoom};
+ghost use Rattle.pcm_chain.specs.Feeds.{asked, fed_in, first_staged, GoneThrough, HaveRoom};
 ghost use Rattle.pcm_chain.specs.declared.staging.TheConstants.{BLOCK_FRAMES};
 
 use crate::staging::Staging;
@@ -74,12 +73,9 @@ pub fn feed_stages<B: Feeder>(
     requires room { HaveRoom source stages.now want (length out.old) }
     ensures kinds { HaveKinds B.kind boxes.old → HaveKinds B.kind boxes.new }
     ensures others { KeepAllOthers B.kept stages.now boxes.old boxes.new }
-    ensures fed { AreFed (kept_in B.kept boxes.old) (kept_in B.kept boxes.new) tables.now gain want
-        stages.now (first_staged frames source staging.old) }
-    ensures given { result ≡ length (fed_through (kept_in B.kept boxes.old) tables.now gain want
-        stages.now (first_staged frames source staging.old)) }
-    ensures out { out.new ≡ written (fed_through (kept_in B.kept boxes.old) tables.now gain want
-        stages.now (first_staged frames source staging.old)) out.old }
+    ensures gone { GoneThrough (kept_in B.kept boxes.old) (kept_in B.kept boxes.new)
+        tables.now gain want stages.now (first_staged frames source staging.old)
+        result out.old out.new }
 {
     if stages.is_empty() {
         let samples = frames * source;

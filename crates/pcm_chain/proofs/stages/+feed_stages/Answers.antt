@@ -8,18 +8,17 @@ use Rattle.pcm_chain.specs.Feeds.{first_frames}
 use Rattle.pcm_chain.proofs.Feeding.{stages-cut, ask-on, block-room, given-front, feeds, gone-on, gone-last, gone-none, at-head}
 use Rattle.pcm_chain.proofs.stages.+feed_stages.Goals as goal
 
-pub returns-then-is_empty-clause-given : goal.returns-then-is_empty-clause-given
-returns-then-is_empty-clause-given g t c =
+pub returns-then-is_empty-clause-gone : goal.returns-then-is_empty-clause-gone
+returns-then-is_empty-clause-gone g t c =
+    let keeps = kept_in g.B.Feeder.kept c.args.boxes.now in
     let none : length c.args.stages.now ≡ 0 = search rules in
     let room : c.args.frames * c.args.source ≤ length (fixed_items c.args.staging.now.now) = omega (arith, c.args.staging.now.now_size, items-count c.args.staging.now.now, block-room c.args.frames c.args.source c.requires.offered c.requires.channels) in
-    (gone-none (kept_in g.B.Feeder.kept c.args.boxes.now) (kept_in g.B.Feeder.kept c.args.boxes.now) c.args.tables.now c.args.gain c.args.want c.args.stages.now c.args.frames c.args.source (fixed_items c.args.staging.now.now) c.args.out.now none c.requires.channels room).given
-
-pub returns-then-is_empty-clause-out : goal.returns-then-is_empty-clause-out
-returns-then-is_empty-clause-out g t c =
-    let none : length c.args.stages.now ≡ 0 = search rules in
-    let room : c.args.frames * c.args.source ≤ length (fixed_items c.args.staging.now.now) = omega (arith, c.args.staging.now.now_size, items-count c.args.staging.now.now, block-room c.args.frames c.args.source c.requires.offered c.requires.channels) in
-    ap (λ list. list ++ drop (c.args.frames * c.args.source) c.args.out.now) (c.copy_from_slice.ensures.after ∙ ap (take (c.args.frames * c.args.source)) c.deref.ensures.value)
-    ∙ (gone-none (kept_in g.B.Feeder.kept c.args.boxes.now) (kept_in g.B.Feeder.kept c.args.boxes.now) c.args.tables.now c.args.gain c.args.want c.args.stages.now c.args.frames c.args.source (fixed_items c.args.staging.now.now) c.args.out.now none c.requires.channels room).out
+    let gone = gone-none keeps keeps c.args.tables.now c.args.gain c.args.want c.args.stages.now c.args.frames c.args.source (fixed_items c.args.staging.now.now) c.args.out.now none c.requires.channels room in
+    record {
+      fed = gone.fed;
+      given = gone.given;
+      out = ap (λ list. list ++ drop (c.args.frames * c.args.source) c.args.out.now) (c.copy_from_slice.ensures.after ∙ ap (take (c.args.frames * c.args.source)) c.deref.ensures.value) ∙ gone.out;
+    }
 
 pub returns-then-is_empty-2 : goal.returns-then-is_empty-2
 returns-then-is_empty-2 g t c =
@@ -36,9 +35,7 @@ returns-then-is_empty-2 g t c =
     record {
       kinds = c.feed_stage.ensures.kinds;
       others = λ other differ. c.feed_stage.ensures.others other (h.first other differ);
-      fed = done.fed;
-      given = done.given;
-      out = done.out;
+      gone = done;
     }
 
 pub feed_stages-requires : goal.feed_stages-requires
@@ -71,11 +68,9 @@ returns g t c =
     (first_frames c.feed_stage-given.result c.channels_out.result next) c.feed_stages.result c.args.out.now c.feed_stages.new.out cut c.requires.distinct c.feed_stage-given.ensures.others
     (rw same at c.feed_stage-given.ensures.kept ∙ ap (λ (t : Turn). t.kept) does)
     (ap (λ channels. first_frames c.feed_stage-given.result channels next) c.channels_out.ensures ∙ front)
-    c.feed_stages.ensures.others (record { fed = c.feed_stages.ensures.fed; given = c.feed_stages.ensures.given; out = c.feed_stages.ensures.out }) in
+    c.feed_stages.ensures.others c.feed_stages.ensures.gone in
     record {
       kinds = λ have. c.feed_stages.ensures.kinds (c.feed_stage-given.ensures.kinds have);
       others = λ other differ. c.feed_stages.ensures.others other (h.behind other differ) ∙ c.feed_stage-given.ensures.others other (h.first other differ);
-      fed = done.fed;
-      given = done.given;
-      out = done.out;
+      gone = done;
     }

@@ -44,7 +44,7 @@ returns-clause-fitted g c =
     let source = c.channels-source.result in
     let plan = c.args.self.now.plan in
     fed-fits (kept_in kept c.args.self.now.boxes) (kept_in kept c.feed_stages.new.boxes) c.args.tables.now c.args.gain c.args.want plan.stages source (channels_of plan.target) _ is.specs c.requires.fitted
-    (rw (c.channels-source.ensures, c.source.ensures) is.follow) (frames_of-channels source _) (rw c.stages.ensures.value at c.feed_stages.ensures.fed)
+    (rw (c.channels-source.ensures, c.source.ensures) is.follow) (frames_of-channels source _) (rw c.stages.ensures.value at c.feed_stages.ensures.gone.fed)
 
 pub load-requires-clause-waiting : goal.load-requires-clause-waiting
 load-requires-clause-waiting g c =
@@ -82,7 +82,7 @@ returns-clause-pulls g c x quiet before stands past =
       within = within;
       counts = rw c.rate-rate.ensures.value at c.after-self.ensures.stands;
       have = frames_of-channels (channels_of plan.source) (samples c.args.format bytes);
-      fed = subst Fed input_is (rw c.stages.ensures.value at c.feed_stages.ensures.fed);
-      out = (rw c.stages.ensures.value at c.feed_stages.ensures.out)
+      fed = subst Fed input_is (rw c.stages.ensures.value at c.feed_stages.ensures.gone.fed);
+      out = (rw c.stages.ensures.value at c.feed_stages.ensures.gone.out)
           ∙ ap (λ list. written (fed_through (kept_in kept c.args.self.now.boxes) c.args.tables.now c.args.gain c.args.want plan.stages list) c.args.out.now) input_is;
     }) stands past
