@@ -35,8 +35,8 @@ use Rattle.pcm_script.specs.Names.{command_name, command_named, request_name, wa
 use Rattle.pcm_script.specs.Steps.{◌>>=◌}
 use Rattle.pcm_script.specs.Words.{words_of}
 use Rattle.pcm_script.specs.declared.fault.ScriptKind.TheVariants.{Word}
-use Rattle.pcm_text.specs.Texts.{argument_words, arguments_for, command_for, event_line, file_name_in}
-use Rattle.pcm_text.specs.ReadBack.{HasSmallNumbers, IsFileNamed, argument_of, line_asked}
+use Rattle.pcm_text.specs.Texts.{argument_of, argument_words, arguments_for, command_for, event_line, file_name_in}
+use Rattle.pcm_text.specs.ReadBack.{HasSmallNumbers, IsFileNamed, line_asked}
 use Rattle.pcm_text.proofs.CutLines.{AreWords, IsOneWord, line-plain, one-word, plain-feed, words-read}
 use Rattle.pcm_text.proofs.Spelling.{bytes-read, bytes-word, decimal-digits, decimal-read, decimal-within, decimal-word}
 
@@ -160,7 +160,7 @@ bytes-part xs at count all = IsBytes-take count (drop at xs) (IsBytes-drop at xs
 small-fd : (fd : ℕ) → fd < 64 → IsOneWord (decimal fd)
 small-fd fd low = decimal-word fd (omega arith)
 
-argument-words : (request : Request) → argument_of request < 2 ^ 32 → AreWords (argument_words request)
+argument-words : (request : Request) → IfSome (argument_of request) (λ argument. argument < 2 ^ 32) → AreWords (argument_words (argument_of request))
 argument-words (requests.SetFmt a) small = (decimal-word a (omega (arith, small)), tt)
 argument-words (requests.Speed a) small = (decimal-word a (omega (arith, small)), tt)
 argument-words (requests.Channels a) small = (decimal-word a (omega (arith, small)), tt)
@@ -214,8 +214,8 @@ limited argument small = grind (arith, nat_tests)
 few-bytes : (count : ℕ) (xs : List ℕ) → count ≤ WRITE_BYTES → length (take count xs) ≤ WRITE_BYTES
 few-bytes count xs few = omega (arith, length-take count xs)
 
-request-read : (fd : ℕ) (request : Request) → fd < 64 → argument_of request < 2 ^ 32
-    → ioctl_line (decimal fd ∷ request_name request ∷ argument_words request) ≡ Ok (lines.Ioctl fd request)
+request-read : (fd : ℕ) (request : Request) → fd < 64 → IfSome (argument_of request) (λ argument. argument < 2 ^ 32)
+    → ioctl_line (decimal fd ∷ request_name request ∷ argument_words (argument_of request)) ≡ Ok (lines.Ioctl fd request)
 unfolding ioctl_line
 request-read fd (requests.SetFmt a) low small = rw (decimal-within 0 63 fd (omega arith) (omega arith) (omega arith), no-format a small, decimal-read a small, limited a small) refl
 request-read fd (requests.Speed a) low small = rw (decimal-within 0 63 fd (omega arith) (omega arith) (omega arith), decimal-within 0 4294967295 a small (omega arith) (omega (arith, small))) refl

@@ -4,8 +4,6 @@ use Rattle.std.specs.List.{list_all}
 use Rattle.hex.specs.Hex.{IsBytes}
 use Rattle.pcm_oss.specs.declared.event.Event.{Event}
 use Rattle.pcm_oss.specs.declared.event.Event.TheVariants.{Open, Write, Read, Ioctl, Close, Intr}
-use Rattle.pcm_oss.specs.declared.request.Request.{Request}
-use Rattle.pcm_oss.specs.declared.request.Request.TheVariants.{SetFmt, Speed, Channels, SetFragment, SetTrigger, SetPlayVol}
 use Rattle.pcm_wave.specs.declared.pool.Pool.{Pool}
 use Rattle.pcm_wave.specs.declared.pool.Source.TheVariants.{Inline, File}
 use Rattle.pcm_wave.specs.DataFiles.{DataFileSeen}
@@ -21,7 +19,7 @@ use Rattle.pcm_script.specs.Collecting.{script_with}
 use Rattle.pcm_script.specs.Commands.{is_file_named}
 use Rattle.pcm_script.specs.Lines.{AllFit, empty_script, pool_of}
 use Rattle.pcm_script.specs.Words.{begins_comment, is_blank, is_word}
-use Rattle.pcm_text.specs.Texts.{file_name_in, text_of}
+use Rattle.pcm_text.specs.Texts.{argument_of, file_name_in, text_of}
 
 -- what the line of an event asks for
 abbrev pub line_asked : Pool → Event → LineEvent
@@ -68,18 +66,9 @@ pub record IsFileNamed (files : List DataFileSeen) (place : ℕ) : Type 0 where
   pub first : position (is_file_named (file_name_in (slice_get files place))) files ≡ Some place
 
 -- the numbers of an event are of 32 bits, as they are in every script
-abbrev pub argument_of : Request → ℕ
-argument_of (SetFmt argument) = argument
-argument_of (Speed argument) = argument
-argument_of (Channels argument) = argument
-argument_of (SetFragment argument) = argument
-argument_of (SetTrigger argument) = argument
-argument_of (SetPlayVol argument) = argument
-argument_of request = 0
-
 abbrev pub HasSmallNumbers : Event → Type 0
 HasSmallNumbers (Write fd source at count) = (at < 2 ^ 32) × (count < 2 ^ 32)
-HasSmallNumbers (Ioctl fd request) = argument_of request < 2 ^ 32
+HasSmallNumbers (Ioctl fd request) = IfSome (argument_of request) (λ argument. argument < 2 ^ 32)
 HasSmallNumbers (Intr frames) = frames < 2 ^ 32
 HasSmallNumbers event = Unit {0}
 

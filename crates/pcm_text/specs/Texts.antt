@@ -43,15 +43,20 @@ file_name_in (Some file) = file.name
 abbrev pub settings_words : Settings → List (List ℕ)
 settings_words settings = name_of settings.format ∷ decimal (channels_of settings.layout) ∷ decimal settings.rate ∷ []
 
--- the argument of a request, if it has one: a number, for a format as well
-abbrev pub argument_words : Request → List (List ℕ)
-argument_words (SetFmt argument) = decimal argument ∷ []
-argument_words (Speed argument) = decimal argument ∷ []
-argument_words (Channels argument) = decimal argument ∷ []
-argument_words (SetFragment argument) = decimal argument ∷ []
-argument_words (SetTrigger argument) = decimal argument ∷ []
-argument_words (SetPlayVol argument) = decimal argument ∷ []
-argument_words request = []
+-- the argument of a request, if it has one
+abbrev pub argument_of : Request → Option ℕ
+argument_of (SetFmt argument) = Some argument
+argument_of (Speed argument) = Some argument
+argument_of (Channels argument) = Some argument
+argument_of (SetFragment argument) = Some argument
+argument_of (SetTrigger argument) = Some argument
+argument_of (SetPlayVol argument) = Some argument
+argument_of request = None
+
+-- as a word: a number, for a format as well
+abbrev pub argument_words : Option ℕ → List (List ℕ)
+argument_words None = []
+argument_words (Some argument) = decimal argument ∷ []
 
 -- what stands behind the command of an event; a write has its bytes in hexadecimal, or a dash
 abbrev pub arguments_for : Pool → Event → List (List ℕ)
@@ -59,7 +64,7 @@ arguments_for pool (Open fd way settings) = decimal fd ∷ way_name way ∷ sett
 arguments_for pool (Write fd Inline at count) = decimal fd ∷ bytes_text (bytes_at pool Inline at count) ∷ []
 arguments_for pool (Write fd (File place) at count) = decimal fd ∷ file_name_in (slice_get pool.files place) ∷ decimal at ∷ decimal count ∷ []
 arguments_for pool (Read fd count) = decimal fd ∷ decimal count ∷ []
-arguments_for pool (Ioctl fd request) = decimal fd ∷ request_name request ∷ argument_words request
+arguments_for pool (Ioctl fd request) = decimal fd ∷ request_name request ∷ argument_words (argument_of request)
 arguments_for pool (Close fd) = decimal fd ∷ []
 arguments_for pool (Intr frames) = decimal frames ∷ []
 

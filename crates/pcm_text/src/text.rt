@@ -5,7 +5,7 @@ ghost use Rattle.std.specs.Fmt.{decimal};
 ghost use Rattle.pcm_report.specs.Lines.{bytes_text};
 ghost use Rattle.pcm_script.specs.Lines.{pool_of};
 ghost use Rattle.pcm_script.specs.Names.{request_name, way_name};
-ghost use Rattle.pcm_text.specs.Texts.{AllFound, FindsBytes, argument_words, arguments_for, command_for, event_line, settings_words, spaced, text_of};
+ghost use Rattle.pcm_text.specs.Texts.{AllFound, FindsBytes, argument_of, argument_words, arguments_for, command_for, event_line, settings_words, spaced, text_of};
 
 use crate::words::{push_bytes, push_number, push_word};
 use pcm_format::Settings;
@@ -144,7 +144,7 @@ fn push_read(text: &mut Vec<u8>, fd: u8, count: u32) -> Result<(), AllocError>
 
 fn push_ioctl(text: &mut Vec<u8>, fd: u8, request: Request) -> Result<(), AllocError>
     ensures { OnOk result (text.new.items
-        ≡ text.old.items ++ spaced (decimal fd ∷ request_name request ∷ argument_words request)) }
+        ≡ text.old.items ++ spaced (decimal fd ∷ request_name request ∷ argument_words (argument_of request))) }
 {
     push_number(text, u32::from(fd))?;
     push_word(text, request_name(request))?;
@@ -153,7 +153,7 @@ fn push_ioctl(text: &mut Vec<u8>, fd: u8, request: Request) -> Result<(), AllocE
 
 // Writes the argument of a request, if it has one.
 fn push_argument(text: &mut Vec<u8>, request: Request) -> Result<(), AllocError>
-    ensures { OnOk result (text.new.items ≡ text.old.items ++ spaced (argument_words request)) }
+    ensures { OnOk result (text.new.items ≡ text.old.items ++ spaced (argument_words (argument_of request))) }
 {
     match request {
         Request::SetFmt(argument)
