@@ -5,6 +5,7 @@ ghost use Rattle.pcm_config.specs.Configs.{usual_config};
 
 use pcm_desk::Device;
 use pcm_feeder::Tables;
+use pcm_sequence::Sequence;
 use std::alloc::{AllocError, Global};
 use std::marker::Model;
 
@@ -57,35 +58,7 @@ pub struct FilePath {
 }
 
 /// A list of files.
-#[derive(Debug, Drop)]
-pub struct FilePaths {
-    items: Vec<FilePath>,
-}
-
-impl Model for FilePaths {
-    ghost use Rattle.std.specs.Prelude.{List};
-    ghost use Rattle.pcm_config.specs.declared.config.FilePath.{FilePath};
-
-    ghost Value = { List FilePath };
-
-    ghost view = { λ f. f.items.items };
-}
-
-impl FilePaths {
-    /// Takes the files of a vector over.
-    pub fn new(items: Vec<FilePath>) -> Self
-        ensures { result ≡ items.items }
-    {
-        FilePaths { items }
-    }
-
-    /// Lends the files.
-    pub fn as_slice(&self) -> &[FilePath]
-        ensures { result.now ≡ self.now }
-    {
-        self.items.as_slice()
-    }
-}
+pub type FilePaths = Sequence<FilePath>;
 
 /// What is settled of a run: its device, the form of the file that is played to, the files by their names,
 /// with the one that is recorded from, and the filters of the converters.

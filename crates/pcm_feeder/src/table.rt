@@ -1,36 +1,12 @@
 //! The filters of the polyphase converter.
 
-ghost use Rattle.std.specs.Prelude.{◌≡◌, List, ℤ};
+ghost use Rattle.std.specs.Prelude.{◌≡◌};
 
+use pcm_sequence::Sequence;
 use std::marker::Model;
 
 /// A list of coefficients.
-#[derive(Debug, Drop)]
-pub struct Coefs {
-    items: Vec<i32>,
-}
-
-impl Model for Coefs {
-    ghost Value = { List ℤ };
-
-    ghost view = { λ coefs. coefs.items.items };
-}
-
-impl Coefs {
-    /// Takes the numbers of a vector over.
-    pub fn new(items: Vec<i32>) -> Self
-        ensures { result ≡ items.items }
-    {
-        Coefs { items }
-    }
-
-    /// Lends the numbers.
-    pub fn as_slice(&self) -> &[i32]
-        ensures { result.now ≡ self.now }
-    {
-        self.items.as_slice()
-    }
-}
+pub type Coefs = Sequence<i32>;
 
 /// A filter for a change of rate, or for any where both rates are 0: a row of `taps` coefficients
 /// for each of `phases` phases, one row after another. A coefficient counts as divided by

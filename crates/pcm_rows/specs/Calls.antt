@@ -56,8 +56,8 @@ abbrev pub stereo_bytes : List ℕ → List ℕ
 stereo_bytes numbers = little_endian (flat_map (λ number. number ∷ number ∷ []) numbers)
 
 -- what the ring of the usual device begins with
-abbrev pub silent_ring : List ℕ
-silent_ring = replicate 4096 0
+abbrev pub ring_of_silence : List ℕ
+ring_of_silence = replicate 4096 0
 
 -- files of which one alone is there
 abbrev pub only : List ℕ → List ℕ → List ℕ → Option (List ℕ)

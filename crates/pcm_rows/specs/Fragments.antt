@@ -7,7 +7,7 @@ use Rattle.pcm_desk.specs.declared.play_book.PlayState.TheVariants.{Running}
 use Rattle.pcm_desk.specs.Usual.{usual_settings}
 use Rattle.pcm_sound.specs.Runs.{Piece, Run}
 use Rattle.pcm_script.specs.declared.script.Script.{Script}
-use Rattle.pcm_rows.specs.Calls.{joined, opens, piece, silent_ring, times, usual_book}
+use Rattle.pcm_rows.specs.Calls.{joined, opens, piece, ring_of_silence, times, usual_book}
 
 -- a fragment, which is 1024 frames
 abbrev pub full_fragment : List ℕ
@@ -37,7 +37,7 @@ starved_script = record {
 }
 
 abbrev pub starved_bytes : List ℕ
-starved_bytes = silent_ring ++ full_fragment ++ replicate 16 0 ++ late_frame ++ replicate 12 0
+starved_bytes = ring_of_silence ++ full_fragment ++ replicate 16 0 ++ late_frame ++ replicate 12 0
 
 abbrev pub starved_lines : List ℕ
 starved_lines = joined (

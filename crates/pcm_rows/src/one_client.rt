@@ -4,7 +4,7 @@
 ghost use Rattle.std.specs.Prelude.{◌≡◌, ◌∷◌, ◌++◌, [], codes, replicate};
 ghost use Rattle.pcm_desk.specs.Usual.{usual_device};
 ghost use Rattle.pcm_script.specs.Lines.{empty_script};
-ghost use Rattle.pcm_rows.specs.Calls.{small_device, accepted, judged, script_in, silent_ring, played, printed, book_after, gains_in, runs_in, unity_from};
+ghost use Rattle.pcm_rows.specs.Calls.{small_device, accepted, judged, script_in, ring_of_silence, played, printed, book_after, gains_in, runs_in, unity_from};
 ghost use Rattle.pcm_rows.specs.OneClient.{silent_script, drain_text, drain_bytes, drain_script, drain_lines, cut_text, cut_script, cut_lines, stray_close_script, short_drain_text, short_drain_script, short_drain_lines, short_drain_run, two_frames_heard, over_book, late_script, late_run, part_text, part_script, part_lines};
 
 /// A script without events makes an empty file and prints nothing.
@@ -17,14 +17,14 @@ pub fn empty_script()
 /// The ring begins as silence.
 pub fn one_silent_block()
     ensures verdict { script_in "intr 1024\n" ≡ accepted silent_script }
-    ensures device { played usual_device silent_script ≡ silent_ring }
+    ensures device { played usual_device silent_script ≡ ring_of_silence }
     ensures lines { printed usual_device silent_script ≡ codes "1: ok 1024\n" }
 {}
 
 /// A close starts what is less than a fragment, and all of it is heard behind the silent ring.
 pub fn drain_below_a_fragment()
     ensures verdict { judged usual_device drain_text ≡ accepted drain_script }
-    ensures device { played usual_device drain_script ≡ silent_ring ++ drain_bytes }
+    ensures device { played usual_device drain_script ≡ ring_of_silence ++ drain_bytes }
     ensures lines { printed usual_device drain_script ≡ drain_lines }
 {}
 

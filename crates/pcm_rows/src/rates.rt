@@ -3,7 +3,7 @@
 
 ghost use Rattle.std.specs.Prelude.{◌≡◌, ◌∷◌, ◌++◌, [], codes, replicate, take};
 ghost use Rattle.pcm_desk.specs.Usual.{usual_device};
-ghost use Rattle.pcm_rows.specs.Calls.{small_device, accepted, judged, played, printed, book_after, runs_in, silent_ring};
+ghost use Rattle.pcm_rows.specs.Calls.{small_device, accepted, judged, played, printed, book_after, runs_in, ring_of_silence};
 ghost use Rattle.pcm_rows.specs.ClientFormats.{client_judged, client_lines};
 ghost use Rattle.pcm_rows.specs.ClientRates.{opening_text, opening_script, opening_bytes, step_doubled, tail_text, tail_script, tail_lines, tail_book, tail_over_book, tail_run, narrow_device, downmix_text, downmix_script, downmix_lines, wide_events, wide_book, filtered_device, filtered_text, filtered_script, filtered_lines, filtered_bytes, filtered_book, ahead_device, ahead_frame, ahead_script, ahead_book};
 
@@ -12,7 +12,7 @@ ghost use Rattle.pcm_rows.specs.ClientRates.{opening_text, opening_script, openi
 pub fn six_frames_for_each()
     ensures verdict { judged usual_device opening_text ≡ accepted opening_script }
     ensures named { client_judged "u8 1 8000" "80867a" "18" ≡ accepted opening_script }
-    ensures device { played usual_device opening_script ≡ silent_ring ++ opening_bytes }
+    ensures device { played usual_device opening_script ≡ ring_of_silence ++ opening_bytes }
     ensures lines { printed usual_device opening_script ≡ client_lines (codes "3") (codes "18") }
 {}
 
@@ -46,7 +46,7 @@ pub fn shortage_at_half_the_rate()
 /// -3, 1, 4 and 2.
 pub fn two_taps_at_half_the_rate()
     ensures verdict { judged filtered_device filtered_text ≡ accepted filtered_script }
-    ensures device { played filtered_device filtered_script ≡ silent_ring ++ filtered_bytes }
+    ensures device { played filtered_device filtered_script ≡ ring_of_silence ++ filtered_bytes }
     ensures lines { printed filtered_device filtered_script ≡ filtered_lines }
     ensures over { book_after filtered_device (take 4 filtered_script.events) ≡ filtered_book }
 {}

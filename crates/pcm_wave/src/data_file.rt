@@ -1,11 +1,11 @@
 //! Data files: waves that stay where they were read.
 
-ghost use Rattle.std.specs.Prelude.{◌≡◌, ◌<◌, ◌^◌, Err, IfErr, IfOk, Ok, length, string_bytes, ◌∷◌, [], ◌++◌, OnErr, OnOk};
+ghost use Rattle.std.specs.Prelude.{◌≡◌, ◌<◌, ◌^◌, Err, IfErr, IfOk, Ok, length, string_bytes};
 ghost use Rattle.pcm_wave.specs.DataFiles.{DataFileSeen, body_of};
 ghost use Rattle.pcm_wave.specs.Waves.{wave_of};
 
 use crate::{Wave, WaveFault, read_wave};
-use std::alloc::AllocError;
+use pcm_sequence::Sequence;
 use std::marker::Model;
 
 /// A wave under a name, with all its bytes as they were read.
@@ -65,43 +65,4 @@ impl DataFile {
 }
 
 /// A list of data files.
-#[derive(Debug, Drop)]
-pub struct DataFiles {
-    items: Vec<DataFile>,
-}
-
-impl Model for DataFiles {
-    ghost use Rattle.std.specs.Prelude.{List};
-    ghost use Rattle.pcm_wave.specs.DataFiles.{DataFileSeen};
-
-    ghost Value = { List DataFileSeen };
-
-    ghost view = { λ f. f.items.items };
-}
-
-impl DataFiles {
-    /// Takes the files of a vector over.
-    pub fn new(items: Vec<DataFile>) -> Self
-        ensures { result ≡ items.items }
-    {
-        DataFiles { items }
-    }
-
-    /// Puts a file behind the others. After a refusal of memory the list is as it was, and the file is dropped.
-    pub fn push(&mut self, file: DataFile) -> Result<(), AllocError>
-        ensures ok { OnOk result (self.new ≡ self.old ++ file ∷ []) }
-        ensures err { OnErr result (self.new ≡ self.old) }
-    {
-        match self.items.push(file) {
-            Ok(()) => Ok(()),
-            Err(_) => Err(AllocError),
-        }
-    }
-
-    /// Lends the files.
-    pub fn as_slice(&self) -> &[DataFile]
-        ensures { result.now ≡ self.now }
-    {
-        self.items.as_slice()
-    }
-}
+pub type DataFiles = Sequence<DataFile>;
