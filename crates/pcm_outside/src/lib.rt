@@ -16,5 +16,5 @@ pub use mem_sink::MemSink;
 pub use outside::{Files, ReadFault, Sink, WriteFault};
 pub use real_files::RealFiles;
 pub use real_sink::RealSink;
-pub use tally_forms::{TallyFiles, TallySink};
+pub use tally_forms::{ByteCount, TallyFiles, TallySink};
 pub use transfer::{read_front, write_whole};

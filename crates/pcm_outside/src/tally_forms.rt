@@ -8,18 +8,24 @@ ghost use Rattle.pcm_outside.specs.Tallies.{counting_files, counting_sink, taken
 use crate::outside::{Files, ReadFault, Sink, WriteFault};
 use std::alloc::Global;
 
-/// Files that count the bytes appended. Each name reads as a file of no bytes.
+/// How many bytes were taken, as files or as a sink.
 #[derive(Clone, Copy, Debug, PartialEq, Eq)]
-pub struct TallyFiles {
+pub struct ByteCount {
     total: u64,
 }
 
-impl TallyFiles {
+/// Files that count the bytes appended. Each name reads as a file of no bytes.
+pub type TallyFiles = ByteCount;
+
+/// A sink that counts the bytes put.
+pub type TallySink = ByteCount;
+
+impl ByteCount {
     /// No byte was taken so far.
-    pub fn new() -> TallyFiles
+    pub fn new() -> ByteCount
         ensures { result.total ≡ 0 }
     {
-        TallyFiles { total: 0 }
+        ByteCount { total: 0 }
     }
 
     /// How many bytes were taken. The greatest number of its type stands for it and all beyond.
@@ -28,9 +34,16 @@ impl TallyFiles {
     {
         self.total
     }
+
+    // Counts the bytes of a piece.
+    fn take(&mut self, piece: &[u8])
+        ensures { self.new.total ≡ taken_more self.old.total (length piece.now) }
+    {
+        self.total = self.total.saturating_add(piece.len() as u64);
+    }
 }
 
-impl Files for TallyFiles {
+impl Files for ByteCount {
     ghost seen = { λ files. counting_files };
 
     fn read(&mut self, alloc: Global, name: &str, most: usize) -> Result<Vec<u8>, ReadFault>
@@ -70,34 +83,12 @@ impl Files for TallyFiles {
         ensures whole { IsOk result }
         ensures counted { self.new.total ≡ taken_more self.old.total (length piece.now) }
     {
-        self.total = self.total.saturating_add(piece.len() as u64);
+        self.take(piece);
         Ok(())
     }
 }
 
-/// A sink that counts the bytes put.
-#[derive(Clone, Copy, Debug, PartialEq, Eq)]
-pub struct TallySink {
-    total: u64,
-}
-
-impl TallySink {
-    /// No byte was put so far.
-    pub fn new() -> TallySink
-        ensures { result.total ≡ 0 }
-    {
-        TallySink { total: 0 }
-    }
-
-    /// How many bytes were put. The greatest number of its type stands for it and all beyond.
-    pub fn total(&self) -> u64
-        ensures { result ≡ self.now.total }
-    {
-        self.total
-    }
-}
-
-impl Sink for TallySink {
+impl Sink for ByteCount {
     ghost seen = { λ sink. counting_sink };
 
     fn put(&mut self, piece: &[u8]) -> Result<(), WriteFault>
@@ -109,7 +100,7 @@ impl Sink for TallySink {
         ensures whole { IsOk result }
         ensures counted { self.new.total ≡ taken_more self.old.total (length piece.now) }
     {
-        self.total = self.total.saturating_add(piece.len() as u64);
+        self.take(piece);
         Ok(())
     }
 }

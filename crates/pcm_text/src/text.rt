@@ -5,7 +5,7 @@ ghost use Rattle.std.specs.Fmt.{decimal};
 ghost use Rattle.pcm_report.specs.Lines.{bytes_text};
 ghost use Rattle.pcm_script.specs.Lines.{pool_of};
 ghost use Rattle.pcm_script.specs.Names.{request_name, way_name};
-ghost use Rattle.pcm_text.specs.Texts.{AllFound, FindsBytes, argument_of, argument_words, arguments_for, command_for, event_line, settings_words, spaced, text_of};
+ghost use Rattle.pcm_text.specs.Texts.{AllFound, FindsBytes, argument_of, argument_words, arguments_for, command_for, settings_words, spaced, text_of};
 
 use crate::words::{push_bytes, push_number, push_word};
 use pcm_format::Settings;
@@ -25,25 +25,11 @@ pub fn script_text(
 {
     let mut text = Vec::new(alloc);
     for event in script.events.as_slice() {
-        push_line(&mut text, script, files, event)?;
+        text.extend_from_slice(command_for(event).name())?;
+        push_arguments(&mut text, script, files, event)?;
+        text.extend_from_slice(b"\n")?;
     }
     Ok(text)
-}
-
-// Writes the line of an event, and its end.
-fn push_line(
-    text: &mut Vec<u8>,
-    script: &Script,
-    files: &[DataFile],
-    event: &Event,
-) -> Result<(), AllocError>
-    requires found { FindsBytes (pool_of files.now script.now) event.now }
-    ensures { OnOk result (text.new.items
-        ≡ text.old.items ++ event_line (pool_of files.now script.now) event.now ++ 10 ∷ []) }
-{
-    text.extend_from_slice(command_for(event).name())?;
-    push_arguments(text, script, files, event)?;
-    text.extend_from_slice(b"\n")
 }
 
 // The command of an event.
