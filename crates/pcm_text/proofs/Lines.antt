@@ -1,5 +1,5 @@
 -- The line of an event is read as what it spells.
-use Rattle.std.proofs.Common.{◌≡◌, ℕ, zero, suc, ◌+◌, ◌^◌, ◌<◌, ◌≤◌, ◌==◌, true, not, List, [], ◌∷◌, length, take, drop, Some, None, Ok, refl, ap, ◌∙◌, arith, slice_get}
+use Rattle.std.proofs.Common.{IfSome, ◌≡◌, ℕ, zero, suc, ◌+◌, ◌^◌, ◌<◌, ◌≤◌, ◌==◌, true, not, List, [], ◌∷◌, length, take, drop, Some, None, Ok, refl, ap, ◌∙◌, arith, slice_get}
 use Rattle.std.proofs.lemmas.Bool.{and_parts, le-leb, ne_eqb}
 use Rattle.std.proofs.lemmas.List.{length-take}
 use Rattle.std.proofs.lemmas.Fmt.{decimal_nonempty}
@@ -206,7 +206,7 @@ no-format argument small = no-format-digits (decimal argument) (decimal_nonempty
     no-format-digits [] some all = absurd (omega arith)
     no-format-digits (b ∷ digits) some all =
         let low : b ≤ 57 = grind (arith, nat_tests, (and_parts (is_decimal_digit b) (list_all is_decimal_digit digits) all).0) in
-        rw (ne_eqb 117 b (omega arith), ne_eqb 115 b (omega arith)) refl
+        rw (ne_eqb 117 b (omega arith), ne_eqb 115 b (omega arith)) (refl {a = None})
 
 limited : (argument : ℕ) → argument < 2 ^ 32 → within 0 4294967295 argument ≡ Ok argument
 limited argument small = grind (arith, nat_tests)

@@ -1,5 +1,5 @@
 -- Numbers, bytes and names are one word each, and are read as what they spell.
-use Rattle.std.proofs.Common.{◌≡◌, ℕ, ◌+◌, ◌*◌, ◌/◌, ◌%◌, ◌^◌, ◌<◌, ◌≤◌, true, false, cond, nat_eq, List, [], ◌∷◌, ◌++◌, length, Ok, Err, refl, ap, ◌∙◌, arith, fold, codes, decimal, slice_index}
+use Rattle.std.proofs.Common.{◌≡◌, ℕ, ◌+◌, ◌*◌, ◌/◌, ◌%◌, ◌^◌, ◌<◌, ◌≤◌, true, false, cond, nat_eq, List, [], ◌∷◌, ◌++◌, length, Ok, Err, refl, ap, ◌∙◌, arith, codes, decimal, slice_index}
 use Rattle.std.specs.List.{list_all, starts_with}
 use Rattle.std.specs.Str.{bytes_eq}
 use Rattle.std.proofs.lemmas.Bool.{and_from, and_parts, le-leb}
@@ -12,7 +12,7 @@ use Rattle.pcm_report.specs.Lines.{bytes_text}
 use Rattle.pcm_desk.specs.declared.limits.TheConstants.{WRITE_BYTES}
 use Rattle.pcm_script.specs.declared.fault.ScriptKind.TheVariants.{Hex}
 use Rattle.pcm_script.specs.Commands.{bytes_in, short_bytes}
-use Rattle.pcm_script.specs.Numbers.{digit_of, digits_value, is_decimal_digit, number_in, number_within, within}
+use Rattle.pcm_script.specs.Numbers.{digit_of, digits_value, is_decimal_digit, number_in, number_within}
 use Rattle.pcm_text.specs.ReadBack.{is_plain}
 use Rattle.pcm_text.proofs.CutLines.{IsOneWord, list_all-both, list_all-weaker}
 

@@ -1,5 +1,5 @@
 -- What the text of a script is read back as: the same events, with the bytes of all writes one behind another.
-use Rattle.std.specs.Prelude.{◌≡◌, ℕ, ◌*◌, ◌^◌, ◌<◌, ◌≤◌, ◌==◌, Bool, true, not, ◌&&◌, List, [], ◌∷◌, length, position, Some, All, slice_get}
+use Rattle.std.specs.Prelude.{IfSome, ◌≡◌, ℕ, ◌*◌, ◌^◌, ◌<◌, ◌≤◌, ◌==◌, Bool, true, not, ◌&&◌, List, [], ◌∷◌, length, position, Some, All, slice_get}
 use Rattle.std.specs.List.{list_all}
 use Rattle.hex.specs.Hex.{IsBytes}
 use Rattle.pcm_oss.specs.declared.event.Event.{Event}
