@@ -15,11 +15,21 @@ use boxed::run_boxed;
 use explain::explain;
 use pcm_causes::FirstPut;
 use pcm_outside::{RealFiles, RealSink};
-use std::env;
 use std::io::{self, ErrorKind};
 use std::process::ExitCode;
+use std::{env, fs};
+
+// A file to read that has no bytes.
+const NOTHING: &str = "/dev/null";
 
 fn main(rt: HostRuntime) -> ExitCode {
+    // An output that is closed leaves its number to the next file that is opened. Three files that are only read take such numbers,
+    // so that what is printed fails and doesn't come into a file.
+    let held = [
+        fs::open(&rt, NOTHING),
+        fs::open(&rt, NOTHING),
+        fs::open(&rt, NOTHING),
+    ];
     let status = match words_after_name(&rt) {
         Ok(words) => run(&rt, &words),
         Err(fault) if fault.kind() == ErrorKind::OutOfMemory => {
@@ -29,6 +39,7 @@ fn main(rt: HostRuntime) -> ExitCode {
         // Words that aren't UTF-8 match no form, as an empty list matches none.
         Err(_) => run(&rt, &[]),
     };
+    drop(held);
     ExitCode::from(status)
 }
 

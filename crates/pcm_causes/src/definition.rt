@@ -7,9 +7,9 @@ use crate::lines::line_before;
 use pcm_config::{ConfigFault, ConfigKind, ConfigPlace, ConfigRefusal, config_of};
 use std::alloc::Global;
 
-// The bytes that are read for a search at most, less than a second. It reads the text again for each line behind the one
-// that it finds.
-pub(crate) const WORK: usize = 134217728;
+// The bytes that are read for a search at most. It reads the text again for each line behind the one that it finds, and a text of
+// many keys takes some 150 nanoseconds a byte: a second and a quarter.
+pub(crate) const WORK: usize = 8388608;
 
 /// Where the definition begins with which a configuration has a fault: the text before it is read, without that fault, and the
 /// text up to the end of any later line has it or isn't read. The definition of a filter has all of its keys.
