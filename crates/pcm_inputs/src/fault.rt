@@ -1,7 +1,7 @@
 //! Why a call is refused, and the line that is printed then.
 
 ghost use Rattle.std.specs.Prelude.{◌≡◌, IfOk, string_bytes};
-ghost use Rattle.pcm_verdict.specs.Faults.{bad_config_line, bad_script_line, bad_wave_line, cannot_read_line, fault_line, file_word, usage_line, wave_word};
+ghost use Rattle.pcm_verdict.specs.Faults.{bad_config_line, bad_script_line, bad_wave_line, cannot_read_line, fault_line, file_word, usage_line};
 ghost use Rattle.pcm_inputs.specs.Faults.{fault_seen, file_kind_seen};
 
 use pcm_config::ConfigRefusal;
@@ -39,23 +39,14 @@ impl FileKind {
         ensures { result.now ≡ file_word (file_kind_seen self) }
     {
         match self {
-            FileKind::NoWave(fault) => wave_word(fault),
+            FileKind::NoWave(WaveFault::NotRiff) => "notriff",
+            FileKind::NoWave(WaveFault::NoFormat) => "noformat",
+            FileKind::NoWave(WaveFault::NoData) => "nodata",
+            FileKind::NoWave(WaveFault::Unsupported) => "unsupported",
+            FileKind::NoWave(WaveFault::Truncated) => "truncated",
             FileKind::Long => "long",
             FileKind::Shape => "shape",
         }
-    }
-}
-
-// The word that names what is wrong with a wave.
-fn wave_word(fault: WaveFault) -> &'static str
-    ensures { result.now ≡ wave_word fault }
-{
-    match fault {
-        WaveFault::NotRiff => "notriff",
-        WaveFault::NoFormat => "noformat",
-        WaveFault::NoData => "nodata",
-        WaveFault::Unsupported => "unsupported",
-        WaveFault::Truncated => "truncated",
     }
 }
 

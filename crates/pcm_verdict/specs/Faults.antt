@@ -30,17 +30,13 @@ pub data Fault : Type 0 where
   -- the script's text is refused
   BadScript : Refusal → Fault
 
--- the word that names what is wrong with a wave
-abbrev pub wave_word : WaveFault → List ℕ
-wave_word NotRiff = codes "notriff"
-wave_word NoFormat = codes "noformat"
-wave_word NoData = codes "nodata"
-wave_word Unsupported = codes "unsupported"
-wave_word Truncated = codes "truncated"
-
 -- the word that names the kind of a file's fault
 abbrev pub file_word : FileKind → List ℕ
-file_word (NoWave fault) = wave_word fault
+file_word (NoWave NotRiff) = codes "notriff"
+file_word (NoWave NoFormat) = codes "noformat"
+file_word (NoWave NoData) = codes "nodata"
+file_word (NoWave Unsupported) = codes "unsupported"
+file_word (NoWave Truncated) = codes "truncated"
 file_word Long = codes "long"
 file_word Shape = codes "shape"
 
