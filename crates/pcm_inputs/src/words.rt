@@ -1,12 +1,12 @@
 //! What the words after the program's name ask for.
 
 ghost use Rattle.std.specs.Prelude.{◌≡◌, IfSome, map, option_map, string_bytes};
-ghost use Rattle.pcm_verdict.specs.Commands.{check_words, command_of, convert_words, name_in, rate_within, run_words, seed_within, soak_words, target_asked};
+ghost use Rattle.pcm_verdict.specs.Commands.{check_words, command_of, config_named, convert_words, name_in, rate_within, run_words, seed_within, soak_words, target_asked};
 ghost use Rattle.pcm_format.specs.Layouts.{layout_of};
 ghost use Rattle.pcm_wave.specs.Formats.{wave_format};
 ghost use Rattle.pcm_wave.specs.Headers.{IsWaveFormat};
 ghost use Rattle.pcm_feeder.specs.Limits.{IsRate};
-ghost use Rattle.pcm_inputs.specs.Commands.{AreLimits, command_seen};
+ghost use Rattle.pcm_inputs.specs.Commands.{AreLimits, command_seen, named};
 
 use pcm_format::{Format, Layout, RATE_LEAST, RATE_MOST, Settings};
 use pcm_script::decimal_in;
@@ -60,29 +60,17 @@ fn run_in(words: &[String]) -> Option<Command<'_>>
     ensures value { option_map command_seen result ≡ run_words (map string_bytes words.now) }
     ensures limits { IfSome result AreLimits }
 {
-    match words {
-        [s, o] => {
-            let script = name_in(s)?;
-            let out = name_in(o)?;
-            let config = None;
-            Some(Command::Run {
-                script,
-                out,
-                config,
-            })
-        }
-        [s, o, c] => {
-            let script = name_in(s)?;
-            let out = name_in(o)?;
-            let config = Some(name_in(c)?);
-            Some(Command::Run {
-                script,
-                out,
-                config,
-            })
-        }
-        _ => None,
-    }
+    let [s, o, rest @ ..] = words else {
+        return None;
+    };
+    let script = name_in(s)?;
+    let out = name_in(o)?;
+    let config = config_named(rest)?;
+    Some(Command::Run {
+        script,
+        out,
+        config,
+    })
 }
 
 // `check SCRIPT` and `check SCRIPT CONFIG`.
@@ -91,19 +79,12 @@ fn check_in(words: &[String]) -> Option<Command<'_>>
     ensures value { option_map command_seen result ≡ check_words (map string_bytes words.now) }
     ensures limits { IfSome result AreLimits }
 {
-    match words {
-        [s] => {
-            let script = name_in(s)?;
-            let config = None;
-            Some(Command::Check { script, config })
-        }
-        [s, c] => {
-            let script = name_in(s)?;
-            let config = Some(name_in(c)?);
-            Some(Command::Check { script, config })
-        }
-        _ => None,
-    }
+    let [s, rest @ ..] = words else {
+        return None;
+    };
+    let script = name_in(s)?;
+    let config = config_named(rest)?;
+    Some(Command::Check { script, config })
 }
 
 // `convert IN OUT RATE FORMAT CHANNELS`.
@@ -147,6 +128,17 @@ fn name_in(word: &str) -> Option<&str>
     ensures { option_map (λ name. name.now) result ≡ name_in word.now }
 {
     if word.is_empty() { None } else { Some(word) }
+}
+
+// The name of a configuration, which may be left out.
+fn config_named(words: &[String]) -> Option<Option<&str>>
+    ensures { option_map named result ≡ config_named (map string_bytes words.now) }
+{
+    match words {
+        [] => Some(None),
+        [c] => Some(Some(name_in(c)?)),
+        _ => None,
+    }
 }
 
 // The settings that a rate, a format and a number of channels ask for.

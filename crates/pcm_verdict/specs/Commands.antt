@@ -53,28 +53,29 @@ target_asked r f c = do
   layout ← layout_of channels
   Some (record { format = format; layout = layout; rate = rate })
 
+-- the name of a configuration, which may be left out
+abbrev pub config_named : List (List ℕ) → Option (Option (List ℕ))
+config_named [] = Some None
+config_named (c ∷ []) = do
+  config ← name_in c
+  Some (Some config)
+config_named words = None
+
 -- `run SCRIPT OUT` and `run SCRIPT OUT CONFIG`
 unfoldable pub run_words : List (List ℕ) → Option Command
-run_words (s ∷ o ∷ []) = do
+run_words (s ∷ o ∷ rest) = do
   script ← name_in s
   out ← name_in o
-  Some (RunScript script out None)
-run_words (s ∷ o ∷ c ∷ []) = do
-  script ← name_in s
-  out ← name_in o
-  config ← name_in c
-  Some (RunScript script out (Some config))
+  config ← config_named rest
+  Some (RunScript script out config)
 run_words words = None
 
 -- `check SCRIPT` and `check SCRIPT CONFIG`
 unfoldable pub check_words : List (List ℕ) → Option Command
-check_words (s ∷ []) = do
+check_words (s ∷ rest) = do
   script ← name_in s
-  Some (CheckScript script None)
-check_words (s ∷ c ∷ []) = do
-  script ← name_in s
-  config ← name_in c
-  Some (CheckScript script (Some config))
+  config ← config_named rest
+  Some (CheckScript script config)
 check_words words = None
 
 -- `convert IN OUT RATE FORMAT CHANNELS`
