@@ -1,13 +1,15 @@
 -- What a parent is to the rules.
-use Rattle.std.specs.Prelude.{◌≡◌, ℕ, ◌+◌, ◌^◌, ◌<◌, All, ℤ, List, [], length, IfOk, Option, Some, None, Result, Ok, Err, slice_set}
+use Rattle.std.specs.Prelude.{◌≡◌, ℕ, ◌+◌, ◌^◌, ◌<◌, ◌≤◌, All, ℤ, List, [], length, IfOk, Option, Some, None, Result, Ok, Err, slice_set}
 use Rattle.pcm_fixed.specs.Fixed.{fixed_items}
 use Rattle.pcm_format.specs.declared.settings.Settings.{Settings}
 use Rattle.pcm_format.specs.Frames.{Frame}
 use Rattle.pcm_oss.specs.declared.reply.Errno.{Errno}
 use Rattle.pcm_oss.specs.declared.reply.Errno.TheVariants.{Busy}
+use Rattle.pcm_feeder.specs.Limits.{IsRate}
 use Rattle.pcm_feeder.specs.Racks.{HaveKinds}
 use Rattle.pcm_chain.specs.Chains.{boxes_in}
 use Rattle.pcm_desk.specs.declared.device.Device.{Device}
+use Rattle.pcm_desk.specs.declared.limits.TheConstants.{RING_FRAMES, SLOTS}
 use Rattle.pcm_desk.specs.Device.{seen}
 use Rattle.pcm_desk.specs.declared.play_book.PlayBook.{PlayBook}
 use Rattle.pcm_desk.specs.declared.record_book.RecordBook.{RecordBook}
@@ -40,6 +42,13 @@ play_books parent = play_books_of (play_channels parent)
 
 abbrev pub record_books : {B : Type 0} → ParentOf B → List RecordBook
 record_books parent = record_books_of (record_channels parent)
+
+-- a device that a parent can be made for
+pub record HasLimits (device : Device) : Type 0 where
+  pub rate : IsRate device.settings.rate
+  pub ring : device.ring_frames ≤ RING_FRAMES
+  pub slots : device.play_slots ≤ SLOTS
+  pub recorders : device.record_slots ≤ SLOTS
 
 -- ---- what is repeated of all channels of a parent
 
@@ -101,14 +110,16 @@ abbrev pub slot_or_busy : Option ℕ → Result ℕ Errno
 slot_or_busy None = Err Busy
 slot_or_busy (Some slot) = Ok slot
 
--- the books once an opening began in that slot
-abbrev pub books_begun : Option ℕ → Settings → List PlayBook → List PlayBook
-books_begun None settings books = books
-books_begun (Some slot) settings books = slice_set books slot (play_begun settings)
+-- the books of a way once an opening began in that slot, whose book is this one
+abbrev pub books_begun : {Book : Type 0} → Option ℕ → Book → List Book → List Book
+books_begun None begun books = books
+books_begun (Some slot) begun books = slice_set books slot begun
 
-abbrev pub record_books_begun : Option ℕ → Settings → List RecordBook → List RecordBook
-record_books_begun None settings books = books
-record_books_begun (Some slot) settings books = slice_set books slot (record_begun settings)
+-- an open of a way with so many slots: the least free one of them begins, if there is one
+pub record Begins {Book : Type 0} (slots : ℕ) (least : Option ℕ) (begun : Book) (old new : List Book) (result : Result ℕ Errno) : Type 0 where
+  pub found : result ≡ slot_or_busy least
+  pub books : new ≡ books_begun least begun old
+  pub there : IfOk result (λ slot. slot < slots)
 
 -- all but the channels is as before: the device, its ring and its counts, and how many channels there are of each way
 pub record KeepsOutput {B : Type 0} (old new : ParentOf B) : Type 0 where
@@ -119,20 +130,16 @@ pub record KeepsOutput {B : Type 0} (old new : ParentOf B) : Type 0 where
   pub slots_same : length (play_channels new) ≡ length (play_channels old)
   pub recorders_same : length (record_channels new) ≡ length (record_channels old)
 
--- an open of a channel that plays: the least free slot begins, if there is one
+-- an open of a channel that plays
 pub record OpensPlay {B : Type 0} (kind : B → Kind) (kept : B → Kept) (filters : Filters) (settings : Settings) (old new : ParentOf B) (result : Result ℕ Errno) : Type 0 where
-  pub found : result ≡ slot_or_busy (least_free_play (play_books old))
-  pub books : play_books new ≡ books_begun (least_free_play (play_books old)) settings (play_books old)
-  pub there : IfOk result (λ slot. slot < length (play_channels old))
+  pub begins : Begins (length (play_channels old)) (least_free_play (play_books old)) (play_begun settings) (play_books old) (play_books new) result
   pub own : PlayAreOf new.device (play_channels new)
   pub moves : EachPlayMoves kind kept filters [] 0 old new
   pub others : new.recorders ≡ old.recorders
 
 -- an open of a channel that records
 pub record OpensRecord {B : Type 0} (kind : B → Kind) (kept : B → Kept) (filters : Filters) (settings : Settings) (old new : ParentOf B) (result : Result ℕ Errno) : Type 0 where
-  pub found : result ≡ slot_or_busy (least_free_record (record_books old))
-  pub books : record_books new ≡ record_books_begun (least_free_record (record_books old)) settings (record_books old)
-  pub there : IfOk result (λ slot. slot < length (record_channels old))
+  pub begins : Begins (length (record_channels old)) (least_free_record (record_books old)) (record_begun settings) (record_books old) (record_books new) result
   pub own : RecordAreOf new.device (record_channels new)
   pub moves : EachRecordMoves kind kept filters [] 0 old new
   pub others : new.channels ≡ old.channels

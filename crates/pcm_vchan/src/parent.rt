@@ -54,7 +54,7 @@ pub struct ParentOf<B> {
 
 impl<B: Feeder> ParentOf<B> {
     ghost use Rattle.pcm_oss.specs.declared.event.Way.TheVariants.{Play, Record};
-    ghost use Rattle.pcm_vchan.specs.Parents.{play_channels, record_channels, AreDue, ArePlayUnopened, AreRecordUnopened, AreServed, EachCaptures, EachMixes, EachPlayMoves, KeepsOutput, OpensPlay, OpensRecord, RingTurns};
+    ghost use Rattle.pcm_vchan.specs.Parents.{play_channels, record_channels, AreDue, ArePlayUnopened, AreRecordUnopened, AreServed, EachCaptures, EachMixes, EachPlayMoves, HasLimits, KeepsOutput, OpensPlay, OpensRecord, RingTurns};
     ghost use Rattle.pcm_vchan.specs.Lending.{LendsChannel, LendsRecorder};
 
     /// A device that nobody has opened, whose ring is full of silence. Each slot gets a rack: those that play the first
@@ -65,10 +65,7 @@ impl<B: Feeder> ParentOf<B> {
         tables: &Tables,
         racks: RacksOf<B>,
     ) -> Result<ParentOf<B>, AllocError>
-        requires device { IsRate device.settings.rate }
-        requires ring { device.ring_frames ≤ RING_FRAMES }
-        requires slots { device.play_slots ≤ SLOTS }
-        requires recorders { device.record_slots ≤ SLOTS }
+        requires limits { HasLimits device }
         requires kinds { AreRacks B.kind (list_of racks) }
         ensures device { IfOk result (λ made. made.device ≡ device) }
         ensures slots { IfOk result (λ made. length (play_channels made) ≡ device.play_slots) }

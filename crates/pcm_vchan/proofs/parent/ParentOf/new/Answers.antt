@@ -12,20 +12,20 @@ use Rattle.pcm_vchan.proofs.parent.ParentOf.new.Goals as goal
 
 pub overflow_mul-size : goal.overflow_mul-size
 overflow_mul-size g c =
-    let most = mul-le-mul_right c.frame_bytes.result c.requires.ring in
+    let most = mul-le-mul_right c.frame_bytes.result c.requires.limits.ring in
     let width = frame_bytes-most c.args.device.settings in
     let is = c.frame_bytes.ensures in
     record { fits = omega arith }
 
 pub free_channels-requires-clause-enough : goal.free_channels-requires-clause-enough
-free_channels-requires-clause-enough g c = omega (arith, c.in_ok-recording.ensures.len, c.requires.slots)
+free_channels-requires-clause-enough g c = omega (arith, c.in_ok-recording.ensures.len, c.requires.limits.slots)
 
 pub free_channels-requires-clause-kinds : goal.free_channels-requires-clause-kinds
 free_channels-requires-clause-kinds g c =
     subst (AreRacks g.B.Feeder.kind) (sym c.in_ok-recording.ensures.items) (All-take (IsRack g.B.Feeder.kind) 16 c.into_list-playing.result.items (c.into_list-playing.ensures.kinds c.requires.kinds))
 
 pub free_recorders-requires-clause-enough : goal.free_recorders-requires-clause-enough
-free_recorders-requires-clause-enough g c = omega (arith, c.in_ok-recording.ensures.tail_len, c.into_list-playing.ensures.count, c.requires.recorders)
+free_recorders-requires-clause-enough g c = omega (arith, c.in_ok-recording.ensures.tail_len, c.into_list-playing.ensures.count, c.requires.limits.recorders)
 
 pub free_recorders-requires-clause-kinds : goal.free_recorders-requires-clause-kinds
 free_recorders-requires-clause-kinds g c =
@@ -53,11 +53,11 @@ invariant_of-result g c =
     let width : device.ring_frames * c.channels.result ≡ device.ring_frames * channels_of device.settings.layout = ap (λ k. device.ring_frames * k) c.channels.ensures in
     let room = c.deref_mut.ensures.len ∙ c.in_ok-bytes.ensures.len ∙ size in
     record {
-      within = c.requires.ring;
+      within = c.requires.limits.ring;
       slots = c.new.ensures.len ∙ c.in_ok-channels.channels.ok.0 ∙ c.in_ok-channels.ensures.slots;
-      slots_within = c.requires.slots;
+      slots_within = c.requires.limits.slots;
       recorders_count = c.new-2.ensures.len ∙ c.in_ok-recorders.recorders.ok.0 ∙ c.in_ok-recorders.ensures.slots;
-      recorders_within = c.requires.recorders;
+      recorders_within = c.requires.limits.recorders;
       size = c.in_ok-ring.ensures.size ∙ room;
       full = c.in_ok-ring.ensures.full ∙ room;
       bytes_size = c.new-3.ensures.len ∙ c.in_ok-bytes.ensures.len ∙ size;
@@ -67,7 +67,7 @@ invariant_of-result g c =
 
 pub overflow_mul-samples : goal.overflow_mul-samples
 overflow_mul-samples g c =
-    let most = mul-le-mul_right c.channels.result c.requires.ring in
+    let most = mul-le-mul_right c.channels.result c.requires.limits.ring in
     let few = channels_of-most c.args.device.settings.layout in
     let is = c.channels.ensures in
     record { fits = omega arith }

@@ -3,6 +3,7 @@ use Rattle.std.proofs.lemmas.List.{map-set}
 use Rattle.pcm_fixed.proofs.Items.{items-count}
 use Rattle.pcm_play.specs.declared.channel.PlayChannelOf.{PlayChannelOf}
 use Rattle.pcm_play.specs.Channels.{PlayMoves}
+use Rattle.pcm_desk.specs.PlayBooks.{play_begun}
 use Rattle.pcm_vchan.specs.Slots.{play_books_of}
 use Rattle.pcm_vchan.specs.Parents.{play_channels, slot_or_busy, books_begun}
 use Rattle.pcm_vchan.proofs.Channels.{least_free_play-books, each_set, own_set}
@@ -32,9 +33,11 @@ returns-in_default-clause-opens g c =
     let old = c.args.self.now in
     let none = least_free_play-books (play_channels old) ∙ sym c.least_free_play.ensures.slot ∙ c.in_default.is in
     record {
-      found = sym (ap slot_or_busy none);
-      books = sym (ap (λ (found : Option ℕ). books_begun found c.args.settings (play_books_of (play_channels old))) none);
-      there = tt;
+      begins = record {
+        found = sym (ap slot_or_busy none);
+        books = sym (ap (λ (found : Option ℕ). books_begun found (play_begun c.args.settings) (play_books_of (play_channels old))) none);
+        there = tt;
+      };
       own = c.requires.own;
       moves = λ slot other there. moves-nothing g.B.Feeder.kind g.B.Feeder.kept c.args.tables.now [] 0 (get_or (play_channels old) slot other);
       others = refl;
@@ -47,11 +50,13 @@ returns-clause-opens g c =
     let within = c.in-Some.ensures.within in
     let there : c.in-Some.slot < length (play_channels old) = omega (arith, items-count old.channels) in
     record {
-      found = sym (ap slot_or_busy found);
-      books = map-set (λ (channel : PlayChannelOf _). channel.book) (play_channels old) c.in-Some.slot c.begin.new.self
-          ∙ ap (set (play_books_of (play_channels old)) c.in-Some.slot) c.begin.ensures.book
-          ∙ sym (ap (λ (found : Option ℕ). books_begun found c.args.settings (play_books_of (play_channels old))) found);
-      there = there;
+      begins = record {
+        found = sym (ap slot_or_busy found);
+        books = map-set (λ (channel : PlayChannelOf _). channel.book) (play_channels old) c.in-Some.slot c.begin.new.self
+            ∙ ap (set (play_books_of (play_channels old)) c.in-Some.slot) c.begin.ensures.book
+            ∙ sym (ap (λ (found : Option ℕ). books_begun found (play_begun c.args.settings) (play_books_of (play_channels old))) found);
+        there = there;
+      };
       own = own_set (λ (channel : PlayChannelOf _). channel.path.device) old.device (play_channels old) c.in-Some.slot c.index_mut.result.now c.begin.new.self there c.index_mut.ensures.value c.begin.ensures.device c.requires.own;
       moves = each_set (PlayMoves g.B.Feeder.kind g.B.Feeder.kept c.args.tables.now [] 0) (play_channels old) c.in-Some.slot c.index_mut.result.now c.begin.new.self there c.index_mut.ensures.value c.begin.ensures.moves
           (moves-nothing g.B.Feeder.kind g.B.Feeder.kept c.args.tables.now [] 0);

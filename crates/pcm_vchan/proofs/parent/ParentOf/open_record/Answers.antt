@@ -3,8 +3,9 @@ use Rattle.std.proofs.lemmas.List.{map-set}
 use Rattle.pcm_fixed.proofs.Items.{items-count}
 use Rattle.pcm_record.specs.declared.channel.RecordChannelOf.{RecordChannelOf}
 use Rattle.pcm_record.specs.Channels.{RecordMoves}
+use Rattle.pcm_desk.specs.RecordBooks.{record_begun}
 use Rattle.pcm_vchan.specs.Slots.{record_books_of}
-use Rattle.pcm_vchan.specs.Parents.{record_channels, slot_or_busy, record_books_begun}
+use Rattle.pcm_vchan.specs.Parents.{record_channels, slot_or_busy, books_begun}
 use Rattle.pcm_vchan.proofs.Channels.{least_free_play-records, each_set, own_set}
 use Rattle.pcm_record.proofs.Moving.{moves-nothing}
 use Rattle.pcm_vchan.proofs.parent.ParentOf.open_record.Goals as goal
@@ -32,9 +33,11 @@ returns-in_default-clause-opens g c =
     let old = c.args.self.now in
     let none = least_free_play-records (record_channels old) ∙ sym c.least_free_record.ensures.slot ∙ c.in_default.is in
     record {
-      found = sym (ap slot_or_busy none);
-      books = sym (ap (λ (found : Option ℕ). record_books_begun found c.args.settings (record_books_of (record_channels old))) none);
-      there = tt;
+      begins = record {
+        found = sym (ap slot_or_busy none);
+        books = sym (ap (λ (found : Option ℕ). books_begun found (record_begun c.args.settings) (record_books_of (record_channels old))) none);
+        there = tt;
+      };
       own = c.requires.own;
       moves = λ slot other there. moves-nothing g.B.Feeder.kind g.B.Feeder.kept c.args.tables.now [] 0 (get_or (record_channels old) slot other);
       others = refl;
@@ -47,11 +50,13 @@ returns-clause-opens g c =
     let within = c.in-Some.ensures.within in
     let there : c.in-Some.slot < length (record_channels old) = omega (arith, items-count old.recorders) in
     record {
-      found = sym (ap slot_or_busy found);
-      books = map-set (λ (channel : RecordChannelOf _). channel.book) (record_channels old) c.in-Some.slot c.begin.new.self
-          ∙ ap (set (record_books_of (record_channels old)) c.in-Some.slot) c.begin.ensures.book
-          ∙ sym (ap (λ (found : Option ℕ). record_books_begun found c.args.settings (record_books_of (record_channels old))) found);
-      there = there;
+      begins = record {
+        found = sym (ap slot_or_busy found);
+        books = map-set (λ (channel : RecordChannelOf _). channel.book) (record_channels old) c.in-Some.slot c.begin.new.self
+            ∙ ap (set (record_books_of (record_channels old)) c.in-Some.slot) c.begin.ensures.book
+            ∙ sym (ap (λ (found : Option ℕ). books_begun found (record_begun c.args.settings) (record_books_of (record_channels old))) found);
+        there = there;
+      };
       own = own_set (λ (channel : RecordChannelOf _). channel.path.device) old.device (record_channels old) c.in-Some.slot c.index_mut.result.now c.begin.new.self there c.index_mut.ensures.value c.begin.ensures.device c.requires.own;
       moves = each_set (RecordMoves g.B.Feeder.kind g.B.Feeder.kept c.args.tables.now [] 0) (record_channels old) c.in-Some.slot c.index_mut.result.now c.begin.new.self there c.index_mut.ensures.value c.begin.ensures.moves
           (moves-nothing g.B.Feeder.kind g.B.Feeder.kept c.args.tables.now [] 0);
