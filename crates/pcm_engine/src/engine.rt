@@ -8,10 +8,9 @@ ghost use Rattle.pcm_desk.specs.Events.{Fits, bytes_handed};
 ghost use Rattle.pcm_desk.specs.Device.{seen};
 ghost use Rattle.pcm_desk.specs.Own.{HoldApart};
 ghost use Rattle.pcm_vchan.specs.Parents.{play_channels, record_channels};
-ghost use Rattle.pcm_vchan.specs.Slots.{PlayAreOf};
+ghost use Rattle.pcm_vchan.specs.Slots.{PlayAreOf, RecordAreOf};
 ghost use Rattle.pcm_desk.proofs.Props.{hold_props};
 ghost use Rattle.pcm_engine.specs.Desks.{desk_with};
-ghost use Rattle.pcm_vchan.specs.Slots.{RecordAreOf};
 ghost use Rattle.pcm_oss.specs.declared.fragments.TheConstants.{RING_BYTES};
 ghost use Rattle.pcm_format.specs.Layouts.{channels_of};
 
