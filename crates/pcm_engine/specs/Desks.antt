@@ -70,6 +70,11 @@ Turns turn old new descriptors = (filters : Filters) → TurnsBy filters turn ol
 abbrev pub Replies : {B : Type 0} → (DeviceSeen → Desk → DeskTurn) → ParentOf B → Descriptors → Result Answer Errno → Type 0
 Replies turn parent descriptors result = (filters : Filters) → RepliesBy filters turn parent descriptors result
 
+-- a call takes a turn: the desk becomes that of the turn, and so is the reply
+pub record TakesTurn {B : Type 0} (turn : DeviceSeen → Desk → DeskTurn) (old new : ParentOf B) (descriptors : Descriptors) (result : Result Answer Errno) : Type 0 where
+  pub desk : Turns turn old new descriptors
+  pub reply : Replies turn old descriptors result
+
 -- a close shuts a descriptor, by whichever filters the channels are ready
 abbrev pub Closes : {B : Type 0} → (B → Kind) → (B → Kept) → ℕ → ParentOf B → Descriptors → ParentOf B → Descriptors → Type 0
 Closes kind kept fd old descriptors new shut = (filters : Filters) → All (IsPlayReady kind kept filters) (play_channels old)

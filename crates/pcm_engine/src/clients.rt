@@ -11,7 +11,7 @@ ghost use Rattle.pcm_desk.specs.Desk.{open_turn};
 ghost use Rattle.pcm_desk.specs.Own.{HoldApart};
 ghost use Rattle.pcm_vchan.specs.Slots.{PlayAreOf, RecordAreOf};
 ghost use Rattle.pcm_vchan.specs.Parents.{play_channels, record_channels, AreClosable, AreServed, EachPlayMoves, EachRecordMoves, KeepsOutput, TotalsFit};
-ghost use Rattle.pcm_engine.specs.Desks.{front_due, close_call, desk_with, ioctl_call, read_call, write_call, Closes, ClosesHeld, ReadsKept, Replies, RepliesBy, Turns, TurnsBy};
+ghost use Rattle.pcm_engine.specs.Desks.{front_due, close_call, desk_with, ioctl_call, read_call, write_call, Closes, ClosesHeld, ReadsKept, Replies, RepliesBy, TakesTurn, TurnsBy};
 
 use crate::descriptors::Descriptors;
 use pcm_desk::Held;
@@ -36,8 +36,7 @@ pub fn open<B: Feeder>(
     ensures own { PlayAreOf parent.new.device (play_channels parent.new) }
     ensures recorders_own { RecordAreOf parent.new.device (record_channels parent.new) }
     ensures output { KeepsOutput parent.old parent.new }
-    ensures refused { OnErr result (parent.new ≡ parent.old) }
-    ensures shut { OnErr result (descriptors.new ≡ descriptors.old) }
+    ensures refused { OnErr result ((parent.new ≡ parent.old) × (descriptors.new ≡ descriptors.old)) }
     ensures desk { desk_with parent.new descriptors.new.held
         ≡ (open_turn (desk_with parent.old descriptors.old.held) fd way settings).desk }
     ensures reply { result
@@ -67,8 +66,7 @@ pub fn write<B: Feeder>(
     ensures recorders { parent.new.recorders ≡ parent.old.recorders }
     ensures output { KeepsOutput parent.old parent.new }
     ensures refused { OnErr result (parent.new ≡ parent.old) }
-    ensures desk { Turns (write_call fd (length bytes.now)) parent.old parent.new descriptors.now }
-    ensures reply { Replies (write_call fd (length bytes.now)) parent.old descriptors.now result }
+    ensures turn { TakesTurn (write_call fd (length bytes.now)) parent.old parent.new descriptors.now result }
     ensures channels { (filters : Filters) → EachPlayMoves B.kind B.kept filters bytes.now 0 parent.old parent.new }
 {
     let slot = descriptors.playing(fd)?;
@@ -89,8 +87,7 @@ fn read<B: Feeder>(
     ensures channels { parent.new.channels ≡ parent.old.channels }
     ensures output { KeepsOutput parent.old parent.new }
     ensures refused { OnErr result (parent.new ≡ parent.old) }
-    ensures desk { Turns (read_call fd (length out.old)) parent.old parent.new descriptors.now }
-    ensures reply { Replies (read_call fd (length out.old)) parent.old descriptors.now result }
+    ensures turn { TakesTurn (read_call fd (length out.old)) parent.old parent.new descriptors.now result }
     ensures within { bytes_due result ≤ length out.old }
     ensures length { length out.new ≡ length out.old }
     ensures bytes { ReadsKept B.kept parent.old descriptors.now fd (length out.old) (front_due result out.new) }
@@ -116,8 +113,7 @@ pub fn answer_read<B: Feeder>(
     ensures channels { parent.new.channels ≡ parent.old.channels }
     ensures output { KeepsOutput parent.old parent.new }
     ensures refused { IsErr reply.new.result → parent.new ≡ parent.old }
-    ensures desk { Turns (read_call fd len) parent.old parent.new descriptors.now }
-    ensures reply { Replies (read_call fd len) parent.old descriptors.now reply.new.result }
+    ensures turn { TakesTurn (read_call fd len) parent.old parent.new descriptors.now reply.new.result }
     ensures bytes { ReadsKept B.kept parent.old descriptors.now fd len reply.new.bytes }
     ensures recorders { (filters : Filters) → EachRecordMoves B.kind B.kept filters [] 0 parent.old parent.new }
 {
@@ -169,8 +165,7 @@ pub fn close<B: Feeder>(
     ensures own { PlayAreOf parent.new.device (play_channels parent.new) }
     ensures recorders_own { RecordAreOf parent.new.device (record_channels parent.new) }
     ensures output { KeepsOutput parent.old parent.new }
-    ensures refused { OnErr result (parent.new ≡ parent.old) }
-    ensures shut { OnErr result (descriptors.new ≡ descriptors.old) }
+    ensures refused { OnErr result ((parent.new ≡ parent.old) × (descriptors.new ≡ descriptors.old)) }
     ensures desk { Closes B.kind B.kept fd parent.old descriptors.old parent.new descriptors.new }
     ensures reply { Replies (close_call fd) parent.old descriptors.old result }
     ensures channels { (filters : Filters) → EachPlayMoves B.kind B.kept filters [] 0 parent.old parent.new }

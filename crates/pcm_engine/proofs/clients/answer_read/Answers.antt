@@ -11,16 +11,16 @@ use Rattle.pcm_engine.proofs.clients.answer_read.Goals as goal
 there : (n : ℕ) → n ≤ 4096 → length {A = ℕ} (take n (replicate 4096 0)) ≡ n
 there n few = let zeros : List ℕ = replicate 4096 0 in omega (arith, length-take n zeros, length-replicate {A = ℕ} 4096 0)
 
-pub returns-clause-desk : goal.returns-clause-desk
-returns-clause-desk g c = λ filters.
+pub returns-clause-turn : goal.returns-clause-turn
+returns-clause-turn g c =
     let desk : Desk = desk_with c.args.parent.now c.args.descriptors.now.held in
-    c.read-answer.ensures.desk filters ∙ ap (λ (n : ℕ). (read_on (seen filters c.args.parent.now.device) (held_by desk c.args.fd) desk n).desk) (there c.args.len c.requires.few)
-
-pub returns-clause-reply : goal.returns-clause-reply
-returns-clause-reply g c = λ filters.
-    let desk : Desk = desk_with c.args.parent.now c.args.descriptors.now.held in
-    let device : DeviceSeen = seen filters c.args.parent.now.device in
-    ap (λ (r : Reply). r.result) c.keep.ensures ∙ c.read-answer.ensures.reply filters ∙ ap (λ (n : ℕ). (read_on device (held_by desk c.args.fd) desk n).reply) (there c.args.len c.requires.few)
+    let asked = there c.args.len c.requires.few in
+    record {
+      desk = λ filters. c.read-answer.ensures.turn.desk filters ∙ ap (λ (n : ℕ). (read_on (seen filters c.args.parent.now.device) (held_by desk c.args.fd) desk n).desk) asked;
+      reply = λ filters.
+          ap (λ (r : Reply). r.result) c.keep.ensures ∙ c.read-answer.ensures.turn.reply filters
+          ∙ ap (λ (n : ℕ). (read_on (seen filters c.args.parent.now.device) (held_by desk c.args.fd) desk n).reply) asked;
+    }
 
 pub returns-clause-bytes : goal.returns-clause-bytes
 returns-clause-bytes g c = λ filters bytes frames stand.

@@ -44,23 +44,20 @@ returns-clause-refused g c =
     (λ same. parent_same _ parent refl refl (item-kept parent.recorders held.slot c.read.new.self c.recorder.result.now (same ∙ c.recorder.ensures.value)) refl refl refl refl refl refl)
     c.read.ensures.refused
 
-pub returns-clause-desk : goal.returns-clause-desk
-returns-clause-desk g c = λ filters.
+pub returns-clause-turn : goal.returns-clause-turn
+returns-clause-turn g c =
     let parent = c.args.parent.now in
     let held = channel_of Record c.in_ok-slot.slot in
     let e = recording-is (held_by (desk_with parent c.args.descriptors.now.held) c.args.fd) c.in_ok-slot.slot (sym c.recording.ensures ∙ c.in_ok-slot.was) in
     let there = record-there parent c.args.descriptors.now.held c.args.fd held c.requires.apart e refl in
-    desk-recorded (seen filters parent.device) (read_turn (length c.args.out.now)) parent c.args.descriptors.now.held held.slot c.recorder.result.now c.read.new.self there c.recorder.ensures.value c.read.ensures.book
-    ∙ sym (ap (λ (t : DeskTurn). t.desk) (turning-held Record (λ slot. refusing (desk_with parent c.args.descriptors.now.held) Inval) (record_turn (seen filters parent.device) (read_turn (length c.args.out.now)) (desk_with parent c.args.descriptors.now.held)) (held_by (desk_with parent c.args.descriptors.now.held) c.args.fd) held (desk_with parent c.args.descriptors.now.held) e refl))
-
-pub returns-clause-reply : goal.returns-clause-reply
-returns-clause-reply g c = λ filters.
-    let parent = c.args.parent.now in
-    let held = channel_of Record c.in_ok-slot.slot in
-    let e = recording-is (held_by (desk_with parent c.args.descriptors.now.held) c.args.fd) c.in_ok-slot.slot (sym c.recording.ensures ∙ c.in_ok-slot.was) in
-    let there = record-there parent c.args.descriptors.now.held c.args.fd held c.requires.apart e refl in
-    reply-recorded (seen filters parent.device) (read_turn (length c.args.out.now)) parent c.args.descriptors.now.held held.slot c.recorder.result.now c.read.result there c.recorder.ensures.value c.read.ensures.reply
-    ∙ sym (ap (λ (t : DeskTurn). t.reply) (turning-held Record (λ slot. refusing (desk_with parent c.args.descriptors.now.held) Inval) (record_turn (seen filters parent.device) (read_turn (length c.args.out.now)) (desk_with parent c.args.descriptors.now.held)) (held_by (desk_with parent c.args.descriptors.now.held) c.args.fd) held (desk_with parent c.args.descriptors.now.held) e refl))
+    record {
+      desk = λ filters.
+          desk-recorded (seen filters parent.device) (read_turn (length c.args.out.now)) parent c.args.descriptors.now.held held.slot c.recorder.result.now c.read.new.self there c.recorder.ensures.value c.read.ensures.book
+          ∙ sym (ap (λ (t : DeskTurn). t.desk) (turning-held Record (λ slot. refusing (desk_with parent c.args.descriptors.now.held) Inval) (record_turn (seen filters parent.device) (read_turn (length c.args.out.now)) (desk_with parent c.args.descriptors.now.held)) (held_by (desk_with parent c.args.descriptors.now.held) c.args.fd) held (desk_with parent c.args.descriptors.now.held) e refl));
+      reply = λ filters.
+          reply-recorded (seen filters parent.device) (read_turn (length c.args.out.now)) parent c.args.descriptors.now.held held.slot c.recorder.result.now c.read.result there c.recorder.ensures.value c.read.ensures.reply
+          ∙ sym (ap (λ (t : DeskTurn). t.reply) (turning-held Record (λ slot. refusing (desk_with parent c.args.descriptors.now.held) Inval) (record_turn (seen filters parent.device) (read_turn (length c.args.out.now)) (desk_with parent c.args.descriptors.now.held)) (held_by (desk_with parent c.args.descriptors.now.held) c.args.fd) held (desk_with parent c.args.descriptors.now.held) e refl));
+    }
 
 pub returns-clause-recorders : goal.returns-clause-recorders
 returns-clause-recorders g c = λ filters.

@@ -57,23 +57,20 @@ returns-clause-refused g c =
     (λ same. parent_same _ parent refl (item-kept parent.channels held.slot c.write.new.self c.play.result.now (same ∙ c.play.ensures.value)) refl refl refl refl refl refl refl)
     c.write.ensures.refused
 
-pub returns-clause-desk : goal.returns-clause-desk
-returns-clause-desk g c = λ filters.
+pub returns-clause-turn : goal.returns-clause-turn
+returns-clause-turn g c =
     let parent = c.args.parent.now in
     let held = channel_of Play c.in_ok-slot.slot in
     let e = playing-is (held_by (desk_with parent c.args.descriptors.now.held) c.args.fd) c.in_ok-slot.slot (sym c.playing.ensures ∙ c.in_ok-slot.was) in
     let there = play-there parent c.args.descriptors.now.held c.args.fd held c.requires.apart e refl in
-    desk-played (seen filters parent.device) (write_turn (length c.args.bytes.now)) parent c.args.descriptors.now.held held.slot c.play.result.now c.write.new.self there c.play.ensures.value c.write.ensures.book
-    ∙ sym (ap (λ (t : DeskTurn). t.desk) (turning-held Play (play_turn (seen filters parent.device) (write_turn (length c.args.bytes.now)) (desk_with parent c.args.descriptors.now.held)) (λ slot. refusing (desk_with parent c.args.descriptors.now.held) Inval) (held_by (desk_with parent c.args.descriptors.now.held) c.args.fd) held (desk_with parent c.args.descriptors.now.held) e refl))
-
-pub returns-clause-reply : goal.returns-clause-reply
-returns-clause-reply g c = λ filters.
-    let parent = c.args.parent.now in
-    let held = channel_of Play c.in_ok-slot.slot in
-    let e = playing-is (held_by (desk_with parent c.args.descriptors.now.held) c.args.fd) c.in_ok-slot.slot (sym c.playing.ensures ∙ c.in_ok-slot.was) in
-    let there = play-there parent c.args.descriptors.now.held c.args.fd held c.requires.apart e refl in
-    reply-played (seen filters parent.device) (write_turn (length c.args.bytes.now)) parent c.args.descriptors.now.held held.slot c.play.result.now c.write.result there c.play.ensures.value c.write.ensures.reply
-    ∙ sym (ap (λ (t : DeskTurn). t.reply) (turning-held Play (play_turn (seen filters parent.device) (write_turn (length c.args.bytes.now)) (desk_with parent c.args.descriptors.now.held)) (λ slot. refusing (desk_with parent c.args.descriptors.now.held) Inval) (held_by (desk_with parent c.args.descriptors.now.held) c.args.fd) held (desk_with parent c.args.descriptors.now.held) e refl))
+    record {
+      desk = λ filters.
+          desk-played (seen filters parent.device) (write_turn (length c.args.bytes.now)) parent c.args.descriptors.now.held held.slot c.play.result.now c.write.new.self there c.play.ensures.value c.write.ensures.book
+          ∙ sym (ap (λ (t : DeskTurn). t.desk) (turning-held Play (play_turn (seen filters parent.device) (write_turn (length c.args.bytes.now)) (desk_with parent c.args.descriptors.now.held)) (λ slot. refusing (desk_with parent c.args.descriptors.now.held) Inval) (held_by (desk_with parent c.args.descriptors.now.held) c.args.fd) held (desk_with parent c.args.descriptors.now.held) e refl));
+      reply = λ filters.
+          reply-played (seen filters parent.device) (write_turn (length c.args.bytes.now)) parent c.args.descriptors.now.held held.slot c.play.result.now c.write.result there c.play.ensures.value c.write.ensures.reply
+          ∙ sym (ap (λ (t : DeskTurn). t.reply) (turning-held Play (play_turn (seen filters parent.device) (write_turn (length c.args.bytes.now)) (desk_with parent c.args.descriptors.now.held)) (λ slot. refusing (desk_with parent c.args.descriptors.now.held) Inval) (held_by (desk_with parent c.args.descriptors.now.held) c.args.fd) held (desk_with parent c.args.descriptors.now.held) e refl));
+    }
 
 pub returns-clause-channels : goal.returns-clause-channels
 returns-clause-channels g c = λ filters.

@@ -34,7 +34,7 @@ invariant_of-self-in-Write g c =
     let same = c.write.ensures.output.slots_same in
     let output = c.write.ensures.output in
     record {
-      apart = subst HoldApart (sym (c.write.ensures.desk old.tables)) (apart-after (device_of old) (desk_of old) (Write c.in-Write.fd c.in-Write.source c.in-Write.at (length c.bytes_at-bytes.result.now)) old.apart);
+      apart = subst HoldApart (sym (c.write.ensures.turn.desk old.tables)) (apart-after (device_of old) (desk_of old) (Write c.in-Write.fd c.in-Write.source c.in-Write.at (length c.bytes_at-bytes.result.now)) old.apart);
       own = c.write.ensures.own;
       counted = count-within (λ (c : PlayChannelOf _). c.book.done + c.book.written) RING_BYTES old.steps (play_channels old.parent) (play_channels new) same
           (λ slot other there. let more = (c.write.ensures.channels old.tables slot other there).grown in omega (arith, more)) old.counted;
@@ -149,12 +149,12 @@ returns-in-Intr-clause-desk g c =
 pub returns-in-Write-clause-desk : goal.returns-in-Write-clause-desk
 returns-in-Write-clause-desk g c =
     let old = c.args.self.now in
-    c.write.ensures.desk old.tables ∙ ap (λ (n : ℕ). (write_on (device_of old) (held_by (desk_of old) c.in-Write.fd) (desk_of old) n).desk) c.bytes_at-bytes.ensures.length ∙ sym (ap (λ (event : Event). (after (device_of old) (desk_of old) event).desk) c.in-Write.is)
+    c.write.ensures.turn.desk old.tables ∙ ap (λ (n : ℕ). (write_on (device_of old) (held_by (desk_of old) c.in-Write.fd) (desk_of old) n).desk) c.bytes_at-bytes.ensures.length ∙ sym (ap (λ (event : Event). (after (device_of old) (desk_of old) event).desk) c.in-Write.is)
 
 pub returns-in-Write-clause-reply : goal.returns-in-Write-clause-reply
 returns-in-Write-clause-reply g c =
     let old = c.args.self.now in
-    ap (λ (r : Reply). r.result) c.keep-in-Write.ensures ∙ c.write.ensures.reply old.tables ∙ ap (λ (n : ℕ). (write_on (device_of old) (held_by (desk_of old) c.in-Write.fd) (desk_of old) n).reply) c.bytes_at-bytes.ensures.length ∙ sym (ap (λ (event : Event). (after (device_of old) (desk_of old) event).reply) c.in-Write.is)
+    ap (λ (r : Reply). r.result) c.keep-in-Write.ensures ∙ c.write.ensures.turn.reply old.tables ∙ ap (λ (n : ℕ). (write_on (device_of old) (held_by (desk_of old) c.in-Write.fd) (desk_of old) n).reply) c.bytes_at-bytes.ensures.length ∙ sym (ap (λ (event : Event). (after (device_of old) (desk_of old) event).reply) c.in-Write.is)
 
 pub returns-in-Write-clause-recorders : goal.returns-in-Write-clause-recorders
 returns-in-Write-clause-recorders g c =
@@ -166,12 +166,12 @@ returns-in-Write-clause-recorders g c =
 pub returns-in-Read-clause-desk : goal.returns-in-Read-clause-desk
 returns-in-Read-clause-desk g c =
     let old = c.args.self.now in
-    c.answer_read.ensures.desk old.tables ∙ sym (ap (λ (event : Event). (after (device_of old) (desk_of old) event).desk) c.in-Read.is)
+    c.answer_read.ensures.turn.desk old.tables ∙ sym (ap (λ (event : Event). (after (device_of old) (desk_of old) event).desk) c.in-Read.is)
 
 pub returns-in-Read-clause-reply : goal.returns-in-Read-clause-reply
 returns-in-Read-clause-reply g c =
     let old = c.args.self.now in
-    c.answer_read.ensures.reply old.tables ∙ sym (ap (λ (event : Event). (after (device_of old) (desk_of old) event).reply) c.in-Read.is)
+    c.answer_read.ensures.turn.reply old.tables ∙ sym (ap (λ (event : Event). (after (device_of old) (desk_of old) event).reply) c.in-Read.is)
 
 pub returns-in-Read-clause-bytes : goal.returns-in-Read-clause-bytes
 returns-in-Read-clause-bytes g c = λ bytes frames stand.
@@ -284,7 +284,7 @@ invariant_of-self-in-Read g c =
     let output = c.answer_read.ensures.output in
     let stays = ap (λ (v : Fixed (PlayChannelOf _)). fixed_items v) c.answer_read.ensures.channels in
     record {
-      apart = subst HoldApart (sym (c.answer_read.ensures.desk old.tables)) (apart-after (device_of old) (desk_of old) (Read c.in-Read.fd c.in-Read.len) old.apart);
+      apart = subst HoldApart (sym (c.answer_read.ensures.turn.desk old.tables)) (apart-after (device_of old) (desk_of old) (Read c.in-Read.fd c.in-Read.len) old.apart);
       own = subst (λ (v : Fixed (PlayChannelOf _)). PlayAreOf new.device (fixed_items v)) (sym c.answer_read.ensures.channels) (subst (λ (d : Device). PlayAreOf d (play_channels old.parent)) (sym output.device_same) old.own);
       counted = count-stays (λ (c : PlayChannelOf _). c.book.done + c.book.written) RING_BYTES old.steps (play_channels old.parent) (play_channels new) stays old.counted;
       given = count-stays (λ (c : PlayChannelOf _). c.book.given) RING_FRAMES old.steps (play_channels old.parent) (play_channels new) stays old.given;
