@@ -97,9 +97,13 @@ pub record Appends (old new : FilesSeen) (piece : List ℕ) : Type 0 where
   pub grows : Grows old new piece
   pub write_faults : new.write_faults ≡ old.write_faults
 
--- an append of the piece failed, and a part of it was written
-pub record FailsToAppend (old new : FilesSeen) (piece : List ℕ) : Type 0 where
-  pub rose : Rose old.write_faults new.write_faults
+-- the write of a piece failed, by a count of faults, and a part of it was written
+pub record FailsPartway (before now : ℕ) (piece : List ℕ) (Writes : List ℕ → Type 0) : Type 0 where
+  pub rose : Rose before now
   pub part : List ℕ
   pub front : IsPrefixOf part piece
-  pub grows : Grows old new part
+  pub grows : Writes part
+
+-- an append of the piece failed, and a part of it was appended
+abbrev pub FailsToAppend : FilesSeen → FilesSeen → List ℕ → Type 0
+FailsToAppend old new piece = FailsPartway old.write_faults new.write_faults piece (Grows old new)

@@ -1,7 +1,6 @@
 -- What a contract sees of a `Sink`, and what a put may change of it.
 use Rattle.std.specs.Prelude.{◌≡◌, ℕ, ◌≤◌, Bool, IsTrue, List, ◌++◌}
-use Rattle.pcm_outside.specs.Counts.{Rose}
-use Rattle.pcm_outside.specs.Files.{IsPrefixOf}
+use Rattle.pcm_outside.specs.Files.{FailsPartway}
 
 -- What `tells` doesn't hold of has no bytes.
 pub record SinkSeen : Type 0 where
@@ -24,8 +23,5 @@ pub record Puts (old new : SinkSeen) (piece : List ℕ) : Type 0 where
   pub faults : new.faults ≡ old.faults
 
 -- a put of the piece failed, and a part of it was put
-pub record FailsToPut (old new : SinkSeen) (piece : List ℕ) : Type 0 where
-  pub rose : Rose old.faults new.faults
-  pub part : List ℕ
-  pub front : IsPrefixOf part piece
-  pub grows : PutsMore old new part
+abbrev pub FailsToPut : SinkSeen → SinkSeen → List ℕ → Type 0
+FailsToPut old new piece = FailsPartway old.faults new.faults piece (PutsMore old new)
