@@ -1,6 +1,7 @@
 pub mod Counts
 pub mod Files
 pub mod Sink
+pub mod Results
 pub mod Calls
 pub mod Folder
 pub mod Buffer

@@ -1,6 +1,6 @@
 //! A folder in memory whose listed calls fail.
 ghost use Rattle.std.specs.Prelude.{◌≡◌, ◌≢◌, take, IsTrue, IsErrOf, IfOk, OnOk, OnErr, Err, Some, None, is_err, option_copied};
-ghost use Rattle.pcm_outside.specs.Files.{OnlyReads, ReadsFile, FailsToRead, NoReadFails, OnlyWrites, Creates, FailsToCreate, OnlyAppends, Appends, FailsToAppend};
+ghost use Rattle.pcm_outside.specs.Results.{DoesAppend, DoesCreate, DoesRead};
 ghost use Rattle.pcm_outside.specs.Counts.{raised};
 ghost use Rattle.pcm_outside.specs.Calls.{with_listed};
 ghost use Rattle.pcm_outside.specs.Folder.{empty_folder, with_added, bytes_named, is_created, content_of, folder_seen, read_of, after_call, after_failed_read, is_other_created, create_fails, after_create, after_failed_create, append_fails, after_append, after_failed_append};
@@ -171,12 +171,7 @@ impl Files for MemFiles {
     ghost seen = { folder_seen };
 
     fn read(&mut self, alloc: Global, name: &str, most: usize) -> Result<Vec<u8>, ReadFault>
-        ensures only { OnlyReads (folder_seen self.old) (folder_seen self.new) }
-        ensures ok { IfOk result (λ v. ReadsFile (folder_seen self.old) name.now most v.items) }
-        ensures failed { IsErrOf result ReadFault.Failed
-            → FailsToRead (folder_seen self.old) (folder_seen self.new) name.now }
-        ensures kept { result ≢ Err ReadFault.Failed
-            → NoReadFails (folder_seen self.old) (folder_seen self.new) }
+        ensures does { DoesRead (folder_seen self.old) (folder_seen self.new) name.now most result }
 
         // It fails exactly at a listed call, and where the name isn't there.
         ensures gives { IfOk result (λ v. read_of self.old name.now most ≡ Some v.items) }
@@ -198,10 +193,7 @@ impl Files for MemFiles {
     }
 
     fn create(&mut self, name: &str) -> Result<(), WriteFault>
-        ensures only { OnlyWrites (folder_seen self.old) (folder_seen self.new) }
-        ensures ok { OnOk result (Creates (folder_seen self.old) (folder_seen self.new) name.now) }
-        ensures err { OnErr result
-            (FailsToCreate (folder_seen self.old) (folder_seen self.new) name.now) }
+        ensures does { DoesCreate (folder_seen self.old) (folder_seen self.new) name.now result }
 
         // It fails exactly at a listed call, at a name longer than the room, and after a different name.
         ensures fails { is_err result ≡ create_fails self.old name.now }
@@ -222,10 +214,7 @@ impl Files for MemFiles {
 
     fn append(&mut self, piece: &[u8]) -> Result<(), WriteFault>
         requires { IsTrue self.old.stands }
-        ensures only { OnlyAppends (folder_seen self.old) (folder_seen self.new) }
-        ensures ok { OnOk result (Appends (folder_seen self.old) (folder_seen self.new) piece.now) }
-        ensures err { OnErr result
-            (FailsToAppend (folder_seen self.old) (folder_seen self.new) piece.now) }
+        ensures does { DoesAppend (folder_seen self.old) (folder_seen self.new) piece.now result }
 
         // It fails exactly at a listed call, and where more than the room would be written.
         ensures fails { is_err result ≡ append_fails self.old piece.now }

@@ -1,6 +1,6 @@
 //! A sink in memory whose listed puts fail.
 ghost use Rattle.std.specs.Prelude.{◌≡◌, IfOk, OnOk, OnErr, is_err};
-ghost use Rattle.pcm_outside.specs.Sink.{OnlyPuts, Puts, FailsToPut};
+ghost use Rattle.pcm_outside.specs.Results.{DoesPut};
 ghost use Rattle.pcm_outside.specs.Calls.{with_listed};
 ghost use Rattle.pcm_outside.specs.Buffer.{empty_buffer, buffer_seen, put_fails, after_put, after_failed_put};
 
@@ -64,10 +64,7 @@ impl Sink for MemSink {
     ghost seen = { buffer_seen };
 
     fn put(&mut self, piece: &[u8]) -> Result<(), WriteFault>
-        ensures only { OnlyPuts (buffer_seen self.old) (buffer_seen self.new) }
-        ensures ok { OnOk result (Puts (buffer_seen self.old) (buffer_seen self.new) piece.now) }
-        ensures err { OnErr result
-            (FailsToPut (buffer_seen self.old) (buffer_seen self.new) piece.now) }
+        ensures does { DoesPut (buffer_seen self.old) (buffer_seen self.new) piece.now result }
 
         // It fails exactly at a listed call, and where more than the room would be put.
         ensures fails { is_err result ≡ put_fails self.old piece.now }

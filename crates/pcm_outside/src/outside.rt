@@ -1,7 +1,6 @@
 //! The two traits through which the core reaches the outside, and their faults.
-ghost use Rattle.std.specs.Prelude.{◌≢◌, IsTrue, IsErrOf, IfOk, OnOk, OnErr, Err};
-ghost use Rattle.pcm_outside.specs.Files.{OnlyReads, ReadsFile, FailsToRead, NoReadFails, OnlyWrites, Creates, FailsToCreate, OnlyAppends, Appends, FailsToAppend};
-ghost use Rattle.pcm_outside.specs.Sink.{OnlyPuts, Puts, FailsToPut};
+ghost use Rattle.std.specs.Prelude.{IsTrue};
+ghost use Rattle.pcm_outside.specs.Results.{DoesAppend, DoesCreate, DoesPut, DoesRead};
 
 use std::alloc::Global;
 
@@ -27,25 +26,16 @@ pub trait Files {
 
     /// Reads the first `most` bytes of a file, or all of them where there are fewer.
     fn read(&mut self, alloc: Global, name: &str, most: usize) -> Result<Vec<u8>, ReadFault>
-        ensures only { OnlyReads (seen self.old) (seen self.new) }
-        ensures ok { IfOk result (λ v. ReadsFile (seen self.old) name.now most v.items) }
-        ensures failed { IsErrOf result ReadFault.Failed
-            → FailsToRead (seen self.old) (seen self.new) name.now }
-        ensures kept { result ≢ Err ReadFault.Failed
-            → NoReadFails (seen self.old) (seen self.new) };
+        ensures { DoesRead (seen self.old) (seen self.new) name.now most result };
 
     /// Makes a file empty, as the one that is appended to.
     fn create(&mut self, name: &str) -> Result<(), WriteFault>
-        ensures only { OnlyWrites (seen self.old) (seen self.new) }
-        ensures ok { OnOk result (Creates (seen self.old) (seen self.new) name.now) }
-        ensures err { OnErr result (FailsToCreate (seen self.old) (seen self.new) name.now) };
+        ensures { DoesCreate (seen self.old) (seen self.new) name.now result };
 
     /// Appends a piece to the file that stands created.
     fn append(&mut self, piece: &[u8]) -> Result<(), WriteFault>
         requires { IsTrue (seen self.old).stands }
-        ensures only { OnlyAppends (seen self.old) (seen self.new) }
-        ensures ok { OnOk result (Appends (seen self.old) (seen self.new) piece.now) }
-        ensures err { OnErr result (FailsToAppend (seen self.old) (seen self.new) piece.now) };
+        ensures { DoesAppend (seen self.old) (seen self.new) piece.now result };
 }
 
 /// Where the lines of a run go.
@@ -57,7 +47,5 @@ pub trait Sink {
 
     /// Puts a piece behind all that was put before.
     fn put(&mut self, piece: &[u8]) -> Result<(), WriteFault>
-        ensures only { OnlyPuts (seen self.old) (seen self.new) }
-        ensures ok { OnOk result (Puts (seen self.old) (seen self.new) piece.now) }
-        ensures err { OnErr result (FailsToPut (seen self.old) (seen self.new) piece.now) };
+        ensures { DoesPut (seen self.old) (seen self.new) piece.now result };
 }

@@ -1,8 +1,6 @@
 //! The forms that only count: they take all bytes, keep none, and never fail.
-ghost use Rattle.std.specs.Prelude.{◌≡◌, ◌≢◌, [], Err, IfOk, IsErrOf, IsOk, IsTrue, OnErr, OnOk, length};
-ghost use Rattle.pcm_outside.specs.Files.{Appends, Creates, FailsToAppend, FailsToCreate, FailsToRead};
-ghost use Rattle.pcm_outside.specs.Files.{NoReadFails, OnlyAppends, OnlyReads, OnlyWrites, ReadsFile};
-ghost use Rattle.pcm_outside.specs.Sink.{FailsToPut, OnlyPuts, Puts};
+ghost use Rattle.std.specs.Prelude.{◌≡◌, [], IfOk, IsOk, IsTrue, length};
+ghost use Rattle.pcm_outside.specs.Results.{DoesAppend, DoesCreate, DoesPut, DoesRead};
 ghost use Rattle.pcm_outside.specs.Tallies.{counting_files, counting_sink, taken_more};
 
 use crate::outside::{Files, ReadFault, Sink, WriteFault};
@@ -47,11 +45,7 @@ impl Files for ByteCount {
     ghost seen = { λ files. counting_files };
 
     fn read(&mut self, alloc: Global, name: &str, most: usize) -> Result<Vec<u8>, ReadFault>
-        ensures only { OnlyReads counting_files counting_files }
-        ensures ok { IfOk result (λ bytes. ReadsFile counting_files name.now most bytes.items) }
-        ensures failed { IsErrOf result ReadFault.Failed
-            → FailsToRead counting_files counting_files name.now }
-        ensures kept { result ≢ Err ReadFault.Failed → NoReadFails counting_files counting_files }
+        ensures does { DoesRead counting_files counting_files name.now most result }
 
         // It gives no bytes, and nothing is counted.
         ensures whole { IsOk result }
@@ -62,9 +56,7 @@ impl Files for ByteCount {
     }
 
     fn create(&mut self, name: &str) -> Result<(), WriteFault>
-        ensures only { OnlyWrites counting_files counting_files }
-        ensures ok { OnOk result (Creates counting_files counting_files name.now) }
-        ensures err { OnErr result (FailsToCreate counting_files counting_files name.now) }
+        ensures does { DoesCreate counting_files counting_files name.now result }
 
         // The count goes on through any number of files.
         ensures whole { IsOk result }
@@ -75,9 +67,7 @@ impl Files for ByteCount {
 
     fn append(&mut self, piece: &[u8]) -> Result<(), WriteFault>
         requires { IsTrue counting_files.stands }
-        ensures only { OnlyAppends counting_files counting_files }
-        ensures ok { OnOk result (Appends counting_files counting_files piece.now) }
-        ensures err { OnErr result (FailsToAppend counting_files counting_files piece.now) }
+        ensures does { DoesAppend counting_files counting_files piece.now result }
 
         // The bytes are counted.
         ensures whole { IsOk result }
@@ -92,9 +82,7 @@ impl Sink for ByteCount {
     ghost seen = { λ sink. counting_sink };
 
     fn put(&mut self, piece: &[u8]) -> Result<(), WriteFault>
-        ensures only { OnlyPuts counting_sink counting_sink }
-        ensures ok { OnOk result (Puts counting_sink counting_sink piece.now) }
-        ensures err { OnErr result (FailsToPut counting_sink counting_sink piece.now) }
+        ensures does { DoesPut counting_sink counting_sink piece.now result }
 
         // The bytes are counted.
         ensures whole { IsOk result }

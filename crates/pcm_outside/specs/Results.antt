@@ -1,0 +1,33 @@
+-- What each call of the outside does, by its result.
+use Rattle.std.specs.Prelude.{◌≢◌, ℕ, List, Result, Err, IfOk, IsErrOf, OnErr, OnOk, Vec}
+use Rattle.std.specs.Global.{Global}
+use Rattle.pcm_outside.specs.declared.outside.ReadFault.{ReadFault}
+use Rattle.pcm_outside.specs.declared.outside.ReadFault.TheVariants.{Failed}
+use Rattle.pcm_outside.specs.declared.outside.WriteFault.{WriteFault}
+use Rattle.pcm_outside.specs.Files.{FilesSeen, Appends, Creates, FailsToAppend, FailsToCreate, FailsToRead, NoReadFails, OnlyAppends, OnlyReads, OnlyWrites, ReadsFile}
+use Rattle.pcm_outside.specs.Sink.{SinkSeen, FailsToPut, OnlyPuts, Puts}
+
+-- a read of the first bytes of a name, so many at most
+pub record DoesRead (old new : FilesSeen) (name : List ℕ) (most : ℕ) (result : Result (Vec ℕ Global) ReadFault) : Type 0 where
+  pub only : OnlyReads old new
+  pub ok : IfOk result (λ bytes. ReadsFile old name most bytes.items)
+  pub failed : IsErrOf result Failed → FailsToRead old new name
+  pub kept : result ≢ Err Failed → NoReadFails old new
+
+-- a create of a name
+pub record DoesCreate (old new : FilesSeen) (name : List ℕ) (result : Result (Unit {0}) WriteFault) : Type 0 where
+  pub only : OnlyWrites old new
+  pub ok : OnOk result (Creates old new name)
+  pub err : OnErr result (FailsToCreate old new name)
+
+-- an append of a piece
+pub record DoesAppend (old new : FilesSeen) (piece : List ℕ) (result : Result (Unit {0}) WriteFault) : Type 0 where
+  pub only : OnlyAppends old new
+  pub ok : OnOk result (Appends old new piece)
+  pub err : OnErr result (FailsToAppend old new piece)
+
+-- a put of a piece
+pub record DoesPut (old new : SinkSeen) (piece : List ℕ) (result : Result (Unit {0}) WriteFault) : Type 0 where
+  pub only : OnlyPuts old new
+  pub ok : OnOk result (Puts old new piece)
+  pub err : OnErr result (FailsToPut old new piece)
