@@ -12,9 +12,9 @@ use Rattle.pcm_verdict.specs.Verdict.{Accepted, Runs, Checks, Converts, Soaks, C
 use Rattle.pcm_inputs.specs.declared.ending.Ending.{Ending}
 use Rattle.pcm_inputs.specs.declared.ending.Ending.TheVariants.{Usage, CannotRead, BadConfig, BadScript, BadWave, CannotWrite, NoMemory}
 use Rattle.pcm_inputs.specs.Commands.{IsOf, MayRead}
-use Rattle.pcm_replay.specs.Endings.{Cuts, CutsLines, DoesCommand, EndsCall, EndsCommand, HasRun, InAccepted, InLine, IsCommandCut, TellsForms}
+use Rattle.pcm_replay.specs.Endings.{Cuts, CutsLines, DoesCommand, EndsCall, EndsCommand, HasRun, InAccepted, InLine, IsCommandCut}
 use Rattle.pcm_replay.specs.Calls.{Call}
-use Rattle.pcm_replay.specs.Outcomes.{InFaultLine, InForms, InOutput, IsCut, Spells, command_part, verdict_on}
+use Rattle.pcm_replay.specs.Outcomes.{InFaultLine, InForms, InOutput, IsCut, Spells, TellsForms, command_part, verdict_on}
 use Rattle.pcm_replay.specs.Cuts.{CutsCall}
 use Rattle.pcm_inputs.specs.Outside.{Outside, outside}
 use Rattle.pcm_inputs.specs.Parts.{conversion_part, inputs_part}
@@ -156,10 +156,10 @@ ends-call call spells NoMemory ends = record { spells = spells; lacks = ends }
 -- words that match no form
 pub ends-formless : (words : List (List ℕ)) (files : FilesSeen) (old new : SinkSeen) (ending : Ending) → command_of words ≡ None → TellsForms ending old new
     → EndsCall (record { words = words; before = outside files old; after = outside files new }) ending
-ends-formless words files old new Usage formless told = record { cause = formless; files = refl; line = told }
+ends-formless words files old new Usage formless told = record { cause = formless; files = refl; forms = told }
 ends-formless words files old new CannotRead formless told = absurd told
 ends-formless words files old new BadConfig formless told = absurd told
 ends-formless words files old new BadScript formless told = absurd told
 ends-formless words files old new BadWave formless told = absurd told
-ends-formless words files old new CannotWrite formless cut = InForms (record { cause = formless; files = refl; put = cut })
+ends-formless words files old new CannotWrite formless cut = InForms (record { cause = formless; files = refl; forms = cut })
 ends-formless words files old new NoMemory formless told = absurd told

@@ -36,7 +36,7 @@ no-file-call (SoakRun n) (Converts name conversion) before after quiet is cut = 
 pub only-put-fails : (call : Call) → IsCut call → FailsAtSink call
 only-put-fails call (InForms cut) quiet = record {
   files = subst (λ (files : FilesSeen). OnlyReads call.before.files files) (sym cut.files) (reads-nothing call.before.files);
-  put = cut.put.rose;
+  put = cut.forms.rose;
 }
 only-put-fails call (InFaultLine cut) quiet = record { files = cut.line.files; put = cut.line.put.rose }
 only-put-fails call (InOutput cut) quiet =

@@ -1,13 +1,12 @@
 -- What a call did, by its ending.
 use Rattle.std.specs.Prelude.{◌≡◌, ℕ, List, Option, Some, None, Ok}
-use Rattle.pcm_outside.specs.Sink.{SinkSeen, FailsToPut, Puts}
+use Rattle.pcm_outside.specs.Sink.{SinkSeen, FailsToPut}
 use Rattle.pcm_config.specs.Configs.{device_seen}
 use Rattle.pcm_desk.specs.Usual.{usual_device}
 use Rattle.pcm_soak.specs.Soak.{soak_script}
 use Rattle.pcm_feeder.specs.Kept.{Kept}
 use Rattle.pcm_engine.specs.declared.engine.EngineOf.{EngineOf}
 use Rattle.pcm_verdict.specs.Commands.{Command}
-use Rattle.pcm_verdict.specs.Faults.{usage_line}
 use Rattle.pcm_verdict.specs.Outputs.{inputs_pool, output_of}
 use Rattle.pcm_verdict.specs.Soaks.{soak_pool}
 use Rattle.pcm_verdict.specs.Verdict.{Accepted, Runs, Checks, Converts, Soaks, Inputs}
@@ -41,12 +40,6 @@ abbrev pub Cuts : Accepted → Outside → Outside → Ending → Type 0
 Cuts accepted before after CannotWrite = CutsCall accepted before after
 Cuts accepted before after NoMemory = after ≡ before
 Cuts accepted before after ending = ⊥
-
--- what became of the forms, as a call ends whose words match none
-abbrev pub TellsForms : Ending → SinkSeen → SinkSeen → Type 0
-TellsForms Usage old new = Puts old new usage_line
-TellsForms CannotWrite old new = FailsToPut old new usage_line
-TellsForms ending old new = ⊥
 
 -- what became of lines that were to be put, and nothing else was done
 abbrev pub CutsLines : List ℕ → SinkSeen → SinkSeen → Ending → Type 0

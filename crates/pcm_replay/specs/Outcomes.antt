@@ -2,7 +2,7 @@
 use Rattle.std.specs.Prelude.{◌≡◌, ◌≢◌, ◌⊎◌, ℕ, List, Some, None, IsTrue, Result, Ok, Err}
 use Rattle.pcm_outside.specs.Counts.{Rose}
 use Rattle.pcm_outside.specs.Files.{FilesSeen, OnlyReads}
-use Rattle.pcm_outside.specs.Sink.{FailsToPut, Puts}
+use Rattle.pcm_outside.specs.Sink.{SinkSeen, FailsToPut, Puts}
 use Rattle.pcm_verdict.specs.Commands.{Command, command_of}
 use Rattle.pcm_verdict.specs.Faults.{Fault, Usage, Missing, BadConfig, BadWave, BadScript, usage_line}
 use Rattle.pcm_verdict.specs.Verdict.{Accepted, command_judged, verdict}
@@ -46,11 +46,21 @@ pub record IsNamed (words : List (List ℕ)) (files : FilesSeen) (accepted : Acc
   pub is_of : IsOf spells.command accepted
   pub cause : IsTrue files.tells → verdict_on words files ≡ Ok accepted
 
--- 2: the words match no form: nothing was read, and all forms were put
-pub record RefusesWords (call : Call) : Type 0 where
+-- what became of the forms, as a call ends whose words match none
+abbrev pub TellsForms : Ending → SinkSeen → SinkSeen → Type 0
+TellsForms endings.Usage old new = Puts old new usage_line
+TellsForms endings.CannotWrite old new = FailsToPut old new usage_line
+TellsForms ending old new = ⊥
+
+-- the words match no form: nothing was read, and nothing was done but to the forms
+pub record IsFormless (ending : Ending) (call : Call) : Type 0 where
   pub cause : command_of call.words ≡ None
   pub files : call.after.files ≡ call.before.files
-  pub line : Puts call.before.sink call.after.sink usage_line
+  pub forms : TellsForms ending call.before.sink call.after.sink
+
+-- 2: the words match no form, and all forms were put
+abbrev pub RefusesWords : Call → Type 0
+RefusesWords call = IsFormless endings.Usage call
 
 -- 3: a file that the command may read could not be read
 pub record CannotReadOne (call : Call) : Type 0 where
@@ -72,10 +82,8 @@ abbrev pub RefusesWave : Call → Type 0
 RefusesWave call = RefusesFile endings.BadWave call
 
 -- 7: the put of the forms failed
-pub record CutsForms (call : Call) : Type 0 where
-  pub cause : command_of call.words ≡ None
-  pub files : call.after.files ≡ call.before.files
-  pub put : FailsToPut call.before.sink call.after.sink usage_line
+abbrev pub CutsForms : Call → Type 0
+CutsForms call = IsFormless endings.CannotWrite call
 
 -- 7: the put of another fault's line failed
 pub record CutsFaultLine (call : Call) : Type 0 where

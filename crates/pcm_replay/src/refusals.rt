@@ -1,6 +1,6 @@
 //! How a call ends whose words match no form: with the line of all forms.
 
-ghost use Rattle.pcm_replay.specs.Endings.{TellsForms};
+ghost use Rattle.pcm_replay.specs.Outcomes.{TellsForms};
 
 use pcm_inputs::{Ending, usage_line};
 use pcm_outside::{Sink, WriteFault};
