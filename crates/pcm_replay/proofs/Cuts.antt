@@ -134,25 +134,17 @@ cut_run-later name head playback before between after only (RunAtCreate cut) = R
 cut_run-later name head playback before between after only (RunInHeader cut) = RunInHeader (append_later (record { name = name; bytes = head }) before between after only cut)
 cut_run-later name head playback before between after only (RunInBytes cut) = RunInBytes (record {
   rose = rose_later _ _ _ only.files.write_faults cut.rose;
-  done = cut.done;
-  bytes = cut.bytes;
-  line = cut.line;
-  next = cut.next;
-  part = cut.part;
+  place = cut.place;
   front = cut.front;
-  file = has_written_later name (head ++ (bytes_until playback cut.done ++ cut.part)) before.files between.files after.files only.files cut.file;
-  put = subst (λ (sink : SinkSeen). Puts sink after.sink (lines_until playback cut.done)) only.sink cut.put;
+  file = has_written_later name (head ++ (bytes_until playback cut.place.done ++ cut.place.part)) before.files between.files after.files only.files cut.file;
+  put = subst (λ (sink : SinkSeen). Puts sink after.sink (lines_until playback cut.place.done)) only.sink cut.put;
 })
 cut_run-later name head playback before between after only (RunInLine cut) = RunInLine (record {
   rose = subst (λ (sink : SinkSeen). Rose sink.faults after.sink.faults) only.sink cut.rose;
-  done = cut.done;
-  bytes = cut.bytes;
-  line = cut.line;
-  next = cut.next;
-  part = cut.part;
+  place = cut.place;
   front = cut.front;
-  written = writes_file_later (Some (record { name = name; bytes = head ++ (bytes_until playback cut.done ++ cut.bytes) })) before between after.files only cut.written;
-  put = subst (λ (sink : SinkSeen). PutsMore sink after.sink (lines_until playback cut.done ++ cut.part)) only.sink cut.put;
+  written = writes_file_later (Some (record { name = name; bytes = head ++ (bytes_until playback cut.place.done ++ cut.place.bytes) })) before between after.files only cut.written;
+  put = subst (λ (sink : SinkSeen). PutsMore sink after.sink (lines_until playback cut.place.done ++ cut.place.part)) only.sink cut.put;
 })
 
 -- where a call was cut short that was accepted

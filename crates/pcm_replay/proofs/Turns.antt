@@ -90,11 +90,7 @@ cut-turn : (name head : List ℕ) (playback : Playback) (before between after : 
     → WritesFirst playback done (outside headed before.sink) between → OnlyAdds between after → IsNext playback done bytes line → CutsTurn bytes line between after → CutsRun name head playback before after
 cut-turn name head playback before between after created headed done bytes line h first only next (TurnInBytes failed same) = RunInBytes (record {
   rose = rose_later _ _ _ (first.appended.write_faults ∙ header-faults name head before created headed h) failed.rose;
-  done = done;
-  bytes = bytes;
-  line = line;
-  next = next;
-  part = failed.part;
+  place = record { done = done; bytes = bytes; line = line; next = next; part = failed.part };
   front = failed.front;
   file = behind-header name head (bytes_until playback done ++ failed.part) before created headed after.files h
       (grows-on headed between.files after.files (bytes_until playback done) failed.part first.only.files first.appended.grows failed.grows);
@@ -104,11 +100,7 @@ cut-turn name head playback before between after created headed done bytes line 
     let all = appends-on _ _ _ (bytes_until playback done) bytes first.only.files first.appended appended in
     RunInLine (record {
       rose = rose_later _ _ _ first.put.faults failed.rose;
-      done = done;
-      bytes = bytes;
-      line = line;
-      next = next;
-      part = failed.part;
+      place = record { done = done; bytes = bytes; line = line; next = next; part = failed.part };
       front = failed.front;
       written = record {
         file = behind-header name head (bytes_until playback done ++ bytes) before created headed after.files h all.grows;

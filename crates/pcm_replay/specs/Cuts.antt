@@ -10,30 +10,30 @@ use Rattle.pcm_replay.specs.Playback.{Playback, bytes_until, lines_until, playba
 use Rattle.pcm_replay.specs.Turns.{IsNext}
 use Rattle.pcm_replay.specs.Written.{CutAtAppend, CutAtCreate, CutsOutput, HasWritten, WritesWhole}
 
+-- where a run was cut short: behind so many events, in what the next one gives, of which a part was written
+pub record CutPlace (playback : Playback) : Type 0 where
+  pub done : ℕ
+  pub bytes : List ℕ
+  pub line : List ℕ
+  pub next : IsNext playback done bytes line
+  pub part : List ℕ
+
 -- Behind the header the file has the bytes of some events and a part of the next one's; the lines of these events were put,
 -- and nothing behind them.
 pub record CutInBytes (name head : List ℕ) (playback : Playback) (before after : Outside) : Type 0 where
   pub rose : Rose before.files.write_faults after.files.write_faults
-  pub done : ℕ
-  pub bytes : List ℕ
-  pub line : List ℕ
-  pub next : IsNext playback done bytes line
-  pub part : List ℕ
-  pub front : IsPrefixOf part bytes
-  pub file : HasWritten name (head ++ (bytes_until playback done ++ part)) before.files after.files
-  pub put : Puts before.sink after.sink (lines_until playback done)
+  pub place : CutPlace playback
+  pub front : IsPrefixOf place.part place.bytes
+  pub file : HasWritten name (head ++ (bytes_until playback place.done ++ place.part)) before.files after.files
+  pub put : Puts before.sink after.sink (lines_until playback place.done)
 
 -- The file has the next one's bytes too, whole, and a part of its line was put.
 pub record CutInLine (name head : List ℕ) (playback : Playback) (before after : Outside) : Type 0 where
   pub rose : Rose before.sink.faults after.sink.faults
-  pub done : ℕ
-  pub bytes : List ℕ
-  pub line : List ℕ
-  pub next : IsNext playback done bytes line
-  pub part : List ℕ
-  pub front : IsPrefixOf part line
-  pub written : WritesWhole (record { name = name; bytes = head ++ (bytes_until playback done ++ bytes) }) before.files after.files
-  pub put : PutsMore before.sink after.sink (lines_until playback done ++ part)
+  pub place : CutPlace playback
+  pub front : IsPrefixOf place.part place.line
+  pub written : WritesWhole (record { name = name; bytes = head ++ (bytes_until playback place.done ++ place.bytes) }) before.files after.files
+  pub put : PutsMore before.sink after.sink (lines_until playback place.done ++ place.part)
 
 -- Where a run was cut short, whose file has a name and a header: as the file was created, in the header, and with nothing put;
 -- or in what one of its events was to leave.
