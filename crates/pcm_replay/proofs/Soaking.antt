@@ -24,7 +24,7 @@ use Rattle.pcm_soak.proofs.Kept.{soak_script-counts, soak_script-fits}
 use Rattle.pcm_soak.specs.Tallies.{IsWithin, no_tally, tallied, tally_all, total}
 use Rattle.pcm_verdict.specs.Soaks.{soak_line, tally_line, tally_of}
 use Rattle.pcm_replay.specs.declared.soak.SoakOf.{SoakOf}
-use Rattle.pcm_replay.specs.Playing.{HasSoaked, ring_room}
+use Rattle.pcm_replay.specs.Playing.{CanRun, HasSoaked, ring_room}
 use Rattle.pcm_replay.proofs.Plays.{handed-within, length-push, length-replies, replies-more}
 
 -- ---- one event more in a tally
@@ -133,15 +133,19 @@ pub record IsSoak (n : ℕ) (script : Script) (files : List DataFileSeen) (event
   pub same : events ≡ script.events
 
 -- its events fit the device of a run without a configuration
-pub soak-fits : (n : ℕ) (script : Script) (files : List DataFileSeen) (events : List Event) → IsSoak n script files events → All (Fits usual_device (pool_of files script)) events
+soak-fits : (n : ℕ) (script : Script) (files : List DataFileSeen) (events : List Event) → IsSoak n script files events → All (Fits usual_device (pool_of files script)) events
 soak-fits n script files events is =
     subst (λ (list : List Event). All (Fits usual_device (pool_of files script)) list) (sym is.same)
     (subst (λ (list : List DataFileSeen). All (Fits usual_device (pool_of list script)) script.events) (sym is.none)
     (subst (λ (made : Script). All (Fits usual_device (pool_of [] made)) made.events) (sym is.made) (soak_script-fits n)))
 
 -- there are as many as there are to be
-pub soak-few : (n : ℕ) (script : Script) (files : List DataFileSeen) (events : List Event) → IsSoak n script files events → length events ≤ SOAK_EVENTS
+soak-few : (n : ℕ) (script : Script) (files : List DataFileSeen) (events : List Event) → IsSoak n script files events → length events ≤ SOAK_EVENTS
 soak-few n script files events is = omega (arith, ap (λ (list : List Event). length list) is.same, ap (λ (made : Script). length made.events) is.made, soak_script-counts n)
+
+-- that device can be stepped through them
+pub soak-runs : (n : ℕ) (script : Script) (files : List DataFileSeen) (events : List Event) → IsSoak n script files events → CanRun SOAK_EVENTS usual_device (pool_of files script) events
+soak-runs n script files events is = record { fits = soak-fits n script files events is; captures = tt; count = soak-few n script files events is }
 
 -- the line of what they came to
 pub soak-told : (n : ℕ) (script : Script) (files : List DataFileSeen) (events again : List Event) (tally : Tally) → IsSoak n script files events → again ≡ script.events

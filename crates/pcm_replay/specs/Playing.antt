@@ -1,10 +1,11 @@
 -- How far a run has come: what its engine stands for, and what it is to leave.
-use Rattle.std.specs.Prelude.{◌≡◌, ℕ, ◌*◌, ◌^◌, ◌≤◌, max, List, ◌++◌, length, take, fold, Some}
+use Rattle.std.specs.Prelude.{◌≡◌, ℕ, ◌*◌, ◌^◌, ◌≤◌, max, List, All, ◌++◌, length, take, fold, Some}
 use Rattle.pcm_fixed.specs.Fixed.{fixed_len}
 use Rattle.pcm_oss.specs.declared.event.Event.{Event}
 use Rattle.pcm_wave.specs.declared.pool.Pool.{Pool}
-use Rattle.pcm_desk.specs.Device.{DeviceSeen, device_frame_bytes, ring_frames}
-use Rattle.pcm_desk.specs.Events.{frames_taken}
+use Rattle.pcm_wave.specs.Pools.{IsCaptureIn}
+use Rattle.pcm_desk.specs.Device.{DeviceSeen, device_frame_bytes, device_settings, ring_frames}
+use Rattle.pcm_desk.specs.Events.{Fits, frames_taken}
 use Rattle.pcm_desk.specs.Usual.{usual_device}
 use Rattle.pcm_sound.specs.DeviceList.{device_text}
 use Rattle.pcm_feeder.specs.declared.kind.Kind.{Kind}
@@ -20,6 +21,12 @@ use Rattle.pcm_replay.specs.Playback.{Playback}
 use Rattle.pcm_replay.specs.declared.replay.ReplayOf.{ReplayOf}
 use Rattle.pcm_replay.specs.declared.soak.SoakOf.{SoakOf}
 use Rattle.pcm_replay.specs.declared.tally_line.TheConstants.{TALLY_BYTES}
+
+-- events that a device can be stepped through: at most so many, which fit it, with the frames that it captures in the pool
+pub record CanRun (most : ℕ) (device : DeviceSeen) (pool : Pool) (events : List Event) : Type 0 where
+  pub fits : All (Fits device pool) events
+  pub captures : IsCaptureIn (device_settings device).layout pool
+  pub count : length events ≤ most
 
 -- the bytes of the greatest interrupt: a device's whole ring
 abbrev pub ring_room : DeviceSeen → ℕ

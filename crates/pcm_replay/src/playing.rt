@@ -1,15 +1,12 @@
 //! A script is played into a file and a sink, event by event. No event takes memory.
 
-ghost use Rattle.std.specs.Prelude.{◌≡◌, ◌≤◌, All, IsTrue, OnErr, OnOk, length};
-ghost use Rattle.pcm_wave.specs.Pools.{IsCaptureIn};
+ghost use Rattle.std.specs.Prelude.{◌≡◌, IsTrue, OnErr, OnOk, length};
 ghost use Rattle.pcm_desk.specs.declared.limits.TheConstants.{EVENTS};
-ghost use Rattle.pcm_desk.specs.Events.{Fits};
-ghost use Rattle.pcm_desk.specs.Device.{device_settings};
 ghost use Rattle.pcm_engine.specs.Engines.{device_of};
 ghost use Rattle.pcm_replay.specs.Cuts.{CutsRun};
 ghost use Rattle.pcm_inputs.specs.Outside.{both, ◌over◌};
 ghost use Rattle.pcm_replay.specs.Playback.{playback};
-ghost use Rattle.pcm_replay.specs.Playing.{HasPlayed, output_played};
+ghost use Rattle.pcm_replay.specs.Playing.{CanRun, HasPlayed, output_played};
 ghost use Rattle.pcm_replay.specs.Turns.{CutsEvents, WritesFirst};
 ghost use Rattle.pcm_replay.specs.Written.{WritesAll};
 
@@ -30,9 +27,7 @@ pub fn play_into<B: Feeder, F: Files, K: Sink>(
     name: &str,
     head: &[u8],
 ) -> Result<(), WriteFault>
-    requires fits { All (Fits (device_of replay.old.engine) pool.now) events.now }
-    requires captures { IsCaptureIn (device_settings (device_of replay.old.engine)).layout pool.now }
-    requires count { length events.now ≤ EVENTS }
+    requires events { CanRun EVENTS (device_of replay.old.engine) pool.now events.now }
     requires played { HasPlayed B.kind B.kept replay.old pool.now events.now 0 }
     ensures played { OnOk result (HasPlayed B.kind B.kept replay.new pool.now events.now (length events.now)) }
     ensures device { OnOk result (device_of replay.new.engine ≡ device_of replay.old.engine) }
@@ -60,9 +55,7 @@ fn play<B: Feeder, F: Files, K: Sink>(
     out: &mut K,
 ) -> Result<(), WriteFault>
     requires created { IsTrue (F.seen files.old).stands }
-    requires fits { All (Fits (device_of replay.old.engine) pool.now) events.now }
-    requires captures { IsCaptureIn (device_settings (device_of replay.old.engine)).layout pool.now }
-    requires count { length events.now ≤ EVENTS }
+    requires events { CanRun EVENTS (device_of replay.old.engine) pool.now events.now }
     requires played { HasPlayed B.kind B.kept replay.old pool.now events.now 0 }
     ensures played { OnOk result (HasPlayed B.kind B.kept replay.new pool.now events.now (length events.now)) }
     ensures device { OnOk result (device_of replay.new.engine ≡ device_of replay.old.engine) }

@@ -1,16 +1,14 @@
 //! The engine of a run, with the room for what one event gives.
 
-ghost use Rattle.std.specs.Prelude.{◌≡◌, ◌+◌, ◌<◌, ◌≤◌, All, IfOk, IsTrue, OnErr, OnOk, length, take};
+ghost use Rattle.std.specs.Prelude.{◌≡◌, ◌+◌, ◌<◌, ◌≤◌, IfOk, IsTrue, OnErr, OnOk, length, take};
 ghost use Rattle.pcm_fixed.specs.Fixed.{fixed_items, fixed_len};
 ghost use Rattle.pcm_wave.specs.declared.pool.Pool.{Pool};
-ghost use Rattle.pcm_wave.specs.Pools.{IsCaptureIn};
 ghost use Rattle.pcm_desk.specs.declared.limits.TheConstants.{EVENTS};
-ghost use Rattle.pcm_desk.specs.Events.{Fits};
-ghost use Rattle.pcm_desk.specs.Device.{IsInLimits, device_settings, seen};
+ghost use Rattle.pcm_desk.specs.Device.{IsInLimits, seen};
 ghost use Rattle.pcm_feeder.specs.Racks.{AreRacks, list_of};
 ghost use Rattle.pcm_engine.specs.Engines.{device_of};
 ghost use Rattle.pcm_replay.specs.Playback.{playback};
-ghost use Rattle.pcm_replay.specs.Playing.{HasPlayed, greatest_taken};
+ghost use Rattle.pcm_replay.specs.Playing.{CanRun, HasPlayed, greatest_taken};
 ghost use Rattle.pcm_inputs.specs.Outside.{both, ◌over◌};
 ghost use Rattle.pcm_replay.specs.Turns.{CutsNext, IsNext, OnlyAdds, WritesNext};
 
@@ -75,9 +73,7 @@ impl<B: Feeder> ReplayOf<B> {
     ) -> Result<(), WriteFault>
         requires created { IsTrue (F.seen files.old).stands }
         requires there { at < length events.now }
-        requires fits { All (Fits (device_of self.old.engine) pool.now) events.now }
-        requires captures { IsCaptureIn (device_settings (device_of self.old.engine)).layout pool.now }
-        requires count { length events.now ≤ EVENTS }
+        requires events { CanRun EVENTS (device_of self.old.engine) pool.now events.now }
         requires played { HasPlayed B.kind B.kept self.old pool.now events.now at }
         ensures played { HasPlayed B.kind B.kept self.new pool.now events.now (at + 1) }
         ensures device { device_of self.new.engine ≡ device_of self.old.engine }
@@ -94,9 +90,7 @@ impl<B: Feeder> ReplayOf<B> {
     // Steps the engine through one event. What it gives stands at the front of the rooms.
     fn step_at(&mut self, events: &[Event], pool: &Pool, at: usize) -> Filled
         requires there { at < length events.now }
-        requires fits { All (Fits (device_of self.old.engine) pool.now) events.now }
-        requires captures { IsCaptureIn (device_settings (device_of self.old.engine)).layout pool.now }
-        requires count { length events.now ≤ EVENTS }
+        requires events { CanRun EVENTS (device_of self.old.engine) pool.now events.now }
         requires played { HasPlayed B.kind B.kept self.old pool.now events.now at }
         ensures played { HasPlayed B.kind B.kept self.new pool.now events.now (at + 1) }
         ensures device { device_of self.new.engine ≡ device_of self.old.engine }

@@ -1,17 +1,14 @@
 //! The run of a script that a number makes: what it comes to is added up, and told in one line.
 
-ghost use Rattle.std.specs.Prelude.{◌+◌, ◌<◌, ◌≤◌, [], All, IfErr, IfOk, OnErr, OnOk, length, take};
+ghost use Rattle.std.specs.Prelude.{◌+◌, ◌<◌, [], IfErr, IfOk, OnErr, OnOk, length, take};
 ghost use Rattle.pcm_outside.specs.Sink.{FailsToPut, Puts};
 ghost use Rattle.pcm_wave.specs.declared.pool.Pool.{Pool};
-ghost use Rattle.pcm_wave.specs.Pools.{IsCaptureIn};
-ghost use Rattle.pcm_desk.specs.Device.{device_settings};
-ghost use Rattle.pcm_desk.specs.Events.{Fits};
 ghost use Rattle.pcm_desk.specs.Usual.{usual_device};
 ghost use Rattle.pcm_feeder.specs.Racks.{AreRacks, list_of};
 ghost use Rattle.pcm_soak.specs.declared.limits.TheConstants.{SOAK_EVENTS};
 ghost use Rattle.pcm_verdict.specs.Soaks.{soak_line};
 ghost use Rattle.pcm_replay.specs.Endings.{CutsLines, RanSoak};
-ghost use Rattle.pcm_replay.specs.Playing.{HasSoaked, line_of};
+ghost use Rattle.pcm_replay.specs.Playing.{CanRun, HasSoaked, line_of};
 
 use crate::tally_line::{TALLY_BYTES, write_tally};
 use pcm_config::default_config;
@@ -58,9 +55,7 @@ impl<B: Feeder> SoakOf<B> {
     // Steps the engine through one event, and counts what it came to.
     fn step_at(&mut self, events: &[Event], pool: &Pool, at: usize)
         requires there { at < length events.now }
-        requires fits { All (Fits usual_device pool.now) events.now }
-        requires captures { IsCaptureIn (device_settings usual_device).layout pool.now }
-        requires count { length events.now ≤ SOAK_EVENTS }
+        requires events { CanRun SOAK_EVENTS usual_device pool.now events.now }
         requires soaked { HasSoaked B.kind B.kept self.old pool.now (take at events.now) }
         ensures soaked { HasSoaked B.kind B.kept self.new pool.now (take (at + 1) events.now) }
     {
@@ -115,9 +110,7 @@ fn tell_soak<B: Feeder, K: Sink>(
     frames: u32,
     out: &mut K,
 ) -> Result<(), WriteFault>
-    requires fits { All (Fits usual_device pool.now) events.now }
-    requires captures { IsCaptureIn (device_settings usual_device).layout pool.now }
-    requires count { length events.now ≤ SOAK_EVENTS }
+    requires events { CanRun SOAK_EVENTS usual_device pool.now events.now }
     requires soaked { HasSoaked B.kind B.kept soak.old pool.now [] }
     ensures soaked { HasSoaked B.kind B.kept soak.new pool.now events.now }
     ensures ok { OnOk result (Puts (K.seen out.old) (K.seen out.new) (line_of frames pool.now events.now)) }
@@ -135,9 +128,7 @@ fn tell_soak<B: Feeder, K: Sink>(
 
 // Runs all events on the device of a run without a configuration.
 fn soak_through<B: Feeder>(soak: &mut SoakOf<B>, events: &[Event], pool: &Pool)
-    requires fits { All (Fits usual_device pool.now) events.now }
-    requires captures { IsCaptureIn (device_settings usual_device).layout pool.now }
-    requires count { length events.now ≤ SOAK_EVENTS }
+    requires events { CanRun SOAK_EVENTS usual_device pool.now events.now }
     requires soaked { HasSoaked B.kind B.kept soak.old pool.now [] }
     ensures { HasSoaked B.kind B.kept soak.new pool.now events.now }
 {

@@ -1,11 +1,10 @@
-use Rattle.std.proofs.Common.{◌≡◌, ℕ, All, length, refl, sym, ◌∙◌, subst, arith}
-use Rattle.pcm_wave.specs.Pools.{IsCaptureIn}
-use Rattle.pcm_desk.specs.Device.{DeviceSeen, device_settings}
-use Rattle.pcm_desk.specs.Events.{Fits}
+use Rattle.std.proofs.Common.{◌≡◌, ℕ, length, refl, sym, ◌∙◌, subst, arith}
+use Rattle.pcm_desk.specs.declared.limits.TheConstants.{EVENTS}
+use Rattle.pcm_desk.specs.Device.{DeviceSeen}
 use Rattle.pcm_engine.specs.Engines.{device_of}
 use Rattle.pcm_inputs.specs.Outside.{outside}
 use Rattle.pcm_replay.specs.Playback.{playback}
-use Rattle.pcm_replay.specs.Playing.{HasPlayed}
+use Rattle.pcm_replay.specs.Playing.{CanRun, HasPlayed}
 use Rattle.pcm_replay.specs.Turns.{CutsNext, WritesFirst, WritesNext}
 use Rattle.pcm_replay.proofs.Turns.{first-more, first-none}
 use Rattle.pcm_replay.proofs.playing.play.Goals as goal
@@ -20,14 +19,10 @@ loop-at-init g c = record {
 pub play_at-requires-clause-created : goal.play_at-requires-clause-created
 play_at-requires-clause-created g c = c.loop-at.invariant.first.only.files.stands
 
--- the device of the engine is the one that the events fit
-pub play_at-requires-clause-fits : goal.play_at-requires-clause-fits
-play_at-requires-clause-fits g c =
-    subst (λ (device : DeviceSeen). All (Fits device c.args.pool.now) c.args.events.now) (sym c.loop-at.invariant.device_is) c.requires.fits
-
-pub play_at-requires-clause-captures : goal.play_at-requires-clause-captures
-play_at-requires-clause-captures g c =
-    subst (λ (device : DeviceSeen). IsCaptureIn (device_settings device).layout c.args.pool.now) (sym c.loop-at.invariant.device_is) c.requires.captures
+-- the device of the engine is the one that can be stepped through the events
+pub play_at-requires-clause-events : goal.play_at-requires-clause-events
+play_at-requires-clause-events g c =
+    subst (λ (device : DeviceSeen). CanRun EVENTS device c.args.pool.now c.args.events.now) (sym c.loop-at.invariant.device_is) c.requires.events
 
 pub play_at-requires-clause-played : goal.play_at-requires-clause-played
 play_at-requires-clause-played g c = c.loop-at.invariant.played

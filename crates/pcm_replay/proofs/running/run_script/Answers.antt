@@ -1,8 +1,8 @@
-use Rattle.std.proofs.Common.{List, All, sym, ◌∙◌, subst}
+use Rattle.std.proofs.Common.{List, sym, ◌∙◌, subst}
 use Rattle.pcm_oss.specs.declared.event.Event.{Event}
 use Rattle.pcm_wave.specs.declared.pool.Pool.{Pool}
+use Rattle.pcm_desk.specs.declared.limits.TheConstants.{EVENTS}
 use Rattle.pcm_desk.specs.Device.{DeviceSeen}
-use Rattle.pcm_desk.specs.Events.{Fits}
 use Rattle.pcm_config.specs.Configs.{device_seen}
 use Rattle.pcm_script.proofs.Fitting.{AllFit-captured}
 use Rattle.pcm_verdict.specs.Captures.{capture_place}
@@ -12,21 +12,25 @@ use Rattle.pcm_replay.specs.Cuts.{CutsRun}
 use Rattle.pcm_inputs.specs.Outside.{outside}
 use Rattle.pcm_inputs.specs.Parts.{inputs_seen}
 use Rattle.pcm_replay.specs.Playback.{playback}
-use Rattle.pcm_replay.specs.Playing.{output_played}
+use Rattle.pcm_replay.specs.Playing.{CanRun, output_played}
 use Rattle.pcm_replay.specs.Written.{WritesAll}
 use Rattle.pcm_replay.proofs.Turns.{playback-same, run-same}
 use Rattle.pcm_replay.proofs.running.run_script.Goals as goal
 
--- the events fit the engine's device, and name bytes that are in the pool
-pub play_into-requires-clause-fits : goal.play_into-requires-clause-fits
-play_into-requires-clause-fits g c =
+-- the engine's device can be stepped through the events
+pub play_into-requires-clause-events : goal.play_into-requires-clause-events
+play_into-requires-clause-events g c =
     let inputs = c.args.inputs in
     let device : DeviceSeen = device_seen inputs.config in
-    let fit : All (Fits device (inputs_pool (inputs_seen inputs))) inputs.script.events =
-    AllFit-captured device inputs.files inputs.script (capture_place inputs.config.capture inputs.files) c.requires.fits in
-    subst (λ (d : DeviceSeen). All (Fits d c.pool_from-pool.result) c.as_slice-events.result.now) (sym c.in-Ok.ensures.device)
-    (subst (λ (p : Pool). All (Fits device p) c.as_slice-events.result.now) (sym c.pool_from-pool.ensures)
-    (subst (λ (events : List Event). All (Fits device (inputs_pool (inputs_seen inputs))) events) (sym c.as_slice-events.ensures) fit))
+    let pool : Pool = inputs_pool (inputs_seen inputs) in
+    let runs : CanRun EVENTS device pool inputs.script.events = record {
+      fits = AllFit-captured device inputs.files inputs.script (capture_place inputs.config.capture inputs.files) c.requires.fits;
+      captures = c.requires.captures;
+      count = c.requires.count;
+    } in
+    subst (λ (d : DeviceSeen). CanRun EVENTS d c.pool_from-pool.result c.as_slice-events.result.now) (sym c.in-Ok.ensures.device)
+    (subst (λ (p : Pool). CanRun EVENTS device p c.as_slice-events.result.now) (sym c.pool_from-pool.ensures)
+    (subst (λ (events : List Event). CanRun EVENTS device pool events) (sym c.as_slice-events.ensures) runs))
 
 pub play_into-requires-clause-played : goal.play_into-requires-clause-played
 play_into-requires-clause-played g c = c.in-Ok.ensures.played c.pool_from-pool.result

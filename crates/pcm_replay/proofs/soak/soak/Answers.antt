@@ -1,16 +1,11 @@
 use Rattle.std.proofs.Common.{List, ℕ, subst, refl, ◌∙◌}
 use Rattle.pcm_outside.specs.Sink.{FailsToPut, Puts}
-use Rattle.pcm_replay.proofs.Soaking.{IsSoak, soak-few, soak-fits, soak-told}
+use Rattle.pcm_replay.proofs.Soaking.{IsSoak, soak-runs, soak-told}
 use Rattle.pcm_replay.proofs.soak.soak.Goals as goal
 
-pub tell_soak-requires-clause-fits : goal.tell_soak-requires-clause-fits
-tell_soak-requires-clause-fits g c =
-    soak-fits c.args.seed c.in-Ok.script c.new-3.result c.as_slice.result.now
-    (record { made = c.in-Ok.ensures.made; none = c.new-3.ensures ∙ c.new-2.ensures.items; same = c.as_slice.ensures })
-
-pub tell_soak-requires-clause-count : goal.tell_soak-requires-clause-count
-tell_soak-requires-clause-count g c =
-    soak-few c.args.seed c.in-Ok.script c.new-3.result c.as_slice.result.now
+pub tell_soak-requires-clause-events : goal.tell_soak-requires-clause-events
+tell_soak-requires-clause-events g c =
+    soak-runs c.args.seed c.in-Ok.script c.new-3.result c.as_slice.result.now
     (record { made = c.in-Ok.ensures.made; none = c.new-3.ensures ∙ c.new-2.ensures.items; same = c.as_slice.ensures })
 
 -- its line was put

@@ -20,7 +20,7 @@ returns g c =
     let block : c.deref.result.now ≡ c.step-count.new.out =
     c.deref.ensures.value ∙ front _ c.step-count.new.out _ (c.step-count.auto.out ∙ c.deref_mut.ensures.len) in
     let is : device_of soak.engine ≡ usual_device = c.requires.soaked.engine.device_is in
-    let count : c.step-count.result ≤ ring_room usual_device = handed-on (device_of soak.engine) pool xs c.args.at c.step-count.result _ is c.requires.fits c.requires.there step.count in
+    let count : c.step-count.result ≤ ring_room usual_device = handed-on (device_of soak.engine) pool xs c.args.at c.step-count.result _ is c.requires.events.fits c.requires.there step.count in
     let room : length c.step-count.new.out ≡ ring_room usual_device = c.step-count.auto.out ∙ c.deref_mut.ensures.len ∙ c.requires.soaked.room in
     let size : length piece ≡ c.step-count.result = length-take-le c.step-count.result c.step-count.new.out (omega (arith, count, room)) in
     let heard : total (take c.step-count.result c.deref.result.now) ≡ total piece = ap (λ (bytes : List ℕ). total (take c.step-count.result bytes)) block in
