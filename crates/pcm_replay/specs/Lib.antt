@@ -7,3 +7,4 @@ pub mod Outcomes
 pub mod Endings
 pub mod Accepted
 pub mod Playing
+pub mod Converting

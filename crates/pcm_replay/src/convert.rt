@@ -1,15 +1,14 @@
 //! The conversion of a wave into another file.
 
-ghost use Rattle.std.specs.Prelude.{◌≡◌, ◌++◌, ◌*◌, ℕ, List, IfErr, IfOk, IsTrue, OnErr, OnOk, length, replicate};
-ghost use Rattle.pcm_outside.specs.Files.{Appends, FailsToAppend, OnlyAppends};
-ghost use Rattle.pcm_convert.specs.declared.conversion.TheConstants.{BLOCK};
-ghost use Rattle.pcm_convert.specs.Conversions.{converted_body, converted_frames};
+ghost use Rattle.std.specs.Prelude.{◌≡◌, ◌++◌, ℕ, List, IfErr, IfOk, IsTrue, OnOk, replicate};
+ghost use Rattle.pcm_outside.specs.Results.{DoesAppend};
+ghost use Rattle.pcm_convert.specs.Conversions.{converted_body};
 ghost use Rattle.pcm_convert.specs.Stands.{ConversionStands, source_in, target_in};
-ghost use Rattle.pcm_format.specs.Frames.{frame_bytes};
 ghost use Rattle.pcm_feeder.specs.Limits.{IsRate};
 ghost use Rattle.pcm_feeder.specs.Racks.{AreRacks, list_of};
 ghost use Rattle.pcm_wave.specs.Headers.{IsWaveFormat, padding};
 ghost use Rattle.pcm_verdict.specs.Verdict.{Converts};
+ghost use Rattle.pcm_replay.specs.Converting.{CanAppend};
 ghost use Rattle.pcm_replay.specs.Endings.{Cuts, Does};
 ghost use Rattle.pcm_inputs.specs.Outside.{both, ◌over◌};
 ghost use Rattle.pcm_inputs.specs.Parts.{HasRoom, conversion_to};
@@ -101,15 +100,9 @@ fn append_wave<B: Feeder, F: Files>(
     block: &mut [u8],
 ) -> Result<(), WriteFault>
     requires created { IsTrue (F.seen files.old).stands }
-    requires stands { ConversionStands B.kept conversion.old body.now 0 }
-    requires frames { frames
-        ≡ converted_frames (source_in conversion.old) (target_in conversion.old) body.now }
-    requires room { length block.old ≡ BLOCK * frame_bytes (target_in conversion.old) }
-    ensures only { OnlyAppends (F.seen files.old) (F.seen files.new) }
-    ensures ok { OnOk result (Appends (F.seen files.old) (F.seen files.new)
-        (head.now ++ wave_body (source_in conversion.old) (target_in conversion.old) body.now)) }
-    ensures err { OnErr result (FailsToAppend (F.seen files.old) (F.seen files.new)
-        (head.now ++ wave_body (source_in conversion.old) (target_in conversion.old) body.now)) }
+    requires begins { CanAppend B.kept conversion.old body.now frames block.old }
+    ensures { DoesAppend (F.seen files.old) (F.seen files.new)
+        (head.now ++ wave_body (source_in conversion.old) (target_in conversion.old) body.now) result }
 {
     let Ok(()) = files.append(head) else {
         return Err(WriteFault);
@@ -130,15 +123,9 @@ fn append_body<B: Feeder, F: Files>(
     block: &mut [u8],
 ) -> Result<(), WriteFault>
     requires created { IsTrue (F.seen files.old).stands }
-    requires stands { ConversionStands B.kept conversion.old body.now 0 }
-    requires frames { frames
-        ≡ converted_frames (source_in conversion.old) (target_in conversion.old) body.now }
-    requires room { length block.old ≡ BLOCK * frame_bytes (target_in conversion.old) }
-    ensures only { OnlyAppends (F.seen files.old) (F.seen files.new) }
-    ensures ok { OnOk result (Appends (F.seen files.old) (F.seen files.new)
-        (converted_body (source_in conversion.old) (target_in conversion.old) body.now)) }
-    ensures err { OnErr result (FailsToAppend (F.seen files.old) (F.seen files.new)
-        (converted_body (source_in conversion.old) (target_in conversion.old) body.now)) }
+    requires begins { CanAppend B.kept conversion.old body.now frames block.old }
+    ensures { DoesAppend (F.seen files.old) (F.seen files.new)
+        (converted_body (source_in conversion.old) (target_in conversion.old) body.now) result }
 {
     let mut left = frames as usize;
     while left > 0 {
@@ -153,12 +140,8 @@ fn append_body<B: Feeder, F: Files>(
 
 // Appends the byte behind an odd number of bytes.
 fn append_padding<F: Files>(files: &mut F, size: usize) -> Result<(), WriteFault>
-    requires created { IsTrue (F.seen files.old).stands }
-    ensures only { OnlyAppends (F.seen files.old) (F.seen files.new) }
-    ensures ok { OnOk result (Appends (F.seen files.old) (F.seen files.new)
-        (replicate (padding size) 0)) }
-    ensures err { OnErr result (FailsToAppend (F.seen files.old) (F.seen files.new)
-        (replicate (padding size) 0)) }
+    requires { IsTrue (F.seen files.old).stands }
+    ensures { DoesAppend (F.seen files.old) (F.seen files.new) (replicate (padding size) 0) result }
 {
     if size % 2 == 0 {
         return Ok(());

@@ -1,7 +1,7 @@
 //! What an event leaves: bytes in a file, and then a line.
 
 ghost use Rattle.std.specs.Prelude.{IsTrue, OnErr, OnOk};
-ghost use Rattle.pcm_outside.specs.Files.{Appends, FailsToAppend, OnlyAppends};
+ghost use Rattle.pcm_outside.specs.Results.{DoesAppend};
 ghost use Rattle.pcm_inputs.specs.Outside.{both, ◌over◌};
 ghost use Rattle.pcm_replay.specs.Turns.{CutsTurn, OnlyAdds, WritesTurn};
 
@@ -28,9 +28,7 @@ pub fn write_turn<F: Files, K: Sink>(
 /// Appends a piece, where there is something of it.
 pub fn append_some<F: Files>(files: &mut F, piece: &[u8]) -> Result<(), WriteFault>
     requires { IsTrue (F.seen files.old).stands }
-    ensures only { OnlyAppends (F.seen files.old) (F.seen files.new) }
-    ensures ok { OnOk result (Appends (F.seen files.old) (F.seen files.new) piece.now) }
-    ensures err { OnErr result (FailsToAppend (F.seen files.old) (F.seen files.new) piece.now) }
+    ensures { DoesAppend (F.seen files.old) (F.seen files.new) piece.now result }
 {
     if piece.is_empty() {
         return Ok(());

@@ -11,8 +11,8 @@ use Rattle.pcm_replay.proofs.convert.append_body.Goals as goal
 pub loop-left-init : goal.loop-left-init
 loop-left-init g c = record {
   within = omega arith;
-  room = c.requires.room;
-  has = begins g.B.Feeder.kept c.args.conversion.now c.args.body.now (c.args.frames - c.args.frames) _ c.requires.created (omega arith) c.requires.stands;
+  room = c.requires.begins.room;
+  has = begins g.B.Feeder.kept c.args.conversion.now c.args.body.now (c.args.frames - c.args.frames) _ c.requires.created (omega arith) c.requires.begins.stands;
 }
 
 pub next_block-size-requires-clause-stands : goal.next_block-size-requires-clause-stands
@@ -52,11 +52,8 @@ slice_bounds-append-end-in-loop-left g c =
 pub append-requires : goal.append-requires
 append-requires g c = c.loop-left.invariant.has.only.stands
 
-pub returns-in_default-clause-only : goal.returns-in_default-clause-only
-returns-in_default-clause-only g c = appends-only _ _ _ c.loop-left.invariant.has.only c.in_default.ensures.only
-
-pub returns-in_default-clause-err : goal.returns-in_default-clause-err
-returns-in_default-clause-err g c =
+pub returns-in_default : goal.returns-in_default
+returns-in_default g c =
     let old = c.args.conversion.now in
     let has = c.loop-left.invariant.has in
     let given = c.args.frames - c.loop-left.left in
@@ -64,7 +61,11 @@ returns-in_default-clause-err g c =
     let next = c.next_block-size.ensures in
     let gives = next-gives g.B.Feeder.kept c.loop-left.conversion c.next_block-size.new.self (source_in old) (target_in old) c.args.body.now given size c.next_block-size.new.out _
     _ _ has next.count next.block next.stands in
-    fails-in g.B.Feeder.kept c.loop-left.conversion c.next_block-size.new.self (source_in old) (target_in old) c.args.body.now given size c.next_block-size.new.out _ _ _ _ old.source_rate old.target_rate gives c.in_default.ensures.err has
+    record {
+      only = appends-only _ _ _ has.only c.in_default.ensures.only;
+      ok = tt;
+      err = fails-in g.B.Feeder.kept c.loop-left.conversion c.next_block-size.new.self (source_in old) (target_in old) c.args.body.now given size c.next_block-size.new.out _ _ _ _ old.source_rate old.target_rate gives c.in_default.ensures.err has;
+    }
 
 pub loop-left-preserved : goal.loop-left-preserved
 loop-left-preserved g c =
@@ -78,7 +79,7 @@ loop-left-preserved g c =
     let left = c.loop-left.left - c.min-left.result in
     let within : left ≤ c.args.frames = omega (arith, c.loop-left.invariant.within) in
     let now : given + block_count (source_in old) (target_in old) c.args.body.now given ≡ c.args.frames - left =
-    omega (arith, c.loop-left.invariant.within, c.min-left.ensures, c.requires.frames) in
+    omega (arith, c.loop-left.invariant.within, c.min-left.ensures, c.requires.begins.count) in
     record {
       within = within;
       room = c.next_block-size.auto.out ∙ c.loop-left.invariant.room;
@@ -86,11 +87,12 @@ loop-left-preserved g c =
           _ _ _ old.source_rate old.target_rate c.next_block-size.ensures.source c.next_block-size.ensures.target now gives c.in-Ok.ensures.only c.in-Ok.ensures.ok has;
     }
 
-pub returns-clause-only : goal.returns-clause-only
-returns-clause-only g c = c.loop-left.invariant.has.only
-
-pub returns-clause-ok : goal.returns-clause-ok
-returns-clause-ok g c =
+pub returns : goal.returns
+returns g c =
     let old = c.args.conversion.now in
-    let all : converted_frames (source_in old) (target_in old) c.args.body.now ≤ c.args.frames - c.loop-left.left = omega (arith, c.requires.frames) in
-    all-appended g.B.Feeder.kept c.loop-left.conversion (source_in old) (target_in old) c.args.body.now (c.args.frames - c.loop-left.left) _ _ old.source_rate old.target_rate all c.loop-left.invariant.has
+    let all : converted_frames (source_in old) (target_in old) c.args.body.now ≤ c.args.frames - c.loop-left.left = omega (arith, c.requires.begins.count) in
+    record {
+      only = c.loop-left.invariant.has.only;
+      ok = all-appended g.B.Feeder.kept c.loop-left.conversion (source_in old) (target_in old) c.args.body.now (c.args.frames - c.loop-left.left) _ _ old.source_rate old.target_rate all c.loop-left.invariant.has;
+      err = tt;
+    }

@@ -1,13 +1,15 @@
-use Rattle.std.proofs.Common.{◌≡◌, ◌++◌, ◌∙◌, ℕ, List, codes, refl, sym, ap, subst, arith}
+use Rattle.std.proofs.Common.{◌≡◌, ◌++◌, ◌∙◌, ◌*◌, ℕ, List, codes, refl, sym, ap, subst, arith}
 use Rattle.std.specs.Fmt.{decimal}
 use Rattle.std.proofs.Math.Nat.{mul-le-mul_right}
 use Rattle.pcm_format.specs.declared.settings.Settings.{Settings}
+use Rattle.pcm_format.specs.Frames.{frame_bytes}
 use Rattle.pcm_format.proofs.Streams.{frame_bytes-above}
 use Rattle.pcm_feeder.specs.Limits.{IsRate}
 use Rattle.pcm_wave.specs.declared.wave.Wave.{Wave}
 use Rattle.pcm_wave.specs.Headers.{header_of}
 use Rattle.pcm_wave.specs.Waves.{settings_of}
 use Rattle.pcm_wave.proofs.Limits.{settings-read}
+use Rattle.pcm_convert.specs.declared.conversion.TheConstants.{BLOCK}
 use Rattle.pcm_convert.specs.Conversions.{converted_frames}
 use Rattle.pcm_convert.specs.Stands.{source_in, target_in}
 use Rattle.pcm_verdict.specs.Outputs.{convert_line}
@@ -42,8 +44,15 @@ overflow_cast-frames g c =
 pub returns-in_default-create-clause-err : goal.returns-in_default-create-clause-err
 returns-in_default-create-clause-err g c = AtCreate _ refl (record { file = c.in_default-create.ensures.err; sink = refl {a = g.K.Sink.seen c.args.out.now} })
 
-pub append_wave-requires-clause-stands : goal.append_wave-requires-clause-stands
-append_wave-requires-clause-stands g c = c.in-Ok.ensures.stands c.body-2.result.now
+-- the conversion is new, and its buffer has room for a block
+pub append_wave-requires-clause-begins : goal.append_wave-requires-clause-begins
+append_wave-requires-clause-begins g c =
+    let made = c.in-Ok.conversion in
+    record {
+      stands = c.in-Ok.ensures.stands c.body-2.result.now;
+      count = c.count.ensures ∙ ap (λ (b : List ℕ). converted_frames (source_in made) (target_in made) b) (c.body.ensures.bytes ∙ sym c.body-2.ensures.bytes);
+      room = c.deref_mut.ensures.len ∙ c.in-Ok-vec.ensures.len ∙ ap (λ (n : ℕ). BLOCK * n) (c.frame_bytes.ensures ∙ ap (λ (s : Settings). frame_bytes s) (sym c.in-Ok.ensures.target));
+    }
 
 pub returns-in_default-append_wave-clause-err : goal.returns-in_default-append_wave-clause-err
 returns-in_default-append_wave-clause-err g c =
