@@ -5,13 +5,14 @@ ghost use Rattle.pcm_verdict.specs.Commands.{command_of};
 ghost use Rattle.pcm_replay.specs.Calls.{texts};
 ghost use Rattle.pcm_replay.specs.Outcomes.{IsStatus};
 
+use feed_eq::EqFeeder;
 use feed_format::DepthFeeder;
 use feed_hold::HoldFeeder;
 use feed_linear::LinearFeeder;
 use feed_matrix::MatrixFeeder;
 use feed_poly::PolyFeeder;
 use feed_volume::VolumeFeeder;
-use pcm_feeder::{RACKS, RackFault, Racks, Six};
+use pcm_feeder::{RACKS, RackFault, Racks, Seven};
 use pcm_outside::{Files, Sink};
 use pcm_replay::dsp_main;
 use std::alloc::Global;
@@ -31,13 +32,14 @@ pub fn run_boxed<F: Files, K: Sink>(
 {
     let mut boxes = Vec::new(alloc);
     for _ in 0..RACKS {
-        boxes.push(Six {
+        boxes.push(Seven {
             matrix: Box::new(alloc, MatrixFeeder::new(alloc)?)?,
             hold: Box::new(alloc, HoldFeeder::new(alloc)?)?,
             linear: Box::new(alloc, LinearFeeder::new(alloc)?)?,
             poly: Box::new(alloc, PolyFeeder::new(alloc)?)?,
             volume: Box::new(alloc, VolumeFeeder::new(alloc)?)?,
             depth: Box::new(alloc, DepthFeeder::new(alloc)?)?,
+            eq: Box::new(alloc, EqFeeder::new(alloc)?)?,
         })?;
     }
     let racks = Racks::of_boxes(alloc, boxes)?;

@@ -2,8 +2,8 @@
 
 ghost use Rattle.std.specs.Prelude.{◌≡◌};
 
-use feed_rate::{Interpolator, LastFrames, Point, RateFeeder};
-use pcm_feeder::{Kind, Spec, Tables, frame_among};
+use feed_rate::{Interpolator, Point, RateFeeder};
+use pcm_feeder::{Kind, LastFrames, Spec, Tables, frame_among};
 use std::alloc::{AllocError, Global};
 
 /// Gives the frame under each output.

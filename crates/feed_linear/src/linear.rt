@@ -4,8 +4,8 @@ ghost use Rattle.std.specs.Prelude.{◌≡◌};
 
 use crate::blend::Blend;
 use crate::pairs::pair_among;
-use feed_rate::{Interpolator, LastFrames, Point, RateFeeder};
-use pcm_feeder::{Kind, Spec, Tables};
+use feed_rate::{Interpolator, Point, RateFeeder};
+use pcm_feeder::{Kind, LastFrames, Spec, Tables};
 use std::alloc::{AllocError, Global};
 
 /// Gives the point of each output on the line from the frame under it to the next.

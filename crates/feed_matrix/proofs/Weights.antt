@@ -13,7 +13,8 @@ use Rattle.pcm_format.specs.Layouts.{channels_of, positions_of}
 use Rattle.pcm_format.specs.declared.layout.Layout.{Layout}
 use Rattle.pcm_format.specs.declared.layout.Position.{Position}
 use Rattle.pcm_format.proofs.Streams.{channels_of-most, length-positions}
-use Rattle.pcm_feeder.specs.Layouts.{weight, gathered, in_layout, sum_of}
+use Rattle.pcm_feeder.specs.Layouts.{weight, gathered, in_layout}
+use Rattle.pcm_feeder.specs.Sums.{sum_of}
 use Rattle.feed_matrix.specs.Weights.{row_of, weighted_sum, AreWeights}
 
 -- ---- sums

@@ -5,7 +5,8 @@ use Rattle.pcm_format.specs.Frames.{Frame}
 use Rattle.pcm_format.specs.Layouts.{channels_of, positions_of}
 use Rattle.pcm_format.specs.declared.layout.Layout.{Layout}
 use Rattle.pcm_format.specs.declared.layout.Position.{Position}
-use Rattle.pcm_feeder.specs.Layouts.{weight, sum_of}
+use Rattle.pcm_feeder.specs.Layouts.{weight}
+use Rattle.pcm_feeder.specs.Sums.{sum_of}
 
 -- the weights of a target position, one for each position of the source
 abbrev pub row_of : Layout → Layout → Position → List ℕ

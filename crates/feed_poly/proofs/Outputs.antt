@@ -11,11 +11,10 @@ use Rattle.pcm_fixed.specs.Fixed.{fixed_items}
 use Rattle.pcm_format.specs.Frames.{Frame}
 use Rattle.pcm_format.proofs.Ranges.{map-range-same}
 use Rattle.pcm_feeder.specs.declared.table.Table.{Table}
-use Rattle.pcm_feeder.specs.Kept.{moved_on}
-use Rattle.pcm_feeder.specs.Layouts.{sum_of}
+use Rattle.pcm_feeder.specs.Sums.{sum_of, scaled_down}
 use Rattle.pcm_feeder.specs.Limits.{IsTable}
-use Rattle.pcm_feeder.specs.Stages.{coef, scaled_down, filtered, filtered_frame}
-use Rattle.pcm_feeder.specs.Streams.{Stream, silence, stream_of}
+use Rattle.pcm_feeder.specs.Stages.{coef, filtered, filtered_frame}
+use Rattle.pcm_feeder.specs.Streams.{Stream, silence, stream_of, moved_on}
 use Rattle.feed_poly.specs.declared.window.Window.{Window}
 use Rattle.feed_poly.specs.Places.{window_frame}
 use Rattle.feed_poly.specs.Rows.{row_in, channel_in, weighted, row_frame}

@@ -4,7 +4,7 @@ use Rattle.std.specs.List.{range_with_len}
 use Rattle.std.proofs.lemmas.Bool.{cases_lt}
 use Rattle.std.proofs.lemmas.List.FromFn.{fill_by_all, map-range_with_len_more}
 use Rattle.pcm_format.proofs.Ranges.{map-range-same, map-range-shift}
-use Rattle.pcm_feeder.specs.Kept.{moved_on}
+use Rattle.pcm_feeder.specs.Streams.{moved_on}
 use Rattle.feed_poly.specs.Places.{window_sample, IsTwice, window_frame, frames_from, ArePut}
 
 -- ---- what lies twice

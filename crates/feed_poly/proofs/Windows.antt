@@ -5,8 +5,7 @@ use Rattle.std.proofs.lemmas.List.{length-append, length-take-le, drop-drop, dro
 use Rattle.std.proofs.lemmas.List.FromFn.{fill_by_all, get_or-map-range_with_len}
 use Rattle.pcm_format.specs.Frames.{Frame}
 use Rattle.pcm_format.proofs.Ranges.{map-range-same}
-use Rattle.pcm_feeder.specs.Kept.{moved_on}
-use Rattle.pcm_feeder.specs.Streams.{frames_of, silence}
+use Rattle.pcm_feeder.specs.Streams.{frames_of, silence, moved_on}
 use Rattle.pcm_feeder.proofs.Frames.{frame_in, length-frames_of}
 use Rattle.pcm_feeder.proofs.Mapped.{frames-there}
 use Rattle.feed_poly.specs.Places.{window_sample, window_frame, frames_from}

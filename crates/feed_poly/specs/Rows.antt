@@ -4,8 +4,7 @@ use Rattle.std.specs.List.{range_with_len}
 use Rattle.std.specs.Simd.Lanes.{zip2}
 use Rattle.pcm_format.specs.Frames.{Frame}
 use Rattle.pcm_feeder.specs.declared.table.Table.{Table}
-use Rattle.pcm_feeder.specs.Layouts.{sum_of}
-use Rattle.pcm_feeder.specs.Stages.{scaled_down}
+use Rattle.pcm_feeder.specs.Sums.{sum_of, scaled_down}
 
 -- a row of a filter's coefficients
 abbrev pub row_in : Table → ℕ → List ℤ

@@ -2,8 +2,7 @@
 use Rattle.std.specs.Prelude.{ℕ, ℤ, List, take, drop}
 use Rattle.pcm_fixed.specs.Fixed.{fixed_items}
 use Rattle.pcm_format.specs.Frames.{Frame}
-use Rattle.pcm_feeder.specs.Kept.{moved_on}
-use Rattle.pcm_feeder.specs.Streams.{frames_of}
+use Rattle.pcm_feeder.specs.Streams.{frames_of, moved_on}
 use Rattle.feed_poly.specs.Places.{frames_from}
 use Rattle.feed_poly.specs.Rows.{row_frame}
 use Rattle.feed_poly.specs.declared.window.Window.{Window}

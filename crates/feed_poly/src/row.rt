@@ -1,14 +1,13 @@
 //! One row of a filter.
 
-ghost use Rattle.std.specs.Prelude.{◌≡◌, ◌<◌, ◌≤◌, ◌-◌, ◌*◌, ◌^◌, pos, neg_ℤ, ◌*ℤ◌, ◌≤ℤ◌, All, length};
+ghost use Rattle.std.specs.Prelude.{◌≡◌, ◌<◌, ◌≤◌, ◌^◌, pos, neg_ℤ, ◌≤ℤ◌, All, length};
 ghost use Rattle.pcm_feeder.specs.Limits.{IsCoef, IsTable};
 ghost use Rattle.pcm_feeder.specs.declared.limits.TheConstants.{SHIFT_MOST, TAPS};
-ghost use Rattle.pcm_feeder.specs.Stages.{scaled_down};
+ghost use Rattle.pcm_feeder.specs.Sums.{scaled_down};
 ghost use Rattle.feed_poly.specs.Rows.{row_in, weighted};
 
 use crate::window::Window;
-use pcm_feeder::Table;
-use pcm_num::{clamp_bits, floor_shift};
+use pcm_feeder::{Table, product, scaled_down};
 
 /// The coefficients of a row, which count as divided by `2 ^ shift`.
 #[derive(Clone, Copy)]
@@ -55,28 +54,8 @@ impl<'a> Row<'a> {
         requires { length samples.now ≡ length self.coefs.now }
         ensures { result ≡ scaled_down self.entry.shift (weighted self.entry.coefs.now samples.now) }
     {
-        scaled(self.shift, sum_of_products(self.coefs, samples))
+        scaled_down(self.shift, sum_of_products(self.coefs, samples))
     }
-}
-
-// A sum divided by `2 ^ shift`, rounded to the nearest and limited.
-fn scaled(shift: u32, sum: i64) -> i32
-    requires least_shift { 1 ≤ shift }
-    requires most_shift { shift ≤ SHIFT_MOST }
-    requires least { neg_ℤ (pos (2 ^ 61)) ≤ℤ sum }
-    requires most { sum ≤ℤ pos (2 ^ 61) }
-    ensures { result ≡ scaled_down shift sum }
-{
-    clamp_bits(floor_shift(sum + half(shift), shift), 32)
-}
-
-// Half of `2 ^ shift`.
-fn half(shift: u32) -> i64
-    requires least { 1 ≤ shift }
-    requires most { shift ≤ SHIFT_MOST }
-    ensures { result ≡ pos (2 ^ (shift - 1)) }
-{
-    1i64 << (shift - 1)
 }
 
 // The sum of samples, each times its coefficient. It lies within 2 to the power 61.
@@ -93,11 +72,4 @@ fn sum_of_products(coefs: &[i32], samples: &[i32]) -> i64
         sum += product(*coef, samples[at]);
     }
     sum
-}
-
-// A coefficient times a sample.
-fn product(coef: i32, sample: i32) -> i64
-    ensures { result ≡ (coef *ℤ sample) }
-{
-    i64::from(coef) * i64::from(sample)
 }

@@ -6,10 +6,10 @@ use Rattle.pcm_feeder.specs.declared.pace.Pace.{Pace}
 use Rattle.pcm_feeder.specs.declared.pace.Step.{Step}
 use Rattle.pcm_feeder.specs.declared.stage.Gain.{Gain}
 use Rattle.pcm_feeder.specs.Filters.{Filters}
-use Rattle.pcm_feeder.specs.Kept.{Kept, moved_on}
+use Rattle.pcm_feeder.specs.Kept.{Kept}
 use Rattle.pcm_feeder.specs.Pace.{rate_by, phase_by, ahead_by, factor_of, IsStep}
 use Rattle.pcm_feeder.specs.Stages.{channels_in}
-use Rattle.pcm_feeder.specs.Streams.{frames_of}
+use Rattle.pcm_feeder.specs.Streams.{frames_of, moved_on}
 use Rattle.pcm_feeder.specs.Turns.{Turn, eaten_by, given_by, kept_after, fed}
 use Rattle.pcm_feeder.proofs.Writing.{fed-by, turn_by, kept-by}
 use Rattle.feed_rate.specs.Feeders.{kept_at}

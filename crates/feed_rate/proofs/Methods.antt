@@ -9,11 +9,11 @@ use Rattle.pcm_rate.specs.declared.rate.Rate.{Rate}
 use Rattle.pcm_feeder.specs.declared.pace.Pace.{Pace}
 use Rattle.pcm_feeder.specs.declared.stage.Gain.{Gain}
 use Rattle.pcm_feeder.specs.Filters.{Filters}
-use Rattle.pcm_feeder.specs.Kept.{moved_on, past_after}
+use Rattle.pcm_feeder.specs.Kept.{past_after}
 use Rattle.pcm_feeder.specs.Limits.{HasTable}
 use Rattle.pcm_feeder.specs.Pace.{rate_by}
 use Rattle.pcm_feeder.specs.Stages.{rate_of, channels_in, blended, filtered, table_at}
-use Rattle.pcm_feeder.specs.Streams.{Stream, frames_of, stream_of, HaveChannels}
+use Rattle.pcm_feeder.specs.Streams.{Stream, frames_of, stream_of, HaveChannels, moved_on}
 use Rattle.pcm_feeder.specs.Turns.{frames_by}
 use Rattle.pcm_feeder.proofs.Frames.{frames_of-channels}
 use Rattle.pcm_feeder.proofs.Streams.{stream-channels}

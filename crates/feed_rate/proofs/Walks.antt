@@ -8,7 +8,8 @@ use Rattle.pcm_format.specs.Samples.{natural}
 use Rattle.pcm_feeder.specs.declared.pace.Pace.{Pace}
 use Rattle.pcm_feeder.specs.declared.pace.Step.{Step}
 use Rattle.pcm_feeder.specs.Filters.{Filters}
-use Rattle.pcm_feeder.specs.Kept.{Kept, moved_on, unfitted}
+use Rattle.pcm_feeder.specs.Kept.{Kept, unfitted}
+use Rattle.pcm_feeder.specs.Streams.{moved_on}
 use Rattle.pcm_feeder.specs.Pace.{rate_by, phase_by, ahead_by, factor_of, IsStep}
 use Rattle.pcm_feeder.specs.Turns.{step_of, phase_of, reach, eaten_by, given_by}
 use Rattle.pcm_feeder.proofs.Fitted.{natural-below, reach-grows, step-grows, eaten-least}

@@ -5,9 +5,8 @@ use Rattle.pcm_format.specs.Frames.{Frame}
 use Rattle.pcm_format.specs.Samples.{natural}
 use Rattle.pcm_feeder.specs.declared.pace.Pace.{Pace}
 use Rattle.pcm_feeder.specs.Filters.{Filters}
-use Rattle.pcm_feeder.specs.Kept.{moved_on}
 use Rattle.pcm_feeder.specs.Pace.{rate_by, phase_by, ahead_by}
-use Rattle.pcm_feeder.specs.Streams.{Stream, frames_of, stream_of, written}
+use Rattle.pcm_feeder.specs.Streams.{Stream, frames_of, stream_of, written, moved_on}
 use Rattle.pcm_feeder.specs.Turns.{step_of, phase_of, reach}
 use Rattle.feed_rate.specs.declared.point.Point.{Point}
 use Rattle.feed_rate.specs.Methods.{Method, channels_by, history_by, lookahead_by, converter_by}

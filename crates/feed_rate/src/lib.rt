@@ -4,11 +4,9 @@
 
 mod fitted;
 mod interpolator;
-mod last_frames;
 mod point;
 mod rate_feeder;
 
 pub use interpolator::Interpolator;
-pub use last_frames::LastFrames;
 pub use point::Point;
 pub use rate_feeder::RateFeeder;

@@ -96,6 +96,7 @@ fn rate_of(spec: Spec) -> Rate
             dst,
             lookahead: (taps / 2) as u32,
         },
-        Spec::Matrix { .. } | Spec::Volume { .. } | Spec::Depth { .. } => UNCHANGED,
+        Spec::Matrix { .. } | Spec::Volume { .. } | Spec::Depth { .. } | Spec::Eq { .. } =>
+            UNCHANGED,
     }
 }

@@ -4,9 +4,9 @@ ghost use Rattle.std.specs.Prelude.{◌≡◌};
 ghost use Rattle.pcm_feeder.specs.Limits.{IsRate};
 ghost use Rattle.pcm_plan.specs.Fits.{HaveTables};
 
-use crate::racks::six;
+use crate::racks::seven;
 use pcm_chain::ChainOf;
-use pcm_feeder::{Feeder, Gain, Kind, RackOf, SixOf, Tables};
+use pcm_feeder::{Feeder, Gain, Kind, RackOf, SevenOf, Tables};
 use pcm_format::{Format, Layout, RATE_LEAST, RATE_MOST, Settings};
 use pcm_plan::{Plan, plan_play};
 use pcm_ring::ByteRing;
@@ -101,12 +101,12 @@ fn plan_between(client: &Settings, device: &Settings, tables: &Tables) -> Plan
 }
 
 // Whether a new chain pulls what a row says.
-fn is_right<B: Feeder>(alloc: Global, six: SixOf<B>, row: &Row) -> Result<bool, AllocError> {
-    let Ok(rack) = RackOf::new(six) else {
+fn is_right<B: Feeder>(alloc: Global, seven: SevenOf<B>, row: &Row) -> Result<bool, AllocError> {
+    let Ok(rack) = RackOf::new(seven) else {
         return Ok(false);
     };
     let (client, device) = (settings(row.client), settings(row.device));
-    let tables = Tables::new(Vec::new(alloc));
+    let tables = Tables::none(alloc);
     let mut ring = ByteRing::new(alloc, 64)?;
     ring.put(row.bytes);
     let mut chain = ChainOf::new(alloc, rack)?;
@@ -133,7 +133,7 @@ fn is_right<B: Feeder>(alloc: Global, six: SixOf<B>, row: &Row) -> Result<bool, 
 // The first row that a new chain pulls otherwise.
 fn first_wrong(alloc: Global) -> Result<Option<usize>, AllocError> {
     for (at, row) in ROWS.iter().enumerate() {
-        if !is_right(alloc, six(alloc, Kind::Volume)?, row)? {
+        if !is_right(alloc, seven(alloc, Kind::Volume)?, row)? {
             return Ok(Some(at));
         }
     }

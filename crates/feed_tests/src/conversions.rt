@@ -2,9 +2,9 @@
 
 ghost use Rattle.pcm_feeder.specs.Limits.{IsRate};
 
-use crate::racks::six;
+use crate::racks::seven;
 use pcm_convert::{BLOCK, ConversionOf};
-use pcm_feeder::{Feeder, Kind, RackOf, SixOf};
+use pcm_feeder::{Feeder, Kind, RackOf, SevenOf};
 use pcm_format::{Format, Layout, RATE_LEAST, RATE_MOST, Settings};
 use std::alloc::{AllocError, Global};
 use std::test::Fail;
@@ -46,8 +46,12 @@ fn settings(end: End) -> Settings
 }
 
 // Whether a conversion counts and gives what a row says, in one block, and nothing behind it.
-fn is_right<B: Feeder>(alloc: Global, six: SixOf<B>, row: &Row<'_>) -> Result<bool, AllocError> {
-    let Ok(rack) = RackOf::new(six) else {
+fn is_right<B: Feeder>(
+    alloc: Global,
+    seven: SevenOf<B>,
+    row: &Row<'_>,
+) -> Result<bool, AllocError> {
+    let Ok(rack) = RackOf::new(seven) else {
         return Ok(false);
     };
     let (source, target, body, frames, want) = row;
@@ -61,7 +65,7 @@ fn is_right<B: Feeder>(alloc: Global, six: SixOf<B>, row: &Row<'_>) -> Result<bo
 // The first row whose conversion comes to something else.
 fn first_wrong(alloc: Global) -> Result<Option<usize>, AllocError> {
     for (at, row) in ROWS.iter().enumerate() {
-        if !is_right(alloc, six(alloc, Kind::Volume)?, row)? {
+        if !is_right(alloc, seven(alloc, Kind::Volume)?, row)? {
             return Ok(Some(at));
         }
     }

@@ -40,7 +40,7 @@ fn filters(alloc: Global) -> Result<Tables, AllocError> {
     }
     let mut list = Vec::new(alloc);
     list.push(filter(numbers))?;
-    Ok(Tables::new(list))
+    Ok(Tables::new(list, Vec::new(alloc)))
 }
 
 // The samples of 1000 frames of two channels.

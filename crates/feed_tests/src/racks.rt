@@ -1,12 +1,13 @@
 //! Boxes of each kind, and the racks of a run.
 
+use feed_eq::EqFeeder;
 use feed_format::DepthFeeder;
 use feed_hold::HoldFeeder;
 use feed_linear::LinearFeeder;
 use feed_matrix::MatrixFeeder;
 use feed_poly::PolyFeeder;
 use feed_volume::VolumeFeeder;
-use pcm_feeder::{Feeder, Kind, RackFault, Racks, Six, WrongCount, WrongKind};
+use pcm_feeder::{Feeder, Kind, RackFault, Racks, Seven, WrongCount, WrongKind};
 use std::alloc::{AllocError, Global};
 use std::test::Fail;
 
@@ -36,6 +37,10 @@ fn depth(alloc: Global) -> Boxed {
     Ok(Box::new(alloc, DepthFeeder::new(alloc)?)?)
 }
 
+fn eq(alloc: Global) -> Boxed {
+    Ok(Box::new(alloc, EqFeeder::new(alloc)?)?)
+}
+
 /// A box of a kind.
 pub fn boxed(alloc: Global, kind: Kind) -> Boxed {
     match kind {
@@ -45,27 +50,34 @@ pub fn boxed(alloc: Global, kind: Kind) -> Boxed {
         Kind::Poly => poly(alloc),
         Kind::Volume => volume(alloc),
         Kind::Depth => depth(alloc),
+        Kind::Eq => eq(alloc),
     }
 }
 
-/// Six boxes, of which the one for the volume is of this kind and each other is of its own.
-pub fn six(alloc: Global, kind: Kind) -> Result<Six, AllocError> {
-    Ok(Six {
+/// Seven boxes, of which the one for the volume is of this kind and each other is of its own.
+pub fn seven(alloc: Global, kind: Kind) -> Result<Seven, AllocError> {
+    Ok(Seven {
         matrix: matrix(alloc)?,
         hold: hold(alloc)?,
         linear: linear(alloc)?,
         poly: poly(alloc)?,
         volume: boxed(alloc, kind)?,
         depth: depth(alloc)?,
+        eq: eq(alloc)?,
     })
 }
 
 // The boxes of so many racks. Those at one place have this kind for their volume.
-fn boxes(alloc: Global, count: usize, place: usize, volume: Kind) -> Result<Vec<Six>, AllocError> {
+fn boxes(
+    alloc: Global,
+    count: usize,
+    place: usize,
+    volume: Kind,
+) -> Result<Vec<Seven>, AllocError> {
     let mut list = Vec::new(alloc);
     for at in 0..count {
         let volume = if at == place { volume } else { Kind::Volume };
-        list.push(six(alloc, volume)?)?;
+        list.push(seven(alloc, volume)?)?;
     }
     Ok(list)
 }

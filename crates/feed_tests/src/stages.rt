@@ -2,11 +2,11 @@
 
 ghost use Rattle.std.specs.Prelude.{◌≡◌, true, length, All};
 ghost use Rattle.pcm_feeder.specs.Kinds.{kind_of};
-ghost use Rattle.pcm_feeder.specs.Limits.{AreChannels, HasTable, IsChange, IsCoef, IsSpec, IsTable};
+ghost use Rattle.pcm_feeder.specs.Limits.{AreChannels, HasTable, IsChange, IsCoef, IsSection, IsSpec, IsTable};
 ghost use Rattle.pcm_feeder.specs.Stages.{channels_in, channels_out};
 
 use crate::racks::boxed;
-use pcm_feeder::{Coefs, Feeder, Gain, Kind, Spec, Table, Tables};
+use pcm_feeder::{Coefs, Feeder, Gain, Kind, Section, Spec, Table, Tables};
 use pcm_format::{Layout, RATE_LEAST, RATE_MOST};
 use std::alloc::{AllocError, Global};
 use std::test::Fail;
@@ -125,13 +125,28 @@ const DEPTH: Spec = Spec::Depth {
     channels: 2,
 };
 
+const EQ: Spec = Spec::Eq {
+    channels: 1,
+    sections: 1,
+};
+
+const EQ_STEREO: Spec = Spec::Eq {
+    channels: 2,
+    sections: 1,
+};
+
+const EQ_OF_THREE: Spec = Spec::Eq {
+    channels: 3,
+    sections: 1,
+};
+
 // The gain of all rows, of which the volume alone makes use: one on the left side, and a half on the right one.
 const GAIN: Gain = Gain {
     left: 65536,
     right: 32768,
 };
 
-const ROWS: [Row; 29] = [
+const ROWS: [Row; 34] = [
     (SIX_TO_TWO, 5, &[], (0, 0), &[]),
     (ONE_TO_TWO, 5, &[5, -7], (2, 2), &[5, 5, -7, -7]),
     // A half is rounded down, also below zero.
@@ -270,6 +285,25 @@ const ROWS: [Row; 29] = [
         (2, 2),
         &[1, -2, -0x8000, 0],
     ),
+    // Each output is the sum of all inputs so far, channel by channel.
+    (EQ, 16, &[1, 2, 3], (3, 3), &[1, 3, 6]),
+    (EQ, 2, &[1, 2, 3], (2, 2), &[1, 3]),
+    (EQ_STEREO, 8, &[1, -10, 2, -20], (2, 2), &[1, -10, 3, -30]),
+    (
+        EQ_OF_THREE,
+        5,
+        &[1, 2, 3, 4, 5, 6],
+        (2, 2),
+        &[1, 2, 3, 5, 7, 9],
+    ),
+    // A sum past the end of the range stops there, and goes on from there.
+    (
+        EQ,
+        16,
+        &[0x7fff_ffff, 1, -1],
+        (3, 3),
+        &[0x7fff_ffff, 0x7fff_ffff, 0x7fff_fffe],
+    ),
 ];
 
 // A filter of two phases of two taps, for any two rates.
@@ -288,11 +322,27 @@ fn filter(numbers: Vec<i32>) -> Table
     }
 }
 
-// One filter: frames, and points half way between two.
-fn filters(alloc: Global) -> Result<Tables, AllocError> {
+// A section that adds up.
+fn section() -> Section
+    ensures { IsSection result }
+{
+    Section {
+        shift: 1,
+        b0: 2,
+        b1: 0,
+        b2: 0,
+        a1: -2,
+        a2: 0,
+    }
+}
+
+// One filter: frames, and points half way between two. And one section.
+fn tables(alloc: Global) -> Result<Tables, AllocError> {
     let mut list = Vec::new(alloc);
     list.push(filter(Vec::from_slice(alloc, &[2, 0, 1, 1])?))?;
-    Ok(Tables::new(list))
+    let mut sections = Vec::new(alloc);
+    sections.push(section())?;
+    Ok(Tables::new(list, sections))
 }
 
 // The kind of stage that a spec is for.
@@ -306,6 +356,7 @@ fn kind_of(spec: Spec) -> Kind
         Spec::Poly { .. } => Kind::Poly,
         Spec::Volume { .. } => Kind::Volume,
         Spec::Depth { .. } => Kind::Depth,
+        Spec::Eq { .. } => Kind::Eq,
     }
 }
 
@@ -320,6 +371,7 @@ fn channels_in(spec: Spec) -> usize
         Spec::Poly { channels, .. } => channels,
         Spec::Volume { layout } => layout.channels(),
         Spec::Depth { channels, .. } => channels,
+        Spec::Eq { channels, .. } => channels,
     }
 }
 
@@ -362,11 +414,12 @@ fn is_spec(spec: Spec) -> bool
             ..
         } => is_change(src, dst, channels) && taps == 2,
         Spec::Depth { bits, channels } => bits == 16 && are_channels(channels),
+        Spec::Eq { channels, sections } => are_channels(channels) && sections == 1,
         _ => true,
     }
 }
 
-/// Whether the filter of a spec is there.
+/// Whether the filter or the sections of a spec are there.
 pub fn has_table(spec: Spec, tables: &Tables) -> bool
     ensures { result ≡ true → HasTable spec tables.now }
 {
@@ -375,6 +428,7 @@ pub fn has_table(spec: Spec, tables: &Tables) -> bool
             let list = tables.list();
             table < list.len() && list[table].taps == taps
         }
+        Spec::Eq { sections, .. } => tables.sections().len() == sections,
         _ => true,
     }
 }
@@ -408,7 +462,7 @@ fn begins_with(output: &[i32; 16], samples: &[i32]) -> bool {
 
 // The first row that a box of its kind moves otherwise.
 fn first_wrong(alloc: Global) -> Result<Option<usize>, AllocError> {
-    let tables = filters(alloc)?;
+    let tables = tables(alloc)?;
     for (at, row) in ROWS.iter().enumerate() {
         let mut stage = boxed(alloc, kind_of(row.0))?;
         if !is_right(&mut stage, &tables, row) {

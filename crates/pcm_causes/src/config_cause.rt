@@ -2,9 +2,9 @@
 
 use crate::again::{content, reopened};
 use crate::definition::definition_at;
-use crate::filter_key::wrong_key_at;
 use crate::lines::{column_behind, line_from, number_behind};
 use crate::shown::shown;
+use crate::wrong_key::wrong_key_at;
 use pcm_config::{ConfigFault, ConfigKind, ConfigPlace, ConfigRefusal, config_of};
 use std::alloc::Global;
 use std::rt;
@@ -64,11 +64,11 @@ fn definition_fault(alloc: Global, text: &[u8], refusal: ConfigRefusal) -> Optio
     format!(in alloc; "configuration line {line}: {wrong}").ok()
 }
 
-// Where the definition begins that brings a fault: of a filter that of the wrong key, if there is one.
+// Where the definition begins that brings a fault: of a filter or a section that of the wrong key, if there is one.
 fn place_of(alloc: Global, text: &[u8], refusal: ConfigRefusal) -> Option<usize> {
     let begun = definition_at(alloc, text, refusal)?;
     match refusal.place {
-        ConfigPlace::Tables => wrong_key_at(alloc, text, begun, refusal),
+        ConfigPlace::Tables | ConfigPlace::Eq => wrong_key_at(alloc, text, begun, refusal),
         _ => Some(begun),
     }
 }

@@ -12,7 +12,7 @@ use std::alloc::Global;
 pub(crate) const WORK: usize = 8388608;
 
 /// Where the definition begins with which a configuration has a fault: the text before it is read, without that fault, and the
-/// text up to the end of any later line has it or isn't read. The definition of a filter has all of its keys.
+/// text up to the end of any later line has it or isn't read. The definition of a filter or a section has all of its keys.
 /// None where the search would take long, or memory runs out.
 pub fn definition_at(alloc: Global, text: &[u8], refusal: ConfigRefusal) -> Option<usize>
     ensures without { IfSome result (λ place. config_read (take place text.now) ≢ Err refusal) }
@@ -46,15 +46,41 @@ fn is_without(alloc: Global, text: &[u8], refusal: ConfigRefusal) -> Option<bool
 }
 
 // Whether a refusal can be told in place of another that is there too, and be gone further down: a filter misses keys until all
-// of them were read, and is judged before what comes behind it.
+// of them were read, and is judged before what comes behind it; so is a section.
 fn hides(told: ConfigRefusal, refusal: ConfigRefusal) -> bool {
-    told.kind == ConfigKind::Missing && is_judged_later(refusal)
-}
-
-fn is_judged_later(refusal: ConfigRefusal) -> bool {
-    match refusal.kind {
-        ConfigKind::Shape | ConfigKind::Coef | ConfigKind::Container | ConfigKind::Capture => true,
-        ConfigKind::Kind | ConfigKind::Range => refusal.place == ConfigPlace::Tables,
+    match (told.kind, told.place) {
+        (ConfigKind::Missing, ConfigPlace::Tables) => is_judged_behind_filters(refusal),
+        (ConfigKind::Missing, _) => is_judged_behind_sections(refusal),
         _ => false,
     }
+}
+
+// Whether a refusal is judged after what a filter misses.
+fn is_judged_behind_filters(refusal: ConfigRefusal) -> bool {
+    match refusal.place {
+        ConfigPlace::Tables => is_of_a_value(refusal.kind),
+        ConfigPlace::Eq => refusal.kind != ConfigKind::Key,
+        _ => is_of_the_whole(refusal.kind),
+    }
+}
+
+// Whether a refusal is judged after what a section misses.
+fn is_judged_behind_sections(refusal: ConfigRefusal) -> bool {
+    match refusal.place {
+        ConfigPlace::Eq => is_of_a_value(refusal.kind),
+        _ => is_of_the_whole(refusal.kind),
+    }
+}
+
+// Whether a kind tells of the value at a key of a filter or a section.
+fn is_of_a_value(kind: ConfigKind) -> bool {
+    matches!(
+        kind,
+        ConfigKind::Kind | ConfigKind::Range | ConfigKind::Shape | ConfigKind::Coef
+    )
+}
+
+// Whether a kind is judged last.
+fn is_of_the_whole(kind: ConfigKind) -> bool {
+    matches!(kind, ConfigKind::Container | ConfigKind::Capture)
 }

@@ -7,7 +7,6 @@ mod causes;
 mod chunk;
 mod config_cause;
 mod definition;
-mod filter_key;
 mod first_put;
 mod lines;
 mod numbers;
@@ -17,6 +16,7 @@ mod shown;
 mod unread_cause;
 mod wave_cause;
 mod wave_format;
+mod wrong_key;
 
 pub use causes::cause_of;
 pub use definition::definition_at;

@@ -7,7 +7,7 @@ use Rattle.pcm_rate.specs.declared.rate.Rate.{Rate}
 use Rattle.pcm_rate.specs.Rates.{unchanged, IsRatio, IsPeriod, need, can, len}
 use Rattle.pcm_rate.proofs.Counts.{div_grows, div_more, below_div_up, can-greatest, can-le-len, len_grows, need_grows, need-past, need-unchanged, counts-periodic}
 use Rattle.pcm_feeder.specs.declared.stage.Spec.{Spec}
-use Rattle.pcm_feeder.specs.declared.stage.Spec.TheVariants.{Matrix, Hold, Linear, Poly, Volume, Depth}
+use Rattle.pcm_feeder.specs.declared.stage.Spec.TheVariants.{Matrix, Hold, Linear, Poly, Volume, Depth, Eq}
 use Rattle.pcm_feeder.specs.Limits.{IsChange, IsSpec}
 use Rattle.pcm_plan.specs.Plans.{PlanSeen, rate_among, rate_in_plan}
 use Rattle.pcm_plan.specs.Fits.{IsPlan}
@@ -127,6 +127,7 @@ near-among (Poly src dst channels table taps ∷ specs) limits =
     near-change src dst channels (taps / 2) is.change (omega (arith, row.even, row.most))
 near-among (Volume layout ∷ specs) limits = near-among specs (All-tail IsSpec (Volume layout) specs limits)
 near-among (Depth bits channels ∷ specs) limits = near-among specs (All-tail IsSpec (Depth bits channels) specs limits)
+near-among (Eq channels sections ∷ specs) limits = near-among specs (All-tail IsSpec (Eq channels sections) specs limits)
 
 pub rate-near : (plan : PlanSeen) → IsPlan plan → IsNear (rate_in_plan plan)
 rate-near plan is = near-among plan.stages is.specs

@@ -1,30 +1,33 @@
 -- How frames go through stages that are fed one after another.
-use Rattle.std.proofs.Common.{◌≡◌, ◌≢◌, ◌≤◌, ◌<◌, ◌-◌, ◌*◌, ◌/◌, ◌%◌, ℕ, ℤ, pos, List, [], ◌∷◌, ◌++◌, length, map, take, drop, get_or, Option, Some, IsSomeAnd, All, refl, sym, ap, ◌∙◌, subst, arith}
+use Rattle.std.proofs.Common.{◌≡◌, ◌≢◌, ◌≤◌, ◌<◌, ◌+◌, ◌-◌, ◌*◌, ◌/◌, ◌%◌, min, ℕ, ℤ, pos, List, [], ◌∷◌, ◌++◌, length, map, take, drop, get_or, Option, Some, IsSomeAnd, All, refl, sym, ap, ◌∙◌, subst, arith}
 use Rattle.std.specs.List.{range_with_len}
 use Rattle.std.proofs.Math.Nat.{mul-div_cancel, mul-le-mul}
 use Rattle.std.proofs.lemmas.List.{take_all, nil_from_length, length-take-le}
-use Rattle.std.proofs.lemmas.List.Elements.{All-nil, All-cons, All-head, All-tail, All-append, All-map}
+use Rattle.std.proofs.lemmas.List.Elements.{All-nil, All-cons, All-head, All-tail, All-append, All-map, All-take}
 use Rattle.std.proofs.lemmas.List.FromFn.{length-map-range_with_len}
 use Rattle.std.proofs.lemmas.Simd.{length-zip2}
 use Rattle.pcm_format.specs.Frames.{Frame}
 use Rattle.pcm_format.proofs.Streams.{channels_of-above, channels_of-most}
 use Rattle.pcm_rate.specs.Rates.{unchanged}
-use Rattle.pcm_feeder.specs.declared.rack.SixOf.{SixOf}
+use Rattle.pcm_feeder.specs.declared.rack.SevenOf.{SevenOf}
 use Rattle.pcm_feeder.specs.declared.stage.Gain.{Gain}
 use Rattle.pcm_feeder.specs.declared.stage.Spec.{Spec}
-use Rattle.pcm_feeder.specs.declared.stage.Spec.TheVariants.{Matrix, Hold, Linear, Poly, Volume, Depth}
+use Rattle.pcm_feeder.specs.declared.stage.Spec.TheVariants.{Matrix, Hold, Linear, Poly, Volume, Depth, Eq}
 use Rattle.pcm_feeder.specs.Filters.{Filters}
 use Rattle.pcm_feeder.specs.Kept.{Kept, fresh, IsFitted}
 use Rattle.pcm_feeder.specs.Kinds.{kind_of}
 use Rattle.pcm_feeder.specs.Limits.{AreChannels, IsSpec, IsGain, HasTable}
+use Rattle.pcm_feeder.specs.Sections.{sections_of}
 use Rattle.pcm_feeder.specs.Stages.{rate_of, channels_in, channels_out, table_at, filtered, held, on_line, filtered_frame}
 use Rattle.pcm_feeder.specs.Streams.{written, HaveChannels}
-use Rattle.pcm_feeder.specs.Turns.{Turn, CanFeed, turn, turn_of, fed, around, phase_of}
+use Rattle.pcm_feeder.specs.Turns.{Turn, CanFeed, turn, turn_of, fed, around, phase_of, given_by}
 use Rattle.pcm_feeder.proofs.Driven.{whole-front, frames-written}
 use Rattle.pcm_feeder.proofs.Fitted.{fresh-stands, turn-fits}
 use Rattle.pcm_feeder.proofs.Frames.{frames_of-channels, length-frames_of, interleaved-frames_of}
+use Rattle.pcm_feeder.proofs.Sections.{length-on, on-channels, length-sections_of}
 use Rattle.pcm_feeder.proofs.Streams.{stream-channels}
 use Rattle.pcm_feeder.proofs.Turns.{turn-continues, turn-fitted, fed-fitted}
+use Rattle.pcm_feeder.proofs.Unrated.{given-unrated}
 use Rattle.pcm_plan.specs.Plans.{rate_among}
 use Rattle.pcm_plan.specs.Fits.{Follow, AreDistinct, HaveTables}
 use Rattle.pcm_chain.specs.Boxes.{kept_in, HaveFitted}
@@ -52,6 +55,7 @@ channels-given (Linear src dst channels) is = is.within
 channels-given (Poly src dst channels table taps) is = is.change.within
 channels-given (Volume layout) is = record { least = channels_of-above layout; most = channels_of-most layout }
 channels-given (Depth bits channels) is = is.within
+channels-given (Eq channels sections) is = is.within
 
 -- ---- the frames of one feed
 
@@ -118,6 +122,20 @@ turn-shape (Volume layout) kept tables gain input want is fits have =
     shape-fresh (Volume layout) kept tables gain input want is have (kept-is kept (Some (Volume layout)) fits.fitted (omega (arith, fits.phase)) (fits.unrated refl) (nil_from_length kept.tail fits.count))
 turn-shape (Depth bits channels) kept tables gain input want is fits have =
     shape-fresh (Depth bits channels) kept tables gain input want is have (kept-is kept (Some (Depth bits channels)) fits.fitted (omega (arith, fits.phase)) (fits.unrated refl) (nil_from_length kept.tail fits.count))
+turn-shape (Eq channels sections) kept tables gain input want is fits have =
+    let spec = Eq channels sections in
+    let list = sections_of tables sections in
+    let given = (turn_of spec kept tables gain input want).given in
+    let few : given ≡ min want (length input) =
+    ap (λ p. given_by unchanged p kept.ahead (length input) want) (omega (arith, fits.phase))
+    ∙ ap (λ a. given_by unchanged 0 a (length input) want) (fits.unrated refl)
+    ∙ given-unrated (length input) want in
+    let P : Frame → Type 0 = λ (frame : Frame). length frame ≡ channels in
+    let long : length kept.tail ≡ 2 + 2 * length list = fits.count ∙ ap (λ n. 2 + 2 * n) (sym (length-sections_of tables sections)) in
+    rw (turn-fitted spec kept tables gain input want fits.fitted) (record {
+      count = length-on channels list kept.tail (take given input) long ∙ length-take-le given input (omega (arith, few));
+      channels = on-channels channels list kept.tail (take given input) fits.frames (All-take P given input have);
+    })
 
 -- ---- samples and frames
 
@@ -170,15 +188,15 @@ stages-cut [] d some = absurd (some refl)
 stages-cut (spec ∷ rest) d some = ap (λ list. spec ∷ list) (sym (take_all (length (spec ∷ rest) - 1) rest (omega arith)))
 
 -- the others are of other kinds, so their boxes keep what they kept
-others-keep : {B : Type 0} (kept : B → Kept) (old mid : SixOf B) (spec : Spec) (rest : List Spec) → All (λ other. kind_of spec ≢ kind_of other) rest
+others-keep : {B : Type 0} (kept : B → Kept) (old mid : SevenOf B) (spec : Spec) (rest : List Spec) → All (λ other. kind_of spec ≢ kind_of other) rest
     → ((other : Spec) → kind_of other ≢ kind_of spec → kept_in kept mid other ≡ kept_in kept old other) → All (λ s. kept_in kept mid s ≡ kept_in kept old s) rest
 others-keep kept old mid spec rest differ others k d below = others (get_or rest k d) (λ same. differ k d below (sym same))
 
 -- what the stages behind the first one ask
-pub record AskOn {B : Type 0} (kept : B → Kept) (six : SixOf B) (filters : Filters) (given want source space : ℕ) (rest : List Spec) : Type 0 where
+pub record AskOn {B : Type 0} (kept : B → Kept) (boxes : SevenOf B) (filters : Filters) (given want source space : ℕ) (rest : List Spec) : Type 0 where
   pub limits : All IsSpec rest
   pub distinct : AreDistinct rest
-  pub fitted : HaveFitted kept six rest
+  pub fitted : HaveFitted kept boxes rest
   pub tables : HaveTables rest filters
   pub channels : AreChannels source
   pub offered : given ≤ 256
@@ -193,6 +211,7 @@ level-on (Linear src dst channels) rest frames given want level most still = mos
 level-on (Poly src dst channels table taps) rest frames given want level most still = most
 level-on (Volume layout) rest frames given want level most still = omega (arith, level still)
 level-on (Depth bits channels) rest frames given want level most still = omega (arith, level still)
+level-on (Eq channels sections) rest frames given want level most still = omega (arith, level still)
 
 -- what is asked of a stage fits a block
 pub asked-most : (spec : Spec) (want frames : ℕ) → want ≤ 256 → frames ≤ 256 → asked spec want frames ≤ 256
@@ -202,8 +221,9 @@ asked-most (Linear src dst channels) want frames w f = w
 asked-most (Poly src dst channels table taps) want frames w f = w
 asked-most (Volume layout) want frames w f = f
 asked-most (Depth bits channels) want frames w f = f
+asked-most (Eq channels sections) want frames w f = f
 
-pub ask-on : {B : Type 0} (kept : B → Kept) (old mid : SixOf B) (tables : Filters) (frames given want source room : ℕ) (stages : List Spec) (spec : Spec) (rest : List Spec) → stages ≡ spec ∷ rest
+pub ask-on : {B : Type 0} (kept : B → Kept) (old mid : SevenOf B) (tables : Filters) (frames given want source room : ℕ) (stages : List Spec) (spec : Spec) (rest : List Spec) → stages ≡ spec ∷ rest
     → All IsSpec stages → AreDistinct stages → HaveFitted kept old stages → HaveTables stages tables → frames ≤ 256 → want ≤ 256
     → (rate_among stages ≡ unchanged → frames ≤ want) → HaveRoom source stages want room → given ≤ asked spec want frames
     → ((other : Spec) → kind_of other ≢ kind_of spec → kept_in kept mid other ≡ kept_in kept old other)
@@ -246,7 +266,7 @@ given-front keeps tables gain want spec n given source samples next old is fits 
     ∙ frames-written (channels_out spec) done.given done.frames old (omega (arith, out.least)) shape.channels shape.count
 
 -- frames that went through one stage, and then through the others, went through all
-pub gone-on : {B : Type 0} (kept : B → Kept) (old mid new : SixOf B) (tables : Filters) (gain : Gain) (want : ℕ) (stages : List Spec) (spec : Spec) (rest : List Spec) (input next : List Frame) (given : ℕ) (before after : List ℤ)
+pub gone-on : {B : Type 0} (kept : B → Kept) (old mid new : SevenOf B) (tables : Filters) (gain : Gain) (want : ℕ) (stages : List Spec) (spec : Spec) (rest : List Spec) (input next : List Frame) (given : ℕ) (before after : List ℤ)
     → stages ≡ spec ∷ rest → AreDistinct stages
     → ((other : Spec) → kind_of other ≢ kind_of spec → kept_in kept mid other ≡ kept_in kept old other)
     → kept_in kept mid spec ≡ (turn_in (kept_in kept old) tables gain want spec input).kept → next ≡ (turn_in (kept_in kept old) tables gain want spec input).frames
@@ -297,14 +317,14 @@ pub block-room : (n c : ℕ) → n ≤ 256 → AreChannels c → n * c ≤ 2048
 block-room n c few are = mul-le-mul few are.most
 
 -- what holds of the first stage, and of the others
-pub record AtHead {B : Type 0} (kept : B → Kept) (boxes : SixOf B) (from : ℕ) (stages : List Spec) (spec : Spec) (rest : List Spec) : Type 0 where
+pub record AtHead {B : Type 0} (kept : B → Kept) (boxes : SevenOf B) (from : ℕ) (stages : List Spec) (spec : Spec) (rest : List Spec) : Type 0 where
   pub limits : IsSpec spec
   pub fitted : IsFitted spec (kept_in kept boxes spec)
   pub source : channels_in spec ≡ from
   pub first : (other : Spec) → All (λ s. kind_of other ≢ kind_of s) stages → kind_of other ≢ kind_of spec
   pub behind : (other : Spec) → All (λ s. kind_of other ≢ kind_of s) stages → All (λ s. kind_of other ≢ kind_of s) rest
 
-pub at-head : {B : Type 0} (kept : B → Kept) (boxes : SixOf B) (from want space : ℕ) (stages : List Spec) (spec : Spec) (rest : List Spec) → stages ≡ spec ∷ rest
+pub at-head : {B : Type 0} (kept : B → Kept) (boxes : SevenOf B) (from want space : ℕ) (stages : List Spec) (spec : Spec) (rest : List Spec) → stages ≡ spec ∷ rest
     → All IsSpec stages → HaveFitted kept boxes stages → HaveRoom from stages want space → AtHead kept boxes from stages spec rest
 at-head kept boxes from want space stages spec rest cut limits fitted has =
     let P : Spec → Type 0 = λ s. IsFitted s (kept_in kept boxes s) in

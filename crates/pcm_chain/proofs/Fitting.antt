@@ -2,7 +2,7 @@
 use Rattle.std.proofs.Common.{◌≡◌, ◌≢◌, ◌<◌, ◌+◌, ℕ, zero, suc, List, [], ◌∷◌, length, take, get_or, All, sym, ap, ◌∙◌, arith}
 use Rattle.std.proofs.lemmas.List.{get_or-take, length-take}
 use Rattle.std.proofs.lemmas.List.Elements.{All-more}
-use Rattle.pcm_feeder.specs.declared.rack.SixOf.{SixOf}
+use Rattle.pcm_feeder.specs.declared.rack.SevenOf.{SevenOf}
 use Rattle.pcm_feeder.specs.declared.stage.Spec.{Spec}
 use Rattle.pcm_feeder.specs.Kept.{Kept, fresh}
 use Rattle.pcm_feeder.specs.Kinds.{kind_of}
@@ -17,7 +17,7 @@ distinct-at (spec ∷ specs) (suc i) zero d e are below within = are.0 i e (omeg
 distinct-at (spec ∷ specs) (suc i) (suc j) d e are below within = distinct-at specs i j d e are.1 (omega arith) (omega arith)
 
 -- one box more is fitted
-pub fresh-more : {B : Type 0} (kept : B → Kept) (old new : SixOf B) (specs : List Spec) (i : ℕ) (d : Spec) → AreDistinct specs → i < length specs
+pub fresh-more : {B : Type 0} (kept : B → Kept) (old new : SevenOf B) (specs : List Spec) (i : ℕ) (d : Spec) → AreDistinct specs → i < length specs
     → All (λ spec. kept_in kept old spec ≡ fresh spec) (take i specs) → kept_in kept new (get_or specs i d) ≡ fresh (get_or specs i d)
     → ((other : Spec) → kind_of other ≢ kind_of (get_or specs i d) → kept_in kept new other ≡ kept_in kept old other)
     → All (λ spec. kept_in kept new spec ≡ fresh spec) (take (i + 1) specs)

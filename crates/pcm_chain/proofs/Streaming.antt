@@ -2,7 +2,7 @@
 use Rattle.std.proofs.Common.{◌≡◌, ◌≢◌, ◌≤◌, ◌<◌, ◌+◌, ◌-◌, min, max, ℕ, ℤ, pos, negsuc, ◌<ℤ◌, List, [], ◌∷◌, ◌++◌, length, take, get_or, All, refl, sym, ap, ◌∙◌, subst, arith}
 use Rattle.std.proofs.lemmas.Int.{ints}
 use Rattle.std.proofs.lemmas.List.{take_all, length-append, get_or-append-add}
-use Rattle.std.proofs.lemmas.List.Elements.{All-head, All-tail}
+use Rattle.std.proofs.lemmas.List.Elements.{All-head, All-tail, All-weaker}
 use Rattle.std.proofs.lemmas.List.FromFn.{get_or-map-range_with_len}
 use Rattle.pcm_format.specs.Frames.{Frame}
 use Rattle.pcm_rate.specs.declared.rate.Rate.{Rate}
@@ -11,7 +11,7 @@ use Rattle.pcm_rate.proofs.Counts.{can-greatest, need-unchanged, can-unchanged}
 use Rattle.pcm_feeder.specs.declared.kind.Kind.TheVariants as kinds
 use Rattle.pcm_feeder.specs.declared.stage.Gain.{Gain}
 use Rattle.pcm_feeder.specs.declared.stage.Spec.{Spec}
-use Rattle.pcm_feeder.specs.declared.stage.Spec.TheVariants.{Matrix, Hold, Linear, Poly, Volume, Depth}
+use Rattle.pcm_feeder.specs.declared.stage.Spec.TheVariants.{Matrix, Hold, Linear, Poly, Volume, Depth, Eq}
 use Rattle.pcm_feeder.specs.Filters.{Filters}
 use Rattle.pcm_feeder.specs.Kept.{Kept, StandsFor}
 use Rattle.pcm_feeder.specs.Kinds.{kind_of}
@@ -24,7 +24,7 @@ use Rattle.pcm_feeder.proofs.Outputs.{conv-gain, src-above, dst-above}
 use Rattle.pcm_feeder.proofs.Turns.{turn-continues, given-unchanged}
 use Rattle.pcm_feeder.proofs.Unrated.{conv-matrix, conv-volume, conv-depth}
 use Rattle.pcm_plan.specs.Plans.{rate_among}
-use Rattle.pcm_plan.specs.Fits.{Follow, IsUnrated, HaveOneRate, GainIsLate}
+use Rattle.pcm_plan.specs.Fits.{Follow, IsUnrated, HaveOneRate, TurnsEach, GainIsLate}
 use Rattle.pcm_plan.specs.Through.{through}
 use Rattle.pcm_plan.proofs.Fits.{one-rate-unrated}
 use Rattle.pcm_plan.proofs.Through.{through-local, need_through-rate}
@@ -52,6 +52,7 @@ rate-unrated (Linear src dst channels ∷ specs) level = All-head IsUnrated (Lin
 rate-unrated (Poly src dst channels table taps ∷ specs) level = All-head IsUnrated (Poly src dst channels table taps) specs level
 rate-unrated (Volume layout ∷ specs) level = rate-unrated specs (All-tail IsUnrated (Volume layout) specs level)
 rate-unrated (Depth bits channels ∷ specs) level = rate-unrated specs (All-tail IsUnrated (Depth bits channels) specs level)
+rate-unrated (Eq channels sections ∷ specs) level = rate-unrated specs (All-tail IsUnrated (Eq channels sections) specs level)
 
 -- and have given as many frames as they have eaten
 stages-level : (keeps : Spec → Kept) (tables : Filters) (specs : List Spec) (x : List Frame) (given : ℕ) → All IsUnrated specs → StagesStand keeps tables specs x given → length x ≡ given
@@ -123,6 +124,8 @@ head-goes keeps tables gain want (Volume layout) specs x middle input before m i
     head-level keeps tables gain want (Volume layout) specs x middle input before m is refl refl stands have one asks
 head-goes keeps tables gain want (Depth bits channels) specs x middle input before m is one stands rest have asks =
     head-level keeps tables gain want (Depth bits channels) specs x middle input before m is refl refl stands have one asks
+head-goes keeps tables gain want (Eq channels sections) specs x middle input before m is one stands rest have asks =
+    head-level keeps tables gain want (Eq channels sections) specs x middle input before m is refl refl stands have one asks
 
 -- what it stands for then, and what it has given
 head-given : (keeps : Spec → Kept) (tables : Filters) (gain : Gain) (want : ℕ) (spec : Spec) (specs : List Spec) (x middle input : List Frame) (before m : ℕ) → IsSpec spec
@@ -168,21 +171,22 @@ stages-fed keeps now tables gain want (spec ∷ specs) c d x input before m limi
 
 -- ---- the frames that come out
 
--- stages that keep the rate turn each frame by itself
-through-point : (tables : Filters) (gain : Gain) (specs : List Spec) (x y : Stream) (p : ℕ) → All IsSpec specs → All IsUnrated specs → x (pos p) ≡ y (pos p)
+-- stages that turn each frame by itself
+through-point : (tables : Filters) (gain : Gain) (specs : List Spec) (x y : Stream) (p : ℕ) → All IsSpec specs → All TurnsEach specs → x (pos p) ≡ y (pos p)
     → through tables gain specs x (pos p) ≡ through tables gain specs y (pos p)
 through-point tables gain [] x y p limits level same = same
 through-point tables gain (spec ∷ specs) x y p limits level same =
-    through-point tables gain specs (all_outputs spec tables gain x) (all_outputs spec tables gain y) p (All-tail IsSpec spec specs limits) (All-tail IsUnrated spec specs level)
-    (point spec (All-head IsSpec spec specs limits) (All-head IsUnrated spec specs level))
+    through-point tables gain specs (all_outputs spec tables gain x) (all_outputs spec tables gain y) p (All-tail IsSpec spec specs limits) (All-tail TurnsEach spec specs level)
+    (point spec (All-head IsSpec spec specs limits) (All-head TurnsEach spec specs level))
   where
-    point : (spec : Spec) → IsSpec spec → IsUnrated spec → conv spec tables gain x p ≡ conv spec tables gain y p
+    point : (spec : Spec) → IsSpec spec → TurnsEach spec → conv spec tables gain x p ≡ conv spec tables gain y p
     point (Matrix from to) is level = conv-matrix from to tables gain x p ∙ ap (in_layout from to) same ∙ sym (conv-matrix from to tables gain y p)
-    point (Hold src dst channels) is level = absurd (omega (arith, is.source.least, ap (λ (r : Rate). r.src) level))
-    point (Linear src dst channels) is level = absurd (omega (arith, is.source.least, ap (λ (r : Rate). r.src) level))
-    point (Poly src dst channels table taps) is level = absurd (omega (arith, is.change.source.least, ap (λ (r : Rate). r.src) level))
+    point (Hold src dst channels) is level = absurd (omega (arith, is.source.least, ap (λ (r : Rate). r.src) level.unrated))
+    point (Linear src dst channels) is level = absurd (omega (arith, is.source.least, ap (λ (r : Rate). r.src) level.unrated))
+    point (Poly src dst channels table taps) is level = absurd (omega (arith, is.change.source.least, ap (λ (r : Rate). r.src) level.unrated))
     point (Volume layout) is level = conv-volume layout tables gain x p ∙ ap (at_gain layout gain) same ∙ sym (conv-volume layout tables gain y p)
     point (Depth bits channels) is level = conv-depth bits channels tables gain x p ∙ ap (at_bits bits) same ∙ sym (conv-depth bits channels tables gain y p)
+    point (Eq channels sections) is level = absurd (omega (arith, level.nothing))
 
 -- the rate of stages has both parts above 0
 ratio-among : (specs : List Spec) → All IsSpec specs → IsRatio (rate_among specs)
@@ -194,6 +198,7 @@ ratio-among (Poly src dst channels table taps ∷ specs) limits =
     let is = All-head IsSpec (Poly src dst channels table taps) specs limits in record { src = src-above (Poly src dst channels table taps) is; dst = dst-above (Poly src dst channels table taps) is }
 ratio-among (Volume layout ∷ specs) limits = ratio-among specs (All-tail IsSpec (Volume layout) specs limits)
 ratio-among (Depth bits channels ∷ specs) limits = ratio-among specs (All-tail IsSpec (Depth bits channels) specs limits)
+ratio-among (Eq channels sections ∷ specs) limits = ratio-among specs (All-tail IsSpec (Eq channels sections) specs limits)
 
 -- what a stage has given, as a stream, is its stream of outputs up to there, where the gain has no part in it
 given-stream : (spec : Spec) (tables : Filters) (gain : Gain) (x given : List Frame) (place : ℤ) → kind_of spec ≢ kinds.Volume → HasGiven spec tables x given → place <ℤ pos (length given)
@@ -230,7 +235,7 @@ heard-early keeps tables gain want spec specs x middle input before m fixed limi
         (pos (before + k)) (omega (arith, ints))
 
 -- the volume itself
-heard-late : (keeps : Spec → Kept) (tables : Filters) (gain : Gain) (want : ℕ) (spec : Spec) (specs : List Spec) (x middle input : List Frame) (before m : ℕ) → All IsSpec specs → All IsUnrated specs
+heard-late : (keeps : Spec → Kept) (tables : Filters) (gain : Gain) (want : ℕ) (spec : Spec) (specs : List Spec) (x middle input : List Frame) (before m : ℕ) → All IsSpec specs → All TurnsEach specs
     → length middle ≡ before → HeadGoes keeps tables gain want spec specs x middle input before m
     → IsHeard tables gain spec specs (x ++ input) (middle ++ (turn_in keeps tables gain want spec input).frames) before m
 heard-late keeps tables gain want spec specs x middle input before m limits level same h = record { heard = heard }
@@ -243,7 +248,7 @@ heard-late keeps tables gain want spec specs x middle input before m limits leve
     heard k below =
         let d = silence (channels_out spec) in
         let whole : take turned.eaten input ≡ input = take_all turned.eaten input (omega (arith, h.eaten)) in
-        let asks = subst (λ r. Asks r (length middle) before (length turned.frames) want m) (rate-unrated specs level) h.asks in
+        let asks = subst (λ r. Asks r (length middle) before (length turned.frames) want m) (rate-unrated specs (All-weaker TurnsEach IsUnrated (λ s each. each.unrated) specs level)) h.asks in
         let count = level-asks (length middle) (length turned.frames) want m (rw (← same) at asks) in
         through-point tables gain specs (stream_of (channels_out spec) (middle ++ turned.frames)) (all_outputs spec tables gain (stream_of (channels_in spec) (x ++ input))) (before + k) limits level
         (ap (λ n. get_or (middle ++ turned.frames) (n + k) d) (sym same)
@@ -264,9 +269,11 @@ heard-by keeps tables gain want (Linear src dst channels) specs x middle input b
 heard-by keeps tables gain want (Poly src dst channels table taps) specs x middle input before m limits late rest has h =
     heard-early keeps tables gain want (Poly src dst channels table taps) specs x middle input before m (λ (same : kinds.Poly ≡ kinds.Volume). cc) limits has h
 heard-by keeps tables gain want (Volume layout) specs x middle input before m limits late rest has h =
-    heard-late keeps tables gain want (Volume layout) specs x middle input before m limits late (stages-level keeps tables specs middle before late rest) h
+    heard-late keeps tables gain want (Volume layout) specs x middle input before m limits late (stages-level keeps tables specs middle before (All-weaker TurnsEach IsUnrated (λ s each. each.unrated) specs late) rest) h
 heard-by keeps tables gain want (Depth bits channels) specs x middle input before m limits late rest has h =
     heard-early keeps tables gain want (Depth bits channels) specs x middle input before m (λ (same : kinds.Depth ≡ kinds.Volume). cc) limits has h
+heard-by keeps tables gain want (Eq channels sections) specs x middle input before m limits late rest has h =
+    heard-early keeps tables gain want (Eq channels sections) specs x middle input before m (λ (same : kinds.Eq ≡ kinds.Volume). cc) limits has h
 
 -- the gain is late behind the first stage too
 late-tail : (spec : Spec) (specs : List Spec) → GainIsLate (spec ∷ specs) → GainIsLate specs
@@ -274,17 +281,19 @@ late-tail (Matrix from to) specs late = late
 late-tail (Hold src dst channels) specs late = late
 late-tail (Linear src dst channels) specs late = late
 late-tail (Poly src dst channels table taps) specs late = late
-late-tail (Volume layout) specs late = unrated-late specs late
+late-tail (Volume layout) specs late = each-late specs late
   where
-    unrated-late : (list : List Spec) → All IsUnrated list → GainIsLate list
-    unrated-late [] level = tt
-    unrated-late (Matrix from to ∷ list) level = unrated-late list (All-tail IsUnrated (Matrix from to) list level)
-    unrated-late (Hold src dst channels ∷ list) level = unrated-late list (All-tail IsUnrated (Hold src dst channels) list level)
-    unrated-late (Linear src dst channels ∷ list) level = unrated-late list (All-tail IsUnrated (Linear src dst channels) list level)
-    unrated-late (Poly src dst channels table taps ∷ list) level = unrated-late list (All-tail IsUnrated (Poly src dst channels table taps) list level)
-    unrated-late (Volume layout ∷ list) level = All-tail IsUnrated (Volume layout) list level
-    unrated-late (Depth bits channels ∷ list) level = unrated-late list (All-tail IsUnrated (Depth bits channels) list level)
+    each-late : (list : List Spec) → All TurnsEach list → GainIsLate list
+    each-late [] level = tt
+    each-late (Matrix from to ∷ list) level = each-late list (All-tail TurnsEach (Matrix from to) list level)
+    each-late (Hold src dst channels ∷ list) level = each-late list (All-tail TurnsEach (Hold src dst channels) list level)
+    each-late (Linear src dst channels ∷ list) level = each-late list (All-tail TurnsEach (Linear src dst channels) list level)
+    each-late (Poly src dst channels table taps ∷ list) level = each-late list (All-tail TurnsEach (Poly src dst channels table taps) list level)
+    each-late (Volume layout ∷ list) level = All-tail TurnsEach (Volume layout) list level
+    each-late (Depth bits channels ∷ list) level = each-late list (All-tail TurnsEach (Depth bits channels) list level)
+    each-late (Eq channels sections ∷ list) level = each-late list (All-tail TurnsEach (Eq channels sections) list level)
 late-tail (Depth bits channels) specs late = late
+late-tail (Eq channels sections) specs late = late
 
 -- what comes out is what the stages make of all frames
 pub comes-out : (keeps : Spec → Kept) (tables : Filters) (gain : Gain) (want : ℕ) (specs : List Spec) (c d : ℕ) (x input : List Frame) (before m : ℕ) → All IsSpec specs → HaveOneRate specs → GainIsLate specs → Follow c specs d

@@ -3,7 +3,7 @@ use Rattle.std.specs.Prelude.{◌≡◌, ◌<◌, ℕ, ◌-◌, List, [], ◌∷
 use Rattle.pcm_format.specs.Frames.{Frame}
 use Rattle.pcm_format.specs.Layouts.{channels_of}
 use Rattle.pcm_feeder.specs.declared.kind.Kind.{Kind}
-use Rattle.pcm_feeder.specs.declared.rack.SixOf.{SixOf}
+use Rattle.pcm_feeder.specs.declared.rack.SevenOf.{SevenOf}
 use Rattle.pcm_feeder.specs.declared.stage.Gain.{Gain}
 use Rattle.pcm_feeder.specs.declared.stage.Spec.{Spec}
 use Rattle.pcm_feeder.specs.Filters.{Filters}
@@ -20,7 +20,7 @@ use Rattle.pcm_chain.specs.declared.counts.Counts.{Counts}
 use Rattle.pcm_chain.specs.declared.chain.ChainOf.{ChainOf}
 
 -- the boxes of a chain
-abbrev pub boxes_in : {B : Type 0} → ChainOf B → SixOf B
+abbrev pub boxes_in : {B : Type 0} → ChainOf B → SevenOf B
 boxes_in chain = chain.boxes
 
 -- each box of a chain is of its place's kind

@@ -9,7 +9,7 @@ use Rattle.pcm_feeder.specs.Kept.{Kept}
 use Rattle.pcm_feeder.specs.Streams.{frames_of, written}
 use Rattle.pcm_feeder.specs.Turns.{Turn, turn, fed}
 use Rattle.pcm_feeder.specs.Stages.{channels_in}
-use Rattle.pcm_feeder.specs.declared.rack.SixOf.{SixOf}
+use Rattle.pcm_feeder.specs.declared.rack.SevenOf.{SevenOf}
 use Rattle.pcm_fixed.specs.Fixed.{fixed_items}
 use Rattle.pcm_plan.specs.Fits.{Follow}
 use Rattle.pcm_chain.specs.declared.staging.Staging.{Staging}
@@ -35,9 +35,9 @@ abbrev pub turn_in : (Spec → Kept) → Filters → Gain → ℕ → Spec → L
 turn_in keeps tables gain want spec input = turn (keeps spec) tables gain input (asked spec want (length input))
 
 -- a feed of the first n samples' frames to the box of a stage
-abbrev pub fed_in : {B : Type 0} → (B → Kept) → SixOf B → Spec → Filters → Gain → ℕ → ℕ → List ℤ → Turn
-fed_in kept six spec tables gain n want input =
-    fed (kept_in kept six spec) tables gain (take (n * channels_in spec) input) (asked spec want n)
+abbrev pub fed_in : {B : Type 0} → (B → Kept) → SevenOf B → Spec → Filters → Gain → ℕ → ℕ → List ℤ → Turn
+fed_in kept boxes spec tables gain n want input =
+    fed (kept_in kept boxes spec) tables gain (take (n * channels_in spec) input) (asked spec want n)
 
 -- the frames that come out of stages, each offered what the one before it gives
 abbrev pub fed_through : (Spec → Kept) → Filters → Gain → ℕ → List Spec → List Frame → List Frame

@@ -10,7 +10,7 @@ ghost use Rattle.pcm_chain.specs.declared.staging.TheConstants.{BLOCK_SAMPLES};
 use crate::counts::Counts;
 use crate::stages::{feed_stages, fit_stages};
 use crate::staging::{BLOCK_SAMPLES, Staging};
-use pcm_feeder::{Feeder, Gain, RackOf, SixOf, Tables, UNITY};
+use pcm_feeder::{Feeder, Gain, RackOf, SevenOf, Tables, UNITY};
 use pcm_fixed::Fixed;
 use pcm_format::{Format, Layout};
 use pcm_plan::Plan;
@@ -23,7 +23,7 @@ pub const PUSHED_FRAMES: usize = 262_144;
 /// The boxes of a rack, and the plan that says which of them a stream goes through, and in what order.
 #[derive(Drop)]
 pub struct ChainOf<B> {
-    boxes: SixOf<B>,
+    boxes: SevenOf<B>,
     plan: Plan,
     staging: Staging,
     // The frames of a block that come of a push.

@@ -15,10 +15,10 @@ ghost use Rattle.pcm_chain.specs.Feeds.{asked, fed_in, first_staged, GoneThrough
 ghost use Rattle.pcm_chain.specs.declared.staging.TheConstants.{BLOCK_FRAMES};
 
 use crate::staging::Staging;
-use pcm_feeder::{Feeder, Gain, SixOf, Spec, Tables};
+use pcm_feeder::{Feeder, Gain, SevenOf, Spec, Tables};
 
 /// Fits the box of each stage to it.
-pub fn fit_stages<B: Feeder>(boxes: &mut SixOf<B>, stages: &[Spec])
+pub fn fit_stages<B: Feeder>(boxes: &mut SevenOf<B>, stages: &[Spec])
     requires kinds { HaveKinds B.kind boxes.old }
     requires limits { All IsSpec stages.now }
     requires distinct { AreDistinct stages.now }
@@ -31,7 +31,7 @@ pub fn fit_stages<B: Feeder>(boxes: &mut SixOf<B>, stages: &[Spec])
 }
 
 // Fits the box of a stage to it. The other boxes keep what they kept.
-fn fit_stage<B: Feeder>(boxes: &mut SixOf<B>, spec: Spec)
+fn fit_stage<B: Feeder>(boxes: &mut SevenOf<B>, spec: Spec)
     requires kinds { HaveKinds B.kind boxes.old }
     requires limits { IsSpec spec }
     ensures kinds { HaveKinds B.kind boxes.new }
@@ -45,13 +45,14 @@ fn fit_stage<B: Feeder>(boxes: &mut SixOf<B>, spec: Spec)
         Spec::Poly { .. } => boxes.poly.fit(spec),
         Spec::Volume { .. } => boxes.volume.fit(spec),
         Spec::Depth { .. } => boxes.depth.fit(spec),
+        Spec::Eq { .. } => boxes.eq.fit(spec),
     }
 }
 
 /// Puts the first `frames` frames of a staging, each of `source` channels, through stages that each give to the next one. The
 /// last one gives at most `want` frames to the front of `out`. Answers how many these are.
 pub fn feed_stages<B: Feeder>(
-    boxes: &mut SixOf<B>,
+    boxes: &mut SevenOf<B>,
     stages: &[Spec],
     source: usize,
     tables: &Tables,
@@ -114,7 +115,7 @@ pub fn feed_stages<B: Feeder>(
 // Feeds the first `frames` frames of `input` to the box of a stage, which gives frames to the front of `output`. Answers how many
 // these are.
 fn feed_stage<B: Feeder>(
-    boxes: &mut SixOf<B>,
+    boxes: &mut SevenOf<B>,
     spec: Spec,
     tables: &Tables,
     gain: Gain,
@@ -147,6 +148,7 @@ fn feed_stage<B: Feeder>(
         Spec::Poly { .. } => boxes.poly.feed(tables, gain, input, want, output),
         Spec::Volume { .. } => boxes.volume.feed(tables, gain, input, frames, output),
         Spec::Depth { .. } => boxes.depth.feed(tables, gain, input, frames, output),
+        Spec::Eq { .. } => boxes.eq.feed(tables, gain, input, frames, output),
     };
     moved.given
 }
@@ -162,6 +164,7 @@ fn channels_in(spec: Spec) -> usize
         Spec::Poly { channels, .. } => channels,
         Spec::Volume { layout } => layout.channels(),
         Spec::Depth { channels, .. } => channels,
+        Spec::Eq { channels, .. } => channels,
     }
 }
 

@@ -1,12 +1,14 @@
 -- The entries of a table's map, beside those that a contract sees.
-use Rattle.std.proofs.Common.{◌≡◌, ℕ, Bool, ◌&&◌, List, [], ◌∷◌, ◌++◌, Option, Some, None, string_bytes, refl, sym, ap, ◌∙◌, append_assoc}
-use Rattle.std.specs.List.{list_all}
+use Rattle.std.proofs.Common.{◌≡◌, ℕ, Bool, ◌&&◌, ◌||◌, List, [], ◌∷◌, ◌++◌, Option, Some, None, string_bytes, refl, sym, ap, ◌∙◌, append_assoc}
+use Rattle.std.specs.Borrow.{Bor}
+use Rattle.std.specs.List.{list_all, list_any}
 use Rattle.std.specs.Map.{keys_of}
 use Rattle.toml.specs.Data.{as_str}
 use Rattle.toml.specs.View.{view, members_view}
 use Rattle.toml.proofs.Views.{Entry}
 use Rattle.pcm_config.specs.declared.config.FilePath.{FilePath}
 use Rattle.pcm_config.specs.Files.{files_of, with_file}
+use Rattle.pcm_config.specs.Lists.{keys_seen}
 use Rattle.pcm_config.specs.Lookups.{entries_of}
 use Rattle.pcm_config.proofs.Arrays.{joined}
 
@@ -15,6 +17,11 @@ pub keys-seen : (test : List ℕ → Bool) (entries : List Entry)
     → list_all (λ key. test (string_bytes key)) (keys_of entries) ≡ list_all (λ entry. test entry.0) (entries_of (members_view entries))
 keys-seen test [] = refl
 keys-seen test (entry ∷ entries) = ap (λ b. test (string_bytes entry.0) && b) (keys-seen test entries)
+
+-- whether a key among those that the code holds passes a test
+pub any-seen : (test : List ℕ → Bool) (keys : List (Bor (List ℕ))) → list_any (λ key. test key.now) keys ≡ list_any test (keys_seen keys)
+any-seen test [] = refl
+any-seen test (key ∷ keys) = ap (λ b. test key.now || b) (any-seen test keys)
 
 -- the files of a map's entries
 abbrev pub files_seen : List Entry → Option (List FilePath)

@@ -1,25 +1,24 @@
 -- The filters that are read keep their limits.
-use Rattle.std.proofs.Common.{◌≡◌, ℕ, suc, ◌*◌, ◌/◌, ◌%◌, ◌≤◌, ◌==◌, ℤ, Bool, true, false, not, ◌&&◌, cond, nat_le, nat_lt, List, [], ◌∷◌, length, Option, Some, None, option_map, Result, Ok, Err, refl, ap, subst, ◌∙◌, inl, inr, arith, IfOk}
-use Rattle.std.specs.Prelude.{All, IfSome, neg_ℤ, int_le}
+use Rattle.std.proofs.Common.{◌≡◌, ℕ, suc, ◌*◌, ◌/◌, ◌%◌, ◌≤◌, ◌==◌, ℤ, Bool, true, false, not, ◌&&◌, cond, nat_le, List, [], ◌∷◌, length, Option, Some, None, option_map, Result, Ok, Err, refl, ap, ◌∙◌, inl, inr, arith, IfOk}
+use Rattle.std.specs.Prelude.{IfSome}
 use Rattle.std.specs.List.{flat_map, list_all}
 use Rattle.std.proofs.lemmas.Bool.{and_parts, eqb-true, false≢true}
 use Rattle.std.proofs.lemmas.Bool.Decides.{nat_tests}
-use Rattle.std.proofs.lemmas.Int.{ints}
-use Rattle.std.proofs.lemmas.List.{length-append, length-map}
+use Rattle.std.proofs.lemmas.List.{length-append}
 use Rattle.std.proofs.lemmas.List.Elements.{All-nil, All-cons}
-use Rattle.pcm_feeder.specs.declared.table.Table.{Table}
-use Rattle.pcm_feeder.specs.Limits.{AreFilters, AreTableRates, AreTaps, IsCoef, IsRate, IsTable}
+use Rattle.pcm_feeder.specs.Limits.{AreTableRates, AreTaps, IsCoef, IsRate, IsTable}
 use Rattle.toml.specs.Data.{Data, Members, as_integer}
-use Rattle.toml.specs.declared.value.Value.{Value}
 use Rattle.pcm_config.specs.declared.fault.ConfigKind.TheVariants.{Kind, Range, Coef}
 use Rattle.pcm_config.specs.declared.filter.Spelled.{Spelled}
 use Rattle.pcm_feeder.specs.declared.limits.TheConstants.{COEF_MOST, FILTERS, SHIFT_MOST}
 use Rattle.pcm_config.specs.declared.place.ConfigPlace.TheVariants.{Tables}
+use Rattle.pcm_config.specs.Lists.{AreFew}
 use Rattle.pcm_config.specs.Judgements.{◌>>=◌, required}
-use Rattle.pcm_config.specs.Lookups.{each_as, of_kind, table_seen, tables_seen, with_first}
+use Rattle.pcm_config.specs.Lookups.{each_as, of_kind, with_first}
 use Rattle.pcm_config.specs.Rows.{in_range}
-use Rattle.pcm_config.specs.Tables.{as_coef, coefs_in, come_together, filter_in, filter_rate, filter_with, filters_in, each_filter, has_filter_shape, is_phases, is_taps, rows_in, settled_filter, shaped, spelled_in, taps_of}
-use Rattle.pcm_config.proofs.Judging.{IsBetween, after-any, after-kept, not-false, passed, range-kept, required-kept, some-kept}
+use Rattle.pcm_config.specs.Tables.{coefs_in, come_together, filter_coef, filter_in, filter_rate, filter_with, filters_in, has_filter_shape, is_phases, is_taps, rows_in, settled_filter, shaped, spelled_in, taps_of}
+use Rattle.pcm_config.proofs.Judging.{AreKept, IsBetween, after-any, after-kept, coef-kept, not-false, passed, range-kept, required-kept}
+use Rattle.pcm_config.proofs.EachTable.{few-kept}
 
 -- ---- rates: both or neither
 
@@ -109,18 +108,6 @@ length-joined taps (row ∷ rows) each =
 
 -- ---- coefficients
 
-coef-is : (number : ℤ) → (int_le (neg_ℤ COEF_MOST) number && int_le number COEF_MOST) ≡ true → IsCoef number
-coef-is number passes =
-    let (low, high) = and_parts (int_le (neg_ℤ COEF_MOST) number) (int_le number COEF_MOST) passes in
-    record { low = grind (arith, ints); high = grind (arith, ints) }
-
-coef-kept : (number : ℤ) → IfSome (as_coef number) IsCoef
-coef-kept number = some-kept (int_le (neg_ℤ COEF_MOST) number && int_le number COEF_MOST) number IsCoef (coef-is number)
-
--- as many values, each of which is what it must be
-abbrev AreKept : {B : Type 0} → (B → Type 0) → ℕ → List B → Type 0
-AreKept P count values = (length values ≡ count) × All P values
-
 first-kept : {B : Type 0} (P : B → Type 0) (count : ℕ) (first : Option B) (others : Option (List B))
     → IfSome first P → IfSome others (AreKept P count) → IfSome (with_first first others) (AreKept P (suc count))
 first-kept P count None others f o = tt
@@ -142,7 +129,7 @@ shaped-kept src dst shift rows rates bits =
     let shape = shape-is rows (not-false _ has) in
     let numbers = flat_map (λ row. row) rows in
     after-kept (required Coef Tables (coefs_in rows)) _ (AreKept IsCoef (length numbers)) IsTable
-    (required-kept Coef Tables (coefs_in rows) (AreKept IsCoef (length numbers)) (each-kept IsCoef as_coef coef-kept numbers)) (λ coefs kept.
+    (required-kept Coef Tables (coefs_in rows) (AreKept IsCoef (length numbers)) (each-kept IsCoef filter_coef (coef-kept COEF_MOST) numbers)) (λ coefs kept.
     record {
       rates = rates;
       least_phases = shape.phases.0;
@@ -198,26 +185,6 @@ filter-kept table = with-kept _ _ _ _
 
 -- ---- all filters
 
-each-filter-kept : (tables : List Members) → IfOk (each_filter tables) (AreKept IsTable (length tables))
-each-filter-kept [] = (refl, All-nil IsTable)
-each-filter-kept (table ∷ tables) =
-    after-kept (filter_in table) _ IsTable _ (filter-kept table) (λ filter f.
-    after-kept (each_filter tables) _ (AreKept IsTable (length tables)) _ (each-filter-kept tables) (λ filters fs.
-    (ap suc fs.0, All-cons IsTable filter filters f fs.1)))
-
-few-are : (count found : ℕ) → nat_lt FILTERS count ≡ false → found ≡ count → found ≤ 4
-few-are count found few same = grind (arith, nat_tests)
-
 -- the filters of a configuration are within their limits
-pub filters-kept : (tables : List Members) → IfOk (filters_in tables) (λ filters. AreFilters filters.list)
-unfolding filters_in
-filters-kept tables =
-    passed (nat_lt FILTERS (length tables)) _ _ _ (λ few.
-    after-kept (each_filter tables) _ (AreKept IsTable (length tables)) _ (each-filter-kept tables) (λ filters kept.
-    record { count = few-are (length tables) (length filters) few kept.0; each = kept.1 }))
-
--- so are those that were read from at most four values
-pub filters-fit : (values : List Value) (filters : List Table) → length values ≤ 4 → each_filter (tables_seen values) ≡ Ok filters → AreFilters filters
-filters-fit values filters few read =
-    let kept = subst (λ found. IfOk {T = List Table} found (AreKept IsTable (length (tables_seen values)))) read (each-filter-kept (tables_seen values)) in
-    record { count = omega (arith, kept.0, length-map values table_seen); each = kept.1 }
+pub filters-kept : (tables : List Members) → IfOk (filters_in tables) (AreFew FILTERS IsTable)
+filters-kept tables = few-kept FILTERS Tables IsTable filter_in filter-kept tables

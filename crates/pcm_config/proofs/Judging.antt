@@ -1,11 +1,17 @@
 -- What holds after judgements one after another.
-use Rattle.std.proofs.Common.{◌≡◌, ℕ, ◌≤◌, ℤ, pos, negsuc, Bool, true, false, not, ◌&&◌, nat_le, cond, Option, Some, None, Result, Ok, Err, refl, sym, arith, IfOk}
-use Rattle.std.specs.Prelude.{IfSome}
+use Rattle.std.proofs.Common.{◌≡◌, ℕ, ◌≤◌, ℤ, pos, negsuc, Bool, true, false, not, ◌&&◌, nat_le, cond, List, length, Option, Some, None, Result, Ok, Err, refl, sym, subst, arith, IfOk}
+use Rattle.std.specs.Prelude.{All, IfSome, neg_ℤ, int_le}
+use Rattle.std.proofs.lemmas.Bool.{and_parts}
 use Rattle.std.proofs.lemmas.Bool.Decides.{nat_tests}
+use Rattle.std.proofs.lemmas.Int.{ints}
+use Rattle.pcm_feeder.specs.Limits.{IsCoefWithin}
+use Rattle.pcm_config.specs.declared.fault.ConfigFault.{ConfigFault}
 use Rattle.pcm_config.specs.declared.fault.ConfigKind.{ConfigKind}
+use Rattle.pcm_config.specs.declared.fault.ConfigRefusal.{ConfigRefusal}
 use Rattle.pcm_config.specs.declared.place.ConfigPlace.{ConfigPlace}
-use Rattle.pcm_config.specs.Judgements.{◌>>=◌, required}
-use Rattle.pcm_config.specs.Rows.{in_range}
+use Rattle.pcm_config.specs.Answers.{Reads}
+use Rattle.pcm_config.specs.Judgements.{◌>>=◌, as_seen, required}
+use Rattle.pcm_config.specs.Rows.{as_coef, in_range}
 
 pub after-kept : {A B E : Type 0} (read : Result A E) (next : A → Result B E) (P : A → Type 0) (Q : B → Type 0)
     → IfOk read P → ((value : A) → P value → IfOk (next value) Q) → IfOk (read >>= next) Q
@@ -16,6 +22,11 @@ pub after-any : {A B E : Type 0} (read : Result A E) (next : A → Result B E) (
     → ((value : A) → IfOk (next value) Q) → IfOk (read >>= next) Q
 after-any (Ok value) next Q after = after value
 after-any (Err fault) next Q after = tt
+
+-- what says more of a value
+pub ok-more : {A E : Type 0} (read : Result A E) (P Q : A → Type 0) → IfOk read P → ((value : A) → P value → Q value) → IfOk read Q
+ok-more (Ok value) P Q known more = more value known
+ok-more (Err fault) P Q known more = tt
 
 -- what passes a test that else refuses
 pub passed : {A E : Type 0} (test : Bool) (fault : E) (read : Result A E) (Q : A → Type 0) → (test ≡ false → IfOk read Q) → IfOk (cond test (Err fault) read) Q
@@ -42,6 +53,25 @@ range-parts least most number both = grind (arith, nat_tests)
 pub range-kept : (least most : ℕ) (number : ℤ) → IfSome (in_range least most number) (IsBetween least most)
 range-kept least most (pos number) = some-kept (nat_le least number && nat_le number most) number (IsBetween least most) (range-parts least most number)
 range-kept least most (negsuc number) = tt
+
+near-is : (most number : ℤ) → (int_le (neg_ℤ most) number && int_le number most) ≡ true → IsCoefWithin most number
+near-is most number passes =
+    let (low, high) = and_parts (int_le (neg_ℤ most) number) (int_le number most) passes in
+    record { low = grind (arith, ints); high = grind (arith, ints) }
+
+-- a coefficient within its limit
+pub coef-kept : (most number : ℤ) → IfSome (as_coef most number) (IsCoefWithin most)
+coef-kept most number = some-kept (int_le (neg_ℤ most) number && int_le number most) number (IsCoefWithin most) (near-is most number)
+
+-- as many values, each of which is what it must be
+abbrev pub AreKept : {B : Type 0} → (B → Type 0) → ℕ → List B → Type 0
+AreKept P count values = (length values ≡ count) × All P values
+
+-- what holds of what was judged holds of an answer that is that
+pub answer-kept : {A B : Type 0} (seen : A → B) (answer : Result A ConfigFault) (read : Result B ConfigRefusal) (P : B → Type 0)
+    → Reads (as_seen seen answer) read → IfOk read P → IfOk answer (λ value. P (seen value))
+answer-kept seen (Ok value) read P same known = subst (λ judged. IfOk judged P) same known
+answer-kept seen (Err fault) read P same known = tt
 
 pub not-false : (test : Bool) → not test ≡ false → test ≡ true
 not-false true passes = refl

@@ -1,7 +1,11 @@
 -- What holds of each configuration that is read.
 use Rattle.std.proofs.Common.{refl, ℕ, ◌*◌, ℤ, not, nat_lt, List, length, Option, Some, None, arith, IfOk}
 use Rattle.std.specs.List.{list_all}
-use Rattle.pcm_feeder.specs.Limits.{IsRate, AreFilters}
+use Rattle.pcm_feeder.specs.declared.limits.TheConstants.{FILTERS, SECTIONS}
+use Rattle.pcm_feeder.specs.declared.section.Section.{Section}
+use Rattle.pcm_feeder.specs.declared.table.Table.{Table}
+use Rattle.pcm_feeder.specs.Filters.{as_filters}
+use Rattle.pcm_feeder.specs.Limits.{IsRate, IsSection, IsTable, AreFilters}
 use Rattle.pcm_desk.specs.Device.{IsInLimits}
 use Rattle.toml.specs.Data.{Members, as_integer}
 use Rattle.pcm_config.specs.declared.config.Config.{Config}
@@ -15,9 +19,12 @@ use Rattle.pcm_config.specs.Places.{device_places, top_places, vchans_places}
 use Rattle.pcm_config.specs.Rows.{block_row, blocks_row, channels_row, container_row, format_row, in_range, numbers, play_row, quality_row, rate_row, record_row}
 use Rattle.pcm_config.specs.Values.{AreSlots, IsHardware, capture_in, hardware_in, in_row, settings_in, settled, slots_in}
 use Rattle.pcm_config.specs.Files.{files_in}
-use Rattle.pcm_config.specs.Tables.{filter_tables, filters_in, has_filter_keys}
+use Rattle.pcm_config.specs.Lists.{AreFew, has_no_other, tables_at}
+use Rattle.pcm_config.specs.Sections.{section_keys, sections_in}
+use Rattle.pcm_config.specs.Tables.{filter_keys, filters_in}
 use Rattle.pcm_config.proofs.Judging.{IsBetween, after-any, after-kept, not-false, passed, range-kept, required-kept}
 use Rattle.pcm_config.proofs.FilterLimits.{filters-kept}
+use Rattle.pcm_config.proofs.SectionLimits.{sections-kept}
 use Rattle.pcm_config.specs.Configs.{HasCapture, IsHeld, can_hold, config_read, config_with, device_seen, document_of, document_read, has_capture, tables_read, top_read, values_read, whole_read}
 
 -- a configuration within its limits, which has what it names
@@ -70,6 +77,13 @@ slots-kept vchans =
     after-kept (settled quality_row vchans) _ (IsBetween 0 4) AreSlots (number-kept places.VchansQuality 0 4 1 vchans (omega arith, omega arith)) (λ quality q.
     record { play = p.1; recording = r.1; quality = q.1 })))
 
+-- ---- filters and sections
+
+-- filters and sections that are within their limits are so together
+pub tables-fit : (filters : List Table) (sections : List Section) → AreFew FILTERS IsTable filters → AreFew SECTIONS IsSection sections
+    → AreFilters (as_filters filters sections)
+tables-fit filters sections f s = record { count = f.count; each = f.each; few = s.count; sections = s.each }
+
 -- ---- the whole
 
 whole-kept : (config : Config) → IsInLimits (device_seen config) → IfOk (whole_read config) IsKept
@@ -78,23 +92,25 @@ whole-kept config limits =
     passed (not (has_capture config.files config.capture)) _ _ IsKept (λ has.
     record { limits = limits; container = not-false _ holds; capture = not-false _ has }))
 
-values-kept : (device vchans table : Members) (tables : List Members) → IfOk (values_read device vchans table tables) IsKept
+values-kept : (device vchans table : Members) (tables eq : List Members) → IfOk (values_read device vchans table tables eq) IsKept
 unfolding values_read
-values-kept device vchans table tables =
+values-kept device vchans table tables eq =
     after-kept (hardware_in device) _ IsHardware IsKept (hardware-kept device) (λ hardware h.
     after-any (capture_in device) _ IsKept (λ capture.
     after-kept (slots_in vchans) _ AreSlots IsKept (slots-kept vchans) (λ slots s.
     after-any (files_in table) _ IsKept (λ files.
-    after-kept (filters_in tables) _ (λ filters. AreFilters filters.list) IsKept (filters-kept tables) (λ filters f.
-    whole-kept (config_with hardware capture slots files filters)
-    (record { device_is = record { rate = h.rate; mix_rate = h.rate; same = refl; filters = f }; block = h.block; ring = h.ring; ring_most = h.ring_most; slots_most = s.play; recorders_most = s.recording; quality = s.quality }))))))
+    after-kept (filters_in tables) _ (AreFew FILTERS IsTable) IsKept (filters-kept tables) (λ filters f.
+    after-kept (sections_in eq) _ (AreFew SECTIONS IsSection) IsKept (sections-kept eq) (λ sections c.
+    whole-kept (config_with hardware capture slots files (as_filters filters sections))
+    (record { device_is = record { rate = h.rate; mix_rate = h.rate; same = refl; filters = tables-fit filters sections f c }; block = h.block; ring = h.ring; ring_most = h.ring_most; slots_most = s.play; recorders_most = s.recording; quality = s.quality })))))))
 
-tables-kept : (device vchans table : Members) (tables : List Members) → IfOk (tables_read device vchans table tables) IsKept
+tables-kept : (device vchans table : Members) (tables eq : List Members) → IfOk (tables_read device vchans table tables eq) IsKept
 unfolding tables_read
-tables-kept device vchans table tables =
+tables-kept device vchans table tables eq =
     passed (not (has_only device_places device)) _ _ IsKept (λ _.
     passed (not (has_only vchans_places vchans)) _ _ IsKept (λ _.
-    passed (not (list_all has_filter_keys tables)) _ _ IsKept (λ _. values-kept device vchans table tables)))
+    passed (not (list_all (has_no_other filter_keys) tables)) _ _ IsKept (λ _.
+    passed (not (list_all (has_no_other section_keys) eq)) _ _ IsKept (λ _. values-kept device vchans table tables eq))))
 
 top-kept : (top : Members) → IfOk (top_read top) IsKept
 unfolding top_read
@@ -102,7 +118,8 @@ top-kept top =
     after-any (table_in places.Device top) _ IsKept (λ device.
     after-any (table_in places.Vchans top) _ IsKept (λ vchans.
     after-any (table_in places.Files top) _ IsKept (λ table.
-    after-any (filter_tables top) _ IsKept (λ tables. tables-kept device vchans table tables))))
+    after-any (tables_at places.Tables top) _ IsKept (λ tables.
+    after-any (tables_at places.Eq top) _ IsKept (λ eq. tables-kept device vchans table tables eq)))))
 
 document-kept : (top : Members) → IfOk (document_read top) IsKept
 unfolding document_read

@@ -2,8 +2,9 @@ pub mod Documents
 pub mod Arrays
 pub mod Entries
 pub mod Order
-pub mod Filters
 pub mod Judging
+pub mod EachTable
 pub mod FilterLimits
+pub mod SectionLimits
 pub mod OnLiterals
 pub mod Kept

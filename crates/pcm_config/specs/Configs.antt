@@ -7,8 +7,8 @@ use Rattle.std.specs.List.Sorted.{IsStrictlySortedBy}
 use Rattle.std.specs.Ordering.{nat_cmp}
 use Rattle.pcm_format.specs.declared.settings.Settings.{Settings}
 use Rattle.pcm_format.specs.Frames.{frame_bytes}
-use Rattle.pcm_feeder.specs.Filters.{Filters}
-use Rattle.pcm_desk.specs.Device.{DeviceSeen, IsInLimits, no_filters, seen}
+use Rattle.pcm_feeder.specs.Filters.{Filters, as_filters, no_filters}
+use Rattle.pcm_desk.specs.Device.{DeviceSeen, IsInLimits, seen}
 use Rattle.pcm_desk.specs.Usual.{usual_settings}
 use Rattle.toml.specs.Data.{Members}
 use Rattle.toml.specs.Parse.{parse_document}
@@ -28,7 +28,9 @@ use Rattle.pcm_config.specs.Lookups.{has_only, table_in}
 use Rattle.pcm_config.specs.Values.{hardware_in, capture_in, slots_in}
 use Rattle.pcm_wave.specs.Formats.{is_wave_format}
 use Rattle.pcm_config.specs.Files.{files_in, is_named, names_of}
-use Rattle.pcm_config.specs.Tables.{filter_tables, filters_in, has_filter_keys}
+use Rattle.pcm_config.specs.Lists.{has_no_other, tables_at}
+use Rattle.pcm_config.specs.Tables.{filter_keys, filters_in}
+use Rattle.pcm_config.specs.Sections.{section_keys, sections_in}
 
 -- what is settled of a run without a configuration
 abbrev pub usual_config : Config
@@ -74,37 +76,40 @@ whole_read config =
     else if not (has_capture config.files config.capture) then refused kinds.Capture places.DeviceCapture
     else Ok config
 
--- the files and the filters, beside what is settled of the device and the channels, and then the whole
-abbrev pub lists_read : Hardware → Option (List ℕ) → Slots → Members → List Members → Result Config ConfigRefusal
-lists_read hardware capture slots table tables = do
+-- the files, the filters and the sections, beside what is settled of the device and the channels, and then the whole
+abbrev pub lists_read : Hardware → Option (List ℕ) → Slots → Members → List Members → List Members → Result Config ConfigRefusal
+lists_read hardware capture slots table tables eq = do
   files ← files_in table
   filters ← filters_in tables
-  whole_read (config_with hardware capture slots files filters)
+  sections ← sections_in eq
+  whole_read (config_with hardware capture slots files (as_filters filters sections))
 
 -- the values of the tables, in their order, and then the whole
-unfoldable pub values_read : Members → Members → Members → List Members → Result Config ConfigRefusal
-values_read device vchans table tables = do
+unfoldable pub values_read : Members → Members → Members → List Members → List Members → Result Config ConfigRefusal
+values_read device vchans table tables eq = do
   hardware ← hardware_in device
   capture ← capture_in device
   slots ← slots_in vchans
-  lists_read hardware capture slots table tables
+  lists_read hardware capture slots table tables eq
 
 -- the keys of the tables, and then their values
-unfoldable pub tables_read : Members → Members → Members → List Members → Result Config ConfigRefusal
-tables_read device vchans table tables =
+unfoldable pub tables_read : Members → Members → Members → List Members → List Members → Result Config ConfigRefusal
+tables_read device vchans table tables eq =
     if not (has_only device_places device) then refused kinds.Key places.Device
     else if not (has_only vchans_places vchans) then refused kinds.Key places.Vchans
-    else if not (list_all has_filter_keys tables) then refused kinds.Key places.Tables
-    else values_read device vchans table tables
+    else if not (list_all (has_no_other filter_keys) tables) then refused kinds.Key places.Tables
+    else if not (list_all (has_no_other section_keys) eq) then refused kinds.Key places.Eq
+    else values_read device vchans table tables eq
 
--- the three tables and those of filters, and then what they settle
+-- the three tables and those of filters and of sections, and then what they settle
 unfoldable pub top_read : Members → Result Config ConfigRefusal
 top_read top = do
   device ← table_in places.Device top
   vchans ← table_in places.Vchans top
   table ← table_in places.Files top
-  tables ← filter_tables top
-  tables_read device vchans table tables
+  tables ← tables_at places.Tables top
+  eq ← tables_at places.Eq top
+  tables_read device vchans table tables eq
 
 -- a document, which has no key but those of the top
 unfoldable pub document_read : Members → Result Config ConfigRefusal
@@ -124,7 +129,7 @@ config_read bytes =
       top ← required kinds.Toml places.Top (document_of bytes)
       document_read top
 
--- the device of a run with its filters, as others see it
+-- the device of a run with its filters and sections, as others see it
 abbrev pub device_seen : Config → DeviceSeen
 device_seen config = seen config.tables config.device
 

@@ -1,10 +1,12 @@
 pub mod Places
 pub mod Judgements
 pub mod Lookups
+pub mod Lists
 pub mod Rows
 pub mod Values
 pub mod Files
 pub mod Tables
+pub mod Sections
 pub mod Configs
 pub mod Parts
 pub mod Answers

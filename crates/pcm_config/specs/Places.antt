@@ -3,7 +3,7 @@ use Rattle.std.specs.Prelude.{ℕ, List, [], ◌∷◌, codes}
 use Rattle.pcm_config.specs.declared.fault.ConfigKind.{ConfigKind}
 use Rattle.pcm_config.specs.declared.fault.ConfigKind.TheVariants.{Long, Toml, Key, Kind, Range, Name, Count, Missing, Shape, Coef, Container, Capture}
 use Rattle.pcm_config.specs.declared.place.ConfigPlace.{ConfigPlace}
-use Rattle.pcm_config.specs.declared.place.ConfigPlace.TheVariants.{Top, Device, Vchans, Files, Tables, DeviceFormat, DeviceChannels, DeviceRate, DeviceHwBlock, DeviceHwBlocks, DeviceContainer, DeviceCapture, VchansPlay, VchansRecord, VchansQuality}
+use Rattle.pcm_config.specs.declared.place.ConfigPlace.TheVariants.{Top, Device, Vchans, Files, Tables, Eq, DeviceFormat, DeviceChannels, DeviceRate, DeviceHwBlock, DeviceHwBlocks, DeviceContainer, DeviceCapture, VchansPlay, VchansRecord, VchansQuality}
 
 -- the word that names a kind
 abbrev pub config_kind_word : ConfigKind → List ℕ
@@ -27,6 +27,7 @@ place_word Device = codes "device"
 place_word Vchans = codes "vchans"
 place_word Files = codes "files"
 place_word Tables = codes "tables"
+place_word Eq = codes "eq"
 place_word DeviceFormat = codes "device.format"
 place_word DeviceChannels = codes "device.channels"
 place_word DeviceRate = codes "device.rate"
@@ -45,6 +46,7 @@ key_of Device = codes "device"
 key_of Vchans = codes "vchans"
 key_of Files = codes "files"
 key_of Tables = codes "tables"
+key_of Eq = codes "eq"
 key_of DeviceFormat = codes "format"
 key_of DeviceChannels = codes "channels"
 key_of DeviceRate = codes "rate"
@@ -56,9 +58,9 @@ key_of VchansPlay = codes "play"
 key_of VchansRecord = codes "record"
 key_of VchansQuality = codes "quality"
 
--- what stands at the top of a configuration: three tables, and the array of filters
+-- what stands at the top of a configuration: three tables, and the arrays of filters and of sections
 abbrev pub top_places : List ConfigPlace
-top_places = Device ∷ Vchans ∷ Files ∷ Tables ∷ []
+top_places = Device ∷ Vchans ∷ Files ∷ Tables ∷ Eq ∷ []
 
 -- what may be settled of the device
 abbrev pub device_places : List ConfigPlace

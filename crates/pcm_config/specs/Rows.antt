@@ -1,5 +1,5 @@
 -- The values that may be settled, a row for each: where it stands, what it must be, its set, and what it is where it is left out.
-use Rattle.std.specs.Prelude.{ℕ, ℤ, pos, negsuc, ◌&&◌, nat_le, if◌then◌else◌, List, Option, Some, None, codes}
+use Rattle.std.specs.Prelude.{ℕ, ℤ, pos, negsuc, neg_ℤ, int_le, ◌&&◌, nat_le, if◌then◌else◌, List, Option, Some, None, codes}
 use Rattle.std.specs.Str.{bytes_eq}
 use Rattle.pcm_format.specs.declared.format.Format.{Format}
 use Rattle.pcm_format.specs.declared.format.Format.TheVariants.{S16Le}
@@ -27,6 +27,10 @@ pub record ConfigRow (A B : Type 0) : Type 0 where
 abbrev pub in_range : ℕ → ℕ → ℤ → Option ℕ
 in_range least most (pos number) = if nat_le least number && nat_le number most then Some number else None
 in_range least most (negsuc number) = None
+
+-- a coefficient, if it is at most so far from 0
+abbrev pub as_coef : ℤ → ℤ → Option ℤ
+as_coef most number = if int_le (neg_ℤ most) number && int_le number most then Some number else None
 
 -- the layout with so many channels
 abbrev pub layout_with : ℤ → Option Layout

@@ -1,44 +1,25 @@
 -- The filters of a configuration: a table for each, what that spells, and what it settles.
-use Rattle.std.specs.Prelude.{ℕ, ℤ, neg_ℤ, int_le, Bool, true, false, not, ◌&&◌, ◌||◌, ◌==◌, ◌*◌, ◌%◌, nat_le, nat_lt, if◌then◌else◌, List, [], ◌∷◌, length, Option, Some, None, Result, Ok, codes}
+use Rattle.std.specs.Prelude.{ℕ, ℤ, Bool, true, false, not, ◌&&◌, ◌==◌, ◌*◌, ◌%◌, nat_le, if◌then◌else◌, List, [], ◌∷◌, length, Option, Some, None, Result, Ok, codes}
 use Rattle.std.specs.List.{list_all, flat_map}
 use Rattle.std.specs.Borrow.{Bor}
-use Rattle.std.specs.Str.{bytes_eq}
 use Rattle.pcm_format.specs.declared.settings.TheConstants.{RATE_LEAST, RATE_MOST}
 use Rattle.pcm_feeder.specs.declared.table.Table.{Table}
-use Rattle.pcm_feeder.specs.Filters.{Filters}
-use Rattle.toml.specs.Data.{Data, Members, get_member, as_integer, as_table}
+use Rattle.toml.specs.Data.{Data, Members, get_member, as_integer}
 use Rattle.toml.specs.View.{view}
 use Rattle.toml.specs.declared.value.Value.{Value}
-use Rattle.pcm_config.specs.declared.fault.ConfigKind.TheVariants.{Kind, Range, Count, Missing, Shape, Coef}
+use Rattle.pcm_config.specs.declared.fault.ConfigKind.TheVariants.{Kind, Range, Missing, Shape, Coef}
 use Rattle.pcm_config.specs.declared.fault.ConfigRefusal.{ConfigRefusal}
 use Rattle.pcm_config.specs.declared.filter.Spelled.{Spelled}
 use Rattle.pcm_feeder.specs.declared.limits.TheConstants.{COEF_MOST, FILTERS, PHASES, SHIFT_MOST, TABLE_COEFS, TAPS}
 use Rattle.pcm_config.specs.declared.place.ConfigPlace.TheVariants.{Tables}
 use Rattle.pcm_config.specs.Judgements.{◌>>=◌, refused, required}
-use Rattle.pcm_config.specs.Lookups.{entries_of, value_at, value_seen, of_kind, each_as, as_array_of}
-use Rattle.pcm_config.specs.Rows.{in_range}
+use Rattle.pcm_config.specs.Lists.{few_read}
+use Rattle.pcm_config.specs.Lookups.{value_seen, of_kind, each_as, as_array_of}
+use Rattle.pcm_config.specs.Rows.{as_coef, in_range}
 
--- ---- the array of tables
-
--- an array of tables, or the one without any
-abbrev pub or_none : Option (List Members) → List Members
-or_none None = []
-or_none (Some tables) = tables
-
--- the tables of filters at the top
-abbrev pub filter_tables : Members → Result (List Members) ConfigRefusal
-filter_tables top = do
-  found ← value_at (as_array_of as_table) Tables top
-  Ok (or_none found)
-
--- a key that a filter's table may have
-abbrev pub is_filter_key : List ℕ → Bool
-is_filter_key key =
-    ((bytes_eq key (codes "src") || bytes_eq key (codes "dst")) || bytes_eq key (codes "shift")) || bytes_eq key (codes "rows")
-
--- whether a table has no key but those
-abbrev pub has_filter_keys : Members → Bool
-has_filter_keys table = list_all (λ entry. is_filter_key entry.0) (entries_of table)
+-- the keys that a filter's table may have
+abbrev pub filter_keys : List (List ℕ)
+filter_keys = codes "src" ∷ codes "dst" ∷ codes "shift" ∷ codes "rows" ∷ []
 
 -- ---- what a table spells
 
@@ -90,12 +71,12 @@ has_filter_shape rows =
     && nat_le (length rows * taps_of rows) TABLE_COEFS
 
 -- a coefficient, if it is within its limit on both sides of 0
-abbrev pub as_coef : ℤ → Option ℤ
-as_coef number = if int_le (neg_ℤ COEF_MOST) number && int_le number COEF_MOST then Some number else None
+abbrev pub filter_coef : ℤ → Option ℤ
+filter_coef = as_coef COEF_MOST
 
 -- the coefficients of rows, one row after another
 abbrev pub coefs_in : List (List ℤ) → Option (List ℤ)
-coefs_in rows = each_as as_coef (flat_map (λ row. row) rows)
+coefs_in rows = each_as filter_coef (flat_map (λ row. row) rows)
 
 -- a filter with these rates and this shift: first the rows have a shape, and then each coefficient is within its limit
 unfoldable pub shaped : ℕ → ℕ → ℕ → List (List ℤ) → Result Table ConfigRefusal
@@ -135,18 +116,6 @@ unfoldable pub filter_in : Members → Result Table ConfigRefusal
 filter_in table =
     filter_with (get_member (codes "src") table) (get_member (codes "dst") table) (get_member (codes "shift") table) (get_member (codes "rows") table)
 
--- the filters of tables, each wholly before the next
-abbrev pub each_filter : List Members → Result (List Table) ConfigRefusal
-each_filter [] = Ok []
-each_filter (table ∷ tables) = do
-  filter ← filter_in table
-  filters ← each_filter tables
-  Ok (filter ∷ filters)
-
 -- the filters of tables, of which there are only so many
-unfoldable pub filters_in : List Members → Result Filters ConfigRefusal
-filters_in tables =
-    if nat_lt FILTERS (length tables) then refused Count Tables
-    else do
-      filters ← each_filter tables
-      Ok (record { list = filters })
+abbrev pub filters_in : List Members → Result (List Table) ConfigRefusal
+filters_in tables = few_read FILTERS Tables filter_in tables

@@ -61,7 +61,7 @@ pub struct FilePath {
 pub type FilePaths = Sequence<FilePath>;
 
 /// What is settled of a run: its device, the form of the file that is played to, the files by their names,
-/// with the one that is recorded from, and the filters of the converters.
+/// with the one that is recorded from, and the filters of the converters with the sections of the equaliser.
 #[derive(Debug, Drop)]
 pub struct Config {
     pub device: Device,
@@ -80,6 +80,6 @@ pub fn default_config(alloc: Global) -> Config
         container: Container::Raw,
         capture: None,
         files: FilePaths::new(Vec::new(alloc)),
-        tables: Tables::new(Vec::new(alloc)),
+        tables: Tables::new(Vec::new(alloc), Vec::new(alloc)),
     }
 }

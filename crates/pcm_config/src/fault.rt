@@ -23,9 +23,9 @@ pub enum ConfigKind {
     Range,
     /// A text is outside its set.
     Name,
-    /// There are more filters than there may be.
+    /// There are more filters or sections than there may be.
     Count,
-    /// A filter lacks its shift or its rows, or one rate where it has the other.
+    /// A filter lacks its shift or its rows, or one rate where it has the other; a section lacks one of its keys.
     Missing,
     /// The rows of a filter are too few or too many, too short or too long, or differ in length.
     Shape,

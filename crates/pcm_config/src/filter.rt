@@ -21,6 +21,9 @@ use pcm_format::{RATE_LEAST, RATE_MOST};
 use std::alloc::Global;
 use toml::{Table, Value};
 
+// The keys that a filter's table may have.
+pub(crate) const FILTER_KEYS: [&str; 4] = ["src", "dst", "shift", "rows"];
+
 // What the table of a filter spells, each value of its kind.
 #[derive(Drop)]
 pub(crate) struct Spelled {

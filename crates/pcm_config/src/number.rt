@@ -2,7 +2,7 @@
 
 ghost use Rattle.std.specs.Prelude.{◌≡◌, ◌≤◌, IfOk, IfSome};
 ghost use Rattle.pcm_config.specs.Lookups.{members_seen};
-ghost use Rattle.pcm_config.specs.Rows.{in_range};
+ghost use Rattle.pcm_config.specs.Rows.{as_coef, in_range};
 ghost use Rattle.pcm_config.specs.Values.{number_row, settled};
 
 use crate::fault::required;
@@ -45,6 +45,16 @@ pub(crate) fn in_range(least: u32, most: u32, number: i64) -> Option<u32>
 {
     match u32::try_from(number) {
         Ok(number) if least <= number && number <= most => Some(number),
+        _ => None,
+    }
+}
+
+// A coefficient, if it is at most so far from 0.
+pub(crate) fn as_coef(most: i32, number: i64) -> Option<i32>
+    ensures { result ≡ as_coef most number }
+{
+    match i32::try_from(number) {
+        Ok(coef) if -i64::from(most) <= number && number <= i64::from(most) => Some(coef),
         _ => None,
     }
 }

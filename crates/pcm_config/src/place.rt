@@ -15,6 +15,8 @@ pub enum ConfigPlace {
     Files,
     /// The tables of filters.
     Tables,
+    /// The tables of the equaliser's sections.
+    Eq,
     /// The sample format of the device.
     DeviceFormat,
     /// The samples of a frame of the device.
@@ -50,6 +52,7 @@ impl ConfigPlace {
             ConfigPlace::Vchans => "vchans",
             ConfigPlace::Files => "files",
             ConfigPlace::Tables => "tables",
+            ConfigPlace::Eq => "eq",
             ConfigPlace::DeviceFormat => "device.format",
             ConfigPlace::DeviceChannels => "device.channels",
             ConfigPlace::DeviceRate => "device.rate",
@@ -73,6 +76,7 @@ impl ConfigPlace {
             ConfigPlace::Vchans => "vchans",
             ConfigPlace::Files => "files",
             ConfigPlace::Tables => "tables",
+            ConfigPlace::Eq => "eq",
             ConfigPlace::DeviceFormat => "format",
             ConfigPlace::DeviceChannels => "channels",
             ConfigPlace::DeviceRate => "rate",

@@ -13,21 +13,27 @@ ghost use Rattle.pcm_config.specs.Values.{AreSlots, IsHardware};
 
 use crate::fault::refused;
 use crate::files::files_in;
+use crate::filter::FILTER_KEYS;
 use crate::hardware::{Hardware, hardware_in};
+use crate::lists::{have_no_other, tables_at};
 use crate::lookup::{has_only, table_in, text_at};
+use crate::section::SECTION_KEYS;
+use crate::sections::sections_in;
 use crate::slots::{Slots, slots_in};
-use crate::tables::{filter_tables, filters_in, have_filter_keys};
+use crate::tables::filters_in;
 use crate::whole::{config_with, whole_read};
 use crate::{CONFIG_BYTES, Config, ConfigFault, ConfigKind, ConfigPlace, Name};
+use pcm_feeder::Tables;
 use std::alloc::{AllocError, Global};
 use toml::{Table, Value};
 
 // The keys of the top.
-const TOP: [ConfigPlace; 4] = [
+const TOP: [ConfigPlace; 5] = [
     ConfigPlace::Device,
     ConfigPlace::Vchans,
     ConfigPlace::Files,
     ConfigPlace::Tables,
+    ConfigPlace::Eq,
 ];
 
 // The keys of the device's table.
@@ -48,13 +54,14 @@ const VCHANS: [ConfigPlace; 3] = [
     ConfigPlace::VchansQuality,
 ];
 
-// The three tables of a configuration, and those of its filters.
+// The three tables of a configuration, and those of its filters and of its sections.
 #[derive(Clone, Copy)]
 pub(crate) struct Parts<'a> {
     pub(crate) device: Option<&'a Table>,
     pub(crate) vchans: Option<&'a Table>,
     pub(crate) files: Option<&'a Table>,
     pub(crate) tables: &'a [Value],
+    pub(crate) eq: &'a [Value],
 }
 
 /// Reads a configuration: all that it settles, or the first fault that applies.
@@ -111,7 +118,8 @@ fn top_read(alloc: Global, top: &Table) -> Result<Config, ConfigFault>
     let device = table_in(top, ConfigPlace::Device)?;
     let vchans = table_in(top, ConfigPlace::Vchans)?;
     let files = table_in(top, ConfigPlace::Files)?;
-    let tables = filter_tables(top)?;
+    let tables = tables_at(top, ConfigPlace::Tables)?;
+    let eq = tables_at(top, ConfigPlace::Eq)?;
     tables_read(
         alloc,
         Parts {
@@ -119,6 +127,7 @@ fn top_read(alloc: Global, top: &Table) -> Result<Config, ConfigFault>
             vchans,
             files,
             tables,
+            eq,
         },
     )
 }
@@ -134,8 +143,11 @@ fn tables_read(alloc: Global, parts: Parts<'_>) -> Result<Config, ConfigFault>
     if !has_only(parts.vchans, &VCHANS) {
         return Err(refused(ConfigKind::Key, ConfigPlace::Vchans));
     }
-    if !have_filter_keys(parts.tables) {
+    if !have_no_other(parts.tables, &FILTER_KEYS) {
         return Err(refused(ConfigKind::Key, ConfigPlace::Tables));
+    }
+    if !have_no_other(parts.eq, &SECTION_KEYS) {
+        return Err(refused(ConfigKind::Key, ConfigPlace::Eq));
     }
     values_read(alloc, parts)
 }
@@ -151,7 +163,7 @@ fn values_read(alloc: Global, parts: Parts<'_>) -> Result<Config, ConfigFault>
     lists_read(alloc, hardware, capture, slots, parts)
 }
 
-// The files and the filters, and the whole.
+// The files, the filters and the sections, and the whole.
 fn lists_read(
     alloc: Global,
     hardware: Hardware,
@@ -165,8 +177,10 @@ fn lists_read(
     ensures settled { IfOk result IsSettled }
 {
     let files = files_in(alloc, parts.files)?;
-    let tables = filters_in(alloc, parts.tables)?;
+    let filters = filters_in(alloc, parts.tables)?;
+    let sections = sections_in(alloc, parts.eq)?;
     let capture = name_of(alloc, capture)?;
+    let tables = Tables::new(filters, sections);
     whole_read(config_with(hardware, capture, slots, files, tables))
 }
 

@@ -5,11 +5,12 @@ ghost use Rattle.std.specs.List.{flat_map, list_all};
 ghost use Rattle.pcm_config.specs.Answers.{Reads};
 ghost use Rattle.pcm_config.specs.Judgements.{required};
 ghost use Rattle.pcm_config.specs.Lookups.{each_as};
-ghost use Rattle.pcm_config.specs.Tables.{as_coef, coefs_in, has_filter_shape, is_phases, is_taps, taps_of};
+ghost use Rattle.pcm_config.specs.Tables.{coefs_in, filter_coef, has_filter_shape, is_phases, is_taps, taps_of};
 ghost use Rattle.pcm_config.specs.declared.fault.ConfigKind.TheVariants.{Coef};
 ghost use Rattle.pcm_config.specs.declared.place.ConfigPlace.TheVariants.{Tables};
 
 use crate::fault::refused;
+use crate::number::as_coef;
 use crate::rows::Row;
 use crate::{ConfigFault, ConfigKind, ConfigPlace};
 use pcm_feeder::{COEF_MOST, Coefs, PHASES, TABLE_COEFS, TAPS};
@@ -73,24 +74,14 @@ fn end_to_end(alloc: Global, rows: &[Row]) -> Result<Vec<i64>, AllocError>
 }
 
 fn each_coef(alloc: Global, numbers: &[i64]) -> Result<Coefs, ConfigFault>
-    ensures { Reads result (required Coef Tables (each_as as_coef numbers.now)) }
+    ensures { Reads result (required Coef Tables (each_as filter_coef numbers.now)) }
 {
     let mut coefs = Vec::new(alloc);
     for number in numbers {
-        let Some(coef) = as_coef(*number) else {
+        let Some(coef) = as_coef(COEF_MOST, *number) else {
             return Err(refused(ConfigKind::Coef, ConfigPlace::Tables));
         };
         coefs.push(coef)?;
     }
     Ok(Coefs::new(coefs))
-}
-
-// A coefficient, if it is within its limit on both sides of 0.
-fn as_coef(number: i64) -> Option<i32>
-    ensures { result ≡ as_coef number }
-{
-    match i32::try_from(number) {
-        Ok(coef) if -COEF_MOST <= coef && coef <= COEF_MOST => Some(coef),
-        _ => None,
-    }
 }

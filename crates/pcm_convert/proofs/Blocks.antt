@@ -15,7 +15,7 @@ use Rattle.pcm_feeder.specs.declared.stage.Gain.{Gain}
 use Rattle.pcm_feeder.specs.Filters.{Filters}
 use Rattle.pcm_feeder.specs.Kept.{Kept}
 use Rattle.pcm_feeder.specs.Layouts.{unity}
-use Rattle.pcm_feeder.specs.Limits.{AreFilters, IsRate, IsTable}
+use Rattle.pcm_feeder.specs.Limits.{AreFilters, IsRate, IsSection, IsTable}
 use Rattle.pcm_feeder.specs.Streams.{HaveChannels, interleaved, written}
 use Rattle.pcm_feeder.proofs.Frames.{length-interleaved}
 use Rattle.pcm_plan.specs.Fits.{IsPlan}
@@ -28,7 +28,8 @@ use Rattle.pcm_chain.specs.declared.chain.Pulled.{Pulled}
 use Rattle.pcm_chain.specs.Chains.{ChainStands, plan_in}
 use Rattle.pcm_chain.specs.Counts.{allowed_in_all}
 use Rattle.pcm_chain.specs.Pulls.{IsPastTheEnd, Pulls, PullsAsFar, waiting_frames}
-use Rattle.pcm_convert.specs.Conversions.{block_count, conversion_plan, without_filters}
+use Rattle.pcm_convert.specs.Conversions.{block_count, conversion_plan}
+use Rattle.pcm_feeder.specs.Filters.{no_filters}
 use Rattle.pcm_convert.specs.Stands.{ConversionStands}
 use Rattle.pcm_convert.specs.declared.conversion.ConversionOf.{ConversionOf}
 use Rattle.pcm_convert.specs.declared.conversion.TheConstants.{BLOCK}
@@ -37,12 +38,12 @@ use Rattle.pcm_convert.proofs.Reach.{IsCounted, count-block}
 
 -- ---- the plan
 
-pub without_filters-fit : AreFilters without_filters.list
-without_filters-fit = record { count = omega arith; each = All-nil IsTable }
+pub no_filters-fit : AreFilters no_filters
+no_filters-fit = record { count = omega arith; each = All-nil IsTable; few = omega arith; sections = All-nil IsSection }
 
 -- the stages of a conversion fit each other
 pub conversion-fits : (source target : Settings) → IsRate source.rate → IsRate target.rate → IsPlan (conversion_plan source target)
-conversion-fits source target from to = record-fits without_filters 1 target source without_filters-fit to from
+conversion-fits source target from to = record-fits no_filters 1 target source no_filters-fit to from
 
 -- so many frames fill a block, wherever a conversion stands
 abbrev pub block_need : Settings → Settings → ℕ
@@ -99,11 +100,11 @@ PullsFor kept tables gain no_more waiting old new pulled out_old out_new =
 pub record IsBlock {B : Type 0} (kept : B → Kept) (source target : Settings) (body : List ℕ) (e m given : ℕ) (new : ChainOf B) (pulled : Pulled) (ring : List ℕ) (samples : List ℤ) : Type 0 where
   pub read : m ≤ length body
   pub count : pulled.given ≡ block_count source target body given
-  pub frames_are : take (pulled.given * channels_of target.layout) samples ≡ interleaved (recs (conversion_plan source target) without_filters (frames source body) given pulled.given)
+  pub frames_are : take (pulled.given * channels_of target.layout) samples ≡ interleaved (recs (conversion_plan source target) no_filters (frames source body) given pulled.given)
   pub zeros : ℕ
   pub within : (e + pulled.eaten) * frame_bytes source ≤ m
   pub ring_is : ring ≡ drop ((e + pulled.eaten) * frame_bytes source) (take m body)
-  pub chain_is : ChainStands kept without_filters new (take (e + pulled.eaten) (frames source body)) zeros (given + pulled.given)
+  pub chain_is : ChainStands kept no_filters new (take (e + pulled.eaten) (frames source body)) zeros (given + pulled.given)
   pub ended : 0 < zeros → (m ≡ length body) × (e + pulled.eaten ≡ whole_frames source (length body))
 
 -- the samples of frames that were written to the front
@@ -113,17 +114,17 @@ front-written c n list old have count =
 
 -- outputs that the first frames are sure of are those of all frames
 outs-front : (plan : PlanSeen) (all : List Frame) (w n given : ℕ) → IsPlan plan → w ≤ length all → (w ≡ length all) ⊎ (given + n ≤ can (rate_in_plan plan) w)
-    → outs plan without_filters unity (take w all) given n ≡ outs plan without_filters unity all given n
-outs-front plan all w n given fits within (inl whole) = ap (λ list. outs plan without_filters unity list given n) (take_all w all (omega arith))
+    → outs plan no_filters unity (take w all) given n ≡ outs plan no_filters unity all given n
+outs-front plan all w n given fits within (inl whole) = ap (λ list. outs plan no_filters unity list given n) (take_all w all (omega arith))
 outs-front plan all w n given fits within (inr allowed) =
     let count : can (rate_in_plan plan) (length (take w all)) ≡ can (rate_in_plan plan) w = ap (can (rate_in_plan plan)) (length-take-le w all within) in
-    sym (outs-append plan without_filters unity (take w all) (drop w all) given n fits (omega arith))
-    ∙ ap (λ list. outs plan without_filters unity list given n) (take-append-drop w all)
+    sym (outs-append plan no_filters unity (take w all) (drop w all) given n fits (omega arith))
+    ∙ ap (λ list. outs plan no_filters unity list given n) (take-append-drop w all)
 
 pulled-block : {B : Type 0} (kept : B → Kept) (source target : Settings) (body : List ℕ) (e m silent given : ℕ) (ring left : List ℕ) (tables : Filters) (no_more : Bool) (old new : ChainOf B) (pulled : Pulled) (out_old out_new : List ℤ)
     → IsRate source.rate → IsRate target.rate → IsFilled source target body e m silent ring
-    → plan_in old ≡ conversion_plan source target → tables ≡ without_filters → no_more ≡ (m == length body)
-    → ChainStands kept without_filters old (take e (frames source body)) silent given
+    → plan_in old ≡ conversion_plan source target → tables ≡ no_filters → no_more ≡ (m == length body)
+    → ChainStands kept no_filters old (take e (frames source body)) silent given
     → PullsFor kept tables unity no_more (waiting_frames (plan_in old) source.format ring) old new pulled out_old out_new
     → left ≡ drop (pulled.eaten * (channels_of (plan_in old).source * bytes_of source.format)) ring
     → IsBlock kept source target body e m given new pulled left out_new
@@ -144,7 +145,7 @@ pulled-block {B = B} kept source target body e m silent given ring left tables n
     let waiting : List Frame = drop e (take w all) in
     let waiting_is : waiting_frames (plan_in old) source.format ring ≡ waiting =
     ap (λ (p : PlanSeen). waiting_frames p source.format ring) plan_is ∙ ap (waiting_frames plan source.format) f.ring_is ∙ frames-left source m e body f.read there in
-    let at_plan : PullsFor kept without_filters unity ended waiting old new pulled out_old out_new = rw (tables_are, no_more_is, waiting_is) at pulls in
+    let at_plan : PullsFor kept no_filters unity ended waiting old new pulled out_old out_new = rw (tables_are, no_more_is, waiting_is) at pulls in
     let eaten : length (take e all) ≡ e = length-take-le e all (omega arith) in
     let rest : length waiting ≡ w - e = omega (arith, length-drop e (take w all), length-take w all) in
     let last : ended ≡ true → m ≡ length body = λ whole. eqb-true m (length body) whole in
@@ -159,17 +160,17 @@ pulled-block {B = B} kept source target body e m silent given ring left tables n
     let part : take e all ++ take pulled.eaten waiting ≡ take (e + pulled.eaten) all =
     ap (λ list. list ++ take pulled.eaten waiting) (sym (take-take e w all there)) ∙ sym (take-add e pulled.eaten (take w all)) ∙ take-take (e + pulled.eaten) w all within in
     let sure : (w ≡ length all) ⊎ (given + pulled.given ≤ can rate w) = elim counted.sure [ inl whole ↦ inl (omega arith) | inr allowed ↦ inr (omega arith) ] in
-    let given_frames : List Frame = outs plan without_filters unity all given pulled.given in
+    let given_frames : List Frame = outs plan no_filters unity all given pulled.given in
     let out_is : out_new ≡ written given_frames out_old =
-    p.frames ∙ ap (λ (q : PlanSeen). written (outs q without_filters unity (take e all ++ waiting) given pulled.given) out_old) plan_is
-    ∙ ap (λ list. written (outs plan without_filters unity list given pulled.given) out_old) joined
+    p.frames ∙ ap (λ (q : PlanSeen). written (outs q no_filters unity (take e all ++ waiting) given pulled.given) out_old) plan_is
+    ∙ ap (λ list. written (outs plan no_filters unity list given pulled.given) out_old) joined
     ∙ ap (λ list. written list out_old) (outs-front plan all w pulled.given given fits (omega arith) sure) in
     let order : e * z + pulled.eaten * z ≡ (e + pulled.eaten) * z = omega arith in
     record {
       read = f.read;
       count = given_is;
       frames_are = ap (take (pulled.given * c)) out_is
-          ∙ front-written c pulled.given given_frames out_old (outs-channels plan without_filters unity all given pulled.given fits (frames-channels source body)) (length-outs plan without_filters unity all given pulled.given);
+          ∙ front-written c pulled.given given_frames out_old (outs-channels plan no_filters unity all given pulled.given fits (frames-channels source body)) (length-outs plan no_filters unity all given pulled.given);
       zeros = p.stands.zeros;
       within = frames_fit source m (e + pulled.eaten) within;
       ring_is = left_is ∙ ap (λ (q : PlanSeen). drop (pulled.eaten * (channels_of q.source * bytes_of source.format)) ring) plan_is ∙ ap (drop (pulled.eaten * z)) f.ring_is

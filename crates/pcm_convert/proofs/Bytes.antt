@@ -14,7 +14,8 @@ use Rattle.pcm_feeder.specs.Limits.{IsRate}
 use Rattle.pcm_feeder.specs.Streams.{HaveChannels}
 use Rattle.pcm_plan.specs.Through.{rec, recs}
 use Rattle.pcm_plan.proofs.Through.{length-outs, outs-channels}
-use Rattle.pcm_convert.specs.Conversions.{block_after, block_count, conversion_plan, all_converted, converted_body, converted_frames, without_filters}
+use Rattle.pcm_convert.specs.Conversions.{block_after, block_count, conversion_plan, all_converted, converted_body, converted_frames}
+use Rattle.pcm_feeder.specs.Filters.{no_filters}
 use Rattle.pcm_convert.proofs.Blocks.{conversion-fits}
 use Rattle.pcm_convert.proofs.Bodies.{bytes-drop, bytes-take, frames-channels, length-bytes}
 
@@ -28,7 +29,7 @@ part-from g given (suc n) all within =
 -- converted frames have the channels of the target
 converted-channels : (source target : Settings) (bytes : List ℕ) → IsRate source.rate → IsRate target.rate → HaveChannels (channels_of target.layout) (all_converted source target bytes)
 converted-channels source target bytes from to =
-    outs-channels (conversion_plan source target) without_filters unity (frames source bytes) 0 (converted_frames source target bytes)
+    outs-channels (conversion_plan source target) no_filters unity (frames source bytes) 0 (converted_frames source target bytes)
     (conversion-fits source target from to) (frames-channels source bytes)
 
 -- how many bytes a converted body has
@@ -36,7 +37,7 @@ pub length-body : (source target : Settings) (bytes : List ℕ) → IsRate sourc
     → length (converted_body source target bytes) ≡ converted_frames source target bytes * frame_bytes target
 length-body source target bytes from to =
     length-bytes target.format (channels_of target.layout) (all_converted source target bytes) (converted-channels source target bytes from to)
-    ∙ ap (λ n. n * frame_bytes target) (length-outs (conversion_plan source target) without_filters unity (frames source bytes) 0 (converted_frames source target bytes))
+    ∙ ap (λ n. n * frame_bytes target) (length-outs (conversion_plan source target) no_filters unity (frames source bytes) 0 (converted_frames source target bytes))
 
 -- a block is the bytes of the next frames
 pub block-frames : (source target : Settings) (bytes : List ℕ) (given : ℕ) → IsRate source.rate → IsRate target.rate
@@ -51,13 +52,13 @@ block-frames source target bytes given from to =
 
 -- which are those that the plan gives from there on
 pub block-recs : (source target : Settings) (bytes : List ℕ) (given n : ℕ) → IsRate source.rate → IsRate target.rate → n ≡ block_count source target bytes given
-    → spelled_frames target.format (recs (conversion_plan source target) without_filters (frames source bytes) given n) ≡ block_after source target bytes given
+    → spelled_frames target.format (recs (conversion_plan source target) no_filters (frames source bytes) given n) ≡ block_after source target bytes given
 block-recs source target bytes given n from to count =
     let all = converted_frames source target bytes in
     let within : block_count source target bytes given ≤ all - given = omega arith in
-    ap (λ k. spelled_frames target.format (recs (conversion_plan source target) without_filters (frames source bytes) given k)) count
+    ap (λ k. spelled_frames target.format (recs (conversion_plan source target) no_filters (frames source bytes) given k)) count
     ∙ ap (spelled_frames target.format)
-    (sym (part-from (rec (conversion_plan source target) without_filters (frames source bytes)) given (block_count source target bytes given) all within))
+    (sym (part-from (rec (conversion_plan source target) no_filters (frames source bytes)) given (block_count source target bytes given) all within))
     ∙ sym (block-frames source target bytes given from to)
 
 -- it stands behind those before it

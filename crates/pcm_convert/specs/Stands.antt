@@ -4,7 +4,8 @@ use Rattle.pcm_format.specs.declared.settings.Settings.{Settings}
 use Rattle.pcm_format.specs.Frames.{frame_bytes, frames, whole_frames}
 use Rattle.pcm_feeder.specs.Kept.{Kept}
 use Rattle.pcm_chain.specs.Chains.{ChainStands}
-use Rattle.pcm_convert.specs.Conversions.{block_after, block_count, without_filters}
+use Rattle.pcm_convert.specs.Conversions.{block_after, block_count}
+use Rattle.pcm_feeder.specs.Filters.{no_filters}
 use Rattle.pcm_convert.specs.declared.conversion.ConversionOf.{ConversionOf}
 
 -- the settings of the bytes that go in
@@ -25,7 +26,7 @@ pub record ConversionStands {B : Type 0} (kept : B → Kept) (conversion : Conve
   pub within : eaten * frame_bytes (source_in conversion) ≤ conversion.entered
   pub ring_is : conversion.ring.bytes
       ≡ drop (eaten * frame_bytes (source_in conversion)) (take conversion.entered body)
-  pub chain_is : ChainStands kept without_filters conversion.chain (take eaten (frames (source_in conversion) body)) zeros given
+  pub chain_is : ChainStands kept no_filters conversion.chain (take eaten (frames (source_in conversion) body)) zeros given
   pub ended : 0 < zeros → (conversion.entered ≡ length body) × (eaten ≡ whole_frames (source_in conversion) (length body))
 
 -- a conversion has given some frames of a body

@@ -7,7 +7,8 @@ ghost use Rattle.pcm_rate.specs.Rates.{need};
 ghost use Rattle.pcm_feeder.specs.Limits.{IsRate};
 ghost use Rattle.pcm_plan.specs.Plans.{rate_in_plan};
 ghost use Rattle.pcm_chain.specs.Chains.{plan_in};
-ghost use Rattle.pcm_convert.specs.Conversions.{conversion_plan, without_filters};
+ghost use Rattle.pcm_convert.specs.Conversions.{conversion_plan};
+ghost use Rattle.pcm_feeder.specs.Filters.{no_filters};
 ghost use Rattle.pcm_convert.specs.declared.conversion.TheConstants.{BLOCK};
 
 use pcm_chain::ChainOf;
@@ -36,7 +37,7 @@ pub struct ConversionOf<B> {
     entered: usize,
     ghost source_rate: { IsRate source.rate },
     ghost target_rate: { IsRate target.rate },
-    ghost filters: { tables ≡ without_filters },
+    ghost filters: { tables ≡ no_filters },
     ghost plan: { plan_in chain ≡ conversion_plan source target },
     ghost room: { ring.size
         ≡ need (rate_in_plan (conversion_plan source target)) (BLOCK + 1) * frame_bytes source },
@@ -63,7 +64,7 @@ impl<B: Feeder> ConversionOf<B> {
         ensures target { IfOk result (λ made. target_in made ≡ target) }
         ensures stands { IfOk result (λ made. (body : List ℕ) → ConversionStands B.kept made body 0) }
     {
-        let tables = Tables::new(Vec::new(alloc));
+        let tables = Tables::none(alloc);
         let plan = plan_record(&target, &source, QUALITY, &tables);
         // So many frames are enough for a block, wherever the conversion stands.
         let frames = plan.need(BLOCK as u64 + 1) as usize;

@@ -16,7 +16,7 @@ pub fn converted_frames(alloc: Global, source: &Settings, target: &Settings, bod
     requires target { IsRate target.now.rate }
     ensures { result ≡ converted_frames source.now target.now body.now }
 {
-    let tables = Tables::new(Vec::new(alloc));
+    let tables = Tables::none(alloc);
     let plan = plan_record(target, source, QUALITY, &tables);
     let frames = body.len() / source.frame_bytes();
     plan.len(frames as u64)

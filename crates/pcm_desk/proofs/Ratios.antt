@@ -11,7 +11,7 @@ use Rattle.pcm_rate.specs.declared.rate.Rate.{Rate}
 use Rattle.pcm_rate.specs.Rates.{IsRatio, can, len}
 use Rattle.pcm_rate.proofs.Counts.{below_div_up, can-le-len}
 use Rattle.pcm_feeder.specs.declared.stage.Spec.{Spec}
-use Rattle.pcm_feeder.specs.declared.stage.Spec.TheVariants.{Matrix, Hold, Linear, Poly, Volume, Depth}
+use Rattle.pcm_feeder.specs.declared.stage.Spec.TheVariants.{Matrix, Hold, Linear, Poly, Volume, Depth, Eq}
 use Rattle.pcm_feeder.specs.Limits.{IsRate, IsSpec}
 use Rattle.pcm_plan.specs.Fits.{HaveBits, IsPlan, HaveTables}
 use Rattle.pcm_plan.specs.Plans.{rate_among}
@@ -76,6 +76,7 @@ few-among (Poly src dst channels table taps ∷ specs) all =
     record { src = omega (arith, is.change.source.least); dst = omega (arith, is.change.source.least, is.change.target.most) }
 few-among (Volume layout ∷ specs) all = few-among specs (All-tail IsSpec (Volume layout) specs all)
 few-among (Depth bits channels ∷ specs) all = few-among specs (All-tail IsSpec (Depth bits channels) specs all)
+few-among (Eq channels sections ∷ specs) all = few-among specs (All-tail IsSpec (Eq channels sections) specs all)
 
 -- n frames allow at most 48 times as many
 few-can : (rate : Rate) (n : ℕ) → IsFew rate → can rate n ≤ 48 * n

@@ -1,9 +1,9 @@
 -- What the rules read of a device. Whatever a device has beside it is read by one more word here.
-use Rattle.std.specs.Prelude.{◌≡◌, ℕ, [], ◌<◌, ◌≤◌}
+use Rattle.std.specs.Prelude.{◌≡◌, ℕ, ◌<◌, ◌≤◌}
 use Rattle.pcm_format.specs.declared.settings.Settings.{Settings}
 use Rattle.pcm_format.specs.Frames.{frame_bytes}
 use Rattle.pcm_rate.specs.declared.rate.Rate.{Rate}
-use Rattle.pcm_feeder.specs.Filters.{Filters}
+use Rattle.pcm_feeder.specs.Filters.{Filters, no_filters}
 use Rattle.pcm_feeder.specs.Limits.{IsRate, AreFilters}
 use Rattle.pcm_plan.specs.Plans.{PlanSeen, plan_play, plan_record, rate_in_plan}
 use Rattle.pcm_desk.specs.declared.device.Device.{Device}
@@ -22,7 +22,7 @@ pub record DeviceSeen : Type 0 where
   pub quality : ℕ
   pub filters : Filters
 
--- what a device is seen as, beside the filters of its run
+-- what a device is seen as, beside the filters and sections of its run
 abbrev pub seen : Filters → Device → DeviceSeen
 seen filters device = record {
   settings = device.settings;
@@ -35,11 +35,7 @@ seen filters device = record {
   filters = filters;
 }
 
--- no filter
-abbrev pub no_filters : Filters
-no_filters = record { list = [] }
-
--- a device whose run has no filter
+-- a device whose run has neither a filter nor a section
 abbrev pub unfiltered : Device → DeviceSeen
 unfiltered device = seen no_filters device
 
@@ -101,7 +97,7 @@ pub record IsDevice (device : DeviceSeen) : Type 0 where
   pub mix_rate : IsRate (mix_settings device).rate
   -- what is mixed is handed over as it is
   pub same : mix_settings device ≡ device_settings device
-  pub filters : AreFilters (filters_of device).list
+  pub filters : AreFilters (filters_of device)
 
 -- a device within the limits of a run
 pub record IsInLimits (device : DeviceSeen) : Type 0 where

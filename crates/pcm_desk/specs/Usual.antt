@@ -2,7 +2,8 @@
 use Rattle.pcm_format.specs.declared.settings.Settings.{Settings}
 use Rattle.pcm_format.specs.declared.format.Format.TheVariants.{S16Le}
 use Rattle.pcm_format.specs.declared.layout.Layout.TheVariants.{Two}
-use Rattle.pcm_desk.specs.Device.{DeviceSeen, no_filters}
+use Rattle.pcm_desk.specs.Device.{DeviceSeen}
+use Rattle.pcm_feeder.specs.Filters.{no_filters}
 
 -- 16 bits, stereo, 48 kHz
 abbrev pub usual_settings : Settings

@@ -11,7 +11,7 @@ use Rattle.pcm_format.specs.Frames.{Frame}
 use Rattle.pcm_format.proofs.Streams.{channels_of-above}
 use Rattle.pcm_feeder.specs.declared.stage.Gain.{Gain}
 use Rattle.pcm_feeder.specs.declared.stage.Spec.{Spec}
-use Rattle.pcm_feeder.specs.declared.stage.Spec.TheVariants.{Matrix, Hold, Linear, Poly, Volume, Depth}
+use Rattle.pcm_feeder.specs.declared.stage.Spec.TheVariants.{Matrix, Hold, Linear, Poly, Volume, Depth, Eq}
 use Rattle.pcm_feeder.specs.Filters.{Filters}
 use Rattle.pcm_feeder.specs.Kept.{Kept, StandsFor}
 use Rattle.pcm_feeder.specs.Limits.{IsSpec}
@@ -38,6 +38,7 @@ channels_in-above (Linear src dst channels) is = omega (arith, is.within.least)
 channels_in-above (Poly src dst channels table taps) is = omega (arith, is.change.within.least)
 channels_in-above (Volume layout) is = channels_of-above layout
 channels_in-above (Depth bits channels) is = omega (arith, is.within.least)
+channels_in-above (Eq channels sections) is = omega (arith, is.within.least)
 
 -- the front of a buffer that has room for more frames is whole frames
 pub whole-front : (n room c : ℕ) (samples : List ℤ) → n ≤ room → room * c ≤ length samples → length (take (n * c) samples) % c ≡ 0

@@ -1,13 +1,17 @@
 pub mod Phases
+pub mod Products
 pub mod Frames
 pub mod Mapped
 pub mod Streams
+pub mod Histories
+pub mod Sections
 pub mod Past
 pub mod Outputs
 pub mod Turns
 pub mod Fitted
 pub mod Paces
 pub mod Writing
+pub mod KeptFrames
 pub mod Unrated
 pub mod Silence
 pub mod Driven

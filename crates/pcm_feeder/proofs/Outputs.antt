@@ -6,17 +6,19 @@ use Rattle.pcm_rate.proofs.Counts.{need_grows, need-unchanged}
 use Rattle.pcm_format.proofs.Ranges.{map-range-same, map-range-shift, map-range-add}
 use Rattle.pcm_feeder.specs.declared.stage.Gain.{Gain}
 use Rattle.pcm_feeder.specs.declared.stage.Spec.{Spec}
-use Rattle.pcm_feeder.specs.declared.stage.Spec.TheVariants.{Matrix, Hold, Linear, Poly, Volume, Depth}
+use Rattle.pcm_feeder.specs.declared.stage.Spec.TheVariants.{Matrix, Hold, Linear, Poly, Volume, Depth, Eq}
 use Rattle.pcm_feeder.specs.declared.table.Table.{Table}
 use Rattle.pcm_feeder.specs.Filters.{Filters}
 use Rattle.pcm_feeder.specs.Kinds.{kind_of}
 use Rattle.pcm_feeder.specs.declared.kind.Kind.TheVariants as kinds
-use Rattle.pcm_feeder.specs.Layouts.{in_layout, at_gain, sum_of}
+use Rattle.pcm_feeder.specs.Layouts.{in_layout, at_gain}
+use Rattle.pcm_feeder.specs.Sums.{sum_of, scaled_down}
 use Rattle.pcm_feeder.specs.Limits.{IsSpec, AreTaps}
 use Rattle.pcm_rate.specs.declared.rate.Rate.{Rate}
 use Rattle.pcm_rate.specs.Rates.{need}
-use Rattle.pcm_feeder.specs.Stages.{rate_of, at_bits, blended, table_at, coef, scaled_down, filtered, Converter, held, on_line, filtered_frame, converted, conv, outputs}
-use Rattle.pcm_feeder.specs.Streams.{Stream}
+use Rattle.pcm_feeder.specs.Stages.{rate_of, at_bits, blended, table_at, coef, filtered, Converter, held, on_line, filtered_frame, converted, conv, outputs}
+use Rattle.pcm_feeder.specs.Sections.{sections_of, through_sections}
+use Rattle.pcm_feeder.specs.Streams.{Stream, stream_of}
 
 -- ---- limits
 
@@ -28,6 +30,7 @@ src-above (Linear src dst channels) is = omega (arith, is.source.least)
 src-above (Poly src dst channels table taps) is = omega (arith, is.change.source.least)
 src-above (Volume layout) is = omega arith
 src-above (Depth bits channels) is = omega arith
+src-above (Eq channels sections) is = omega arith
 
 pub dst-above : (spec : Spec) → IsSpec spec → 0 < (rate_of spec).dst
 dst-above (Matrix from to) is = omega arith
@@ -36,6 +39,7 @@ dst-above (Linear src dst channels) is = omega (arith, is.target.least)
 dst-above (Poly src dst channels table taps) is = omega (arith, is.change.target.least)
 dst-above (Volume layout) is = omega arith
 dst-above (Depth bits channels) is = omega arith
+dst-above (Eq channels sections) is = omega arith
 
 -- ---- outputs
 
@@ -91,6 +95,9 @@ conv-local (Poly src dst channels table taps) tables gain x y k is same =
     (filter-uses (table_at tables table) taps channels dst is.row) same
 conv-local (Volume layout) tables gain x y k is same = ap (at_gain layout gain) (same (pos k) (omega (arith, ints, need-unchanged (k + 1))))
 conv-local (Depth bits channels) tables gain x y k is same = ap (at_bits bits) (same (pos k) (omega (arith, ints, need-unchanged (k + 1))))
+conv-local (Eq channels sections) tables gain x y k is same =
+    ap (λ list. stream_of channels (through_sections channels (sections_of tables sections) list) (pos k))
+    (map-range-same (λ j. x (pos j)) (λ j. y (pos j)) (k + 1) (λ j below. same (pos j) (omega (arith, ints, need-unchanged (k + 1)))))
 
 -- outputs in two parts
 pub outputs-add : (spec : Spec) (tables : Filters) (gain : Gain) (x : Stream) (from n m : ℕ)
@@ -121,3 +128,4 @@ conv-gain (Linear src dst channels) tables gain other x k not = refl
 conv-gain (Poly src dst channels table taps) tables gain other x k not = refl
 conv-gain (Volume layout) tables gain other x k not = absurd (not refl)
 conv-gain (Depth bits channels) tables gain other x k not = refl
+conv-gain (Eq channels sections) tables gain other x k not = refl

@@ -1,34 +1,17 @@
 -- What is kept of the past: how much, at the begin, and after more frames.
-use Rattle.std.proofs.Common.{◌≡◌, ℕ, List, [], ◌++◌, length, drop, replicate, refl, sym, ap, ◌∙◌, pos, arith}
-use Rattle.std.proofs.lemmas.List.{length-append, length-drop, length-replicate, drop-drop, append-nil}
-use Rattle.std.proofs.lemmas.List.Elements.{All-append, All-drop, All-replicate, All-nil}
+use Rattle.std.proofs.Common.{◌≡◌, ◌+◌, ◌*◌, ℕ, List, [], ◌++◌, length, replicate, refl, sym, ap, ◌∙◌, pos}
+use Rattle.std.proofs.lemmas.List.{length-replicate}
+use Rattle.std.proofs.lemmas.List.Elements.{All-replicate, All-nil}
 use Rattle.pcm_format.specs.Frames.{Frame}
 use Rattle.pcm_feeder.specs.declared.stage.Spec.{Spec}
-use Rattle.pcm_feeder.specs.declared.stage.Spec.TheVariants.{Matrix, Hold, Linear, Poly, Volume, Depth}
-use Rattle.pcm_feeder.specs.Filters.{Filters}
+use Rattle.pcm_feeder.specs.declared.stage.Spec.TheVariants.{Matrix, Hold, Linear, Poly, Volume, Depth, Eq}
+use Rattle.pcm_feeder.specs.Filters.{Filters, as_filters}
+use Rattle.pcm_feeder.specs.Sections.{sections_of, past_of_sections}
 use Rattle.pcm_feeder.specs.Streams.{silence, HaveChannels}
 use Rattle.pcm_feeder.specs.Stages.{channels_in, history}
-use Rattle.pcm_feeder.specs.Kept.{last_frames, past, moved_on, past_after, StandsFor, Kept}
-use Rattle.pcm_feeder.proofs.Streams.{history-append}
-
--- ---- the last frames
-
-last-begin : (c n : ℕ) → replicate n (silence c) ≡ last_frames c n []
-last-begin c n = sym (append-nil (replicate n (silence c)))
-
-last-moves : (c n : ℕ) (x more : List Frame) → moved_on (last_frames c n x) more ≡ last_frames c n (x ++ more)
-last-moves c n x more =
-    ap (drop (length more)) (history-append n (silence c) x more)
-    ∙ drop-drop (length more) (length x) (replicate n (silence c) ++ (x ++ more))
-    ∙ ap (λ k. drop k (replicate n (silence c) ++ (x ++ more))) (sym (length-append x more))
-
-moved-count : (tail more : List Frame) (n : ℕ) → length tail ≡ n → length (moved_on tail more) ≡ n
-moved-count tail more n has = omega (arith, length-drop (length more) (tail ++ more), length-append tail more)
-
-moved-channels : (c : ℕ) (tail more : List Frame) → HaveChannels c tail → HaveChannels c more → HaveChannels c (moved_on tail more)
-moved-channels c tail more tails mores =
-    let P : Frame → Type 0 = λ frame. length frame ≡ c in
-    All-drop P (length more) (tail ++ more) (All-append P tail more tails mores)
+use Rattle.pcm_feeder.specs.Kept.{past, past_after, StandsFor, Kept}
+use Rattle.pcm_feeder.proofs.Histories.{last-begin, last-moves, moved-count, moved-channels}
+use Rattle.pcm_feeder.proofs.Sections.{past-silent, past-goes_on, behind-count, behind-channels, length-sections_of}
 
 -- ---- the past of each stage
 
@@ -40,6 +23,8 @@ past-begin (Linear src dst channels) tables = last-begin channels 2
 past-begin (Poly src dst channels table taps) tables = last-begin channels taps
 past-begin (Volume layout) tables = refl
 past-begin (Depth bits channels) tables = refl
+past-begin (Eq channels sections) tables =
+    ap (λ n. replicate (2 + 2 * n) (silence channels)) (sym (length-sections_of tables sections)) ∙ past-silent channels (sections_of tables sections)
 
 -- it moves on with the frames eaten
 pub past-append : (spec : Spec) (tables : Filters) (x more : List Frame) → past_after spec tables (past spec tables x) more ≡ past spec tables (x ++ more)
@@ -49,6 +34,7 @@ past-append (Linear src dst channels) tables x more = last-moves channels 2 x mo
 past-append (Poly src dst channels table taps) tables x more = last-moves channels taps x more
 past-append (Volume layout) tables x more = refl
 past-append (Depth bits channels) tables x more = refl
+past-append (Eq channels sections) tables x more = past-goes_on channels (sections_of tables sections) x more
 
 -- it keeps its length
 pub past_after-count : (spec : Spec) (tables : Filters) (tail more : List Frame) → length tail ≡ history spec → length (past_after spec tables tail more) ≡ history spec
@@ -58,6 +44,9 @@ past_after-count (Linear src dst channels) tables tail more has = moved-count ta
 past_after-count (Poly src dst channels table taps) tables tail more has = moved-count tail more taps has
 past_after-count (Volume layout) tables tail more has = refl
 past_after-count (Depth bits channels) tables tail more has = refl
+past_after-count (Eq channels sections) tables tail more has =
+    let many = ap (λ n. 2 + 2 * n) (length-sections_of tables sections) in
+    behind-count channels (sections_of tables sections) tail more (has ∙ sym many) ∙ many
 
 -- and its channels
 pub past_after-channels : (spec : Spec) (tables : Filters) (tail more : List Frame) → HaveChannels (channels_in spec) tail → HaveChannels (channels_in spec) more
@@ -68,6 +57,7 @@ past_after-channels (Linear src dst channels) tables tail more tails mores = mov
 past_after-channels (Poly src dst channels table taps) tables tail more tails mores = moved-channels channels tail more tails mores
 past_after-channels (Volume layout) tables tail more tails mores = All-nil (λ frame. length frame ≡ channels_in (Volume layout))
 past_after-channels (Depth bits channels) tables tail more tails mores = All-nil (λ frame. length frame ≡ channels)
+past_after-channels (Eq channels sections) tables tail more tails mores = behind-channels channels (sections_of tables sections) tail more tails mores
 
 -- so the past of any frames has them
 pub past-count : (spec : Spec) (tables : Filters) (x : List Frame) → length (past spec tables x) ≡ history spec
@@ -83,23 +73,24 @@ past-channels spec tables x have =
     (past_after-channels spec tables (past spec tables []) x
     (rw (← past-begin spec tables) (All-replicate P (history spec) (silence c) (length-replicate c (pos 0)))) have)
 
--- the tables have no part in it
-past-same : (spec : Spec) (tables other : Filters) (x : List Frame) → past spec tables x ≡ past spec other x
-past-same (Matrix from to) tables other x = refl
-past-same (Hold src dst channels) tables other x = refl
-past-same (Linear src dst channels) tables other x = refl
-past-same (Poly src dst channels table taps) tables other x = refl
-past-same (Volume layout) tables other x = refl
-past-same (Depth bits channels) tables other x = refl
+-- of the tables only the sections have a part in it
+past-same : (spec : Spec) (tables other : Filters) (x : List Frame) → tables.sections ≡ other.sections → past spec tables x ≡ past spec other x
+past-same (Matrix from to) tables other x same = refl
+past-same (Hold src dst channels) tables other x same = refl
+past-same (Linear src dst channels) tables other x same = refl
+past-same (Poly src dst channels table taps) tables other x same = refl
+past-same (Volume layout) tables other x same = refl
+past-same (Depth bits channels) tables other x same = refl
+past-same (Eq channels sections) tables other x same = ap (λ list. past_of_sections channels (sections_of (as_filters [] list) sections) x) same
 
--- so a feeder stands for the same frames with any tables
-pub StandsFor-any : (spec : Spec) (tables other : Filters) (kept : Kept) (x : List Frame) (given : ℕ) → StandsFor spec tables kept x given → StandsFor spec other kept x given
-StandsFor-any spec tables other kept x given h = record {
+-- so a feeder stands for the same frames with any tables of the same sections
+pub StandsFor-any : (spec : Spec) (tables other : Filters) (kept : Kept) (x : List Frame) (given : ℕ) → tables.sections ≡ other.sections → StandsFor spec tables kept x given → StandsFor spec other kept x given
+StandsFor-any spec tables other kept x given same h = record {
   fitted = h.fitted;
   phase = h.phase;
   ahead = h.ahead;
   least = h.least;
   most = h.most;
-  tail = h.tail ∙ past-same spec tables other x;
+  tail = h.tail ∙ past-same spec tables other x same;
   frames = h.frames;
 }

@@ -4,7 +4,7 @@ use Rattle.std.proofs.Math.Seq.{take-append-add}
 use Rattle.std.specs.List.{range_with_len}
 use Rattle.std.proofs.lemmas.Bool.{cases_lt}
 use Rattle.std.proofs.lemmas.Int.{ints}
-use Rattle.std.proofs.lemmas.List.{length-append, length-take, length-take-le, length-map, get_or-map, get_or-take, get_or-append-add}
+use Rattle.std.proofs.lemmas.List.{length-append, length-take, length-take-le, length-map, get_or-map, get_or-take, get_or-append-add, take-take}
 use Rattle.std.proofs.lemmas.List.Elements.{All-append, All-take, All-map, All-same}
 use Rattle.std.proofs.lemmas.Simd.{length-zip2}
 use Rattle.pcm_num.specs.Floor.{floor_div}
@@ -18,14 +18,15 @@ use Rattle.pcm_format.specs.Frames.{Frame}
 use Rattle.pcm_format.specs.Samples.{natural}
 use Rattle.pcm_feeder.specs.declared.stage.Gain.{Gain}
 use Rattle.pcm_feeder.specs.declared.stage.Spec.{Spec}
-use Rattle.pcm_feeder.specs.declared.stage.Spec.TheVariants.{Matrix, Hold, Linear, Poly, Volume, Depth}
+use Rattle.pcm_feeder.specs.declared.stage.Spec.TheVariants.{Matrix, Hold, Linear, Poly, Volume, Depth, Eq}
 use Rattle.pcm_feeder.specs.Filters.{Filters}
 use Rattle.pcm_feeder.specs.Limits.{IsSpec}
 use Rattle.pcm_rate.specs.declared.rate.Rate.{Rate}
 use Rattle.pcm_rate.specs.Rates.{need, can, unchanged}
-use Rattle.pcm_feeder.specs.Streams.{frames_of, Stream, silence, stream_of, HaveChannels}
+use Rattle.pcm_feeder.specs.Sections.{sections_of, sections_on, through_sections}
+use Rattle.pcm_feeder.specs.Streams.{frames_of, Stream, silence, stream_of, frames_until, HaveChannels, last_frames}
 use Rattle.pcm_feeder.specs.Stages.{rate_of, channels_in, channels_out, history, at_bits, Converter, held, on_line, filtered_frame, converted, conv, outputs, filtered, table_at}
-use Rattle.pcm_feeder.specs.Kept.{Kept, last_frames, past, past_after, StandsFor}
+use Rattle.pcm_feeder.specs.Kept.{Kept, past, past_after, StandsFor}
 use Rattle.pcm_feeder.specs.Turns.{step_of, phase_of, reach, allowed, eaten_by, given_by, around, next_outputs, frames_by, kept_after, turn_of, turn_at, turn, frames_for, fed, Continues}
 use Rattle.pcm_rate.proofs.Counts.{same-bound, can-greatest, need_grows, need-unchanged}
 use Rattle.pcm_feeder.proofs.Phases.{reach_allowed, place_from, phase_from, need_from}
@@ -33,6 +34,7 @@ use Rattle.pcm_feeder.proofs.Streams.{stream-channels, stream-take, stream-drop,
 use Rattle.pcm_feeder.proofs.Frames.{frames_of-channels}
 use Rattle.pcm_feeder.proofs.Outputs.{src-above, dst-above, Uses, hold-uses, line-uses, filter-uses}
 use Rattle.pcm_feeder.proofs.Past.{past-append}
+use Rattle.pcm_feeder.proofs.Sections.{on-outputs, sections-channels}
 
 -- ---- counts
 
@@ -287,6 +289,12 @@ length-conv (Volume layout) tables gain x k have =
     length-zip2 (λ position sample. floor_div (sample *ℤ pos (side_gain gain position)) 65536) (positions_of layout) (x (pos k)) (length-positions layout ∙ sym (have (pos k)))
     ∙ length-positions layout
 length-conv (Depth bits channels) tables gain x k have = length-map (x (pos k)) (at_depth bits) ∙ have (pos k)
+length-conv (Eq channels sections) tables gain x k have =
+    let P : Frame → Type 0 = λ frame. length frame ≡ channels in
+    let list = sections_of tables sections in
+    let places = range_with_len 0 (k + 1) in
+    stream-channels channels (through_sections channels list (frames_until x (k + 1))) (pos k)
+    (sections-channels channels list (frames_until x (k + 1)) (All-map P (λ j. x (pos j)) places (λ i d below. have (pos (get_or places i d)))))
 
 -- the outputs over a list of frames have the channels that their stage gives
 pub outputs-channels : (spec : Spec) (tables : Filters) (gain : Gain) (frames : List Frame) (from count : ℕ) → HaveChannels (channels_in spec) frames
@@ -326,6 +334,18 @@ frames-are (Depth bits channels) tables gain kept x input given eaten count is h
     let level = given-unchanged (Depth bits channels) tables kept x given refl h in
     mapped-gives (at_bits bits) channels (conv (Depth bits channels) tables gain (stream_of channels (x ++ take eaten input))) x input given eaten count
     level (omega (arith, need-unchanged (given + count))) offered (λ k. refl)
+frames-are (Eq channels sections) tables gain kept x input given eaten count is h offered enough =
+    let level = given-unchanged (Eq channels sections) tables kept x given refl h in
+    let list = sections_of tables sections in
+    let all = x ++ take eaten input in
+    let g = conv (Eq channels sections) tables gain (stream_of channels all) in
+    let within : count ≤ eaten = omega (arith, need-unchanged (given + count)) in
+    let start : given + 0 ≡ given = omega arith in
+    ap (λ tail. sections_on channels list tail (take count input)) h.tail
+    ∙ on-outputs channels list x (take count input) all given count level (length-take-le count input (omega arith))
+    (omega (arith, length-append x (take eaten input), length-take eaten input))
+    (ap (λ n. take (n + count) all) (sym level) ∙ take-append-add x (take eaten input) count ∙ ap (λ front. x ++ front) (take-take count eaten input within))
+    ∙ map-range-shift g given 0 count ∙ ap (λ z. map g (range_with_len z count)) start
 
 -- all frames eaten
 length-eaten : (x input : List Frame) (eaten : ℕ) → eaten ≤ length input → length (x ++ take eaten input) ≡ length x + eaten

@@ -33,12 +33,12 @@ conv-depth bits channels tables gain x k = refl
 -- ---- feeds
 
 -- as many frames are eaten as are wanted, or all
-eaten-unrated : (o want : ℕ) → eaten_by unchanged 0 (pos 0) o want ≡ min want o
+pub eaten-unrated : (o want : ℕ) → eaten_by unchanged 0 (pos 0) o want ≡ min want o
 eaten-unrated o zero = omega arith
 eaten-unrated o (suc j) = omega (arith, natural-is (pos (reach unchanged 0 (suc j)) -ℤ pos 0) (suc j) 0 (omega (arith, ints)))
 
 -- and as many are given
-given-unrated : (o want : ℕ) → given_by unchanged 0 (pos 0) o want ≡ min want o
+pub given-unrated : (o want : ℕ) → given_by unchanged 0 (pos 0) o want ≡ min want o
 given-unrated o want = omega (arith, natural-is (pos 0 +ℤ pos o) o 0 (omega (arith, ints)))
 
 -- a feeder that keeps nothing

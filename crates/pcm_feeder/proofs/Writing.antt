@@ -17,10 +17,10 @@ use Rattle.pcm_feeder.specs.Fractions.{IsAhead}
 use Rattle.pcm_feeder.specs.declared.stage.Gain.{Gain}
 use Rattle.pcm_feeder.specs.declared.stage.Spec.{Spec}
 use Rattle.pcm_feeder.specs.Filters.{Filters}
-use Rattle.pcm_feeder.specs.Kept.{Kept, moved_on, past_after}
+use Rattle.pcm_feeder.specs.Kept.{Kept, past_after}
 use Rattle.pcm_feeder.specs.Pace.{rate_by, phase_by, ahead_by, factor_of, IsStep}
 use Rattle.pcm_feeder.specs.Stages.{rate_of, channels_in}
-use Rattle.pcm_feeder.specs.Streams.{frames_of, interleaved, written, silence, HaveChannels}
+use Rattle.pcm_feeder.specs.Streams.{frames_of, interleaved, written, silence, HaveChannels, moved_on}
 use Rattle.pcm_feeder.specs.Turns.{Turn, step_of, phase_of, reach, eaten_by, given_by, frames_by, kept_after, fed}
 use Rattle.pcm_feeder.proofs.Fitted.{natural-above, reach-grows, step-zero, step-more, ahead-least-after, ahead-most-after}
 use Rattle.pcm_feeder.proofs.Frames.{frame_in, written-more, length-interleaved, frames_of-channels, frames_of-append, frames_of-interleaved, interleaved-take, length-frames_of}

@@ -1,11 +1,12 @@
 -- What a feeder keeps between two feeds, and the frames that it stands for.
-use Rattle.std.specs.Prelude.{◌≡◌, ◌≤◌, ◌<◌, ℕ, ◌+◌, ◌-◌, ◌*◌, ◌/◌, ◌%◌, max, ℤ, pos, neg_ℤ, ◌+ℤ◌, ◌≤ℤ◌, List, [], ◌++◌, length, drop, replicate, Option, Some, None}
+use Rattle.std.specs.Prelude.{◌≡◌, ◌≤◌, ◌<◌, ℕ, ◌+◌, ◌-◌, ◌*◌, ◌/◌, ◌%◌, max, ℤ, pos, neg_ℤ, ◌+ℤ◌, ◌≤ℤ◌, List, [], length, replicate, Option, Some, None}
 use Rattle.pcm_format.specs.Frames.{Frame}
 use Rattle.pcm_feeder.specs.declared.stage.Spec.{Spec}
-use Rattle.pcm_feeder.specs.declared.stage.Spec.TheVariants.{Hold, Linear, Poly}
+use Rattle.pcm_feeder.specs.declared.stage.Spec.TheVariants.{Hold, Linear, Poly, Eq}
 use Rattle.pcm_feeder.specs.Filters.{Filters}
 use Rattle.pcm_rate.specs.Rates.{unchanged, need}
-use Rattle.pcm_feeder.specs.Streams.{silence, HaveChannels}
+use Rattle.pcm_feeder.specs.Streams.{silence, HaveChannels, last_frames, moved_on}
+use Rattle.pcm_feeder.specs.Sections.{sections_of, past_of_sections, past_behind}
 use Rattle.pcm_feeder.specs.Stages.{rate_of, channels_in, history}
 
 -- The next output lies `phase` parts of dst past the input frame under it. From that frame on
@@ -29,26 +30,21 @@ fresh spec = record {
   tail = replicate (history spec) (silence (channels_in spec));
 }
 
--- the last n frames of silence followed by x
-abbrev pub last_frames : ℕ → ℕ → List Frame → List Frame
-last_frames channels n x = drop (length x) (replicate n (silence channels) ++ x)
-
 -- what a stage keeps of the past, after it has eaten the frames x
 abbrev pub past : Spec → Filters → List Frame → List Frame
 past (Hold src dst channels) tables x = last_frames channels 1 x
 past (Linear src dst channels) tables x = last_frames channels 2 x
 past (Poly src dst channels table taps) tables x = last_frames channels taps x
+past (Eq channels sections) tables x = past_of_sections channels (sections_of tables sections) x
 past _ tables x = []
-
--- as many last frames as before, after more were eaten
-abbrev pub moved_on : List Frame → List Frame → List Frame
-moved_on tail eaten = drop (length eaten) (tail ++ eaten)
 
 -- what a stage keeps of the past, out of what it kept before and the frames eaten since
 abbrev pub past_after : Spec → Filters → List Frame → List Frame → List Frame
 past_after (Hold src dst channels) tables tail eaten = moved_on tail eaten
 past_after (Linear src dst channels) tables tail eaten = moved_on tail eaten
 past_after (Poly src dst channels table taps) tables tail eaten = moved_on tail eaten
+past_after (Eq channels sections) tables tail eaten =
+    past_behind channels (sections_of tables sections) tail eaten
 past_after _ tables tail eaten = []
 
 -- a feeder that has eaten the frames x and given so many, all with these tables

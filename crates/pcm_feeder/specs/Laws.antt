@@ -81,9 +81,10 @@ FeedsContinue spec = (kept : Kept) (tables : Filters) (gain : Gain) (x input : L
     (given want : ℕ) → StandsFor spec tables kept x given → HaveChannels (channels_in spec) input
     → Continues spec tables gain x given input want (turn kept tables gain input want)
 
--- what is kept stands for the same with any other tables
+-- what is kept stands for the same with any other tables that have the same sections
 abbrev pub StandsWithAnyTables : Spec → Type 0
 StandsWithAnyTables spec = (tables other : Filters) (kept : Kept) (x : List Frame) (given : ℕ)
+    → tables.sections ≡ other.sections
     → StandsFor spec tables kept x given → StandsFor spec other kept x given
 
 -- what is kept is within its bounds, however long the stream that it stands for

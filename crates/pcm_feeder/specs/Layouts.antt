@@ -1,5 +1,5 @@
 -- From one layout to another, and the gain of each position.
-use Rattle.std.specs.Prelude.{ℕ, ◌+◌, ◌/◌, ◌==◌, ℤ, pos, ◌+ℤ◌, ◌*ℤ◌, List, [], ◌∷◌, map, fold, if◌then◌else◌}
+use Rattle.std.specs.Prelude.{ℕ, ◌+◌, ◌/◌, ◌==◌, ℤ, pos, ◌*ℤ◌, List, [], ◌∷◌, map, if◌then◌else◌}
 use Rattle.std.specs.Simd.Lanes.{zip2}
 use Rattle.pcm_num.specs.Floor.{floor_div}
 use Rattle.pcm_num.specs.Limit.{clamped}
@@ -10,6 +10,7 @@ use Rattle.pcm_format.specs.declared.layout.Layout.TheVariants.{One, Two, Four, 
 use Rattle.pcm_format.specs.declared.layout.Position.{Position}
 use Rattle.pcm_format.specs.declared.layout.Position.TheVariants.{M, FL, FR, FC, LFE, BL, BR, SL, SR}
 use Rattle.pcm_feeder.specs.declared.stage.Gain.{Gain}
+use Rattle.pcm_feeder.specs.Sums.{sum_of}
 
 -- a position, and the weight with which sound goes there, where 65536 is one
 pub record Share : Type 0 where
@@ -77,10 +78,6 @@ weight_among target (given ∷ rest) =
 -- the weight with which a source position goes to a target position of a layout
 abbrev pub weight : Layout → Position → Position → ℕ
 weight to target source = weight_among target (shares to source)
-
--- the sum of samples without a limit
-abbrev pub sum_of : List ℤ → ℤ
-sum_of samples = fold ◌+ℤ◌ (pos 0) samples
 
 -- the sample of a target position: the weighted sum of a frame's samples, rounded down and limited
 abbrev pub gathered : Layout → Layout → Position → Frame → ℤ

@@ -2,7 +2,10 @@ pub mod Kinds
 pub mod Filters
 pub mod Limits
 pub mod Streams
+pub mod Sums
 pub mod Layouts
+pub mod Sections
+pub mod LastFrames
 pub mod Stages
 pub mod Kept
 pub mod Turns

@@ -1,17 +1,26 @@
--- The limits of what a stage is fitted to, of filters and of gains.
-use Rattle.std.specs.Prelude.{◌≡◌, ◌≤◌, ◌⊎◌, ◌*◌, ◌/◌, ℕ, ℤ, neg_ℤ, ◌≤ℤ◌, List, length, All, IsSomeAnd, slice_get}
+-- The limits of what a stage is fitted to, of filters, of sections and of gains.
+use Rattle.std.specs.Prelude.{◌≡◌, ◌≤◌, ◌⊎◌, ◌*◌, ◌/◌, ℕ, ℤ, neg_ℤ, ◌≤ℤ◌, length, All, IsSomeAnd, slice_get}
 use Rattle.pcm_format.specs.declared.settings.TheConstants.{RATE_LEAST, RATE_MOST}
-use Rattle.pcm_feeder.specs.declared.limits.TheConstants.{COEF_MOST, FILTERS, PHASES, SHIFT_MOST, TABLE_COEFS, TAPS}
+use Rattle.pcm_feeder.specs.declared.limits.TheConstants.{COEF_MOST, FILTERS, PHASES, SECTION_COEF_MOST, SECTION_SHIFT_MOST, SECTIONS, SHIFT_MOST, TABLE_COEFS, TAPS}
+use Rattle.pcm_feeder.specs.declared.section.Section.{Section}
 use Rattle.pcm_feeder.specs.declared.stage.Gain.{Gain}
 use Rattle.pcm_feeder.specs.declared.stage.Spec.{Spec}
-use Rattle.pcm_feeder.specs.declared.stage.Spec.TheVariants.{Hold, Linear, Poly, Depth}
+use Rattle.pcm_feeder.specs.declared.stage.Spec.TheVariants.{Hold, Linear, Poly, Depth, Eq}
 use Rattle.pcm_feeder.specs.declared.table.Table.{Table}
 use Rattle.pcm_feeder.specs.Filters.{Filters}
 
 -- a coefficient at most so far from 0
-pub record IsCoef (coef : ℤ) : Type 0 where
-  pub low : neg_ℤ COEF_MOST ≤ℤ coef
-  pub high : coef ≤ℤ COEF_MOST
+pub record IsCoefWithin (most : ℤ) (number : ℤ) : Type 0 where
+  pub low : neg_ℤ most ≤ℤ number
+  pub high : number ≤ℤ most
+
+-- a coefficient of a filter
+abbrev pub IsCoef : ℤ → Type 0
+IsCoef = IsCoefWithin COEF_MOST
+
+-- a coefficient of a section
+abbrev pub IsSectionCoef : ℤ → Type 0
+IsSectionCoef = IsCoefWithin SECTION_COEF_MOST
 
 -- an even number of taps from 2 on
 pub record AreTaps (taps : ℕ) : Type 0 where
@@ -40,10 +49,22 @@ pub record IsTable (table : Table) : Type 0 where
   pub least_shift : 1 ≤ table.shift
   pub most_shift : table.shift ≤ SHIFT_MOST
 
--- at most so many filters
-pub record AreFilters (filters : List Table) : Type 0 where
-  pub count : length filters ≤ FILTERS
-  pub each : All IsTable filters
+-- a section within its limits
+pub record IsSection (section : Section) : Type 0 where
+  pub least_shift : 1 ≤ section.shift
+  pub most_shift : section.shift ≤ SECTION_SHIFT_MOST
+  pub b0 : IsSectionCoef section.b0
+  pub b1 : IsSectionCoef section.b1
+  pub b2 : IsSectionCoef section.b2
+  pub a1 : IsSectionCoef section.a1
+  pub a2 : IsSectionCoef section.a2
+
+-- at most so many filters and sections
+pub record AreFilters (filters : Filters) : Type 0 where
+  pub count : length filters.list ≤ FILTERS
+  pub each : All IsTable filters.list
+  pub few : length filters.sections ≤ SECTIONS
+  pub sections : All IsSection filters.sections
 
 -- as many channels as a layout may have
 pub record AreChannels (channels : ℕ) : Type 0 where
@@ -67,12 +88,19 @@ pub record IsDepth (bits channels : ℕ) : Type 0 where
   pub most : bits ≤ 32
   pub within : AreChannels channels
 
+-- a number of sections within the limits
+pub record IsEqualiser (channels sections : ℕ) : Type 0 where
+  pub within : AreChannels channels
+  pub least : 1 ≤ sections
+  pub most : sections ≤ SECTIONS
+
 -- what a stage may be fitted to
 abbrev pub IsSpec : Spec → Type 0
 IsSpec (Hold src dst channels) = IsChange src dst channels
 IsSpec (Linear src dst channels) = IsChange src dst channels
 IsSpec (Poly src dst channels table taps) = IsFilter src dst channels taps
 IsSpec (Depth bits channels) = IsDepth bits channels
+IsSpec (Eq channels sections) = IsEqualiser channels sections
 IsSpec _ = Unit {0}
 
 -- a gain of at most one on each side
@@ -80,8 +108,9 @@ pub record IsGain (gain : Gain) : Type 0 where
   pub left : gain.left ≤ 65536
   pub right : gain.right ≤ 65536
 
--- a filter's table is there, with the taps that the stage was fitted to
+-- a filter's table is there, with the taps that the stage was fitted to; there are as many sections
 abbrev pub HasTable : Spec → Filters → Type 0
 HasTable (Poly src dst channels table taps) tables =
     IsSomeAnd (slice_get tables.list table) (λ found. found.taps ≡ taps)
+HasTable (Eq channels sections) tables = length tables.sections ≡ sections
 HasTable _ tables = Unit {0}

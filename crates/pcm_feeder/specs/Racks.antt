@@ -2,7 +2,7 @@
 use Rattle.std.specs.Prelude.{◌≡◌, ◌≢◌, ◌⊎◌, ℕ, List, [], ◌∷◌, ◌++◌, length, All}
 use Rattle.pcm_feeder.specs.declared.kind.Kind.{Kind}
 use Rattle.pcm_feeder.specs.declared.kind.Kind.TheVariants as kinds
-use Rattle.pcm_feeder.specs.declared.rack.SixOf.{SixOf}
+use Rattle.pcm_feeder.specs.declared.rack.SevenOf.{SevenOf}
 use Rattle.pcm_feeder.specs.declared.rack.RackOf.{RackOf}
 use Rattle.pcm_feeder.specs.declared.rack.RacksOf.{RacksOf}
 use Rattle.pcm_feeder.specs.declared.rack.WrongKind.{WrongKind}
@@ -16,14 +16,15 @@ pub record Place (B : Type 0) : Type 0 where
   pub box : B
 
 -- the places of a rack, in their order
-abbrev pub places_of : {B : Type 0} → SixOf B → List (Place B)
-places_of six =
-    record { asks = kinds.Matrix; box = six.matrix }
-    ∷ record { asks = kinds.Hold; box = six.hold }
-    ∷ record { asks = kinds.Linear; box = six.linear }
-    ∷ record { asks = kinds.Poly; box = six.poly }
-    ∷ record { asks = kinds.Volume; box = six.volume }
-    ∷ record { asks = kinds.Depth; box = six.depth } ∷ []
+abbrev pub places_of : {B : Type 0} → SevenOf B → List (Place B)
+places_of seven =
+    record { asks = kinds.Matrix; box = seven.matrix }
+    ∷ record { asks = kinds.Hold; box = seven.hold }
+    ∷ record { asks = kinds.Linear; box = seven.linear }
+    ∷ record { asks = kinds.Poly; box = seven.poly }
+    ∷ record { asks = kinds.Volume; box = seven.volume }
+    ∷ record { asks = kinds.Depth; box = seven.depth }
+    ∷ record { asks = kinds.Eq; box = seven.eq } ∷ []
 
 -- a place's box is of another kind
 abbrev pub IsWrongAt : {B : Type 0} → (B → Kind) → Place B → WrongKind → Type 0
@@ -37,16 +38,17 @@ IsFirstWrong kind (place ∷ rest) wrong =
     IsWrongAt kind place wrong ⊎ ((kind place.box ≡ place.asks) × IsFirstWrong kind rest wrong)
 
 -- each box is of the kind that its place asks for
-pub record HaveKinds {B : Type 0} (kind : B → Kind) (six : SixOf B) : Type 0 where
-  pub matrix : kind six.matrix ≡ kinds.Matrix
-  pub hold : kind six.hold ≡ kinds.Hold
-  pub linear : kind six.linear ≡ kinds.Linear
-  pub poly : kind six.poly ≡ kinds.Poly
-  pub volume : kind six.volume ≡ kinds.Volume
-  pub depth : kind six.depth ≡ kinds.Depth
+pub record HaveKinds {B : Type 0} (kind : B → Kind) (seven : SevenOf B) : Type 0 where
+  pub matrix : kind seven.matrix ≡ kinds.Matrix
+  pub hold : kind seven.hold ≡ kinds.Hold
+  pub linear : kind seven.linear ≡ kinds.Linear
+  pub poly : kind seven.poly ≡ kinds.Poly
+  pub volume : kind seven.volume ≡ kinds.Volume
+  pub depth : kind seven.depth ≡ kinds.Depth
+  pub eq : kind seven.eq ≡ kinds.Eq
 
 -- the boxes of a rack
-abbrev pub boxes_of : {B : Type 0} → RackOf B → SixOf B
+abbrev pub boxes_of : {B : Type 0} → RackOf B → SevenOf B
 boxes_of rack = rack.boxes
 
 -- each box of a rack is of the kind that its place asks for
@@ -65,18 +67,18 @@ list_of racks = racks.list.items
 abbrev pub rack_count : ℕ
 rack_count = RACKS
 
--- the first six boxes that make no rack, and what is wrong with them
-pub record IsFirstFault {B : Type 0} (kind : B → Kind) (boxes : List (SixOf B)) (found : WrongKind)
+-- the first seven boxes that make no rack, and what is wrong with them
+pub record IsFirstFault {B : Type 0} (kind : B → Kind) (boxes : List (SevenOf B)) (found : WrongKind)
     : Type 0 where
-  pub before : List (SixOf B)
-  pub six : SixOf B
-  pub after : List (SixOf B)
-  pub split : boxes ≡ before ++ six ∷ after
+  pub before : List (SevenOf B)
+  pub seven : SevenOf B
+  pub after : List (SevenOf B)
+  pub split : boxes ≡ before ++ seven ∷ after
   pub right : All (HaveKinds kind) before
-  pub wrong : IsFirstWrong kind (places_of six) found
+  pub wrong : IsFirstWrong kind (places_of seven) found
 
 -- why boxes don't make the racks of a run
-abbrev pub IsRackFault : {B : Type 0} → (B → Kind) → List (SixOf B) → RackFault → Type 0
+abbrev pub IsRackFault : {B : Type 0} → (B → Kind) → List (SevenOf B) → RackFault → Type 0
 IsRackFault kind boxes (WrongBox found) = IsFirstFault kind boxes found
 IsRackFault kind boxes (Count found) = (found.found ≡ length boxes) × (length boxes ≢ rack_count)
 IsRackFault kind boxes Memory = Unit {0}

@@ -1,11 +1,10 @@
 -- The outputs of a stage over a whole stream.
-use Rattle.std.specs.Prelude.{ℕ, ◌+◌, ◌-◌, ◌*◌, ◌/◌, ◌%◌, ◌^◌, ℤ, pos, negsuc, ◌+ℤ◌, ◌-ℤ◌, ◌*ℤ◌, List, [], map, slice_index_or}
+use Rattle.std.specs.Prelude.{ℕ, ◌+◌, ◌-◌, ◌*◌, ◌/◌, ◌%◌, ℤ, pos, negsuc, ◌+ℤ◌, ◌-ℤ◌, ◌*ℤ◌, List, [], map, slice_index_or}
 use Rattle.std.specs.List.{range_with_len}
 use Rattle.std.specs.Simd.Lanes.{zip2}
 use Rattle.pcm_num.specs.Floor.{floor_div}
 use Rattle.pcm_rate.specs.declared.rate.Rate.{Rate}
 use Rattle.pcm_rate.specs.Rates.{unchanged}
-use Rattle.pcm_num.specs.Limit.{clamped}
 use Rattle.pcm_format.specs.Samples.{at_depth}
 use Rattle.pcm_format.specs.Layouts.{channels_of}
 use Rattle.pcm_format.specs.Frames.{Frame}
@@ -13,9 +12,11 @@ use Rattle.pcm_feeder.specs.declared.stage.Gain.{Gain}
 use Rattle.pcm_feeder.specs.declared.table.Table.{Table}
 use Rattle.pcm_feeder.specs.Filters.{Filters}
 use Rattle.pcm_feeder.specs.declared.stage.Spec.{Spec}
-use Rattle.pcm_feeder.specs.declared.stage.Spec.TheVariants.{Matrix, Hold, Linear, Poly, Volume, Depth}
-use Rattle.pcm_feeder.specs.Layouts.{in_layout, at_gain, sum_of}
-use Rattle.pcm_feeder.specs.Streams.{Stream, silence}
+use Rattle.pcm_feeder.specs.declared.stage.Spec.TheVariants.{Matrix, Hold, Linear, Poly, Volume, Depth, Eq}
+use Rattle.pcm_feeder.specs.Layouts.{in_layout, at_gain}
+use Rattle.pcm_feeder.specs.Sums.{sum_of, scaled_down}
+use Rattle.pcm_feeder.specs.Streams.{Stream, silence, stream_of, frames_until}
+use Rattle.pcm_feeder.specs.Sections.{sections_of, through_sections}
 
 -- the channels that a stage takes
 abbrev pub channels_in : Spec → ℕ
@@ -25,6 +26,7 @@ channels_in (Linear src dst channels) = channels
 channels_in (Poly src dst channels table taps) = channels
 channels_in (Volume layout) = channels_of layout
 channels_in (Depth bits channels) = channels
+channels_in (Eq channels sections) = channels
 
 -- the channels that a stage gives
 abbrev pub channels_out : Spec → ℕ
@@ -34,6 +36,7 @@ channels_out (Linear src dst channels) = channels
 channels_out (Poly src dst channels table taps) = channels
 channels_out (Volume layout) = channels_of layout
 channels_out (Depth bits channels) = channels
+channels_out (Eq channels sections) = channels
 
 -- the rate of a stage
 abbrev pub rate_of : Spec → Rate
@@ -47,6 +50,7 @@ abbrev pub history : Spec → ℕ
 history (Hold src dst channels) = 1
 history (Linear src dst channels) = 2
 history (Poly src dst channels table taps) = taps
+history (Eq channels sections) = 2 + 2 * sections
 history _ = 0
 
 -- a frame at fewer bits, rounded down
@@ -66,10 +70,6 @@ table_at tables place =
 -- coefficient j of a row
 abbrev pub coef : Table → ℕ → ℕ → ℤ
 coef table row j = slice_index_or table.coefs (row * table.taps + j) (pos 0)
-
--- a sum of products divided by 2 ^ shift, rounded to the nearest and limited to 32 bits
-abbrev pub scaled_down : ℕ → ℤ → ℤ
-scaled_down shift sum = clamped 32 (floor_div (sum +ℤ pos (2 ^ (shift - 1))) (2 ^ shift))
 
 -- a channel of the frames around a place, through one row of a filter
 abbrev pub filtered : Table → ℕ → ℕ → Stream → ℕ → ℤ
@@ -112,6 +112,9 @@ conv (Poly src dst channels table taps) tables gain x k =
     (rate_of (Poly src dst channels table taps)) x k
 conv (Volume layout) tables gain x k = at_gain layout gain (x (pos k))
 conv (Depth bits channels) tables gain x k = at_bits bits (x (pos k))
+conv (Eq channels sections) tables gain x k =
+    stream_of channels (through_sections channels (sections_of tables sections) (frames_until x (k + 1)))
+    (pos k)
 
 -- so many outputs, from output `from` on
 abbrev pub outputs : Spec → Filters → Gain → Stream → ℕ → ℕ → List Frame

@@ -16,6 +16,10 @@ abbrev pub stream_of : ℕ → List Frame → Stream
 stream_of channels frames (pos place) = slice_index_or frames place (silence channels)
 stream_of channels frames (negsuc _) = silence channels
 
+-- the frames of a stream up to a place
+abbrev pub frames_until : Stream → ℕ → List Frame
+frames_until x n = map (λ k. x (pos k)) (range_with_len 0 n)
+
 -- each frame has one sample per channel
 abbrev pub HaveChannels : ℕ → List Frame → Type 0
 HaveChannels channels frames = All (λ frame. length frame ≡ channels) frames
@@ -38,3 +42,11 @@ interleaved frames = flat_map (λ frame. frame) frames
 -- samples with frames written over their front
 abbrev pub written : List Frame → List ℤ → List ℤ
 written frames samples = interleaved frames ++ drop (length (interleaved frames)) samples
+
+-- the last n frames of silence followed by x
+abbrev pub last_frames : ℕ → ℕ → List Frame → List Frame
+last_frames channels n x = drop (length x) (replicate n (silence channels) ++ x)
+
+-- as many last frames as before, after more were eaten
+abbrev pub moved_on : List Frame → List Frame → List Frame
+moved_on tail eaten = drop (length eaten) (tail ++ eaten)

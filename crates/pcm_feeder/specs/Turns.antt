@@ -5,12 +5,13 @@ use Rattle.pcm_format.specs.Frames.{Frame}
 use Rattle.pcm_format.specs.Samples.{natural}
 use Rattle.pcm_feeder.specs.declared.stage.Gain.{Gain}
 use Rattle.pcm_feeder.specs.declared.stage.Spec.{Spec}
-use Rattle.pcm_feeder.specs.declared.stage.Spec.TheVariants.{Matrix, Hold, Linear, Poly, Volume, Depth}
+use Rattle.pcm_feeder.specs.declared.stage.Spec.TheVariants.{Matrix, Hold, Linear, Poly, Volume, Depth, Eq}
 use Rattle.pcm_feeder.specs.Filters.{Filters}
 use Rattle.pcm_rate.specs.declared.rate.Rate.{Rate}
 use Rattle.pcm_rate.specs.Rates.{need, can, div_up}
 use Rattle.pcm_feeder.specs.Streams.{Stream, stream_of, frames_of, HaveChannels, written}
 use Rattle.pcm_feeder.specs.Layouts.{in_layout, at_gain}
+use Rattle.pcm_feeder.specs.Sections.{sections_of, sections_on}
 use Rattle.pcm_feeder.specs.Stages.{rate_of, channels_in, channels_out, history, at_bits, table_at, Converter, held, on_line, filtered_frame, outputs}
 use Rattle.pcm_feeder.specs.Limits.{IsGain, HasTable}
 use Rattle.pcm_feeder.specs.Kept.{Kept, fresh, past_after, StandsFor}
@@ -75,6 +76,8 @@ frames_by (Poly src dst channels table taps) kept tables gain input given =
 frames_by (Volume layout) kept tables gain input given =
     map (at_gain layout gain) (take given input)
 frames_by (Depth bits channels) kept tables gain input given = map (at_bits bits) (take given input)
+frames_by (Eq channels sections) kept tables gain input given =
+    sections_on channels (sections_of tables sections) kept.tail (take given input)
 
 -- what is kept after so many frames were eaten and given
 abbrev pub kept_after : Spec → Filters → Kept → List Frame → ℕ → ℕ → Kept

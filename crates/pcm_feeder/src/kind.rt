@@ -15,4 +15,6 @@ pub enum Kind {
     Volume,
     /// Takes samples of 32 bits to fewer bits.
     Depth,
+    /// Equalises by sections of two poles and two zeros, one after another.
+    Eq,
 }

@@ -1,4 +1,4 @@
-//! The limits of filters.
+//! The limits of filters and of an equaliser's sections.
 
 /// How many filters a run has at most.
 pub const FILTERS: usize = 4;
@@ -17,3 +17,12 @@ pub const COEF_MOST: i32 = 16777216;
 
 /// By how many bits the sum of a row's products is shifted at most.
 pub const SHIFT_MOST: u32 = 30;
+
+/// How many sections an equaliser has at most.
+pub const SECTIONS: usize = 4;
+
+/// By how many bits the sum of a section's products is shifted at most.
+pub const SECTION_SHIFT_MOST: u32 = 28;
+
+/// How far a coefficient of a section is from 0 at most.
+pub const SECTION_COEF_MOST: i32 = 536870912;

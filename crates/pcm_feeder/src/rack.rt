@@ -11,13 +11,14 @@ pub const RACKS: usize = 32;
 
 /// The boxes of a rack, one for each kind of stage.
 #[derive(Drop)]
-pub struct SixOf<B> {
+pub struct SevenOf<B> {
     pub matrix: B,
     pub hold: B,
     pub linear: B,
     pub poly: B,
     pub volume: B,
     pub depth: B,
+    pub eq: B,
 }
 
 /// A box of another kind than its place asks for.
@@ -30,7 +31,7 @@ pub struct WrongKind {
 /// Boxes whose kinds were tried.
 #[derive(Drop)]
 pub struct RackOf<B> {
-    boxes: SixOf<B>,
+    boxes: SevenOf<B>,
 }
 
 impl<B: Feeder> RackOf<B> {
@@ -39,37 +40,38 @@ impl<B: Feeder> RackOf<B> {
     ghost use Rattle.pcm_feeder.specs.Racks.{IsFirstWrong, IsRackFault, places_of};
 
     /// Tries the boxes in the order of their places. They are dropped where one is refused.
-    pub fn new(six: SixOf<B>) -> Result<RackOf<B>, WrongKind>
-        ensures same { IfOk result (λ rack. boxes_of rack ≡ six) }
+    pub fn new(seven: SevenOf<B>) -> Result<RackOf<B>, WrongKind>
+        ensures same { IfOk result (λ rack. boxes_of rack ≡ seven) }
         ensures kinds { IfOk result (IsRack B.kind) }
-        ensures wrong { IfErr result (IsFirstWrong B.kind (places_of six)) }
+        ensures wrong { IfErr result (IsFirstWrong B.kind (places_of seven)) }
     {
-        is_of_kind(&six.matrix, Kind::Matrix)?;
-        is_of_kind(&six.hold, Kind::Hold)?;
-        is_of_kind(&six.linear, Kind::Linear)?;
-        is_of_kind(&six.poly, Kind::Poly)?;
-        is_of_kind(&six.volume, Kind::Volume)?;
-        is_of_kind(&six.depth, Kind::Depth)?;
-        Ok(RackOf { boxes: six })
+        is_of_kind(&seven.matrix, Kind::Matrix)?;
+        is_of_kind(&seven.hold, Kind::Hold)?;
+        is_of_kind(&seven.linear, Kind::Linear)?;
+        is_of_kind(&seven.poly, Kind::Poly)?;
+        is_of_kind(&seven.volume, Kind::Volume)?;
+        is_of_kind(&seven.depth, Kind::Depth)?;
+        is_of_kind(&seven.eq, Kind::Eq)?;
+        Ok(RackOf { boxes: seven })
     }
 
     /// Hands the boxes out.
-    pub fn into_boxes(self) -> SixOf<B>
+    pub fn into_boxes(self) -> SevenOf<B>
         ensures same { result ≡ boxes_of self }
         ensures kinds { IsRack B.kind self → HaveKinds B.kind result }
     {
         self.boxes
     }
 
-    // A rack of each six boxes, in their order.
-    fn of_each(alloc: Global, boxes: Vec<SixOf<B>>) -> Result<Vec<RackOf<B>>, RackFault>
+    // A rack of each seven boxes, in their order.
+    fn of_each(alloc: Global, boxes: Vec<SevenOf<B>>) -> Result<Vec<RackOf<B>>, RackFault>
         ensures kinds { IfOk result (λ racks. AreRacks B.kind racks.items) }
         ensures same { IfOk result (λ racks. map boxes_of racks.items ≡ boxes.items) }
         ensures fault { IfErr result (IsRackFault B.kind boxes.items) }
     {
         let mut racks = Vec::new(alloc);
-        for six in boxes {
-            match RackOf::new(six) {
+        for seven in boxes {
+            match RackOf::new(seven) {
                 Ok(rack) => racks.push(rack)?,
                 Err(wrong) => return Err(RackFault::WrongBox(wrong)),
             }
@@ -158,8 +160,8 @@ impl<B: Feeder> RacksOf<B> {
         }
     }
 
-    /// Makes a rack of each six boxes, in their order. All boxes are dropped where one is refused.
-    pub fn of_boxes(alloc: Global, boxes: Vec<SixOf<B>>) -> Result<RacksOf<B>, RackFault>
+    /// Makes a rack of each seven boxes, in their order. All boxes are dropped where one is refused.
+    pub fn of_boxes(alloc: Global, boxes: Vec<SevenOf<B>>) -> Result<RacksOf<B>, RackFault>
         ensures kinds { IfOk result (λ made. AreRacks B.kind (list_of made)) }
         ensures same { IfOk result (λ made. map boxes_of (list_of made) ≡ boxes.items) }
         ensures fault { IfErr result (IsRackFault B.kind boxes.items) }
@@ -182,7 +184,7 @@ impl<B: Feeder> RacksOf<B> {
 }
 
 /// The boxes of a rack of a run.
-pub type Six = SixOf<Box<dyn Feeder>>;
+pub type Seven = SevenOf<Box<dyn Feeder>>;
 
 /// A rack of a run.
 pub type Rack = RackOf<Box<dyn Feeder>>;

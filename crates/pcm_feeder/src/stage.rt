@@ -41,6 +41,11 @@ pub enum Spec {
         bits: u32,
         channels: usize,
     },
+    /// Through this many sections: those of the tables.
+    Eq {
+        channels: usize,
+        sections: usize,
+    },
 }
 
 impl Default for Spec {

@@ -28,7 +28,7 @@ pub record Serves {B : Type 0} (opening : Opening) (path : PathOf B) : Type 0 wh
 -- the filters are within their limits, and the chain goes by the plan that they give between a client of a way, with these
 -- settings, and the device
 pub record IsPlanned {B : Type 0} (way : Way) (filters : Filters) (settings : Settings) (path : PathOf B) : Type 0 where
-  pub limits : AreFilters filters.list
+  pub limits : AreFilters filters
   pub plan_is : plan_in path.chain ≡ plan_between way (seen filters path.device) settings
 
 -- nothing is in it: no byte waits in the ring, and the chain stands for no frame, whichever the filters are

@@ -87,7 +87,7 @@ fn plan_of(way: Way, tables: &Tables, device: &Device, client: &Settings) -> Pla
     requires device { IsRate device.now.settings.rate }
     requires client { IsRate client.now.rate }
     ensures value { result ≡ plan_between way (seen tables.now device.now) client.now }
-    ensures limits { AreFilters tables.now.list }
+    ensures limits { AreFilters tables.now }
     ensures ratio { IsRatio (rate_in_plan result) }
 {
     match way {

@@ -21,7 +21,8 @@ use Rattle.pcm_feeder.specs.declared.stage.Spec.{Spec}
 use Rattle.pcm_feeder.specs.declared.stage.Spec.TheVariants.{Matrix, Hold, Linear, Poly, Depth}
 use Rattle.pcm_feeder.specs.declared.table.Table.{Table}
 use Rattle.pcm_feeder.specs.Filters.{Filters}
-use Rattle.pcm_feeder.specs.Layouts.{unity, gathered, sum_of, weight}
+use Rattle.pcm_feeder.specs.Layouts.{unity, gathered, weight}
+use Rattle.pcm_feeder.specs.Sums.{sum_of}
 use Rattle.pcm_feeder.specs.Limits.{IsRate}
 use Rattle.pcm_feeder.specs.Stages.{channels_out, conv, all_outputs, blended, coef, filtered, table_at}
 use Rattle.pcm_feeder.specs.Streams.{Stream, silence, stream_of}

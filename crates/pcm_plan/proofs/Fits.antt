@@ -17,15 +17,15 @@ use Rattle.pcm_rate.specs.Rates.{unchanged, IsRatio}
 use Rattle.pcm_feeder.specs.declared.kind.Kind.{Kind}
 use Rattle.pcm_feeder.specs.declared.kind.Kind.TheVariants as kinds
 use Rattle.pcm_feeder.specs.declared.stage.Spec.{Spec}
-use Rattle.pcm_feeder.specs.declared.stage.Spec.TheVariants.{Matrix, Hold, Linear, Poly, Volume, Depth}
+use Rattle.pcm_feeder.specs.declared.stage.Spec.TheVariants.{Matrix, Hold, Linear, Poly, Volume, Depth, Eq}
 use Rattle.pcm_feeder.specs.declared.table.Table.{Table}
 use Rattle.pcm_feeder.specs.Filters.{Filters}
 use Rattle.pcm_feeder.specs.Kinds.{kind_of}
 use Rattle.pcm_feeder.specs.Limits.{IsRate, AreTaps, AreFilters, AreChannels, IsChange, IsSpec, HasTable}
 use Rattle.pcm_feeder.specs.Stages.{rate_of, channels_in, channels_out, table_at}
 use Rattle.pcm_feeder.proofs.Outputs.{src-above, dst-above}
-use Rattle.pcm_plan.specs.Plans.{PlanSeen, matrix_stages, is_for, or_else, filter_for, filter_or_line, converter_of, rate_stages, depth_stages, converting, plan_play, plan_record, rate_among, rate_in_plan}
-use Rattle.pcm_plan.specs.Fits.{Follow, AreDistinct, IsUnrated, HaveOneRate, GainIsLate, IsPlan, HaveTables, HaveNoVolume}
+use Rattle.pcm_plan.specs.Plans.{PlanSeen, matrix_stages, is_for, or_else, filter_for, filter_or_line, converter_of, rate_stages, equaliser_stages, depth_stages, converting, plan_play, plan_record, rate_among, rate_in_plan}
+use Rattle.pcm_plan.specs.Fits.{Follow, AreDistinct, IsUnrated, HaveOneRate, TurnsEach, GainIsLate, IsPlan, HaveTables, HaveNoVolume}
 
 -- ---- the rate of stages
 
@@ -41,6 +41,7 @@ rate-ratio (Linear src dst channels ∷ specs) have = All-head (λ spec. IsRatio
 rate-ratio (Poly src dst channels table taps ∷ specs) have = All-head (λ spec. IsRatio (rate_of spec)) (Poly src dst channels table taps) specs have
 rate-ratio (Volume layout ∷ specs) have = rate-ratio specs (All-tail (λ spec. IsRatio (rate_of spec)) (Volume layout) specs have)
 rate-ratio (Depth bits channels ∷ specs) have = rate-ratio specs (All-tail (λ spec. IsRatio (rate_of spec)) (Depth bits channels) specs have)
+rate-ratio (Eq channels sections ∷ specs) have = rate-ratio specs (All-tail (λ spec. IsRatio (rate_of spec)) (Eq channels sections) specs have)
 
 -- both rates of a plan are above 0
 pub ratio-in : (plan : PlanSeen) → IsPlan plan → IsRatio (rate_in_plan plan)
@@ -74,6 +75,7 @@ rank_of kinds.Linear = 1
 rank_of kinds.Poly = 1
 rank_of kinds.Volume = 2
 rank_of kinds.Depth = 2
+rank_of kinds.Eq = 2
 
 abbrev HaveRank : ℕ → List Spec → Type 0
 HaveRank n specs = All (λ spec. rank_of (kind_of spec) ≡ n) specs
@@ -91,6 +93,7 @@ one-rate-unrated (Linear src dst channels ∷ specs) all = All-tail IsUnrated (L
 one-rate-unrated (Poly src dst channels table taps ∷ specs) all = All-tail IsUnrated (Poly src dst channels table taps) specs all
 one-rate-unrated (Volume layout ∷ specs) all = one-rate-unrated specs (All-tail IsUnrated (Volume layout) specs all)
 one-rate-unrated (Depth bits channels ∷ specs) all = one-rate-unrated specs (All-tail IsUnrated (Depth bits channels) specs all)
+one-rate-unrated (Eq channels sections ∷ specs) all = one-rate-unrated specs (All-tail IsUnrated (Eq channels sections) specs all)
 
 one-rate-append : (before after : List Spec) → HaveOneRate before → All IsUnrated after → HaveOneRate (before ++ after)
 one-rate-append [] after one all = one-rate-unrated after all
@@ -100,6 +103,7 @@ one-rate-append (Linear src dst channels ∷ before) after one all = All-append 
 one-rate-append (Poly src dst channels table taps ∷ before) after one all = All-append IsUnrated before after one all
 one-rate-append (Volume layout ∷ before) after one all = one-rate-append before after one all
 one-rate-append (Depth bits channels ∷ before) after one all = one-rate-append before after one all
+one-rate-append (Eq channels sections ∷ before) after one all = one-rate-append before after one all
 
 one-rate-single : (spec : Spec) → HaveOneRate (spec ∷ [])
 one-rate-single (Matrix from to) = tt
@@ -108,6 +112,7 @@ one-rate-single (Linear src dst channels) = All-nil IsUnrated
 one-rate-single (Poly src dst channels table taps) = All-nil IsUnrated
 one-rate-single (Volume layout) = tt
 one-rate-single (Depth bits channels) = tt
+one-rate-single (Eq channels sections) = tt
 
 -- ---- each stage of a plan
 
@@ -168,25 +173,35 @@ pub each-depth : (P : Spec → Type 0) (bits channels : ℕ) → P (Depth bits c
 each-depth P bits channels depth =
     cond_both (bits == 32) [] (Depth bits channels ∷ []) (All P) (λ whole. All-nil P) (λ fewer. All-cons P (Depth bits channels) [] depth (All-nil P))
 
+-- a fact of the equaliser
+pub each-equaliser : (P : Spec → Type 0) (tables : Filters) (channels : ℕ) → (length tables.sections ≢ 0 → P (Eq channels (length tables.sections))) → All P (equaliser_stages tables channels)
+each-equaliser P tables channels equaliser =
+    let n = length tables.sections in
+    cond_both (n == 0) [] (Eq channels n ∷ []) (All P) (λ none. All-nil P) (λ some. All-cons P (Eq channels n) [] (equaliser (λ same. eqb-false n 0 some same)) (All-nil P))
+
 -- a fact of each stage that a plan may have
 each-stage : (P : Spec → Type 0) (tables : Filters) (quality : ℕ) (client device : Settings) → P (Matrix client.layout device.layout)
     → ((layout : Layout) → client.rate ≢ device.rate → P (converter_of tables quality client.rate device.rate (channels_of layout)))
+    → (length tables.sections ≢ 0 → P (Eq (channels_of device.layout) (length tables.sections)))
     → P (Volume device.layout) → P (Depth (bits_of device.format) (channels_of device.layout))
     → All P (plan_play tables quality client device).stages
-each-stage P tables quality client device matrix converter volume depth =
-    let last = depth_stages (bits_of device.format) (channels_of device.layout) in
-    All-append P (converting tables quality client device) (Volume device.layout ∷ last)
+each-stage P tables quality client device matrix converter equaliser volume depth =
+    let c = channels_of device.layout in
+    let last = depth_stages (bits_of device.format) c in
+    All-append P (converting tables quality client device) (equaliser_stages tables c ++ Volume device.layout ∷ last)
     (each-converting P tables quality client device matrix converter)
-    (All-cons P (Volume device.layout) last volume (each-depth P (bits_of device.format) (channels_of device.layout) depth))
+    (All-append P (equaliser_stages tables c) (Volume device.layout ∷ last) (each-equaliser P tables c equaliser)
+    (All-cons P (Volume device.layout) last volume (each-depth P (bits_of device.format) c depth)))
 
--- the plan of a client that records has the stages of one that plays from its device's settings to its own, but for the volume
+-- the plan of a client that records has the stages of one that plays from its device's settings to its own, but for the equaliser and the volume
 each-recorded : (P : Spec → Type 0) (tables : Filters) (quality : ℕ) (client device : Settings) → All P (plan_play tables quality device client).stages
     → All P (plan_record tables quality client device).stages
 each-recorded P tables quality client device all =
     let way = converting tables quality device client in
     let last = depth_stages (bits_of client.format) (channels_of client.layout) in
-    All-append P way last (front way (Volume client.layout ∷ last) all)
-    (All-tail P (Volume client.layout) last (behind way (Volume client.layout ∷ last) all))
+    let equaliser = equaliser_stages tables (channels_of client.layout) in
+    All-append P way last (front way (equaliser ++ Volume client.layout ∷ last) all)
+    (All-tail P (Volume client.layout) last (behind equaliser (Volume client.layout ∷ last) (behind way (equaliser ++ Volume client.layout ∷ last) all)))
   where
     front : (before after : List Spec) → All P (before ++ after) → All P before
     front [] after have = All-nil P
@@ -209,17 +224,18 @@ bits-within U8 = (omega arith, omega arith)
 bits-within _ = (omega arith, omega arith)
 
 -- the taps of a filter that is there
-taps-within : (tables : Filters) (place : ℕ) → AreFilters tables.list → place < length tables.list → AreTaps (table_at tables place).taps
+taps-within : (tables : Filters) (place : ℕ) → AreFilters tables → place < length tables.list → AreTaps (table_at tables place).taps
 taps-within tables place are below = (are.each place (record { src = 0; dst = 0; phases = 1; taps = 2; shift = 1; coefs = [] }) below).taps
 
 has-table : (tables : Filters) (src dst channels place : ℕ) → place < length tables.list → HasTable (Poly src dst channels place (table_at tables place).taps) tables
 has-table tables src dst channels place below =
     rw (slice_get-get_or tables.list place (record { src = 0; dst = 0; phases = 1; taps = 2; shift = 1; coefs = [] }) below) refl
 
-play-specs : (tables : Filters) (quality : ℕ) (client device : Settings) → AreFilters tables.list → IsRate client.rate → IsRate device.rate
+play-specs : (tables : Filters) (quality : ℕ) (client device : Settings) → AreFilters tables → IsRate client.rate → IsRate device.rate
     → All IsSpec (plan_play tables quality client device).stages
 play-specs tables quality client device are from to =
-    each-stage IsSpec tables quality client device tt (λ layout differs. converter layout) tt
+    each-stage IsSpec tables quality client device tt (λ layout differs. converter layout)
+    (λ some. record { within = channels-within device.layout; least = omega (arith, some); most = are.few }) tt
     (record { least = (bits-within device.format).0; most = (bits-within device.format).1; within = channels-within device.layout })
   where
     change : (layout : Layout) → IsChange client.rate device.rate (channels_of layout)
@@ -231,12 +247,12 @@ play-specs tables quality client device are from to =
         (λ place below. record { change = change layout; row = taps-within tables place are below })
 
 -- the tables have the filter of a client's plan
-pub play-tables : (tables : Filters) (quality : ℕ) (client device : Settings) → AreFilters tables.list → IsRate client.rate → IsRate device.rate
+pub play-tables : (tables : Filters) (quality : ℕ) (client device : Settings) → AreFilters tables → IsRate client.rate → IsRate device.rate
     → HaveTables (plan_play tables quality client device).stages tables
 play-tables tables quality client device are from to =
     each-stage (λ spec. HasTable spec tables) tables quality client device tt
     (λ layout differs. each-converter (λ spec. HasTable spec tables) tables quality client.rate device.rate (channels_of layout) tt tt
-    (λ place below. has-table tables client.rate device.rate (channels_of layout) place below)) tt tt
+    (λ place below. has-table tables client.rate device.rate (channels_of layout) place below)) (λ some. refl) tt tt
 
 -- both rates of its converter are above 0
 pub play-ratio : (tables : Filters) (quality : ℕ) (client device : Settings) → IsRate client.rate → IsRate device.rate → IsRatio (rate_in_plan (plan_play tables quality client device))
@@ -244,7 +260,7 @@ play-ratio tables quality client device from to =
     rate-ratio (plan_play tables quality client device).stages
     (each-stage (λ spec. IsRatio (rate_of spec)) tables quality client device level
     (λ layout differs. each-converter (λ spec. IsRatio (rate_of spec)) tables quality client.rate device.rate (channels_of layout) (above 0) (above 1)
-    (λ place below. above ((table_at tables place).taps / 2))) level level)
+    (λ place below. above ((table_at tables place).taps / 2))) (λ some. level) level level)
   where
     level : IsRatio unchanged
     level = record { src = omega arith; dst = omega arith }
@@ -347,7 +363,7 @@ converting-way tables quality source target =
     (λ more. way-append c c d 1 0 up moved (omega arith) (omega arith) (omega arith) before matrix
     (one-rate-append up moved before.row.one_rate (matrix-unrated source.layout target.layout)))
 
--- the end of a plan: the depth, or the volume and the depth behind it
+-- the end of a plan: the depth, or the equaliser, the volume and the depth
 record IsEnd (channels most : ℕ) (row : List Spec) : Type 0 where
   part : IsPart channels channels most 2 row
   unrated : All IsUnrated row
@@ -374,6 +390,27 @@ volume-end layout bits =
       unrated = All-cons IsUnrated (Volume layout) rest refl last.unrated;
     }
 
+play-end : (tables : Filters) (layout : Layout) (bits : ℕ) → IsEnd (channels_of layout) 3 (equaliser_stages tables (channels_of layout) ++ Volume layout ∷ depth_stages bits (channels_of layout))
+play-end tables layout bits =
+    let c = channels_of layout in
+    let n = length tables.sections in
+    let rest = Volume layout ∷ depth_stages bits c in
+    let last = volume-end layout bits in
+    let Others : Spec → Type 0 = λ (spec : Spec). All (λ s. kind_of spec ≢ kind_of s) rest in
+    let volume : kinds.Eq ≢ kinds.Volume = λ (same : kinds.Eq ≡ kinds.Volume). cc in
+    let depth : kinds.Eq ≢ kinds.Depth = λ (same : kinds.Eq ≡ kinds.Depth). cc in
+    let other = All-cons (λ spec. kinds.Eq ≢ kind_of spec) (Volume layout) (depth_stages bits c) volume (each-depth (λ spec. kinds.Eq ≢ kind_of spec) bits c depth) in
+    let part : IsPart c c 1 2 (equaliser_stages tables c) =
+    cond_both (n == 0) [] (Eq c n ∷ []) (IsPart c c 1 2) (λ none. part-none c c 2 refl) (λ some. part-one 2 (Eq c n) refl) in
+    let level = each-equaliser IsUnrated tables c (λ some. refl) in
+    record {
+      part = record {
+        row = row-append c c c 1 2 (equaliser_stages tables c) rest part.row last.part.row (each-equaliser Others tables c (λ some. other)) (one-rate-append (equaliser_stages tables c) rest part.row.one_rate last.unrated);
+        ranks = All-append (λ spec. rank_of (kind_of spec) ≡ 2) (equaliser_stages tables c) rest part.ranks last.part.ranks;
+      };
+      unrated = All-append IsUnrated (equaliser_stages tables c) rest level last.unrated;
+    }
+
 -- the gain comes behind the converter
 late-matrix : (from to : Layout) (rest : List Spec) → GainIsLate rest → GainIsLate (matrix_stages from to ++ rest)
 late-matrix from to rest late =
@@ -383,6 +420,11 @@ late-rate : (tables : Filters) (quality src dst channels : ℕ) (rest : List Spe
 late-rate tables quality src dst channels rest late =
     cond_both (src == dst) [] (converter_of tables quality src dst channels ∷ []) (λ row. GainIsLate (row ++ rest)) (λ same. late)
     (λ other. each-converter (λ spec. GainIsLate (spec ∷ rest)) tables quality src dst channels late late (λ place below. late))
+
+late-equaliser : (tables : Filters) (channels : ℕ) (rest : List Spec) → GainIsLate rest → GainIsLate (equaliser_stages tables channels ++ rest)
+late-equaliser tables channels rest late =
+    let n = length tables.sections in
+    cond_both (n == 0) [] (Eq channels n ∷ []) (λ row. GainIsLate (row ++ rest)) (λ none. late) (λ some. late)
 
 late-converting : (tables : Filters) (quality : ℕ) (source target : Settings) (rest : List Spec) → GainIsLate rest → GainIsLate (converting tables quality source target ++ rest)
 late-converting tables quality source target rest late =
@@ -396,17 +438,19 @@ late-converting tables quality source target rest late =
     (late-rate tables quality source.rate target.rate (channels_of source.layout) (moved ++ rest) (late-matrix source.layout target.layout rest late)))
 
 -- the stages of a client's plan fit each other
-pub play-fits : (tables : Filters) (quality : ℕ) (client device : Settings) → AreFilters tables.list → IsRate client.rate → IsRate device.rate
+pub play-fits : (tables : Filters) (quality : ℕ) (client device : Settings) → AreFilters tables → IsRate client.rate → IsRate device.rate
     → IsPlan (plan_play tables quality client device)
 play-fits tables quality client device are from to =
     let c = channels_of client.layout in
     let d = channels_of device.layout in
     let way = converting tables quality client device in
-    let behind = Volume device.layout ∷ depth_stages (bits_of device.format) d in
+    let depth = depth_stages (bits_of device.format) d in
+    let behind = equaliser_stages tables d ++ Volume device.layout ∷ depth in
     let first = converting-way tables quality client device in
-    let last = volume-end device.layout (bits_of device.format) in
-    let row = row-append c d d 2 2 way behind first.row last.part.row (first.other behind last.part.ranks) (one-rate-append way behind first.row.one_rate last.unrated) in
-    record { follow = row.follow; specs = play-specs tables quality client device are from to; distinct = row.distinct; one_rate = row.one_rate; late_gain = late-converting tables quality client device behind (All-tail IsUnrated (Volume device.layout) (depth_stages (bits_of device.format) d) last.unrated); count = row.count }
+    let last = play-end tables device.layout (bits_of device.format) in
+    let late = late-equaliser tables d (Volume device.layout ∷ depth) (each-depth TurnsEach (bits_of device.format) d (record { unrated = refl; nothing = refl })) in
+    let row = row-append c d d 2 3 way behind first.row last.part.row (first.other behind last.part.ranks) (one-rate-append way behind first.row.one_rate last.unrated) in
+    record { follow = row.follow; specs = play-specs tables quality client device are from to; distinct = row.distinct; one_rate = row.one_rate; late_gain = late-converting tables quality client device behind late; count = row.count }
 
 -- ---- the plan of a client that records
 
@@ -415,7 +459,7 @@ late-depth : (bits channels : ℕ) → GainIsLate (depth_stages bits channels)
 late-depth bits channels = cond_both (bits == 32) [] (Depth bits channels ∷ []) GainIsLate (λ whole. tt) (λ fewer. tt)
 
 -- its stages fit each other
-pub record-fits : (tables : Filters) (quality : ℕ) (client device : Settings) → AreFilters tables.list → IsRate client.rate → IsRate device.rate
+pub record-fits : (tables : Filters) (quality : ℕ) (client device : Settings) → AreFilters tables → IsRate client.rate → IsRate device.rate
     → IsPlan (plan_record tables quality client device)
 record-fits tables quality client device are to from =
     let c = channels_of device.layout in
@@ -435,13 +479,13 @@ record-fits tables quality client device are to from =
     }
 
 -- the tables have its filter
-pub record-tables : (tables : Filters) (quality : ℕ) (client device : Settings) → AreFilters tables.list → IsRate client.rate → IsRate device.rate
+pub record-tables : (tables : Filters) (quality : ℕ) (client device : Settings) → AreFilters tables → IsRate client.rate → IsRate device.rate
     → HaveTables (plan_record tables quality client device).stages tables
 record-tables tables quality client device are to from =
     each-recorded (λ spec. HasTable spec tables) tables quality client device (play-tables tables quality device client are from to)
 
 -- both rates of its converter are above 0
-pub record-ratio : (tables : Filters) (quality : ℕ) (client device : Settings) → AreFilters tables.list → IsRate client.rate → IsRate device.rate
+pub record-ratio : (tables : Filters) (quality : ℕ) (client device : Settings) → AreFilters tables → IsRate client.rate → IsRate device.rate
     → IsRatio (rate_in_plan (plan_record tables quality client device))
 record-ratio tables quality client device are to from = ratio-in (plan_record tables quality client device) (record-fits tables quality client device are to from)
 

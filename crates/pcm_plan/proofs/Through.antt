@@ -14,7 +14,7 @@ use Rattle.pcm_rate.specs.Rates.{need, can}
 use Rattle.pcm_rate.proofs.Counts.{can-greatest, need_grows, need-unchanged}
 use Rattle.pcm_feeder.specs.declared.stage.Gain.{Gain}
 use Rattle.pcm_feeder.specs.declared.stage.Spec.{Spec}
-use Rattle.pcm_feeder.specs.declared.stage.Spec.TheVariants.{Matrix, Hold, Linear, Poly, Volume, Depth}
+use Rattle.pcm_feeder.specs.declared.stage.Spec.TheVariants.{Matrix, Hold, Linear, Poly, Volume, Depth, Eq}
 use Rattle.pcm_feeder.specs.Filters.{Filters}
 use Rattle.pcm_feeder.specs.Limits.{IsSpec}
 use Rattle.pcm_feeder.specs.Stages.{rate_of, channels_out, all_outputs}
@@ -69,6 +69,7 @@ need_through-rate (Linear src dst channels ∷ specs) c one = ap (need (rate_of 
 need_through-rate (Poly src dst channels table taps ∷ specs) c one = ap (need (rate_of (Poly src dst channels table taps))) (need_through-unrated specs c one)
 need_through-rate (Volume layout ∷ specs) c one = need-unchanged (need_through specs c) ∙ need_through-rate specs c one
 need_through-rate (Depth bits channels ∷ specs) c one = need-unchanged (need_through specs c) ∙ need_through-rate specs c one
+need_through-rate (Eq channels sections ∷ specs) c one = need-unchanged (need_through specs c) ∙ need_through-rate specs c one
 
 -- an output that frames allow is the same when more follow them
 pub out-append : (plan : PlanSeen) (tables : Filters) (frames more : List Frame) (k : ℕ) (gain : Gain) → IsPlan plan → k < can (rate_in_plan plan) (length frames)

@@ -10,7 +10,8 @@ use Rattle.pcm_feeder.specs.declared.stage.Spec.TheVariants.{Hold, Linear, Poly,
 use Rattle.pcm_feeder.specs.Filters.{Filters}
 use Rattle.pcm_feeder.specs.Kinds.{kind_of}
 use Rattle.pcm_feeder.specs.Limits.{IsSpec, HasTable}
-use Rattle.pcm_feeder.specs.Stages.{rate_of, channels_in, channels_out}
+use Rattle.pcm_feeder.specs.Stages.{rate_of, channels_in, channels_out, history}
+use Rattle.pcm_plan.specs.declared.plan.TheConstants.{STAGES}
 use Rattle.pcm_plan.specs.Plans.{PlanSeen}
 
 -- each stage takes the channels that the one before it gives, from the first count to the last
@@ -35,10 +36,15 @@ HaveOneRate (Linear src dst channels ∷ specs) = All IsUnrated specs
 HaveOneRate (Poly src dst channels table taps ∷ specs) = All IsUnrated specs
 HaveOneRate (_ ∷ specs) = HaveOneRate specs
 
--- behind the volume, whose gain may change, no stage changes the rate
+-- a stage turns each frame by itself: it keeps the rate, and no sound
+pub record TurnsEach (spec : Spec) : Type 0 where
+  pub unrated : IsUnrated spec
+  pub nothing : history spec ≡ 0
+
+-- behind the volume, whose gain may change, each stage turns each frame by itself
 abbrev pub GainIsLate : List Spec → Type 0
 GainIsLate [] = Unit {0}
-GainIsLate (Volume layout ∷ specs) = All IsUnrated specs
+GainIsLate (Volume layout ∷ specs) = All TurnsEach specs
 GainIsLate (_ ∷ specs) = GainIsLate specs
 
 -- the stages of a plan fit each other and its ends, and are within their limits
@@ -48,7 +54,7 @@ pub record IsPlan (plan : PlanSeen) : Type 0 where
   pub distinct : AreDistinct plan.stages
   pub one_rate : HaveOneRate plan.stages
   pub late_gain : GainIsLate plan.stages
-  pub count : length plan.stages ≤ 4
+  pub count : length plan.stages ≤ STAGES
 
 -- no stage has a gain
 abbrev pub HaveNoVolume : List Spec → Type 0

@@ -22,7 +22,7 @@ Planning = Filters → ℕ → Settings → Settings → PlanSeen
 -- this holds of each plan that is made between rates within the limits
 abbrev pub HoldsOfPlans : Planning → (PlanSeen → Filters → Type 0) → Type 0
 HoldsOfPlans planned P = (tables : Filters) (quality : ℕ) (client device : Settings)
-    → AreFilters tables.list → IsRate client.rate → IsRate device.rate
+    → AreFilters tables → IsRate client.rate → IsRate device.rate
     → P (planned tables quality client device) tables
 
 -- no plan that is made has a volume

@@ -1,5 +1,5 @@
 -- Which stages a stream goes through, from settings to settings.
-use Rattle.std.specs.Prelude.{ℕ, Bool, ◌&&◌, ◌==◌, nat_le, if◌then◌else◌, Option, Some, None, List, [], ◌∷◌, ◌++◌, position}
+use Rattle.std.specs.Prelude.{ℕ, Bool, ◌&&◌, ◌==◌, nat_le, if◌then◌else◌, Option, Some, None, List, [], ◌∷◌, ◌++◌, length, position}
 use Rattle.pcm_format.specs.declared.layout.Layout.{Layout}
 use Rattle.pcm_format.specs.declared.settings.Settings.{Settings}
 use Rattle.pcm_format.specs.Formats.{bits_of}
@@ -7,7 +7,7 @@ use Rattle.pcm_format.specs.Layouts.{channels_of}
 use Rattle.pcm_rate.specs.declared.rate.Rate.{Rate}
 use Rattle.pcm_rate.specs.Rates.{unchanged}
 use Rattle.pcm_feeder.specs.declared.stage.Spec.{Spec}
-use Rattle.pcm_feeder.specs.declared.stage.Spec.TheVariants.{Matrix, Hold, Linear, Poly, Volume, Depth}
+use Rattle.pcm_feeder.specs.declared.stage.Spec.TheVariants.{Matrix, Hold, Linear, Poly, Volume, Depth, Eq}
 use Rattle.pcm_feeder.specs.declared.table.Table.{Table}
 use Rattle.pcm_feeder.specs.Filters.{Filters}
 use Rattle.pcm_feeder.specs.Stages.{rate_of, table_at}
@@ -21,10 +21,6 @@ pub record PlanSeen : Type 0 where
 -- from layout to layout; between equal ones there is no stage
 abbrev pub matrix_stages : Layout → Layout → List Spec
 matrix_stages from to = if channels_of from == channels_of to then [] else Matrix from to ∷ []
-
--- a list of filters as those of a run
-abbrev pub as_filters : List Table → Filters
-as_filters list = record { list = list }
 
 -- a filter is for these rates
 abbrev pub is_for : ℕ → ℕ → Table → Bool
@@ -62,6 +58,11 @@ rate_stages tables quality src dst channels =
 abbrev pub depth_stages : ℕ → ℕ → List Spec
 depth_stages bits channels = if bits == 32 then [] else Depth bits channels ∷ []
 
+-- the equaliser of so many channels, where there are sections
+abbrev pub equaliser_stages : Filters → ℕ → List Spec
+equaliser_stages tables channels =
+    if length tables.sections == 0 then [] else Eq channels (length tables.sections) ∷ []
+
 -- To another layout and rate. The rate is changed where there are fewer channels: behind the
 -- matrix, unless that adds some.
 abbrev pub converting : Filters → ℕ → Settings → Settings → List Spec
@@ -71,16 +72,17 @@ converting tables quality source target =
     then matrix ++ rate_stages tables quality source.rate target.rate (channels_of target.layout)
     else rate_stages tables quality source.rate target.rate (channels_of source.layout) ++ matrix
 
--- a client's way into a device, which always has its volume
+-- a client's way into a device, which always has its volume, directly behind the equaliser
 abbrev pub plan_play : Filters → ℕ → Settings → Settings → PlanSeen
 plan_play tables quality client device = record {
   source = client.layout;
   target = device.layout;
   stages = converting tables quality client device
-      ++ Volume device.layout ∷ depth_stages (bits_of device.format) (channels_of device.layout);
+      ++ (equaliser_stages tables (channels_of device.layout)
+      ++ Volume device.layout ∷ depth_stages (bits_of device.format) (channels_of device.layout));
 }
 
--- a device's way to a client that records, which has no volume
+-- a device's way to a client that records, which has no equaliser and no volume
 abbrev pub plan_record : Filters → ℕ → Settings → Settings → PlanSeen
 plan_record tables quality client device = record {
   source = device.layout;

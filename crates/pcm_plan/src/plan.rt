@@ -12,12 +12,15 @@ use pcm_num::reduce;
 use pcm_rate::{Rate, UNCHANGED};
 use std::marker::Model;
 
-/// At most four stages that fit each other, and the layouts before the first and behind the last.
+/// How many stages a plan has at most.
+pub const STAGES: usize = 5;
+
+/// Stages that fit each other, and the layouts before the first and behind the last.
 #[derive(Drop)]
 pub struct Plan {
     source: Layout,
     target: Layout,
-    stages: ArrayVec<Spec, 4>,
+    stages: ArrayVec<Spec, STAGES>,
 }
 
 impl Model for Plan {
@@ -47,7 +50,7 @@ impl Plan {
     ghost use Rattle.pcm_plan.specs.Fits.{IsPlan};
 
     // The plan of stages.
-    pub(crate) fn of(source: Layout, target: Layout, stages: ArrayVec<Spec, 4>) -> Plan
+    pub(crate) fn of(source: Layout, target: Layout, stages: ArrayVec<Spec, STAGES>) -> Plan
         requires { IsPlan (record { source = source; target = target; stages = stages.items }) }
         ensures { result ≡ record { source = source; target = target; stages = stages.items } }
     {
@@ -164,7 +167,7 @@ fn rate_of(spec: Spec) -> Option<Rate>
     ensures { (rest : List Spec) → rate_among (spec ∷ rest) ≡ unwrap_or result (rate_among rest) }
 {
     match spec {
-        Spec::Matrix { .. } | Spec::Volume { .. } | Spec::Depth { .. } => None,
+        Spec::Matrix { .. } | Spec::Volume { .. } | Spec::Depth { .. } | Spec::Eq { .. } => None,
         Spec::Hold { src, dst, .. } => Some(Rate {
             src,
             dst,

@@ -15,8 +15,8 @@ pub fn plan_record(client: &Settings, device: &Settings, quality: u32, tables: &
     requires client { IsRate client.now.rate }
     requires device { IsRate device.now.rate }
     ensures value { result ≡ plan_record tables.now quality client.now device.now }
-    // The type of the filters keeps them within their limits.
-    ensures limits { AreFilters tables.now.list }
+    // The type of the tables keeps them within their limits.
+    ensures limits { AreFilters tables.now }
 {
     let mut stages = ArrayVec::new();
     push_converting(&mut stages, device, client, quality, tables.list());

@@ -9,7 +9,8 @@ use Rattle.pcm_format.specs.declared.settings.Settings.{Settings}
 use Rattle.pcm_desk.specs.declared.play_book.PlayBook.{PlayBook}
 use Rattle.pcm_desk.specs.declared.play_book.PlayState.{PlayState}
 use Rattle.pcm_desk.specs.Desk.{desk_at_start, play_at}
-use Rattle.pcm_desk.specs.Device.{DeviceSeen, no_filters}
+use Rattle.pcm_desk.specs.Device.{DeviceSeen}
+use Rattle.pcm_feeder.specs.Filters.{no_filters}
 use Rattle.pcm_desk.specs.Events.{after_all}
 use Rattle.pcm_desk.specs.Usual.{usual_device, usual_settings}
 use Rattle.pcm_sound.specs.DeviceList.{device_text}

@@ -3,8 +3,9 @@ use Prim.Native.String.{String}
 use Rattle.std.specs.Prelude.{ℕ, pos, negsuc, List, [], ◌∷◌, ◌++◌, codes, Some, Result}
 use Rattle.pcm_format.specs.declared.format.Format.TheVariants.{S24Le}
 use Rattle.pcm_format.specs.declared.layout.Layout.TheVariants.{Six}
+use Rattle.pcm_feeder.specs.declared.section.Section.{Section}
 use Rattle.pcm_feeder.specs.declared.table.Table.{Table}
-use Rattle.pcm_desk.specs.Device.{no_filters}
+use Rattle.pcm_feeder.specs.Filters.{as_filters, no_filters}
 use Rattle.pcm_config.specs.declared.config.Config.{Config}
 use Rattle.pcm_config.specs.declared.config.Container.TheVariants.{Wav}
 use Rattle.pcm_config.specs.declared.config.FilePath.{FilePath}
@@ -90,7 +91,28 @@ widest = record { src = 4000; dst = 192000; phases = 1; taps = 2; shift = 30; co
 
 -- what is usual, but for the filters
 abbrev pub config_of_filters : List Table → Config
-config_of_filters list = record usual_config { tables = record { list = list } }
+config_of_filters list = record usual_config { tables = as_filters list [] }
+
+-- ---- sections
+
+-- a section of these keys and four between them
+abbrev pub section_keyed : String → String → List ℕ
+section_keyed first last = codes "[[eq]]\n" ++ codes first ++ codes "b0 = 1\nb1 = 0\nb2 = 536870912\na1 = -2\n" ++ codes last
+
+-- a section with the greatest shift and coefficients
+abbrev pub furthest_text : List ℕ
+furthest_text = section_keyed "shift = 28\n" "a2 = -536870912\n"
+
+abbrev pub furthest : Section
+furthest = record { shift = 28; b0 = pos 1; b1 = pos 0; b2 = pos 536870912; a1 = negsuc 1; a2 = negsuc 536870911 }
+
+-- a section without a key
+abbrev pub keyless_text : List ℕ
+keyless_text = codes "[[eq]]\n"
+
+-- what is usual, but for the sections
+abbrev pub config_of_sections : List Section → Config
+config_of_sections sections = record usual_config { tables = as_filters [] sections }
 
 -- ---- waves
 

@@ -5,7 +5,7 @@ use Rattle.pcm_format.specs.Frames.{Frame}
 use Rattle.pcm_feeder.specs.declared.stage.Spec.{Spec}
 use Rattle.pcm_feeder.specs.declared.stage.Spec.TheVariants.{Poly}
 use Rattle.pcm_feeder.specs.declared.table.Table.{Table}
-use Rattle.pcm_feeder.specs.Filters.{Filters}
+use Rattle.pcm_feeder.specs.Filters.{Filters, as_filters}
 use Rattle.pcm_feeder.specs.Kept.{fresh}
 use Rattle.pcm_feeder.specs.Layouts.{unity}
 use Rattle.pcm_feeder.specs.Turns.{Turn, turn_of}
@@ -16,7 +16,7 @@ use Rattle.pcm_rows.specs.Stages.{made_with, levels, mono}
 -- one filter for any rates, with its rows one after another
 abbrev pub one_filter : ℕ → ℕ → ℕ → List ℤ → Filters
 one_filter phases taps shift coefs =
-    record { list = record { src = 0; dst = 0; phases = phases; taps = taps; shift = shift; coefs = coefs } ∷ [] }
+    as_filters (record { src = 0; dst = 0; phases = phases; taps = taps; shift = shift; coefs = coefs } ∷ []) []
 
 -- three phases of two taps for a tripled rate, coefficients in quarters
 abbrev pub three_rows : Filters
@@ -78,11 +78,11 @@ zeros_for src dst taps = record { src = src; dst = dst; phases = 1; taps = taps;
 
 -- one for half the rate, one for any rates, and two for twice the rate
 abbrev pub by_rates : Filters
-by_rates = record { list = zeros_for 48000 24000 2 ∷ zeros_for 0 0 2 ∷ zeros_for 24000 48000 4 ∷ zeros_for 24000 48000 6 ∷ [] }
+by_rates = as_filters (zeros_for 48000 24000 2 ∷ zeros_for 0 0 2 ∷ zeros_for 24000 48000 4 ∷ zeros_for 24000 48000 6 ∷ []) []
 
 -- one for half the rate alone
 abbrev pub only_back : Filters
-only_back = record { list = zeros_for 48000 24000 2 ∷ [] }
+only_back = as_filters (zeros_for 48000 24000 2 ∷ []) []
 
 -- one channel at 16000 to two at 48000, by a filter of three rows
 abbrev pub tripling_plan : PlanSeen

@@ -15,6 +15,7 @@ pub mod Stages
 pub mod PlanRows
 pub mod PlainRows
 pub mod FilterRows
+pub mod EqualiserRows
 pub mod RecordingRows
 pub mod Waves
 pub mod Configurations

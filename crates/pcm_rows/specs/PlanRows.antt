@@ -7,7 +7,8 @@ use Rattle.pcm_format.specs.declared.settings.Settings.{Settings}
 use Rattle.pcm_format.specs.Frames.{Frame}
 use Rattle.pcm_format.specs.Layouts.{channels_of}
 use Rattle.pcm_desk.specs.Usual.{usual_device}
-use Rattle.pcm_desk.specs.Device.{DeviceSeen, no_filters}
+use Rattle.pcm_desk.specs.Device.{DeviceSeen}
+use Rattle.pcm_feeder.specs.Filters.{no_filters}
 use Rattle.pcm_feeder.specs.declared.stage.Spec.{Spec}
 use Rattle.pcm_feeder.specs.declared.stage.Spec.TheVariants.{Matrix, Linear, Volume, Depth}
 use Rattle.pcm_feeder.specs.Filters.{Filters}

@@ -1,11 +1,10 @@
 -- Stages of a chain over streams of one channel, and what comes out.
 use Rattle.std.specs.Prelude.{ℕ, ℤ, pos, negsuc, List, [], ◌∷◌, flat_map, map}
 use Rattle.pcm_format.specs.Frames.{Frame}
-use Rattle.pcm_desk.specs.Device.{no_filters}
 use Rattle.pcm_feeder.specs.declared.stage.Gain.{Gain}
 use Rattle.pcm_feeder.specs.declared.stage.Spec.{Spec}
 use Rattle.pcm_feeder.specs.declared.stage.Spec.TheVariants.{Hold, Linear}
-use Rattle.pcm_feeder.specs.Filters.{Filters}
+use Rattle.pcm_feeder.specs.Filters.{Filters, as_filters, no_filters}
 use Rattle.pcm_feeder.specs.Layouts.{unity}
 use Rattle.pcm_feeder.specs.Kept.{fresh}
 use Rattle.pcm_feeder.specs.Stages.{channels_in, outputs}
@@ -34,7 +33,7 @@ half_right = record { left = 65536; right = 32768 }
 
 -- two phases of two taps for a doubled rate, coefficients in halves
 abbrev pub two_taps : Filters
-two_taps = record { list = record { src = 0; dst = 0; phases = 2; taps = 2; shift = 1; coefs = pos 2 ∷ pos 0 ∷ pos 1 ∷ pos 1 ∷ [] } ∷ [] }
+two_taps = as_filters (record { src = 0; dst = 0; phases = 2; taps = 2; shift = 1; coefs = pos 2 ∷ pos 0 ∷ pos 1 ∷ pos 1 ∷ [] } ∷ []) []
 
 -- the first outputs of a stage over a list of frames
 abbrev pub first_outputs : Spec → Filters → Gain → List Frame → ℕ → List Frame

@@ -3,11 +3,11 @@
 
 ghost use Rattle.std.specs.Prelude.{◌≡◌, ◌++◌, codes, Ok, [], ◌∷◌};
 ghost use Rattle.pcm_config.specs.declared.fault.ConfigKind.TheVariants.{Capture, Coef, Container, Count, Key, Kind, Missing, Name, Range, Shape, Toml};
-ghost use Rattle.pcm_config.specs.declared.place.ConfigPlace.TheVariants.{Device, DeviceCapture, DeviceChannels, DeviceContainer, DeviceFormat, DeviceHwBlock, DeviceHwBlocks, DeviceRate, Files, Tables, Top, Vchans, VchansPlay, VchansQuality, VchansRecord};
+ghost use Rattle.pcm_config.specs.declared.place.ConfigPlace.TheVariants.{Device, DeviceCapture, DeviceChannels, DeviceContainer, DeviceFormat, DeviceHwBlock, DeviceHwBlocks, DeviceRate, Eq, Files, Tables, Top, Vchans, VchansPlay, VchansQuality, VchansRecord};
 ghost use Rattle.pcm_config.specs.Configs.{config_read, usual_config};
 ghost use Rattle.pcm_config.specs.Judgements.{refused};
 ghost use Rattle.pcm_rows.specs.Calls.{times};
-ghost use Rattle.pcm_rows.specs.Configurations.{config_in, config_of_filters, filter_of, filter_keyed, half_way, half_way_text, rowless_text, wave_and_rowless_text, wave_with_keys, whole_config, whole_text, widest, widest_text};
+ghost use Rattle.pcm_rows.specs.Configurations.{config_in, config_of_filters, config_of_sections, filter_of, filter_keyed, furthest, furthest_text, half_way, half_way_text, keyless_text, rowless_text, section_keyed, wave_and_rowless_text, wave_with_keys, whole_config, whole_text, widest, widest_text};
 
 /// All that may be settled, and nothing.
 pub fn configuration_that_settles_all()
@@ -31,8 +31,10 @@ pub fn keys_and_tables_of_a_configuration()
     ensures files { config_in "files = 1\n[device]\nnosuch = 1\n" ≡ refused Kind Files }
     ensures filters { config_in "tables = 1\n[device]\nnosuch = 1\n" ≡ refused Kind Tables }
     ensures filter { config_in "tables = [1]\n[device]\nnosuch = 1\n" ≡ refused Kind Tables }
+    ensures sections { config_in "eq = {}\ntables = []\n[device]\nnosuch = 1\n" ≡ refused Kind Eq }
     ensures device_key { config_in "vchans.nosuch = 1\n[device]\nnosuch = 1\n" ≡ refused Key Device }
     ensures filter_key { config_in "[device]\nrate = 1\n[[tables]]\ntaps = 2\n" ≡ refused Key Tables }
+    ensures section_key { config_in "[device]\nrate = 1\n[[eq]]\nb3 = 1\n" ≡ refused Key Eq }
     ensures vchans_key { config_in "vchans.nosuch = 1\n[device]\nrate = 1\n" ≡ refused Key Vchans }
 {}
 
@@ -61,6 +63,27 @@ pub fn filters_that_are_refused()
     // A filter is judged wholly before the next, and all of them before the container.
     ensures first { config_read (filter_of "[[16777217, 0]]" ++ rowless_text) ≡ refused Coef Tables }
     ensures container { config_read wave_and_rowless_text ≡ refused Missing Tables }
+{}
+
+/// A section at its limits, and none.
+pub fn sections_that_are_settled()
+    ensures one { config_read furthest_text ≡ Ok (config_of_sections (furthest ∷ [])) }
+    ensures none { config_in "eq = []\n" ≡ Ok usual_config }
+{}
+
+/// What is wrong with a section, in the order in which it is judged.
+pub fn sections_that_are_refused()
+    ensures count { config_read (times 5 keyless_text) ≡ refused Count Eq }
+    ensures missing { config_read (section_keyed "shift = \"1\"\n" "") ≡ refused Missing Eq }
+    ensures kind { config_read (section_keyed "shift = 0\n" "a2 = 1.0\n") ≡ refused Kind Eq }
+    ensures least { config_read (section_keyed "shift = 0\n" "a2 = 536870913\n") ≡ refused Range Eq }
+    ensures most { config_read (section_keyed "shift = 29\n" "a2 = 1\n") ≡ refused Range Eq }
+    ensures coef { config_read (section_keyed "shift = 1\n" "a2 = 536870913\n") ≡ refused Coef Eq }
+    ensures negative { config_read (section_keyed "shift = 1\n" "a2 = -536870913\n") ≡ refused Coef Eq }
+    // A section is judged wholly before the next, the filters before all of them, and the container behind.
+    ensures first { config_read (section_keyed "shift = 0\n" "a2 = 1\n" ++ keyless_text) ≡ refused Range Eq }
+    ensures filter { config_read (keyless_text ++ rowless_text) ≡ refused Missing Tables }
+    ensures container { config_read (wave_with_keys "format = \"s16be\"\n" ++ keyless_text) ≡ refused Missing Eq }
 {}
 
 /// A value of another kind is refused, whatever it holds.

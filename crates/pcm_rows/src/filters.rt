@@ -3,11 +3,13 @@
 
 ghost use Rattle.std.specs.Prelude.{◌≡◌, pos, negsuc, [], ◌∷◌, Some, None};
 ghost use Rattle.pcm_format.specs.declared.layout.Layout.TheVariants.{One, Two};
-ghost use Rattle.pcm_desk.specs.Device.{no_filters, play_rate_between};
+ghost use Rattle.pcm_desk.specs.Device.{play_rate_between};
+ghost use Rattle.pcm_feeder.specs.Filters.{no_filters};
 ghost use Rattle.pcm_desk.specs.Usual.{usual_settings};
 ghost use Rattle.pcm_feeder.specs.declared.stage.Spec.TheVariants.{Poly, Volume, Depth};
 ghost use Rattle.pcm_feeder.specs.Layouts.{unity};
-ghost use Rattle.pcm_feeder.specs.Stages.{rate_of, scaled_down};
+ghost use Rattle.pcm_feeder.specs.Stages.{rate_of};
+ghost use Rattle.pcm_feeder.specs.Sums.{scaled_down};
 ghost use Rattle.pcm_rate.specs.Rates.{need, can, len};
 ghost use Rattle.pcm_plan.specs.Plans.{filter_for, plan_play};
 ghost use Rattle.pcm_plan.specs.Through.{outs};

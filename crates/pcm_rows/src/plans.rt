@@ -3,7 +3,8 @@
 
 ghost use Rattle.std.specs.Prelude.{◌≡◌, ◌∷◌, []};
 ghost use Rattle.pcm_format.specs.declared.layout.Layout.TheVariants.{One, Two, Six};
-ghost use Rattle.pcm_desk.specs.Device.{no_filters, play_plan_between};
+ghost use Rattle.pcm_desk.specs.Device.{play_plan_between};
+ghost use Rattle.pcm_feeder.specs.Filters.{no_filters};
 ghost use Rattle.pcm_desk.specs.Usual.{usual_device, usual_settings};
 ghost use Rattle.pcm_feeder.specs.declared.stage.Spec.TheVariants.{Matrix, Linear, Poly, Volume};
 ghost use Rattle.pcm_rows.specs.ClientRates.{half_settings};

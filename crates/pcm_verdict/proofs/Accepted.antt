@@ -50,7 +50,7 @@ config-within (Err refusal) kept = tt
 
 usual-within : IsInLimits (device_seen usual_config)
 usual-within = record {
-  device_is = record { rate = record { least = omega arith; most = omega arith }; mix_rate = record { least = omega arith; most = omega arith }; same = refl; filters = record { count = omega arith; each = All-nil _ } };
+  device_is = record { rate = record { least = omega arith; most = omega arith }; mix_rate = record { least = omega arith; most = omega arith }; same = refl; filters = record { count = omega arith; each = All-nil _; few = omega arith; sections = All-nil _ } };
   block = omega arith;
   ring = omega arith;
   ring_most = omega arith;

@@ -22,3 +22,9 @@ feed-moved-requires-in-Poly g c =
     let kept = g.B.Feeder.kept in
     can-feed c.args.spec (kept c.args.boxes.now.poly) (kept_in kept c.args.boxes.now c.args.spec) c.args.tables.now c.args.gain c.args.frames c.args.want c.channels_in.result c.args.input.now c.args.output.now
     (ap (kept_in kept c.args.boxes.now) c.in-Poly.is) c.channels_in.ensures c.requires.fitted c.requires.gain c.requires.filter c.requires.source (subst (λ s. asked s c.args.want c.args.frames * channels_out c.args.spec ≤ length c.args.output.now) c.in-Poly.is c.requires.room)
+
+pub feed-moved-requires-in-Eq : goal.feed-moved-requires-in-Eq
+feed-moved-requires-in-Eq g c =
+    let kept = g.B.Feeder.kept in
+    can-feed c.args.spec (kept c.args.boxes.now.eq) (kept_in kept c.args.boxes.now c.args.spec) c.args.tables.now c.args.gain c.args.frames c.args.frames c.channels_in.result c.args.input.now c.args.output.now
+    (ap (kept_in kept c.args.boxes.now) c.in-Eq.is) c.channels_in.ensures c.requires.fitted c.requires.gain c.requires.filter c.requires.source (subst (λ s. asked s c.args.want c.args.frames * channels_out c.args.spec ≤ length c.args.output.now) c.in-Eq.is c.requires.room)

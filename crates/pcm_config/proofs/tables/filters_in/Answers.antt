@@ -1,6 +1,13 @@
-use Rattle.std.proofs.Common.{arith}
-use Rattle.pcm_config.proofs.FilterLimits.{filters-fit}
+use Rattle.pcm_feeder.specs.declared.limits.TheConstants.{FILTERS}
+use Rattle.pcm_feeder.specs.Limits.{IsTable}
+use Rattle.pcm_config.specs.Lists.{AreFew}
+use Rattle.pcm_config.specs.Lookups.{tables_seen}
+use Rattle.pcm_config.specs.Tables.{filters_in}
+use Rattle.pcm_config.proofs.Judging.{answer-kept}
+use Rattle.pcm_config.proofs.FilterLimits.{filters-kept}
 use Rattle.pcm_config.proofs.tables.filters_in.Goals as goal
 
-pub new-requires : goal.new-requires
-new-requires c = filters-fit c.args.tables.now c.in_ok-filters.filters.items (omega arith) c.in_ok-filters.ensures
+pub returns-clause-limits : goal.returns-clause-limits
+returns-clause-limits c =
+    let tables = tables_seen c.args.tables.now in
+    answer-kept (λ list. list.items) c.each_filter.result (filters_in tables) (AreFew FILTERS IsTable) (rw (← c.in_ok-few.ensures) c.each_filter.ensures) (filters-kept tables)

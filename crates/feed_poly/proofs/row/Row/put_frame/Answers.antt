@@ -2,7 +2,7 @@ use Rattle.std.proofs.Common.{◌≡◌, ◌++◌, ◌∷◌, [], ℕ, ℤ, w32,
 use Rattle.std.proofs.lemmas.Int.{to_z-of_z}
 use Rattle.std.proofs.lemmas.List.{take_more_set}
 use Rattle.std.proofs.lemmas.List.FromFn.{map-range_with_len_more}
-use Rattle.pcm_feeder.specs.Stages.{scaled_down}
+use Rattle.pcm_feeder.specs.Sums.{scaled_down}
 use Rattle.feed_poly.specs.Rows.{weighted, channel_in, row_frame}
 use Rattle.feed_poly.specs.Window.{frames_in}
 use Rattle.feed_poly.proofs.row.Row.put_frame.Goals as goal

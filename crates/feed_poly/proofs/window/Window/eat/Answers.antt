@@ -1,6 +1,6 @@
 use Rattle.std.proofs.Common.{◌≡◌, ◌+◌, ◌-◌, ◌*◌, ◌≤◌, [], ◌∷◌, length, take, drop, ◌∙◌, arith}
 use Rattle.std.proofs.Math.Nat.{mul-le-mul_right}
-use Rattle.pcm_feeder.specs.Kept.{moved_on}
+use Rattle.pcm_feeder.specs.Streams.{moved_on}
 use Rattle.feed_poly.specs.Window.{frames_in}
 use Rattle.feed_poly.proofs.Windows.{eaten-more}
 use Rattle.feed_poly.proofs.window.Window.eat.Goals as goal

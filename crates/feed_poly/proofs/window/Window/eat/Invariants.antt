@@ -1,6 +1,5 @@
 use Rattle.std.proofs.Common.{◌≡◌, take, drop}
-use Rattle.pcm_feeder.specs.Kept.{moved_on}
-use Rattle.pcm_feeder.specs.Streams.{frames_of}
+use Rattle.pcm_feeder.specs.Streams.{frames_of, moved_on}
 use Rattle.feed_poly.specs.Window.{frames_in}
 use Rattle.feed_poly.proofs.window.Window.eat.Given as goal
 

@@ -6,7 +6,7 @@ use Rattle.pcm_plan.specs.Plans.{rate_in_plan}
 use Rattle.pcm_plan.proofs.Fits.{record-fits}
 use Rattle.pcm_chain.proofs.Counting.{need-near, rate-near}
 use Rattle.pcm_ring.specs.Ring.{Ring}
-use Rattle.pcm_convert.specs.Conversions.{without_filters}
+use Rattle.pcm_feeder.specs.Filters.{no_filters}
 use Rattle.pcm_convert.proofs.conversion.ConversionOf.new.Goals as goal
 
 pub returns-clause-stands : goal.returns-clause-stands
@@ -18,7 +18,7 @@ returns-clause-stands g c = λ body.
       read = omega arith;
       within = omega (arith, none);
       ring_is = ap (λ (ring : Ring). ring.bytes) c.in_ok-ring.ensures.ok ∙ ap (λ n. drop n (take 0 body)) (sym none);
-      chain_is = c.reset.ensures.begins without_filters;
+      chain_is = c.reset.ensures.begins no_filters;
       ended = λ some. absurd (omega arith);
     }
 
@@ -28,7 +28,7 @@ product-fits a b few small = grind arith
 pub overflow_mul-frames : goal.overflow_mul-frames
 overflow_mul-frames g c =
     let plan : IsPlan c.plan_record-plan.result = rw c.plan_record-plan.ensures.value
-    (record-fits c.new-tables.result 1 c.args.target c.args.source c.plan_record-plan.ensures.limits c.requires.target c.requires.source) in
+    (record-fits c.none-tables.result 1 c.args.target c.args.source c.plan_record-plan.ensures.limits c.requires.target c.requires.source) in
     let near = need-near (rate_in_plan c.plan_record-plan.result) 1025 (rate-near c.plan_record-plan.result plan) in
     let small = product-fits c.need-frames.result c.frame_bytes.result (omega (arith, near, c.need-frames.ensures)) (omega (arith, frame_bytes-most c.args.source, c.frame_bytes.ensures)) in
     search (rules, small)

@@ -17,8 +17,9 @@ use Rattle.pcm_plan.proofs.Bits.{recs-bits}
 use Rattle.pcm_plan.proofs.Fits.{record-tables}
 use Rattle.pcm_chain.specs.Chains.{ChainStands, plan_in}
 use Rattle.pcm_chain.proofs.Standing.{stands-fitted}
-use Rattle.pcm_convert.specs.Conversions.{block_count, conversion_plan, without_filters}
-use Rattle.pcm_convert.proofs.Blocks.{block-given, without_filters-fit}
+use Rattle.pcm_convert.specs.Conversions.{block_count, conversion_plan}
+use Rattle.pcm_feeder.specs.Filters.{no_filters}
+use Rattle.pcm_convert.proofs.Blocks.{block-given, no_filters-fit}
 use Rattle.pcm_convert.proofs.Bodies.{frames-bits, interleaved-bits, spelled-interleaved}
 use Rattle.pcm_convert.proofs.Bytes.{block-recs}
 use Rattle.pcm_convert.proofs.conversion.ConversionOf.next_block.Goals as goal
@@ -26,14 +27,14 @@ use Rattle.pcm_convert.proofs.conversion.ConversionOf.next_block.Goals as goal
 pub pull-pulled-requires-clause-fitted : goal.pull-pulled-requires-clause-fitted
 pull-pulled-requires-clause-fitted g c =
     let s = c.requires.stands.1 in
-    stands-fitted g.B.Feeder.kept without_filters c.args.self.now.chain _ s.zeros c.requires.stands.0 s.chain_is
+    stands-fitted g.B.Feeder.kept no_filters c.args.self.now.chain _ s.zeros c.requires.stands.0 s.chain_is
 
 pub pull-pulled-requires-clause-tables : goal.pull-pulled-requires-clause-tables
 pull-pulled-requires-clause-tables g c =
     let old = c.args.self.now in
     subst (λ (t : Filters). HaveTables (plan_in old.chain).stages t) (sym old.filters)
-    (subst (λ (p : PlanSeen). HaveTables p.stages without_filters) (sym old.plan)
-    (record-tables without_filters 1 old.target old.source without_filters-fit old.target_rate old.source_rate))
+    (subst (λ (p : PlanSeen). HaveTables p.stages no_filters) (sym old.plan)
+    (record-tables no_filters 1 old.target old.source no_filters-fit old.target_rate old.source_rate))
 
 pub spell_frames-requires-clause-lengths : goal.spell_frames-requires-clause-lengths
 spell_frames-requires-clause-lengths g c =
@@ -60,12 +61,12 @@ spell_frames-requires-clause-range g c =
     (ap (λ (ring : Ring). ring.bytes) c.put.ensures.kept) refl c.pull-pulled.ensures.pulls (ap (λ (ring : Ring). ring.bytes) c.pull-pulled.ensures.ring) in
     let n = c.pull-pulled.result.given in
     let all = frames old.source body in
-    let list = recs (conversion_plan old.source old.target) without_filters all given n in
+    let list = recs (conversion_plan old.source old.target) no_filters all given n in
     let below : All (λ byte. byte < 256) body = All-from_get_or (λ byte. byte < 256) body 0 (λ i _. (c.type_inv.body i).fits) in
     let back : c.deref.result.now ≡ c.pull-pulled.new.out =
     c.deref.ensures.value ∙ take_at c.pull-pulled.new.out (drop (length c.pull-pulled.new.out) c.args.self.now.samples.items) c.args.self.now.samples.len (omega (arith, c.pull-pulled.auto.out, c.deref_mut.ensures.len)) in
     let front = ap (λ samples. take (n * c.channels.result) samples) back ∙ ap (λ k. take (n * k) c.pull-pulled.new.out) c.channels.ensures ∙ block.frames_are in
-    rw front (interleaved-bits (bits_of old.target.format) list (recs-bits without_filters 1 old.target old.source all given n old.target_rate (frames-bits old.source body below)))
+    rw front (interleaved-bits (bits_of old.target.format) list (recs-bits no_filters 1 old.target old.source all given n old.target_rate (frames-bits old.source body below)))
 
 pub returns-clause-count : goal.returns-clause-count
 returns-clause-count g c = λ given s.
@@ -85,7 +86,7 @@ returns-clause-block g c = λ given s.
     (ap (λ (ring : Ring). ring.bytes) c.put.ensures.kept) refl c.pull-pulled.ensures.pulls (ap (λ (ring : Ring). ring.bytes) c.pull-pulled.ensures.ring) in
     let n = c.pull-pulled.result.given in
     let format = old.target.format in
-    let list = recs (conversion_plan old.source old.target) without_filters (frames old.source body) given n in
+    let list = recs (conversion_plan old.source old.target) no_filters (frames old.source body) given n in
     let back : c.deref.result.now ≡ c.pull-pulled.new.out =
     c.deref.ensures.value ∙ take_at c.pull-pulled.new.out (drop (length c.pull-pulled.new.out) c.args.self.now.samples.items) c.args.self.now.samples.len (omega (arith, c.pull-pulled.auto.out, c.deref_mut.ensures.len)) in
     let front = ap (λ samples. take (n * c.channels.result) samples) back ∙ ap (λ k. take (n * k) c.pull-pulled.new.out) c.channels.ensures ∙ block.frames_are in
@@ -99,7 +100,7 @@ returns-clause-stands g c = λ given s.
     let block = block-given g.B.Feeder.kept old body given c.put.result c.put.new.self.bytes c.pull-pulled.new.ring.bytes _ c.pull-pulled.new.self c.pull-pulled.result _ c.pull-pulled.new.out s c.put.ensures.count
     (ap (λ (ring : Ring). ring.bytes) c.put.ensures.kept) refl c.pull-pulled.ensures.pulls (ap (λ (ring : Ring). ring.bytes) c.pull-pulled.ensures.ring) in
     let eaten = s.eaten + c.pull-pulled.result.eaten in
-    let P : ℕ → Type 0 = λ n. ChainStands g.B.Feeder.kept without_filters c.pull-pulled.new.self (take eaten (frames old.source body)) block.zeros (given + n) in
+    let P : ℕ → Type 0 = λ n. ChainStands g.B.Feeder.kept no_filters c.pull-pulled.new.self (take eaten (frames old.source body)) block.zeros (given + n) in
     record {
       eaten = eaten;
       zeros = block.zeros;

@@ -105,3 +105,16 @@ returns-clause-recorders_own g c =
     let old = c.args.self.now in
     let same = rewritten c.capture_all.new.channels (record_channels old) (fixed_len old.recorders) (c.capture_all.auto.channels ∙ c.deref_mut-5.ensures.len) in
     rw same c.capture_all.ensures.own
+
+-- no list of channels has become longer
+pub returns-clause-slots : goal.returns-clause-slots
+returns-clause-slots g c =
+    let old = c.args.self.now in
+    let same = rewritten c.turn_ring.new.channels (play_channels old) (fixed_len old.channels) (c.turn_ring.auto.channels ∙ c.deref_mut.ensures.len) in
+    rw same (c.turn_ring.auto.channels ∙ ap length c.deref_mut.ensures.value)
+
+pub returns-clause-recorders_slots : goal.returns-clause-recorders_slots
+returns-clause-recorders_slots g c =
+    let old = c.args.self.now in
+    let same = rewritten c.capture_all.new.channels (record_channels old) (fixed_len old.recorders) (c.capture_all.auto.channels ∙ c.deref_mut-5.ensures.len) in
+    rw same (c.capture_all.auto.channels ∙ ap length c.deref_mut-5.ensures.value)

@@ -1,0 +1,5 @@
+pub mod Weights
+pub mod Passing
+pub mod Turned
+pub mod Equalising
+pub mod Fed

@@ -1,0 +1,44 @@
+-- A section over interleaved samples: what each channel keeps, and which samples are turned.
+use Rattle.std.specs.Prelude.{◌≡◌, ◌<◌, ◌≤◌, ◌⊎◌, ◌+◌, ◌*◌, ◌/◌, ℕ, ℤ, pos, List, length, slice_index_or}
+use Rattle.pcm_feeder.specs.declared.section.Section.{Section}
+use Rattle.pcm_feeder.specs.Sections.{weighed}
+use Rattle.feed_eq.specs.declared.lane.Lane.{Lane}
+
+-- the sample of a channel in frame k
+abbrev pub sample_in : ℕ → List ℤ → ℕ → ℕ → ℤ
+sample_in channels samples k channel = slice_index_or samples (k * channels + channel) (pos 0)
+
+-- Inputs x and outputs y, each with the two frames before the first in front. What a channel keeps
+-- before frame k.
+abbrev pub lane_at : ℕ → List ℤ → List ℤ → ℕ → ℕ → Lane
+lane_at channels x y k channel = record {
+  x1 = sample_in channels x (k + 1) channel;
+  x2 = sample_in channels x k channel;
+  y1 = sample_in channels y (k + 1) channel;
+  y2 = sample_in channels y k channel;
+}
+
+-- the outputs are what a section makes of the inputs
+pub record IsPassed (section : Section) (channels frames : ℕ) (x y : List ℤ) : Type 0 where
+  pub each : (k channel : ℕ) → k < frames → channel < channels
+      → sample_in channels y (k + 2) channel ≡ weighed section (sample_in channels x (k + 2) channel)
+      (sample_in channels x (k + 1) channel) (sample_in channels x k channel)
+      (sample_in channels y (k + 1) channel) (sample_in channels y k channel)
+
+-- samples have the inputs of the channels from one on to another
+pub record HoldsChannels (channels from to : ℕ) (x samples : List ℤ) : Type 0 where
+  pub each : (k channel : ℕ) → k < length samples / channels → from ≤ channel → channel < to
+      → sample_in channels samples k channel ≡ sample_in channels x (k + 2) channel
+
+-- the outputs of those channels are put in their place up to a frame; all other samples stay
+pub record PutsFrames (channels from to frames : ℕ) (y old new : List ℤ) : Type 0 where
+  pub put : (k channel : ℕ) → k < frames → from ≤ channel → channel < to
+      → sample_in channels new k channel ≡ sample_in channels y (k + 2) channel
+  pub stay : (k channel : ℕ) → k < length old / channels → channel < channels
+      → (frames ≤ k) ⊎ ((channel < from) ⊎ (to ≤ channel))
+      → sample_in channels new k channel ≡ sample_in channels old k channel
+
+-- and in all frames
+abbrev pub PutsChannels : ℕ → ℕ → ℕ → List ℤ → List ℤ → List ℤ → Type 0
+PutsChannels channels from to y old new =
+    PutsFrames channels from to (length old / channels) y old new

@@ -1,0 +1,65 @@
+//! The equaliser.
+
+ghost use Rattle.std.specs.Prelude.{◌≡◌, IfOk, IsOk};
+ghost use Rattle.pcm_feeder.specs.Kept.{unfitted};
+ghost use Rattle.feed_eq.specs.Feeders.{kept_by_eq};
+
+use crate::equaliser::Equaliser;
+use pcm_feeder::{Feeder, Gain, Kind, Moved, Spec, Tables};
+use std::alloc::{AllocError, Global};
+
+/// Puts frames through the sections of the tables, one after another.
+#[derive(Drop)]
+pub struct EqFeeder {
+    fitted: Option<Equaliser>,
+}
+
+impl EqFeeder {
+    /// A feeder that nothing is fitted to yet. Takes no memory.
+    pub fn new(alloc: Global) -> Result<EqFeeder, AllocError>
+        ensures ok { IsOk result }
+        ensures unfitted { IfOk result (λ made. kept_by_eq made ≡ unfitted) }
+    {
+        Ok(EqFeeder { fitted: None })
+    }
+}
+
+impl Feeder for EqFeeder {
+    ghost use Rattle.pcm_feeder.specs.declared.kind.Kind.TheVariants as kinds;
+
+    ghost kind = { λ _. kinds.Eq };
+
+    ghost kept = { kept_by_eq };
+
+    fn kind(&self) -> Kind {
+        Kind::Eq
+    }
+
+    fn fit(&mut self, spec: Spec) {
+        if let Spec::Eq { channels, sections } = spec {
+            self.fitted = Some(Equaliser::silent(channels, sections));
+        }
+    }
+
+    fn feed(
+        &mut self,
+        tables: &Tables,
+        gain: Gain,
+        input: &[i32],
+        want: usize,
+        output: &mut [i32],
+    ) -> Moved {
+        let Some(fitted) = &mut self.fitted else {
+            return Moved { eaten: 0, given: 0 };
+        };
+        let frames = want.min(input.len() / fitted.channels);
+        let front = frames * fitted.channels;
+        let samples = &mut output[..front];
+        samples.copy_from_slice(&input[..front]);
+        fitted.pass(tables.sections(), samples);
+        Moved {
+            eaten: frames,
+            given: frames,
+        }
+    }
+}

@@ -1,0 +1,68 @@
+//! Sections one after another, and what is kept of their frames.
+
+ghost use Rattle.std.specs.Prelude.{◌≡◌, ◌≤◌, ◌+◌, ◌*◌, ◌%◌, length, replicate, All};
+ghost use Rattle.pcm_feeder.specs.Limits.{AreChannels, IsSection};
+ghost use Rattle.pcm_feeder.specs.Sections.{sections_on, past_behind};
+ghost use Rattle.pcm_feeder.specs.Streams.{frames_of, interleaved, silence};
+ghost use Rattle.feed_eq.specs.Pairs.{IsPair};
+
+use crate::pass::pass;
+use pcm_feeder::{LastFrames, SECTIONS, Section};
+
+/// So many sections on frames of so many channels: the last two frames of the input, and behind
+/// them those of each section's outputs.
+#[derive(Drop)]
+pub struct Equaliser {
+    pub channels: usize,
+    pub sections: usize,
+    lasts: [LastFrames; SECTIONS + 1],
+    ghost limits: { AreChannels channels },
+    ghost few: { sections ≤ 4 },
+    ghost room: { length lasts ≡ 5 },
+    ghost pairs: { All (IsPair channels) lasts },
+}
+
+impl Equaliser {
+    ghost use Rattle.feed_eq.specs.Equalisers.{tail_of};
+
+    /// At the begin of a stream.
+    pub fn silent(channels: usize, sections: usize) -> Equaliser
+        requires limits { AreChannels channels }
+        requires few { sections ≤ 4 }
+        ensures channels { result.channels ≡ channels }
+        ensures sections { result.sections ≡ sections }
+        ensures silence { tail_of result ≡ replicate (2 + 2 * sections) (silence channels) }
+    {
+        let last = LastFrames::silent(2, channels);
+        Equaliser {
+            channels,
+            sections,
+            lasts: [last; SECTIONS + 1],
+        }
+    }
+
+    /// Puts samples through the sections, in their place.
+    pub fn pass(&mut self, sections: &[Section], samples: &mut [i32])
+        requires sections { All IsSection sections.now }
+        requires count { length sections.now ≡ self.old.sections }
+        requires whole_frames { length samples.old % self.old.channels ≡ 0 }
+        ensures channels { self.new.channels ≡ self.old.channels }
+        ensures sections { self.new.sections ≡ self.old.sections }
+        ensures kept { tail_of self.new ≡ past_behind self.old.channels sections.now
+            (tail_of self.old) (frames_of self.old.channels samples.old) }
+        ensures len { length samples.new ≡ length samples.old }
+        ensures samples { samples.new ≡ interleaved (sections_on self.old.channels sections.now
+            (tail_of self.old) (frames_of self.old.channels samples.old)) }
+    {
+        let (channels, mut lasts) = (self.channels, self.lasts);
+        let frames = samples.len() / channels;
+        for at in 0..sections.len() {
+            let last = lasts[at];
+            lasts[at].eat(samples, frames);
+            let output = lasts[at + 1].samples();
+            pass(sections[at], channels, last.samples(), output, samples);
+        }
+        lasts[sections.len()].eat(samples, frames);
+        self.lasts = lasts;
+    }
+}
