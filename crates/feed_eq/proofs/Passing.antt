@@ -1,12 +1,15 @@
 -- A frame of one or two channels is turned in its place.
-use Rattle.std.proofs.Common.{◌≡◌, ◌≢◌, ◌<◌, ◌≤◌, ◌⊎◌, ◌+◌, ◌*◌, ◌/◌, ℕ, suc, ℤ, pos, List, length, get_or, set, inl, inr, refl, sym, ap, ◌∙◌, arith}
+use Rattle.std.proofs.Common.{◌≡◌, ◌≢◌, ◌<◌, ◌≤◌, ◌⊎◌, ◌+◌, ◌*◌, ◌/◌, ℕ, suc, ℤ, pos, ◌+ℤ◌, ◌*ℤ◌, List, length, get_or, set, inl, inr, refl, sym, ap, ◌∙◌, arith}
 use Rattle.std.proofs.Math.Nat.{mul-le-mul_right, div-mul-le_self}
 use Rattle.std.proofs.lemmas.Bool.{cases_lt}
 use Rattle.std.proofs.lemmas.List.{get_or-set_same, get_or-set_other}
 use Rattle.pcm_feeder.specs.declared.section.Section.{Section}
 use Rattle.pcm_feeder.specs.Sections.{weighed}
+use Rattle.pcm_feeder.specs.Sums.{scaled_down}
 use Rattle.feed_eq.specs.declared.lane.Lane.{Lane}
-use Rattle.feed_eq.specs.Lanes.{sample_in, lane_at, IsPassed, HoldsChannels, PutsFrames}
+use Rattle.feed_eq.specs.Added.{added}
+use Rattle.feed_eq.specs.Lanes.{sample_in, added_by, IsLaneAt, IsPassed, HoldsChannels, PutsFrames}
+use Rattle.feed_eq.proofs.Weights.{weighed-is}
 
 -- ---- places
 
@@ -70,27 +73,29 @@ put-none c from to y old = record {
 -- ---- a sample
 
 -- what a section makes of the next sample is the next output, and the channel goes on
-pub record GoesOn (c : ℕ) (x y : List ℤ) (k channel : ℕ) (v : ℤ) (lane : Lane) : Type 0 where
+pub record GoesOn (section : Section) (c : ℕ) (x y : List ℤ) (k channel : ℕ) (v : ℤ) (lane : Lane) : Type 0 where
   pub made : v ≡ sample_in c y (k + 2) channel
-  pub lane_is : lane ≡ lane_at c x y (k + 1) channel
+  pub lane_is : IsLaneAt section c x y (k + 1) channel lane
 
 pub goes-on : (section : Section) (c frames k channel : ℕ) (x y : List ℤ) (lane next : Lane) (sample v : ℤ) → IsPassed section c frames x y → k < frames → channel < c
-    → lane ≡ lane_at c x y k channel → sample ≡ sample_in c x (k + 2) channel → v ≡ weighed section sample lane.x1 lane.x2 lane.y1 lane.y2
-    → next ≡ record { x1 = sample; x2 = lane.x1; y1 = v; y2 = lane.y1 } → GoesOn c x y k channel v next
-goes-on section c frames k channel x y lane next sample v passed below within at is made on =
+    → IsLaneAt section c x y k channel lane → sample ≡ sample_in c x (k + 2) channel → v ≡ scaled_down section.shift (section.b0 *ℤ sample +ℤ lane.next)
+    → next.next ≡ (lane.later +ℤ added section.b1 section.a1 sample v) → next.later ≡ added section.b2 section.a2 sample v → GoesOn section c x y k channel v next
+goes-on section c frames k channel x y lane next sample v passed below within at is made on later =
     let two : k + 1 + 1 ≡ k + 2 = omega arith in
     let value : v ≡ sample_in c y (k + 2) channel =
     made
-    ∙ ap (λ (l : Lane). weighed section sample l.x1 l.x2 l.y1 l.y2) at
+    ∙ ap (λ z. scaled_down section.shift (section.b0 *ℤ sample +ℤ z)) at.next
+    ∙ weighed-is section sample (sample_in c x (k + 1) channel) (sample_in c x k channel) (sample_in c y (k + 1) channel) (sample_in c y k channel)
     ∙ ap (λ z. weighed section z (sample_in c x (k + 1) channel) (sample_in c x k channel) (sample_in c y (k + 1) channel) (sample_in c y k channel)) is
     ∙ sym (passed.each k channel below within) in
+    let share : (b a : ℤ) → added b a sample v ≡ added_by c x y (k + 1 + 1) channel b a =
+    λ b a. ap (λ z. added b a z v) is ∙ ap (added b a (sample_in c x (k + 2) channel)) value ∙ ap (λ r. added_by c x y r channel b a) (sym two) in
     record {
       made = value;
-      lane_is =
-          on
-          ∙ ap (λ z. let l : Lane = record { x1 = z; x2 = lane.x1; y1 = v; y2 = lane.y1 } in l) (is ∙ ap (λ r. sample_in c x r channel) (sym two))
-          ∙ ap (λ z. let l : Lane = record { x1 = sample_in c x (k + 1 + 1) channel; x2 = lane.x1; y1 = z; y2 = lane.y1 } in l) (value ∙ ap (λ r. sample_in c y r channel) (sym two))
-          ∙ ap (λ (before : Lane). let l : Lane = record { x1 = sample_in c x (k + 1 + 1) channel; x2 = before.x1; y1 = sample_in c y (k + 1 + 1) channel; y2 = before.y1 } in l) at;
+      lane_is = record {
+        next = on ∙ ap (λ z. z +ℤ added section.b1 section.a1 sample v) at.later ∙ ap (λ z. added_by c x y (k + 1) channel section.b2 section.a2 +ℤ z) (share section.b1 section.a1);
+        later = later ∙ share section.b2 section.a2;
+      };
     }
 
 -- the next sample is the next input

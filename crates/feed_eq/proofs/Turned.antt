@@ -1,5 +1,5 @@
 -- The samples that a section makes, by their places, and a whole pass.
-use Rattle.std.proofs.Common.{◌≡◌, ◌<◌, ◌≤◌, ◌+◌, ◌*◌, ◌/◌, ◌%◌, ℕ, ℤ, pos, ◌-ℤ◌, List, ◌++◌, length, drop, get_or, inl, inr, sym, ap, ◌∙◌, subst, arith}
+use Rattle.std.proofs.Common.{◌≡◌, ◌<◌, ◌≤◌, ◌+◌, ◌*◌, ◌/◌, ◌%◌, ℕ, ℤ, pos, ◌+ℤ◌, ◌-ℤ◌, List, ◌++◌, length, drop, get_or, inl, inr, sym, ap, ◌∙◌, subst, arith}
 use Rattle.std.proofs.Math.Nat.{mul-le-mul_right, div-add-mod', mod-lt, mul-mod_left, mul-div_cancel}
 use Rattle.std.proofs.lemmas.Bool.{cases_lt}
 use Rattle.std.proofs.lemmas.Int.{ints}
@@ -11,7 +11,8 @@ use Rattle.pcm_feeder.specs.Streams.{silence, stream_of, frames_of, interleaved}
 use Rattle.pcm_feeder.proofs.Frames.{frame_in, frames_of-append, frames_of-interleaved, length-frames_of, length-interleaved}
 use Rattle.pcm_feeder.proofs.Sections.{next, next-at, next-channels, length-next, behind-next}
 use Rattle.feed_eq.specs.declared.lane.Lane.{Lane}
-use Rattle.feed_eq.specs.Lanes.{sample_in, lane_at, IsPassed, HoldsChannels, PutsFrames, PutsChannels}
+use Rattle.feed_eq.specs.Added.{added}
+use Rattle.feed_eq.specs.Lanes.{sample_in, added_by, IsLaneAt, IsPassed, HoldsChannels, PutsFrames, PutsChannels}
 
 -- ---- samples and frames
 
@@ -28,17 +29,21 @@ sample-behind c front samples k j two =
     let place : (k + 2) * c + j ≡ length front + (k * c + j) = omega (arith, two) in
     ap (λ p. get_or (front ++ samples) p (pos 0)) place ∙ get_or-append-add front samples (k * c + j) (pos 0)
 
--- what a channel keeps of the two frames in front
-pub lane-front : (c : ℕ) (input output samples made : List ℤ) (channel : ℕ) → channel < c → length input ≡ 2 * c → length output ≡ 2 * c
-    → lane_at c input output 0 channel ≡ lane_at c (input ++ samples) (output ++ made) 0 channel
-lane-front c input output samples made channel within first second =
+-- what a channel adds behind the two frames in front
+pub lane-front : (section : Section) (c : ℕ) (input output samples made : List ℤ) (channel : ℕ) (lane : Lane) → channel < c → length input ≡ 2 * c → length output ≡ 2 * c
+    → IsLaneAt section c input output 0 channel lane → IsLaneAt section c (input ++ samples) (output ++ made) 0 channel lane
+lane-front section c input output samples made channel lane within first second at =
     let early : (front behind : List ℤ) (k : ℕ) → k < 2 → length front ≡ 2 * c → sample_in c front k channel ≡ sample_in c (front ++ behind) k channel =
     λ front behind k few two. let low : k * c ≤ 1 * c = mul-le-mul_right c (omega (arith, few)) in
     sym (get_or_append_left front behind (pos 0) (k * c + channel) (omega (arith, low, within, two))) in
-    ap (λ z. let l : Lane = record { x1 = z; x2 = sample_in c input 0 channel; y1 = sample_in c output (0 + 1) channel; y2 = sample_in c output 0 channel } in l) (early input samples (0 + 1) (omega arith) first)
-    ∙ ap (λ z. let l : Lane = record { x1 = sample_in c (input ++ samples) (0 + 1) channel; x2 = z; y1 = sample_in c output (0 + 1) channel; y2 = sample_in c output 0 channel } in l) (early input samples 0 (omega arith) first)
-    ∙ ap (λ z. let l : Lane = record { x1 = sample_in c (input ++ samples) (0 + 1) channel; x2 = sample_in c (input ++ samples) 0 channel; y1 = z; y2 = sample_in c output 0 channel } in l) (early output made (0 + 1) (omega arith) second)
-    ∙ ap (λ z. let l : Lane = record { x1 = sample_in c (input ++ samples) (0 + 1) channel; x2 = sample_in c (input ++ samples) 0 channel; y1 = sample_in c (output ++ made) (0 + 1) channel; y2 = z } in l) (early output made 0 (omega arith) second)
+    let share : (k : ℕ) → k < 2 → (b a : ℤ) → added_by c input output k channel b a ≡ added_by c (input ++ samples) (output ++ made) k channel b a =
+    λ k few b a. ap (λ z. added b a z (sample_in c output k channel)) (early input samples k few first) ∙ ap (added b a (sample_in c (input ++ samples) k channel)) (early output made k few second) in
+    record {
+      next = at.next
+          ∙ ap (λ z. z +ℤ added_by c input output (0 + 1) channel section.b1 section.a1) (share 0 (omega arith) section.b2 section.a2)
+          ∙ ap (λ z. added_by c (input ++ samples) (output ++ made) 0 channel section.b2 section.a2 +ℤ z) (share (0 + 1) (omega arith) section.b1 section.a1);
+      later = at.later ∙ share (0 + 1) (omega arith) section.b2 section.a2;
+    }
 
 -- ---- what a section makes
 

@@ -1,11 +1,12 @@
--- Five products of a section, and their sum, fit 64 bits.
-use Rattle.std.proofs.Common.{◌≡◌, ◌-◌, ◌*◌, ◌^◌, ℤ, pos, negsuc, neg_ℤ, ◌+ℤ◌, ◌-ℤ◌, ◌*ℤ◌, ◌≤ℤ◌, w32, w64, FitsSigned, to_z, of_z, sym, ap, ◌∙◌, subst, arith}
-use Rattle.std.proofs.lemmas.Int.{ints, to_z-of_z}
+-- Products of a section, and their sums, fit 64 bits.
+use Rattle.std.proofs.Common.{◌≡◌, ◌≤◌, ◌+◌, ◌^◌, ℕ, ℤ, pos, negsuc, ◌+ℤ◌, ◌-ℤ◌, ◌*ℤ◌, w32, w64, FitsSigned, ap, ◌∙◌, sym, subst, arith}
+use Rattle.std.proofs.lemmas.Int.{ints}
 use Rattle.pcm_feeder.specs.declared.section.Section.{Section}
-use Rattle.pcm_feeder.specs.Limits.{IsSection, IsSectionCoef}
+use Rattle.pcm_feeder.specs.Limits.{IsSectionCoef}
 use Rattle.pcm_feeder.specs.Sections.{weighed}
 use Rattle.pcm_feeder.specs.Sums.{scaled_down}
-use Rattle.pcm_feeder.proofs.Products.{IsWithin, sample-within, fits-long, within-more}
+use Rattle.pcm_feeder.proofs.Products.{sample-within, fits-long}
+use Rattle.feed_eq.specs.Added.{added, IsSumOf}
 
 -- a coefficient has 32 bits
 pub coef-fits : (a : ℤ) → IsSectionCoef a → FitsSigned w32 a
@@ -13,85 +14,56 @@ coef-fits (pos n) h = record { sfits = omega (arith, ints, h.high) }
 coef-fits (negsuc n) h = record { sfits = omega (arith, ints, h.low) }
 
 -- a product
-pub product-near : (a b product : ℤ) → IsSectionCoef a → FitsSigned w32 b → product ≡ (a *ℤ b) → IsWithin (2 ^ 60) product
-product-near a b product is fits same = subst (IsWithin (2 ^ 60)) (sym same) (sample-within (2 ^ 29) a b is fits)
+pub sum-of-product : (a b : ℤ) → IsSectionCoef a → FitsSigned w32 b → IsSumOf 1 (a *ℤ b)
+sum-of-product a b is fits =
+    let within = sample-within (2 ^ 29) a b is fits in
+    record { least = omega (arith, ints, within.least); most = omega (arith, ints, within.most) }
 
--- all of them fit, and each sum on the way
-pub record Fit (x x1 x2 y1 y2 : ℤ) : Type 0 where
-  pub first : FitsSigned w64 x
-  pub second : FitsSigned w64 x1
-  pub third : FitsSigned w64 x2
-  pub fourth : FitsSigned w64 y1
-  pub fifth : FitsSigned w64 y2
-  pub two : FitsSigned w64 (x +ℤ x1)
-  pub three : FitsSigned w64 (x +ℤ x1 +ℤ x2)
-  pub four : FitsSigned w64 (x +ℤ x1 +ℤ x2 -ℤ y1)
-  pub five : FitsSigned w64 (x +ℤ x1 +ℤ x2 -ℤ y1 -ℤ y2)
-  pub least : neg_ℤ (pos (5 * 2 ^ 60)) ≤ℤ (x +ℤ x1 +ℤ x2 -ℤ y1 -ℤ y2)
-  pub most : (x +ℤ x1 +ℤ x2 -ℤ y1 -ℤ y2) ≤ℤ pos (5 * 2 ^ 60)
+-- a sum of so few fits
+pub sum-fits : (n : ℕ) (z : ℤ) → n ≤ 7 → IsSumOf n z → FitsSigned w64 z
+sum-fits n z few is = fits-long z (record { least = omega (arith, ints, few, is.least); most = omega (arith, ints, few, is.most) })
 
-pub all-fit : (x x1 x2 y1 y2 : ℤ) → IsWithin (2 ^ 60) x → IsWithin (2 ^ 60) x1 → IsWithin (2 ^ 60) x2 → IsWithin (2 ^ 60) y1 → IsWithin (2 ^ 60) y2 → Fit x x1 x2 y1 y2
-all-fit x x1 x2 y1 y2 a b c d e = record {
-  first = fits-long x (within-more (2 ^ 60) (2 ^ 63 - 1) x (omega arith) a);
-  second = fits-long x1 (within-more (2 ^ 60) (2 ^ 63 - 1) x1 (omega arith) b);
-  third = fits-long x2 (within-more (2 ^ 60) (2 ^ 63 - 1) x2 (omega arith) c);
-  fourth = fits-long y1 (within-more (2 ^ 60) (2 ^ 63 - 1) y1 (omega arith) d);
-  fifth = fits-long y2 (within-more (2 ^ 60) (2 ^ 63 - 1) y2 (omega arith) e);
-  two = fits-long (x +ℤ x1) (record { least = omega (arith, ints, a, b); most = omega (arith, ints, a, b) });
-  three = fits-long (x +ℤ x1 +ℤ x2) (record { least = omega (arith, ints, a, b, c); most = omega (arith, ints, a, b, c) });
-  four = fits-long (x +ℤ x1 +ℤ x2 -ℤ y1) (record { least = omega (arith, ints, a, b, c, d); most = omega (arith, ints, a, b, c, d) });
-  five = fits-long (x +ℤ x1 +ℤ x2 -ℤ y1 -ℤ y2) (record { least = omega (arith, ints, a, b, c, d, e); most = omega (arith, ints, a, b, c, d, e) });
-  least = omega (arith, ints, a, b, c, d, e);
-  most = omega (arith, ints, a, b, c, d, e);
-}
+-- two sums, and what they come to
+pub record AreBoth (m n : ℕ) (a b : ℤ) : Type 0 where
+  pub first : FitsSigned w64 a
+  pub second : FitsSigned w64 b
+  pub fits : FitsSigned w64 (a +ℤ b)
+  pub bound : IsSumOf (m + n) (a +ℤ b)
 
--- a product as it is computed
-pub product-is : (a b product : ℤ) → IsSectionCoef a → FitsSigned w32 b → product ≡ (to_z w32 (of_z w32 a) *ℤ to_z w32 (of_z w32 b)) → product ≡ (a *ℤ b)
-product-is a b product is fits same = same ∙ ap (λ z. z *ℤ to_z w32 (of_z w32 b)) (to_z-of_z w32 a (coef-fits a is)) ∙ ap (λ z. a *ℤ z) (to_z-of_z w32 b fits)
-
--- the products of a section
-pub record AreProducts (s : Section) (sample x1 x2 y1 y2 p p1 p2 q1 q2 : ℤ) : Type 0 where
-  pub first : p ≡ (s.b0 *ℤ sample)
-  pub second : p1 ≡ (s.b1 *ℤ x1)
-  pub third : p2 ≡ (s.b2 *ℤ x2)
-  pub fourth : q1 ≡ (s.a1 *ℤ y1)
-  pub fifth : q2 ≡ (s.a2 *ℤ y2)
-  pub fit : Fit p p1 p2 q1 q2
-
-pub products : (s : Section) (sample x1 x2 y1 y2 p p1 p2 q1 q2 : ℤ) → IsSection s → FitsSigned w32 sample → FitsSigned w32 x1 → FitsSigned w32 x2 → FitsSigned w32 y1 → FitsSigned w32 y2
-    → p ≡ (to_z w32 (of_z w32 s.b0) *ℤ to_z w32 (of_z w32 sample)) → p1 ≡ (to_z w32 (of_z w32 s.b1) *ℤ to_z w32 (of_z w32 x1)) → p2 ≡ (to_z w32 (of_z w32 s.b2) *ℤ to_z w32 (of_z w32 x2))
-    → q1 ≡ (to_z w32 (of_z w32 s.a1) *ℤ to_z w32 (of_z w32 y1)) → q2 ≡ (to_z w32 (of_z w32 s.a2) *ℤ to_z w32 (of_z w32 y2))
-    → AreProducts s sample x1 x2 y1 y2 p p1 p2 q1 q2
-products s sample x1 x2 y1 y2 p p1 p2 q1 q2 is x a b c d e f g h i =
-    let first = product-is s.b0 sample p is.b0 x e in
-    let second = product-is s.b1 x1 p1 is.b1 a f in
-    let third = product-is s.b2 x2 p2 is.b2 b g in
-    let fourth = product-is s.a1 y1 q1 is.a1 c h in
-    let fifth = product-is s.a2 y2 q2 is.a2 d i in
+pub are-both : (m n : ℕ) (a b : ℤ) → m + n ≤ 7 → IsSumOf m a → IsSumOf n b → AreBoth m n a b
+are-both m n a b few first second =
+    let bound : IsSumOf (m + n) (a +ℤ b) = record { least = omega (arith, ints, first.least, second.least); most = omega (arith, ints, first.most, second.most) } in
     record {
-      first = first;
-      second = second;
-      third = third;
-      fourth = fourth;
-      fifth = fifth;
-      fit = all-fit p p1 p2 q1 q2 (product-near s.b0 sample p is.b0 x first) (product-near s.b1 x1 p1 is.b1 a second) (product-near s.b2 x2 p2 is.b2 b third)
-          (product-near s.a1 y1 q1 is.a1 c fourth) (product-near s.a2 y2 q2 is.a2 d fifth);
+      first = sum-fits m a (omega (arith, few)) first;
+      second = sum-fits n b (omega (arith, few)) second;
+      fits = sum-fits (m + n) (a +ℤ b) few bound;
+      bound = bound;
     }
 
--- their sum, as it is computed
-pub sum-is : (x x1 x2 y1 y2 : ℤ) → Fit x x1 x2 y1 y2
-    → to_z w64 (of_z w64 (to_z w64 (of_z w64 (to_z w64 (of_z w64 (to_z w64 (of_z w64 (to_z w64 (of_z w64 x) +ℤ to_z w64 (of_z w64 x1))) +ℤ to_z w64 (of_z w64 x2))) -ℤ to_z w64 (of_z w64 y1))) -ℤ to_z w64 (of_z w64 y2)))
-    ≡ (x +ℤ x1 +ℤ x2 -ℤ y1 -ℤ y2)
-sum-is x x1 x2 y1 y2 f =
-    rw (to_z-of_z w64 x f.first, to_z-of_z w64 x1 f.second, to_z-of_z w64 x2 f.third, to_z-of_z w64 y1 f.fourth, to_z-of_z w64 y2 f.fifth, to_z-of_z w64 (x +ℤ x1) f.two, to_z-of_z w64 (x +ℤ x1 +ℤ x2) f.three, to_z-of_z w64 (x +ℤ x1 +ℤ x2 -ℤ y1) f.four)
-    (to_z-of_z w64 (x +ℤ x1 +ℤ x2 -ℤ y1 -ℤ y2) f.five)
+-- the two products of a frame, and their difference
+pub record AreAdded (b a x y p q : ℤ) : Type 0 where
+  pub first : FitsSigned w64 p
+  pub second : FitsSigned w64 q
+  pub fits : FitsSigned w64 (p -ℤ q)
+  pub value : (p -ℤ q) ≡ added b a x y
+  pub bound : IsSumOf 2 (p -ℤ q)
 
--- and what it comes to
-pub weighed-is : (s : Section) (sample x1 x2 y1 y2 p p1 p2 q1 q2 : ℤ) → AreProducts s sample x1 x2 y1 y2 p p1 p2 q1 q2
-    → scaled_down s.shift (p +ℤ p1 +ℤ p2 -ℤ q1 -ℤ q2) ≡ weighed s sample x1 x2 y1 y2
-weighed-is s sample x1 x2 y1 y2 p p1 p2 q1 q2 are =
-    ap (λ z. scaled_down s.shift (z +ℤ p1 +ℤ p2 -ℤ q1 -ℤ q2)) are.first
-    ∙ ap (λ z. scaled_down s.shift (s.b0 *ℤ sample +ℤ z +ℤ p2 -ℤ q1 -ℤ q2)) are.second
-    ∙ ap (λ z. scaled_down s.shift (s.b0 *ℤ sample +ℤ s.b1 *ℤ x1 +ℤ z -ℤ q1 -ℤ q2)) are.third
-    ∙ ap (λ z. scaled_down s.shift (s.b0 *ℤ sample +ℤ s.b1 *ℤ x1 +ℤ s.b2 *ℤ x2 -ℤ z -ℤ q2)) are.fourth
-    ∙ ap (λ z. scaled_down s.shift (s.b0 *ℤ sample +ℤ s.b1 *ℤ x1 +ℤ s.b2 *ℤ x2 -ℤ s.a1 *ℤ y1 -ℤ z)) are.fifth
+pub are-added : (b a x y p q : ℤ) → IsSectionCoef b → IsSectionCoef a → FitsSigned w32 x → FitsSigned w32 y → p ≡ (b *ℤ x) → q ≡ (a *ℤ y) → AreAdded b a x y p q
+are-added b a x y p q b_is a_is x_fits y_fits first second =
+    let one : IsSumOf 1 p = subst (IsSumOf 1) (sym first) (sum-of-product b x b_is x_fits) in
+    let two : IsSumOf 1 q = subst (IsSumOf 1) (sym second) (sum-of-product a y a_is y_fits) in
+    let both : IsSumOf 2 (p -ℤ q) = record { least = omega (arith, ints, one.least, two.most); most = omega (arith, ints, one.most, two.least) } in
+    record {
+      first = sum-fits 1 p (omega arith) one;
+      second = sum-fits 1 q (omega arith) two;
+      fits = sum-fits 2 (p -ℤ q) (omega arith) both;
+      value = ap (λ z. z -ℤ q) first ∙ ap (λ z. b *ℤ x -ℤ z) second;
+      bound = both;
+    }
+
+-- the sum of a sample, of the frame before it and of the one before that
+regrouped : (p p1 p2 q1 q2 : ℤ) → (p +ℤ ((p2 -ℤ q2) +ℤ (p1 -ℤ q1))) ≡ (p +ℤ p1 +ℤ p2 -ℤ q1 -ℤ q2)
+regrouped p p1 p2 q1 q2 = omega (arith, ints)
+
+pub weighed-is : (s : Section) (x x1 x2 y1 y2 : ℤ) → scaled_down s.shift (s.b0 *ℤ x +ℤ (added s.b2 s.a2 x2 y2 +ℤ added s.b1 s.a1 x1 y1)) ≡ weighed s x x1 x2 y1 y2
+weighed-is s x x1 x2 y1 y2 = ap (scaled_down s.shift) (regrouped (s.b0 *ℤ x) (s.b1 *ℤ x1) (s.b2 *ℤ x2) (s.a1 *ℤ y1) (s.a2 *ℤ y2))

@@ -1,22 +1,26 @@
--- A section over interleaved samples: what each channel keeps, and which samples are turned.
-use Rattle.std.specs.Prelude.{◌≡◌, ◌<◌, ◌≤◌, ◌⊎◌, ◌+◌, ◌*◌, ◌/◌, ℕ, ℤ, pos, List, length, slice_index_or}
+-- A section over interleaved samples: what each channel adds, and which samples are turned.
+use Rattle.std.specs.Prelude.{◌≡◌, ◌<◌, ◌≤◌, ◌⊎◌, ◌+◌, ◌*◌, ◌/◌, ℕ, ℤ, pos, ◌+ℤ◌, List, length, slice_index_or}
 use Rattle.pcm_feeder.specs.declared.section.Section.{Section}
 use Rattle.pcm_feeder.specs.Sections.{weighed}
 use Rattle.feed_eq.specs.declared.lane.Lane.{Lane}
+use Rattle.feed_eq.specs.Added.{added}
 
 -- the sample of a channel in frame k
 abbrev pub sample_in : ℕ → List ℤ → ℕ → ℕ → ℤ
 sample_in channels samples k channel = slice_index_or samples (k * channels + channel) (pos 0)
 
--- Inputs x and outputs y, each with the two frames before the first in front. What a channel keeps
+-- what a frame of inputs x and of outputs y adds to a later sum of its channel
+abbrev pub added_by : ℕ → List ℤ → List ℤ → ℕ → ℕ → ℤ → ℤ → ℤ
+added_by channels x y k channel b a =
+    added b a (sample_in channels x k channel) (sample_in channels y k channel)
+
+-- Inputs x and outputs y, each with the two frames before the first in front. What a channel adds
 -- before frame k.
-abbrev pub lane_at : ℕ → List ℤ → List ℤ → ℕ → ℕ → Lane
-lane_at channels x y k channel = record {
-  x1 = sample_in channels x (k + 1) channel;
-  x2 = sample_in channels x k channel;
-  y1 = sample_in channels y (k + 1) channel;
-  y2 = sample_in channels y k channel;
-}
+pub record IsLaneAt (section : Section) (channels : ℕ) (x y : List ℤ) (k channel : ℕ) (lane : Lane) : Type 0 where
+  pub next : lane.next
+      ≡ (added_by channels x y k channel section.b2 section.a2
+      +ℤ added_by channels x y (k + 1) channel section.b1 section.a1)
+  pub later : lane.later ≡ added_by channels x y (k + 1) channel section.b2 section.a2
 
 -- the outputs are what a section makes of the inputs
 pub record IsPassed (section : Section) (channels frames : ℕ) (x y : List ℤ) : Type 0 where

@@ -1,3 +1,4 @@
+pub mod Added
 pub mod Lanes
 pub mod Pairs
 pub mod Equalisers

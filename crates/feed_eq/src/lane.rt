@@ -1,65 +1,75 @@
 //! One channel of a section.
 
-ghost use Rattle.std.specs.Prelude.{◌≡◌, ◌<◌, ◌*◌, length};
-ghost use Rattle.pcm_feeder.specs.Limits.{IsSection};
-ghost use Rattle.pcm_feeder.specs.Sections.{weighed};
-ghost use Rattle.feed_eq.specs.Lanes.{lane_at};
+ghost use Rattle.std.specs.Prelude.{◌≡◌, ◌<◌, ◌*◌, ◌+ℤ◌, ◌*ℤ◌, length};
+ghost use Rattle.pcm_feeder.specs.Limits.{IsSection, IsSectionCoef};
+ghost use Rattle.pcm_feeder.specs.Sums.{scaled_down};
+ghost use Rattle.feed_eq.specs.Added.{added, IsSumOf};
 
 use pcm_feeder::{Section, product, scaled_down};
 
-/// The last two inputs and the last two outputs of a channel, the last one first.
+/// What the frames behind a channel add to its next sum, and to the one after that. The two stand
+/// for the last two inputs and outputs, of which each sum has a share.
 #[derive(Clone, Copy)]
 pub struct Lane {
-    pub x1: i32,
-    pub x2: i32,
-    pub y1: i32,
-    pub y2: i32,
+    pub next: i64,
+    pub later: i64,
+    ghost next_bound: { IsSumOf 4 next },
+    ghost later_bound: { IsSumOf 2 later },
 }
 
 impl Lane {
-    /// A channel of the last two frames of a section's input and of its output.
-    pub fn of(input: &[i32], output: &[i32], channels: usize, channel: usize) -> Lane
+    ghost use Rattle.feed_eq.specs.Lanes.{IsLaneAt};
+
+    /// A channel behind the last two frames of a section's input and of its output.
+    pub fn of(
+        section: Section,
+        input: &[i32],
+        output: &[i32],
+        channels: usize,
+        channel: usize,
+    ) -> Lane
+        requires section { IsSection section }
         requires below { channel < channels }
         requires input { length input.now ≡ 2 * channels }
         requires output { length output.now ≡ 2 * channels }
-        ensures { result ≡ lane_at channels input.now output.now 0 channel }
+        ensures { IsLaneAt section channels input.now output.now 0 channel result }
     {
-        Lane {
-            x1: input[channels + channel],
-            x2: input[channel],
-            y1: output[channels + channel],
-            y2: output[channel],
-        }
+        let later = added(section.b2, section.a2, input[channel], output[channel]);
+        let first = Lane { next: 0, later };
+        first.after(
+            section,
+            input[channels + channel],
+            output[channels + channel],
+        )
     }
 
     /// What a section makes of the next sample.
     pub fn next(self, section: Section, sample: i32) -> i32
         requires { IsSection section }
-        ensures { result ≡ weighed section sample
-            self.x1 self.x2 self.y1 self.y2 }
+        ensures { result ≡ scaled_down section.shift (section.b0 *ℤ sample +ℤ self.next) }
     {
-        let x = product(section.b0, sample);
-        let x1 = product(section.b1, self.x1);
-        let x2 = product(section.b2, self.x2);
-        let y1 = product(section.a1, self.y1);
-        let y2 = product(section.a2, self.y2);
-        scaled_down(section.shift, x + x1 + x2 - y1 - y2)
+        scaled_down(section.shift, product(section.b0, sample) + self.next)
     }
 
     /// The channel one sample on.
-    pub fn after(self, input: i32, output: i32) -> Lane
-        ensures { result ≡ record {
-          x1 = input;
-          x2 = self.x1;
-          y1 = output;
-          y2 = self.y1;
-        } }
+    pub fn after(self, section: Section, input: i32, output: i32) -> Lane
+        requires { IsSection section }
+        ensures next { result.next ≡ (self.later +ℤ added section.b1 section.a1 input output) }
+        ensures later { result.later ≡ added section.b2 section.a2 input output }
     {
         Lane {
-            x1: input,
-            x2: self.x1,
-            y1: output,
-            y2: self.y1,
+            next: self.later + added(section.b1, section.a1, input, output),
+            later: added(section.b2, section.a2, input, output),
         }
     }
+}
+
+// What an input and the output of its frame add to a later sum.
+fn added(b: i32, a: i32, input: i32, output: i32) -> i64
+    requires b { IsSectionCoef b }
+    requires a { IsSectionCoef a }
+    ensures value { result ≡ added b a input output }
+    ensures bound { IsSumOf 2 result }
+{
+    product(b, input) - product(a, output)
 }

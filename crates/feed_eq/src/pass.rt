@@ -4,7 +4,7 @@ ghost use Rattle.std.specs.Prelude.{◌≡◌, ◌<◌, ◌≤◌, ◌+◌, ◌*
 ghost use Rattle.pcm_feeder.specs.Limits.{IsSection};
 ghost use Rattle.pcm_feeder.specs.Sections.{section_on};
 ghost use Rattle.pcm_feeder.specs.Streams.{frames_of, interleaved};
-ghost use Rattle.feed_eq.specs.Lanes.{lane_at, HoldsChannels, IsPassed, PutsChannels};
+ghost use Rattle.feed_eq.specs.Lanes.{HoldsChannels, IsLaneAt, IsPassed, PutsChannels};
 
 use crate::lane::Lane;
 use pcm_feeder::Section;
@@ -23,13 +23,13 @@ pub fn pass(section: Section, channels: usize, input: &[i32], output: &[i32], sa
 {
     let mut channel = 0;
     while channel + 2 <= channels {
-        let left = Lane::of(input, output, channels, channel);
-        let right = Lane::of(input, output, channels, channel + 1);
+        let left = Lane::of(section, input, output, channels, channel);
+        let right = Lane::of(section, input, output, channels, channel + 1);
         pass_two(section, left, right, channels, channel, samples);
         channel += 2;
     }
     if channel < channels {
-        let lane = Lane::of(input, output, channels, channel);
+        let lane = Lane::of(section, input, output, channels, channel);
         pass_one(section, lane, channels, channel, samples);
     }
 }
@@ -48,7 +48,8 @@ fn pass_two(
     requires there { channel + 2 ≤ channels }
     ensures len { length samples.new ≡ length samples.old }
     ensures puts { (x y : List ℤ) → IsPassed section channels (length samples.old / channels) x y
-        → left ≡ lane_at channels x y 0 channel → right ≡ lane_at channels x y 0 (channel + 1)
+        → IsLaneAt section channels x y 0 channel left
+        → IsLaneAt section channels x y 0 (channel + 1) right
         → HoldsChannels channels channel (channel + 2) x samples.old
         → PutsChannels channels channel (channel + 2) y samples.old samples.new }
 {
@@ -59,8 +60,8 @@ fn pass_two(
         let (one, two) = (left.next(section, first), right.next(section, second));
         samples[at] = one;
         samples[at + 1] = two;
-        left = left.after(first, one);
-        right = right.after(second, two);
+        left = left.after(section, first, one);
+        right = right.after(section, second, two);
     }
 }
 
@@ -70,7 +71,7 @@ fn pass_one(section: Section, lane: Lane, channels: usize, channel: usize, sampl
     requires there { channel < channels }
     ensures len { length samples.new ≡ length samples.old }
     ensures puts { (x y : List ℤ) → IsPassed section channels (length samples.old / channels) x y
-        → lane ≡ lane_at channels x y 0 channel
+        → IsLaneAt section channels x y 0 channel lane
         → HoldsChannels channels channel (channel + 1) x samples.old
         → PutsChannels channels channel (channel + 1) y samples.old samples.new }
 {
@@ -80,6 +81,6 @@ fn pass_one(section: Section, lane: Lane, channels: usize, channel: usize, sampl
         let sample = samples[at];
         let made = lane.next(section, sample);
         samples[at] = made;
-        lane = lane.after(sample, made);
+        lane = lane.after(section, sample, made);
     }
 }

@@ -28,8 +28,8 @@ loop-channel-preserved c =
       puts = puts-on n channel (channel + 2) (output ++ made) old samples c.pass_two.new.samples (omega arith) fits c.loop-channel.auto.samples puts
           (c.pass_two.ensures.puts (input ++ old) (output ++ made)
           (passed section n input output old samples c.requires.some c.requires.input c.requires.output c.requires.whole_frames c.loop-channel.auto.samples)
-          (c.of-left.ensures ∙ lane-front n input output old made channel (omega (arith, fits)) c.requires.input c.requires.output)
-          (c.of-right.ensures ∙ lane-front n input output old made (channel + 1) (omega (arith, fits)) c.requires.input c.requires.output)
+          (lane-front section n input output old made channel c.of-left.result (omega (arith, fits)) c.requires.input c.requires.output c.of-left.ensures)
+          (lane-front section n input output old made (channel + 1) c.of-right.result (omega (arith, fits)) c.requires.input c.requires.output c.of-right.ensures)
           (holds-on n channel (channel + 2) input (output ++ made) old samples fits c.requires.input c.loop-channel.auto.samples puts));
     }
 
@@ -51,7 +51,7 @@ returns-then-channel-channels-clause-samples c =
     let all = puts-on n channel (channel + 1) (output ++ made) old samples new (omega arith) fits c.loop-channel.auto.samples puts
     (c.pass_one.ensures.puts (input ++ old) (output ++ made)
     (passed section n input output old samples c.requires.some c.requires.input c.requires.output c.requires.whole_frames c.loop-channel.auto.samples)
-    (c.of-lane.ensures ∙ lane-front n input output old made channel below c.requires.input c.requires.output)
+    (lane-front section n input output old made channel c.of-lane.result below c.requires.input c.requires.output c.of-lane.ensures)
     (holds-on n channel (channel + 1) input (output ++ made) old samples fits c.requires.input c.loop-channel.auto.samples puts)) in
     all-turned section n input output old new c.requires.some c.requires.output c.requires.whole_frames (c.pass_one.ensures.len ∙ c.loop-channel.auto.samples)
     (subst (λ to. PutsFrames n 0 to (length old / n) (output ++ made) old new) last all)

@@ -1,13 +1,13 @@
 -- A channel is turned, frame by frame.
 use Rattle.std.proofs.Common.{◌≡◌, ◌<◌, ◌+◌, ◌*◌, ◌/◌, ℤ, List, length, get_or, set, pos, w32, FitsSigned, inl, inr, refl, ◌∙◌, subst, rules, arith}
 use Rattle.std.proofs.lemmas.Int.{to_z-of_z}
-use Rattle.feed_eq.specs.Lanes.{lane_at, HoldsChannels, IsPassed, PutsFrames}
+use Rattle.feed_eq.specs.Lanes.{HoldsChannels, IsLaneAt, IsPassed, PutsFrames}
 use Rattle.feed_eq.proofs.Passing.{GoesOn, goes-on, next-input, put-frame, set-here, set-other}
 use Rattle.feed_eq.proofs.pass.pass_one.Goals as goal
 
 -- the next output, and what the channel keeps then
-next : (c : goal.After-after-lane) (x y : List ℤ) → IsPassed c.args.section c.args.channels (length c.args.samples.now / c.args.channels) x y → c.args.lane ≡ lane_at c.args.channels x y 0 c.args.channel
-    → HoldsChannels c.args.channels c.args.channel (c.args.channel + 1) x c.args.samples.now → GoesOn c.args.channels x y c.loop-k.k c.args.channel c.next-made.result c.after-lane.result
+next : (c : goal.After-after-lane) (x y : List ℤ) → IsPassed c.args.section c.args.channels (length c.args.samples.now / c.args.channels) x y → IsLaneAt c.args.section c.args.channels x y 0 c.args.channel c.args.lane
+    → HoldsChannels c.args.channels c.args.channel (c.args.channel + 1) x c.args.samples.now → GoesOn c.args.section c.args.channels x y c.loop-k.k c.args.channel c.next-made.result c.after-lane.result
 next c x y passed begin holds =
     let n = c.args.channels in
     let channel = c.args.channel in
@@ -19,7 +19,8 @@ next c x y passed begin holds =
     (c.loop-k.invariant.lane x y passed begin holds)
     (next-input n channel (channel + 1) k channel x y c.args.samples.now c.loop-k.samples (omega (arith, c.requires.there)) holds (c.loop-k.invariant.puts x y passed begin holds) c.loop-k-test.true (omega arith) (omega arith))
     (rw (to_z-of_z w32 sample fits) at c.next-made.ensures)
-    (rw (to_z-of_z w32 sample fits, to_z-of_z w32 c.next-made.result made_fits) at c.after-lane.ensures)
+    (rw (to_z-of_z w32 sample fits, to_z-of_z w32 c.next-made.result made_fits) at c.after-lane.ensures.next)
+    (rw (to_z-of_z w32 sample fits, to_z-of_z w32 c.next-made.result made_fits) at c.after-lane.ensures.later)
 
 pub loop-k-preserved : goal.loop-k-preserved
 loop-k-preserved c =

@@ -3,14 +3,14 @@ use Rattle.std.proofs.Common.{◌≡◌, ◌<◌, ◌+◌, ◌*◌, ◌/◌, ℤ
 use Rattle.std.proofs.lemmas.Bool.{cases_lt}
 use Rattle.std.proofs.lemmas.Int.{to_z-of_z}
 use Rattle.std.proofs.lemmas.List.{length-set}
-use Rattle.feed_eq.specs.Lanes.{lane_at, HoldsChannels, IsPassed, PutsFrames}
+use Rattle.feed_eq.specs.Lanes.{HoldsChannels, IsLaneAt, IsPassed, PutsFrames}
 use Rattle.feed_eq.proofs.Passing.{GoesOn, goes-on, next-input, put-frame, set-here, set-other}
 use Rattle.feed_eq.proofs.pass.pass_two.Goals as goal
 
 -- the next output of the one channel, and what it keeps then
 left : (c : goal.After-after-right) (x y : List ℤ) → IsPassed c.args.section c.args.channels (length c.args.samples.now / c.args.channels) x y
-    → c.args.left ≡ lane_at c.args.channels x y 0 c.args.channel → c.args.right ≡ lane_at c.args.channels x y 0 (c.args.channel + 1)
-    → HoldsChannels c.args.channels c.args.channel (c.args.channel + 2) x c.args.samples.now → GoesOn c.args.channels x y c.loop-k.k c.args.channel c.next-one.result c.after-left.result
+    → IsLaneAt c.args.section c.args.channels x y 0 c.args.channel c.args.left → IsLaneAt c.args.section c.args.channels x y 0 (c.args.channel + 1) c.args.right
+    → HoldsChannels c.args.channels c.args.channel (c.args.channel + 2) x c.args.samples.now → GoesOn c.args.section c.args.channels x y c.loop-k.k c.args.channel c.next-one.result c.after-left.result
 left c x y passed first second holds =
     let n = c.args.channels in
     let channel = c.args.channel in
@@ -22,12 +22,13 @@ left c x y passed first second holds =
     (c.loop-k.invariant.left x y passed first second holds)
     (next-input n channel (channel + 2) k channel x y c.args.samples.now c.loop-k.samples c.requires.there holds (c.loop-k.invariant.puts x y passed first second holds) c.loop-k-test.true (omega arith) (omega arith))
     (rw (to_z-of_z w32 sample fits) at c.next-one.ensures)
-    (rw (to_z-of_z w32 sample fits, to_z-of_z w32 c.next-one.result made_fits) at c.after-left.ensures)
+    (rw (to_z-of_z w32 sample fits, to_z-of_z w32 c.next-one.result made_fits) at c.after-left.ensures.next)
+    (rw (to_z-of_z w32 sample fits, to_z-of_z w32 c.next-one.result made_fits) at c.after-left.ensures.later)
 
 -- and of the other
 right : (c : goal.After-after-right) (x y : List ℤ) → IsPassed c.args.section c.args.channels (length c.args.samples.now / c.args.channels) x y
-    → c.args.left ≡ lane_at c.args.channels x y 0 c.args.channel → c.args.right ≡ lane_at c.args.channels x y 0 (c.args.channel + 1)
-    → HoldsChannels c.args.channels c.args.channel (c.args.channel + 2) x c.args.samples.now → GoesOn c.args.channels x y c.loop-k.k (c.args.channel + 1) c.next-two.result c.after-right.result
+    → IsLaneAt c.args.section c.args.channels x y 0 c.args.channel c.args.left → IsLaneAt c.args.section c.args.channels x y 0 (c.args.channel + 1) c.args.right
+    → HoldsChannels c.args.channels c.args.channel (c.args.channel + 2) x c.args.samples.now → GoesOn c.args.section c.args.channels x y c.loop-k.k (c.args.channel + 1) c.next-two.result c.after-right.result
 right c x y passed first second holds =
     let n = c.args.channels in
     let channel = c.args.channel in
@@ -41,7 +42,8 @@ right c x y passed first second holds =
     (ap (λ p. get_or c.loop-k.samples p (pos 0)) place
     ∙ next-input n channel (channel + 2) k (channel + 1) x y c.args.samples.now c.loop-k.samples c.requires.there holds (c.loop-k.invariant.puts x y passed first second holds) c.loop-k-test.true (omega arith) (omega arith))
     (rw (to_z-of_z w32 sample fits) at c.next-two.ensures)
-    (rw (to_z-of_z w32 sample fits, to_z-of_z w32 c.next-two.result made_fits) at c.after-right.ensures)
+    (rw (to_z-of_z w32 sample fits, to_z-of_z w32 c.next-two.result made_fits) at c.after-right.ensures.next)
+    (rw (to_z-of_z w32 sample fits, to_z-of_z w32 c.next-two.result made_fits) at c.after-right.ensures.later)
 
 pub loop-k-preserved : goal.loop-k-preserved
 loop-k-preserved c =
