@@ -6,3 +6,4 @@ pub mod Standing
 pub mod Streaming
 pub mod Waiting
 pub mod Pushing
+pub mod Giving

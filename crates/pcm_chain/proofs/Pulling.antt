@@ -1,5 +1,5 @@
 -- What a pull means: a block, no block, and one pull after another.
-use Rattle.std.proofs.Common.{◌≡◌, ◌<◌, ◌≤◌, ◌+◌, ◌-◌, ◌*◌, min, max, ℕ, zero, suc, ℤ, pos, Bool, List, [], ◌++◌, length, take, drop, get_or, replicate, inl, inr, refl, sym, ap, ◌∙◌, subst, arith}
+use Rattle.std.proofs.Common.{◌≡◌, ◌<◌, ◌≤◌, ◌+◌, ◌-◌, ◌*◌, min, max, ℕ, zero, suc, ℤ, pos, Bool, false, List, [], ◌++◌, length, take, drop, get_or, replicate, inl, inr, refl, sym, ap, ◌∙◌, subst, arith}
 use Rattle.std.proofs.lemmas.Bool.{cases_lt}
 use Rattle.std.proofs.Math.Seq.{take-add}
 use Rattle.std.proofs.lemmas.List.Concat.{flat_map-append}
@@ -202,6 +202,16 @@ block-pulls {B = B} kept tables gain ended want waiting old new advance out_old 
       ends = λ some. offers-ends rate ended n quiet before (length waiting) want advance blocks some;
     }
 
+-- where more may come no silence was eaten
+pub no-silence-behind : {B : Type 0} (kept : B → Kept) (tables : Filters) (waiting : List Frame) (chain : ChainOf B) (x : List Frame) (before : ℕ) (pulled : Pulled)
+    → StandsBehind kept tables false waiting chain x before pulled → ChainStands kept tables chain (x ++ take pulled.eaten waiting) 0 (before + pulled.given)
+no-silence-behind kept tables waiting chain x before pulled behind =
+    subst (λ zeros. ChainStands kept tables chain (x ++ take pulled.eaten waiting) zeros (before + pulled.given)) (none behind.zeros refl) behind.stands
+  where
+    none : (zeros : ℕ) → zeros ≡ behind.zeros → zeros ≡ 0
+    none zero same = refl
+    none (suc more) same = absurd (let no = (behind.ends (omega (arith, same))).0 in cc)
+
 -- ---- no block, one more, and one that falls short
 
 -- where nothing was asked for nothing was pulled
@@ -261,8 +271,8 @@ pub record GoesOn {B : Type 0} (kept : B → Kept) (tables : Filters) (gain : Ga
   pub channels : HaveChannels (channels_of (plan_in old).source) (x ++ waiting)
   pub is : IsPlan (plan_in old)
   pub pulled : Pulls kept tables gain ended asked waiting old mid x before first start middle
-  pub next : (y : List Frame) (quiet given : ℕ) → ChainStands kept tables mid y quiet given → IsPastTheEnd ended quiet (drop first.eaten waiting)
-      → Pulls kept tables gain ended more (drop first.eaten waiting) mid new y given second (drop (asked * channels_of (plan_in old).target) middle) part
+  pub next : ChainStands kept tables mid (x ++ take first.eaten waiting) pulled.stands.zeros (before + first.given) → IsPastTheEnd ended pulled.stands.zeros (drop first.eaten waiting)
+      → Pulls kept tables gain ended more (drop first.eaten waiting) mid new (x ++ take first.eaten waiting) (before + first.given) second (drop (asked * channels_of (plan_in old).target) middle) part
 
 pub goes-on : {B : Type 0} (kept : B → Kept) (tables : Filters) (gain : Gain) (ended : Bool) (asked more : ℕ) (waiting : List Frame) (old mid new : ChainOf B) (x : List Frame) (before : ℕ)
     (first second : Pulled) (start middle part : List ℤ) → GoesOn kept tables gain ended asked more waiting old mid new x before first second start middle part
@@ -303,7 +313,7 @@ goes-on {B = B} kept tables gain ended asked more waiting old mid new x before f
         (ends.0, nil_from_length rest (omega (arith, left, ends.1)))
 
     second-pulls : Pulls kept tables gain ended more rest mid new y (before + first.given) second (drop (asked * channels_of plan.target) middle) part
-    second-pulls = h.next y h.pulled.stands.zeros (before + first.given) h.pulled.stands.stands past
+    second-pulls = h.next h.pulled.stands.stands past
 
     second-far : PullsAsFar rate ended more (length y) (length rest) (before + first.given) second
     second-far = subst (λ (p : PlanSeen). PullsAsFar (rate_in_plan p) ended more (length y) (length rest) (before + first.given) second) h.plan second-pulls.far

@@ -1,5 +1,5 @@
 -- What a push means: a block that is eaten whole, no block, and one push after another.
-use Rattle.std.proofs.Common.{◌≡◌, ◌<◌, ◌≤◌, ◌+◌, ◌-◌, ◌*◌, ◌/◌, ◌%◌, min, ℕ, zero, suc, ℤ, false, List, [], ◌∷◌, ◌++◌, length, take, drop, get_or, All, inl, inr, refl, sym, ap, ◌∙◌, subst, arith}
+use Rattle.std.proofs.Common.{◌≡◌, ◌<◌, ◌≤◌, ◌+◌, ◌-◌, ◌*◌, ◌/◌, ◌%◌, min, ℕ, ℤ, false, List, [], ◌∷◌, ◌++◌, length, take, drop, get_or, All, inl, inr, refl, sym, ap, ◌∙◌, subst, arith}
 use Rattle.std.specs.List.{flat_map, range_with_len}
 use Rattle.std.proofs.lemmas.Bool.{cases_lt}
 use Rattle.std.proofs.Math.Nat.{mul-le-mul_right, mul-div_cancel, mul-mod_left, div-mul-le_self, div-add-mod'}
@@ -39,7 +39,7 @@ use Rattle.pcm_chain.specs.Feeds.{first_frames, fed_through, AreFed}
 use Rattle.pcm_chain.specs.Pulls.{Pulls}
 use Rattle.pcm_chain.specs.Pushes.{HasRecorded, Pushes}
 use Rattle.pcm_chain.proofs.Counting.{allowed-grows, fed-real}
-use Rattle.pcm_chain.proofs.Pulling.{block-pulls, offered}
+use Rattle.pcm_chain.proofs.Pulling.{block-pulls, no-silence-behind, offered}
 
 -- ---- counts
 
@@ -154,10 +154,6 @@ block-records {B = B} kept tables input old new x start out h stands = record { 
     came : m ≡ can rate (length x + n) - before
     came = omega (arith, pulls.far.given)
 
-    quiet : (zeros : ℕ) → zeros ≡ pulls.stands.zeros → zeros ≡ 0
-    quiet zero same = refl
-    quiet (suc more) same = absurd (let no = (pulls.stands.ends (omega (arith, same))).0 in cc)
-
     all : before + m ≡ can (rate_in_plan (plan_in new)) (length (x ++ input))
     all =
         let long = length-append x input in
@@ -168,8 +164,8 @@ block-records {B = B} kept tables input old new x start out h stands = record { 
     recorded : HasRecorded kept tables new (x ++ input)
     recorded =
         subst (λ k. ChainStands kept tables new (x ++ input) 0 k) all
-        (subst (λ zeros. ChainStands kept tables new (x ++ input) zeros (before + m)) (quiet pulls.stands.zeros refl)
-        (subst (λ list. ChainStands kept tables new (x ++ list) pulls.stands.zeros (before + m)) (take_all n input (omega arith)) pulls.stands.stands))
+        (subst (λ list. ChainStands kept tables new (x ++ list) 0 (before + m)) (take_all n input (omega arith))
+        (no-silence-behind kept tables input new x before (record { given = m; eaten = n }) pulls.stands))
 
     frames : out ≡ written (recs plan tables (x ++ input) before m) start
     frames = pulls.frames
@@ -290,26 +286,25 @@ spelled-interleaved format (frame ∷ list) =
 pub whole-samples : (n c : ℕ) → n % c ≡ 0 → n ≡ n / c * c
 whole-samples n c whole = omega (arith, whole, div-add-mod' n c)
 
+-- samples in two parts are the first frames and the others
+pub parted-frames : (c k : ℕ) (samples : List ℤ) → 0 < c → k * c ≤ length samples
+    → (frames_of c (take (k * c) samples) ≡ take k (frames_of c samples)) × (frames_of c (drop (k * c) samples) ≡ drop k (frames_of c samples))
+parted-frames c k samples above within =
+    let one = take (k * c) samples in
+    let two = drop (k * c) samples in
+    let long : length one ≡ k * c = length-take-le (k * c) samples within in
+    let count : length (frames_of c one) ≡ k = length-frames_of c one ∙ ap (λ n. n / c) long ∙ mul-div_cancel k above in
+    let parts : frames_of c samples ≡ frames_of c one ++ frames_of c two =
+    ap (frames_of c) (sym (take-append-drop (k * c) samples)) ∙ frames_of-append c one two above (ap (λ n. n % c) long ∙ mul-mod_left k c) in (
+      sym (ap (take k) parts ∙ take_at (frames_of c one) (frames_of c two) k count),
+      sym (ap (drop k) parts ∙ drop_at (frames_of c one) (frames_of c two) k count),
+    )
+
 -- the frames of a piece are a piece of the frames
 pub piece-frames : (c k m : ℕ) (samples : List ℤ) → 0 < c → (k + m) * c ≤ length samples → frames_of c (take (m * c) (drop (k * c) samples)) ≡ take m (drop k (frames_of c samples))
 piece-frames c k m samples above within =
-    let one = take (k * c) samples in
-    let two = take (m * c) (drop (k * c) samples) in
-    let rest = drop (m * c) (drop (k * c) samples) in
-    let first : length one ≡ k * c = length-take-le (k * c) samples (omega arith) in
-    let left : length (drop (k * c) samples) ≡ length samples - k * c = length-drop (k * c) samples in
-    let second : length two ≡ m * c = length-take-le (m * c) (drop (k * c) samples) (omega (arith, left)) in
-    let count_one : length (frames_of c one) ≡ k = length-frames_of c one ∙ ap (λ n. n / c) first ∙ mul-div_cancel k above in
-    let count_two : length (frames_of c two) ≡ m = length-frames_of c two ∙ ap (λ n. n / c) second ∙ mul-div_cancel m above in
-    let parts : frames_of c samples ≡ frames_of c one ++ (frames_of c two ++ frames_of c rest) =
-    ap (frames_of c) (sym (take-append-drop (k * c) samples))
-    ∙ frames_of-append c one (drop (k * c) samples) above (ap (λ n. n % c) first ∙ mul-mod_left k c)
-    ∙ ap (λ list. frames_of c one ++ list) (ap (frames_of c) (sym (take-append-drop (m * c) (drop (k * c) samples))) ∙ frames_of-append c two rest above (ap (λ n. n % c) second ∙ mul-mod_left m c)) in
-    sym (
-    ap (λ list. take m (drop k list)) parts
-    ∙ ap (take m) (drop_at (frames_of c one) (frames_of c two ++ frames_of c rest) k count_one)
-    ∙ take_at (frames_of c two) (frames_of c rest) m count_two
-    )
+    (parted-frames c m (drop (k * c) samples) above (omega (arith, length-drop (k * c) samples))).0
+    ∙ ap (take m) (parted-frames c k samples above (omega arith)).1
 
 -- ---- no block, and one more
 

@@ -4,4 +4,5 @@ pub mod Feeds
 pub mod Chains
 pub mod Pulls
 pub mod Pushes
+pub mod Gives
 pub mod Rings

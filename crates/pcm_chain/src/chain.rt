@@ -48,7 +48,7 @@ pub struct Pushed {
 }
 
 impl<B: Feeder> ChainOf<B> {
-    ghost use Rattle.std.specs.Prelude.{◌+◌, ◌<◌, ◌%◌, [], length, min, All, IfOk};
+    ghost use Rattle.std.specs.Prelude.{◌+◌, ◌<◌, ◌%◌, [], length, min, take, All, IfOk};
     ghost use Rattle.pcm_num.specs.Limit.{FitsBits};
     ghost use Rattle.pcm_format.specs.Layouts.{channels_of};
     ghost use Rattle.pcm_feeder.specs.Filters.{Filters};
@@ -57,6 +57,7 @@ impl<B: Feeder> ChainOf<B> {
     ghost use Rattle.pcm_plan.specs.Fits.{HaveBits, HaveTables};
     ghost use Rattle.pcm_chain.specs.Chains.{boxes_in, counts_in, plan_in, AreFitted, IsOfKinds, ChainStands};
     ghost use Rattle.pcm_chain.specs.Counts.{NeedABlock, AllowABlock};
+    ghost use Rattle.pcm_chain.specs.Gives.{filling_frames, CanGive, GivesABlock, GivesExactly, GivesOn};
     ghost use Rattle.pcm_chain.specs.Pulls.{waiting_frames, PullsOn};
     ghost use Rattle.pcm_chain.specs.Pushes.{pushed_frames, room_for, GivesBitsOf, HasRecorded, HasRecordedSome, PushesOn};
     ghost use Rattle.pcm_chain.specs.Rings.{taken_bytes, put_bytes, without_bytes, GrowsBy};
@@ -95,6 +96,7 @@ impl<B: Feeder> ChainOf<B> {
         ensures fitted { AreFitted B.kept self.new }
         ensures begins { (tables : Filters) → ChainStands B.kept tables self.new [] 0 0 }
         ensures records { (tables : Filters) → HasRecorded B.kept tables self.new [] }
+        ensures exactly { (tables : Filters) → GivesExactly B.kept tables self.new [] 0 }
     {
         // The old counts are of the old plan's rate.
         self.counts = Counts::none();
@@ -110,6 +112,7 @@ impl<B: Feeder> ChainOf<B> {
         ensures fitted { AreFitted B.kept self.new }
         ensures begins { (tables : Filters) → ChainStands B.kept tables self.new [] 0 0 }
         ensures records { (tables : Filters) → HasRecorded B.kept tables self.new [] }
+        ensures exactly { (tables : Filters) → GivesExactly B.kept tables self.new [] 0 }
     {
         self.counts = Counts::none();
         fit_stages(&mut self.boxes, self.plan.stages());
@@ -304,6 +307,81 @@ impl<B: Feeder> ChainOf<B> {
         let came = advance.given;
         let kept = self.staging.spell(&self.block, target, came, ring, format);
         Pushed { came, kept }
+    }
+
+    /// Puts all frames of `input` through the chain, and fills `out` with the frames that come of them, at a
+    /// gain of one. Takes no memory.
+    pub fn give(&mut self, tables: &Tables, input: &[i32], out: &mut [i32])
+        requires tables { HaveTables (plan_in self.old).stages tables.now }
+        requires whole { length input.now % channels_of (plan_in self.old).source ≡ 0 }
+        requires fills { length out.old % channels_of (plan_in self.old).target ≡ 0 }
+        requires can { CanGive B.kept tables.now self.old input.now
+            (filling_frames (plan_in self.old) out.old) }
+        ensures plan { plan_in self.new ≡ plan_in self.old }
+        ensures kinds { IsOfKinds B.kind self.old → IsOfKinds B.kind self.new }
+        ensures fitted { AreFitted B.kept self.new }
+        // The type of the samples keeps them within 32 bits.
+        ensures fits { HaveBits 32 (pushed_frames (plan_in self.old) input.now) }
+        ensures gives { GivesOn B.kept tables.now input.now
+            (filling_frames (plan_in self.old) out.old) self.old self.new out.new }
+    {
+        let source = self.plan.source().channels();
+        let target = self.plan.target().channels();
+        let frames = input.len() / source;
+        let want = out.len() / target;
+        let mut asked = 0;
+        let mut eaten = 0;
+        while asked < want {
+            let block = self.counts.block(self.plan.rate(), want - asked);
+            let piece = &input[eaten * source..];
+            let rest = &mut out[asked * target..];
+            eaten += self.give_block(tables, piece, frames - eaten, block, rest);
+            asked += block;
+        }
+    }
+
+    // A give of so few frames that those eaten for them make a block, where so many wait. Answers how many were eaten.
+    fn give_block(
+        &mut self,
+        tables: &Tables,
+        input: &[i32],
+        waiting: usize,
+        want: usize,
+        out: &mut [i32],
+    ) -> usize
+        requires fitted { AreFitted B.kept self.old }
+        requires tables { HaveTables (plan_in self.old).stages tables.now }
+        requires waiting { waiting ≡ length (pushed_frames (plan_in self.old) input.now) }
+        requires some { 0 < want }
+        requires few { want ≤ BLOCK_FRAMES }
+        requires reach { NeedABlock (rate_in_plan (plan_in self.old)) (counts_in self.old) want }
+        requires room { want * channels_of (plan_in self.old).target ≤ length out.old }
+        ensures plan { plan_in self.new ≡ plan_in self.old }
+        ensures kinds { IsOfKinds B.kind self.old → IsOfKinds B.kind self.new }
+        ensures fitted { AreFitted B.kept self.new }
+        ensures there { result ≤ waiting }
+        ensures fits { All (FitsBits 32)
+            (take (result * channels_of (plan_in self.old).source) input.now) }
+        ensures gives { GivesABlock B.kept tables.now want input.now
+            self.old self.new result out.old out.new }
+    {
+        let source = self.plan.source().channels();
+        let rate = self.plan.rate();
+        let advance = self.counts.advance(rate, false, waiting, want);
+        self.staging.copy(&input[..advance.eaten * source]);
+        feed_stages(
+            &mut self.boxes,
+            self.plan.stages(),
+            source,
+            tables,
+            UNITY,
+            advance.eaten,
+            want,
+            &mut self.staging,
+            out,
+        );
+        self.counts = self.counts.after(rate, self.plan.period(), advance);
+        advance.eaten
     }
 }
 

@@ -104,6 +104,6 @@ loop-asked-preserved g c =
             channels = All-append (λ (frame : Frame). length frame ≡ channels_of plan.source) x all stands.frames (frames_of-channels (channels_of plan.source) (samples c.args.format bytes));
             is = stands.fits;
             pulled = h.pulls x quiet before stands past;
-            next = subst Waits rest (subst Heard part c.pull_block-more.ensures.pulls);
+            next = subst Waits rest (subst Heard part c.pull_block-more.ensures.pulls) (x ++ take first.eaten all) _ (before + first.given);
           }));
     }

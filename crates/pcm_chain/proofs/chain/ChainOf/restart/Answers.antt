@@ -1,4 +1,4 @@
-use Rattle.std.proofs.Common.{◌≡◌, length, arith}
+use Rattle.std.proofs.Common.{◌≡◌, length, refl, arith}
 use Rattle.std.proofs.lemmas.List.Elements.{All-nil}
 use Rattle.pcm_format.specs.Frames.{Frame}
 use Rattle.pcm_format.specs.Layouts.{channels_of}
@@ -24,3 +24,6 @@ returns-clause-begins g c tables =
 
 pub returns-clause-records : goal.returns-clause-records
 returns-clause-records g c tables = begun g.B.Feeder.kept tables _ (returns-clause-begins g c tables)
+
+pub returns-clause-exactly : goal.returns-clause-exactly
+returns-clause-exactly g c tables = record { stands = returns-clause-begins g c tables; exact = refl }

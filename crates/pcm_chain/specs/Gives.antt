@@ -1,0 +1,65 @@
+-- What a give eats and gives.
+use Rattle.std.specs.Prelude.{◌≡◌, ◌≤◌, ℕ, ◌+◌, ◌-◌, ◌/◌, ℤ, false, List, ◌++◌, length}
+use Rattle.pcm_format.specs.Frames.{Frame}
+use Rattle.pcm_format.specs.Layouts.{channels_of}
+use Rattle.pcm_rate.specs.Rates.{need}
+use Rattle.pcm_feeder.specs.Filters.{Filters}
+use Rattle.pcm_feeder.specs.Kept.{Kept}
+use Rattle.pcm_feeder.specs.Layouts.{unity}
+use Rattle.pcm_feeder.specs.Streams.{interleaved}
+use Rattle.pcm_plan.specs.Fits.{HaveBits}
+use Rattle.pcm_plan.specs.Plans.{PlanSeen, rate_in_plan}
+use Rattle.pcm_plan.specs.Through.{recs}
+use Rattle.pcm_chain.specs.declared.chain.ChainOf.{ChainOf}
+use Rattle.pcm_chain.specs.Chains.{plan_in, ChainStands}
+use Rattle.pcm_chain.specs.Pulls.{Pulls}
+use Rattle.pcm_chain.specs.Pushes.{pushed_frames}
+
+-- A chain has eaten just the frames x that those given need, and no silence behind them.
+pub record GivesExactly {B : Type 0} (kept : B → Kept) (tables : Filters) (chain : ChainOf B)
+    (x : List Frame) (given : ℕ) : Type 0 where
+  pub stands : ChainStands kept tables chain x 0 given
+  pub exact : length x ≡ need (rate_in_plan (plan_in chain)) given
+
+-- how many frames of a plan's target fill a buffer
+abbrev pub filling_frames : PlanSeen → List ℤ → ℕ
+filling_frames plan out = length out / channels_of plan.target
+
+-- samples are just as many frames as `count` outputs need behind those given
+abbrev pub AreJustEnough : PlanSeen → List ℤ → ℕ → ℕ → Type 0
+AreJustEnough plan input given count = length (pushed_frames plan input)
+    ≡ need (rate_in_plan plan) (given + count) - need (rate_in_plan plan) given
+
+-- what a chain may be handed for `count` frames: it has eaten frames of 32 bits, just those that the ones given need
+pub record CanGive {B : Type 0} (kept : B → Kept) (tables : Filters) (chain : ChainOf B)
+    (input : List ℤ) (count : ℕ) : Type 0 where
+  pub frames : List Frame
+  pub given : ℕ
+  pub bits : HaveBits 32 frames
+  pub gives : GivesExactly kept tables chain frames given
+  pub enough : AreJustEnough (plan_in chain) input given count
+
+-- What a give of frames means to whoever knows the frames x that were eaten before and how many were
+-- given: all are eaten, and the plan's next frames over all of them fill the buffer.
+pub record Gives {B : Type 0} (kept : B → Kept) (tables : Filters) (input : List Frame) (count : ℕ)
+    (old new : ChainOf B) (x : List Frame) (given : ℕ) (out : List ℤ) : Type 0 where
+  pub exactly : GivesExactly kept tables new (x ++ input) (given + count)
+  pub frames : out ≡ interleaved (recs (plan_in old) tables (x ++ input) given count)
+
+-- a give of samples means that to whoever knows them
+abbrev pub GivesOn : {B : Type 0} → (B → Kept) → Filters → List ℤ → ℕ
+    → ChainOf B → ChainOf B → List ℤ → Type 0
+GivesOn kept tables input count old new out =
+    (x : List Frame) (given : ℕ) → GivesExactly kept tables old x given
+    → AreJustEnough (plan_in old) input given count
+    → Gives kept tables (pushed_frames (plan_in old) input) count old new x given out
+
+-- a block is a pull at a gain of one that gives all that it is asked for, to whoever knows that the input suffices
+abbrev pub GivesABlock : {B : Type 0} → (B → Kept) → Filters → ℕ → List ℤ
+    → ChainOf B → ChainOf B → ℕ → List ℤ → List ℤ → Type 0
+GivesABlock kept tables want input old new eaten out_old out_new =
+    (x : List Frame) (given : ℕ) → ChainStands kept tables old x 0 given
+    → need (rate_in_plan (plan_in old)) (given + want)
+    ≤ length x + length (pushed_frames (plan_in old) input)
+    → Pulls kept tables unity false want (pushed_frames (plan_in old) input)
+    old new x given (record { given = want; eaten = eaten }) out_old out_new
