@@ -9,6 +9,8 @@ mod conversions;
 #[cfg(test)]
 mod cuts;
 #[cfg(test)]
+mod gives;
+#[cfg(test)]
 mod racks;
 #[cfg(test)]
 mod stages;
