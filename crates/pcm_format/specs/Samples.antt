@@ -56,9 +56,13 @@ spelled format value = in_order format (low_bytes (bytes_of format) (number_for 
 abbrev pub scale_of : ℕ → ℕ
 scale_of bits = 2 ^ (32 - bits)
 
+-- a sample of so many bits at 32
+abbrev pub at_full : ℕ → ℤ → ℤ
+at_full bits sample = sample *ℤ pos (scale_of bits)
+
 -- a sample's bytes at 32 bits
 abbrev pub loaded : Format → List ℕ → ℤ
-loaded format bytes = sample_value format bytes *ℤ pos (scale_of (bits_of format))
+loaded format bytes = at_full (bits_of format) (sample_value format bytes)
 
 -- a sample of 32 bits at fewer bits, rounded down
 abbrev pub at_depth : ℕ → ℤ → ℤ

@@ -1,8 +1,12 @@
-//! Samples of 32 bits at fewer bits.
+//! Samples of 32 bits at fewer bits, and back.
 
-ghost use Rattle.std.specs.Prelude.{◌≡◌, ◌≤◌, map};
+ghost use Rattle.std.specs.Prelude.{◌≡◌, ◌≤◌, All, map};
 ghost use Rattle.pcm_num.specs.Limit.{FitsBits};
-ghost use Rattle.pcm_format.specs.Samples.{at_depth};
+ghost use Rattle.pcm_format.specs.Formats.{bits_of};
+ghost use Rattle.pcm_format.specs.Samples.{at_depth, at_full};
+
+use crate::Format;
+use crate::sample::at_full;
 
 /// A sample at so many bits, rounded down.
 pub fn at_depth(sample: i32, bits: u32) -> i32
@@ -22,5 +26,15 @@ pub fn bring_to_depth(samples: &mut [i32], bits: u32)
 {
     for i in 0..samples.len() {
         samples[i] = at_depth(samples[i], bits);
+    }
+}
+
+/// Brings each sample of a format's bits to 32.
+pub fn bring_to_full(samples: &mut [i32], format: Format)
+    requires { All (FitsBits (bits_of format)) samples.old }
+    ensures { samples.new ≡ map (at_full (bits_of format)) samples.old }
+{
+    for i in 0..samples.len() {
+        samples[i] = at_full(format, samples[i]);
     }
 }

@@ -3,7 +3,7 @@
 ghost use Rattle.std.specs.Prelude.{◌≡◌, ◌+◌, ◌*◌, ◌-◌, ◌<◌, ◌≤◌, pos, length, reverse};
 ghost use Rattle.pcm_num.specs.Limit.{FitsBits};
 ghost use Rattle.pcm_format.specs.Formats.{bits_of, bytes_of, is_signed};
-ghost use Rattle.pcm_format.specs.Samples.{number_of, low_bytes, in_order, half_of, value_of, number_for, spelled, scale_of, loaded, at_depth, stored};
+ghost use Rattle.pcm_format.specs.Samples.{number_of, low_bytes, in_order, half_of, value_of, number_for, spelled, scale_of, loaded, at_depth, at_full, stored};
 
 use crate::{Format, at_depth};
 
@@ -12,7 +12,7 @@ pub fn load(f: Format, bytes: &[u8]) -> i32
     requires { length bytes.now ≡ bytes_of f }
     ensures { result ≡ loaded f bytes.now }
 {
-    value_of(f, number_of(f, bytes)) * scale(f)
+    at_full(f, value_of(f, number_of(f, bytes)))
 }
 
 /// Writes the one spelling of a value, which is a number of the format's own bits.
@@ -33,6 +33,14 @@ pub fn store(f: Format, x: i32, out: &mut [u8])
     ensures { out.new ≡ stored f x }
 {
     spell(f, at_depth(x, f.bits()), out);
+}
+
+// A value of the format's own bits at 32.
+pub(crate) fn at_full(f: Format, value: i32) -> i32
+    requires { FitsBits (bits_of f) value }
+    ensures { result ≡ at_full (bits_of f) value }
+{
+    value * scale(f)
 }
 
 // What one step of the format is at 32 bits.

@@ -13,6 +13,7 @@ use Rattle.pcm_format.specs.declared.layout.Layout.TheVariants.{One}
 use Rattle.pcm_format.specs.declared.settings.Settings.{Settings}
 use Rattle.pcm_format.specs.Formats.{bits_of}
 use Rattle.pcm_format.specs.Layouts.{channels_of}
+use Rattle.pcm_rate.specs.declared.rate.Rate.{Rate}
 use Rattle.pcm_rate.specs.Rates.{unchanged, IsRatio}
 use Rattle.pcm_feeder.specs.declared.kind.Kind.{Kind}
 use Rattle.pcm_feeder.specs.declared.kind.Kind.TheVariants as kinds
@@ -502,3 +503,64 @@ record-volume tables quality client device =
     (each-converting P tables quality device client matrix
     (λ layout differs. each-converter P tables quality device.rate client.rate (channels_of layout) hold line (λ place below. filter)))
     (each-depth P (bits_of client.format) (channels_of client.layout) depth)
+
+-- ---- how a client that records changes the rate
+
+-- where both rates are equal, no stage changes it
+pub record-level : (tables : Filters) (quality : ℕ) (client device : Settings) → device.rate ≡ client.rate → rate_in_plan (plan_record tables quality client device) ≡ unchanged
+record-level tables quality client device level =
+    let c = channels_of client.layout in
+    passed (plan_record tables quality client device).stages
+    (All-append Passes (converting tables quality device client) (depth_stages (bits_of client.format) c)
+    (each-converting Passes tables quality device client (λ rest. refl) (λ layout differs. absurd (differs level)))
+    (each-depth Passes (bits_of client.format) c (λ rest. refl)))
+  where
+    Passes : Spec → Type 0
+    Passes spec = (rest : List Spec) → rate_among (spec ∷ rest) ≡ rate_among rest
+
+    passed : (specs : List Spec) → All Passes specs → rate_among specs ≡ unchanged
+    passed [] all = refl
+    passed (spec ∷ specs) all = All-head Passes spec specs all specs ∙ passed specs (All-tail Passes spec specs all)
+
+-- a rate between these two, which reads ahead no further than the widest filter
+pub record IsBetween (src dst : ℕ) (rate : Rate) : Type 0 where
+  pub src_is : rate.src ≡ src
+  pub dst_is : rate.dst ≡ dst
+  pub lookahead : rate.lookahead ≤ 32
+
+-- where they differ, the one stage that changes it does so from the one to the other
+pub record-changes : (tables : Filters) (quality : ℕ) (client device : Settings) → AreFilters tables → device.rate ≢ client.rate
+    → IsBetween device.rate client.rate (rate_in_plan (plan_record tables quality client device))
+record-changes tables quality client device are differ =
+    let depth = depth_stages (bits_of client.format) (channels_of client.layout) in
+    let matrix = matrix_stages device.layout client.layout in
+    let up = rate_stages tables quality src dst (channels_of device.layout) in
+    let down = rate_stages tables quality src dst (channels_of client.layout) in
+    cond_both (nat_le (channels_of client.layout) (channels_of device.layout)) (matrix ++ down) (up ++ matrix) (λ way. IsBetween src dst (rate_among (way ++ depth)))
+    (λ fewer. subst (λ way. IsBetween src dst (rate_among way)) (sym (append_assoc matrix down depth)) (behind (down ++ depth) (rated client.layout depth)))
+    (λ more. subst (λ way. IsBetween src dst (rate_among way)) (sym (append_assoc up matrix depth)) (rated device.layout (matrix ++ depth)))
+  where
+    src : ℕ
+    src = device.rate
+
+    dst : ℕ
+    dst = client.rate
+
+    Changes : Spec → Type 0
+    Changes spec = (rest : List Spec) → IsBetween src dst (rate_among (spec ∷ rest))
+
+    converter : (layout : Layout) → Changes (converter_of tables quality src dst (channels_of layout))
+    converter layout =
+        each-converter Changes tables quality src dst (channels_of layout)
+        (λ rest. record { src_is = refl; dst_is = refl; lookahead = omega arith }) (λ rest. record { src_is = refl; dst_is = refl; lookahead = omega arith })
+        (λ place below rest. (let taps = taps-within tables place are below in record { src_is = refl; dst_is = refl; lookahead = omega (arith, taps.even, taps.most) }))
+
+    rated : (layout : Layout) (rest : List Spec) → IsBetween src dst (rate_among (rate_stages tables quality src dst (channels_of layout) ++ rest))
+    rated layout rest =
+        let spec = converter_of tables quality src dst (channels_of layout) in
+        cond_both (src == dst) [] (spec ∷ []) (λ way. IsBetween src dst (rate_among (way ++ rest)))
+        (λ same. absurd (differ (eqb-true src dst same))) (λ other. converter layout rest)
+
+    behind : (rest : List Spec) → IsBetween src dst (rate_among rest) → IsBetween src dst (rate_among (matrix_stages device.layout client.layout ++ rest))
+    behind rest is =
+        cond_both (channels_of device.layout == channels_of client.layout) [] (Matrix device.layout client.layout ∷ []) (λ way. IsBetween src dst (rate_among (way ++ rest))) (λ same. is) (λ other. is)

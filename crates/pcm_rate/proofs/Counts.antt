@@ -15,6 +15,16 @@ div_more a b d k above same = ap (λ z. z / d) same ∙ add-mul-div_right a k ab
 pub div_grows : (a b d : ℕ) → 0 < d → a ≤ b → a / d ≤ b / d
 div_grows a b d above h = (le-div_iff_mul-le {k = d} {x = a / d} {y = b} above).1 (omega (arith, div-mul-le_self a d))
 
+-- the quotient of a sum is at most one above the sum of the quotients
+div_apart : (a b d : ℕ) → 0 < d → (a + b) / d ≤ a / d + b / d + 1
+div_apart a b d above =
+    let x = a / d in
+    let y = b / d in
+    let first = (div-lt_iff_lt-mul {k = d} {x = a} {y = x + 1} above).0 (omega arith) in
+    let second = (div-lt_iff_lt-mul {k = d} {x = b} {y = y + 1} above).0 (omega arith) in
+    let both : (a + b) / d < x + y + 2 = (div-lt_iff_lt-mul {k = d} {x = a + b} {y = x + y + 2} above).1 (omega (arith, first, second)) in
+    omega (arith, both)
+
 -- what is below a quotient rounded up
 pub below_div_up : (j m s : ℕ) → 0 < s → (suc j ≤ div_up m s) ↔ (j * s < m)
 below_div_up j m s above =
@@ -60,6 +70,22 @@ need_grows rate (suc c) zero dst h = absurd (omega arith)
 need_grows rate (suc c) (suc e) dst h =
     let below : c ≤ e = omega arith in
     omega (arith, div_grows (c * rate.src) (e * rate.src) rate.dst dst (mul-le-mul_right rate.src below))
+
+-- outputs behind others need as many frames as last as long, but for one, and those that are read ahead
+pub need-apart : (rate : Rate) (c n : ℕ) → 0 < rate.dst → need rate (c + n) ≤ need rate c + n * rate.src / rate.dst + 1 + rate.lookahead
+need-apart rate zero zero dst = omega arith
+need-apart rate zero (suc n) dst =
+    let place : 0 + suc n ≡ suc n = omega arith in
+    let first : need rate (0 + suc n) ≡ need rate (suc n) = ap (need rate) place in
+    let most = div_grows (n * rate.src) (suc n * rate.src) rate.dst dst (mul-le-mul_right {m = n} {n = suc n} rate.src (omega arith)) in
+    omega (arith, first, most)
+need-apart rate (suc c) n dst =
+    let place : suc c + n ≡ suc (c + n) = omega arith in
+    let first : need rate (suc c + n) ≡ need rate (suc (c + n)) = ap (need rate) place in
+    let product : (c + n) * rate.src ≡ c * rate.src + n * rate.src = omega arith in
+    let sum : (c + n) * rate.src / rate.dst ≡ (c * rate.src + n * rate.src) / rate.dst = ap (λ z. z / rate.dst) product in
+    let most = div_apart (c * rate.src) (n * rate.src) rate.dst dst in
+    omega (arith, first, sum, most)
 
 -- some frames last for some outputs
 pub len_above : (rate : Rate) (n : ℕ) → 0 < rate.src → 0 < rate.dst → 0 < n → 0 < len rate n
