@@ -86,16 +86,16 @@ fn boxes(
 type Row = (usize, usize, Kind, Result<usize, RackFault>);
 
 const ROWS: [Row; 4] = [
-    (32, 0, Kind::Volume, Ok(32)),
+    (33, 0, Kind::Volume, Ok(33)),
     (
-        31,
+        32,
         0,
         Kind::Volume,
-        Err(RackFault::Count(WrongCount { found: 31 })),
+        Err(RackFault::Count(WrongCount { found: 32 })),
     ),
-    (32, 31, Kind::Depth, Err(RackFault::WrongBox(WRONG))),
+    (33, 32, Kind::Depth, Err(RackFault::WrongBox(WRONG))),
     // A wrong box is told before the number.
-    (33, 0, Kind::Depth, Err(RackFault::WrongBox(WRONG))),
+    (34, 0, Kind::Depth, Err(RackFault::WrongBox(WRONG))),
 ];
 
 const WRONG: WrongKind = WrongKind {

@@ -9,6 +9,7 @@ mod config_cause;
 mod definition;
 mod first_put;
 mod lines;
+mod mix_rate;
 mod numbers;
 mod said;
 mod script_cause;

@@ -1,12 +1,16 @@
 -- What holds of each configuration that is read.
-use Rattle.std.proofs.Common.{refl, ℕ, ◌*◌, ℤ, not, nat_lt, List, length, Option, Some, None, arith, IfOk}
+use Rattle.std.proofs.Common.{◌≡◌, ℕ, ◌*◌, ◌≤◌, ℤ, true, not, nat_lt, List, length, Option, Some, None, arith, IfOk}
+use Rattle.std.proofs.lemmas.Bool.Decides.{nat_tests}
 use Rattle.std.specs.List.{list_all}
+use Rattle.pcm_format.specs.declared.settings.Settings.{Settings}
 use Rattle.pcm_feeder.specs.declared.limits.TheConstants.{FILTERS, SECTIONS}
 use Rattle.pcm_feeder.specs.declared.section.Section.{Section}
 use Rattle.pcm_feeder.specs.declared.table.Table.{Table}
 use Rattle.pcm_feeder.specs.Filters.{as_filters}
 use Rattle.pcm_feeder.specs.Limits.{IsRate, IsSection, IsTable, AreFilters}
-use Rattle.pcm_desk.specs.Device.{IsInLimits}
+use Rattle.pcm_desk.specs.declared.device.Device.{Device}
+use Rattle.pcm_desk.specs.declared.limits.TheConstants.{MIX_FRAMES}
+use Rattle.pcm_desk.specs.Device.{IsInLimits, mix_frames, unfiltered}
 use Rattle.toml.specs.Data.{Members, as_integer}
 use Rattle.pcm_config.specs.declared.config.Config.{Config}
 use Rattle.pcm_config.specs.declared.fault.ConfigKind.TheVariants as kinds
@@ -16,8 +20,8 @@ use Rattle.pcm_config.specs.declared.place.ConfigPlace.TheVariants as places
 use Rattle.pcm_config.specs.Judgements.{required}
 use Rattle.pcm_config.specs.Lookups.{has_only, table_in, value_at}
 use Rattle.pcm_config.specs.Places.{device_places, top_places, vchans_places}
-use Rattle.pcm_config.specs.Rows.{block_row, blocks_row, channels_row, container_row, format_row, in_range, numbers, play_row, quality_row, rate_row, record_row}
-use Rattle.pcm_config.specs.Values.{AreSlots, IsHardware, capture_in, hardware_in, in_row, settings_in, settled, slots_in}
+use Rattle.pcm_config.specs.Rows.{block_row, blocks_row, channels_row, container_row, format_row, in_range, mix_channels_row, mix_rate_row, numbers, play_row, quality_row, rate_row, record_row}
+use Rattle.pcm_config.specs.Values.{AreSlots, IsHardware, capture_in, hardware_in, in_row, mix_in, settings_in, settled, slots_in}
 use Rattle.pcm_config.specs.Files.{files_in}
 use Rattle.pcm_config.specs.Lists.{AreFew, has_no_other, tables_at}
 use Rattle.pcm_config.specs.Sections.{section_keys, sections_in}
@@ -25,7 +29,7 @@ use Rattle.pcm_config.specs.Tables.{filter_keys, filters_in}
 use Rattle.pcm_config.proofs.Judging.{IsBetween, after-any, after-kept, not-false, passed, range-kept, required-kept}
 use Rattle.pcm_config.proofs.FilterLimits.{filters-kept}
 use Rattle.pcm_config.proofs.SectionLimits.{sections-kept}
-use Rattle.pcm_config.specs.Configs.{HasCapture, IsHeld, can_hold, config_read, config_with, device_seen, document_of, document_read, has_capture, tables_read, top_read, values_read, whole_read}
+use Rattle.pcm_config.specs.Configs.{HasCapture, IsHeld, can_hold, can_mix, config_read, config_with, device_seen, document_of, document_read, has_capture, tables_read, top_read, values_read, whole_read}
 
 -- a configuration within its limits, which has what it names
 pub record IsKept (config : Config) : Type 0 where
@@ -69,13 +73,20 @@ hardware-kept device =
     let ring = ring-kept block blocks few many in
     record { rate = rate; block = few.0; ring = ring.0; ring_most = ring.1 }))))
 
-slots-kept : (vchans : Members) → IfOk (slots_in vchans) AreSlots
+mix-kept : (device : Settings) (vchans : Members) → IsRate device.rate → IfOk (mix_in device vchans) (λ mix. IsRate mix.rate)
+unfolding mix_in
+mix-kept device vchans is =
+    after-kept (settled (mix_rate_row device.rate) vchans) _ (IsBetween 4000 192000) _ (number-kept places.VchansRate 4000 192000 device.rate vchans (is.least, is.most)) (λ rate kept.
+    after-any (settled (mix_channels_row device.layout) vchans) _ _ (λ layout. record { least = kept.0; most = kept.1 }))
+
+slots-kept : (device : Settings) (vchans : Members) → IsRate device.rate → IfOk (slots_in device vchans) AreSlots
 unfolding slots_in
-slots-kept vchans =
+slots-kept device vchans is =
     after-kept (settled play_row vchans) _ (IsBetween 1 16) AreSlots (number-kept places.VchansPlay 1 16 4 vchans (omega arith, omega arith)) (λ play p.
     after-kept (settled record_row vchans) _ (IsBetween 0 16) AreSlots (number-kept places.VchansRecord 0 16 4 vchans (omega arith, omega arith)) (λ recording r.
     after-kept (settled quality_row vchans) _ (IsBetween 0 4) AreSlots (number-kept places.VchansQuality 0 4 1 vchans (omega arith, omega arith)) (λ quality q.
-    record { play = p.1; recording = r.1; quality = q.1 })))
+    after-kept (mix_in device vchans) _ (λ mix. IsRate mix.rate) AreSlots (mix-kept device vchans is) (λ mix m.
+    record { play = p.1; recording = r.1; quality = q.1; mix_rate = m }))))
 
 -- ---- filters and sections
 
@@ -86,23 +97,28 @@ tables-fit filters sections f s = record { count = f.count; each = f.each; few =
 
 -- ---- the whole
 
-whole-kept : (config : Config) → IsInLimits (device_seen config) → IfOk (whole_read config) IsKept
+-- an interrupt that passes the test mixes no more frames than it may
+mix-fits : (device : Device) → can_mix device ≡ true → mix_frames (unfiltered device) ≤ MIX_FRAMES
+mix-fits device passes = grind (arith, nat_tests)
+
+whole-kept : (config : Config) → (mix_frames (unfiltered config.device) ≤ MIX_FRAMES → IsInLimits (device_seen config)) → IfOk (whole_read config) IsKept
 whole-kept config limits =
     passed (not (can_hold config.container config.device.settings)) _ _ IsKept (λ holds.
     passed (not (has_capture config.files config.capture)) _ _ IsKept (λ has.
-    record { limits = limits; container = not-false _ holds; capture = not-false _ has }))
+    passed (not (can_mix config.device)) _ _ IsKept (λ fits.
+    record { limits = limits (mix-fits config.device (not-false _ fits)); container = not-false _ holds; capture = not-false _ has })))
 
 values-kept : (device vchans table : Members) (tables eq : List Members) → IfOk (values_read device vchans table tables eq) IsKept
 unfolding values_read
 values-kept device vchans table tables eq =
     after-kept (hardware_in device) _ IsHardware IsKept (hardware-kept device) (λ hardware h.
     after-any (capture_in device) _ IsKept (λ capture.
-    after-kept (slots_in vchans) _ AreSlots IsKept (slots-kept vchans) (λ slots s.
+    after-kept (slots_in hardware.settings vchans) _ AreSlots IsKept (slots-kept hardware.settings vchans h.rate) (λ slots s.
     after-any (files_in table) _ IsKept (λ files.
     after-kept (filters_in tables) _ (AreFew FILTERS IsTable) IsKept (filters-kept tables) (λ filters f.
     after-kept (sections_in eq) _ (AreFew SECTIONS IsSection) IsKept (sections-kept eq) (λ sections c.
     whole-kept (config_with hardware capture slots files (as_filters filters sections))
-    (record { device_is = record { rate = h.rate; mix_rate = h.rate; same = refl; filters = tables-fit filters sections f c }; block = h.block; ring = h.ring; ring_most = h.ring_most; slots_most = s.play; recorders_most = s.recording; quality = s.quality })))))))
+    (λ fits. record { device_is = record { rate = h.rate; mix_rate = s.mix_rate; filters = tables-fit filters sections f c }; block = h.block; ring = h.ring; ring_most = h.ring_most; mix_most = fits; slots_most = s.play; recorders_most = s.recording; quality = s.quality })))))))
 
 tables-kept : (device vchans table : Members) (tables eq : List Members) → IfOk (tables_read device vchans table tables eq) IsKept
 unfolding tables_read

@@ -1,5 +1,5 @@
 -- The configuration that a text is, or why it is none.
-use Rattle.std.specs.Prelude.{◌≡◌, ℕ, Bool, true, not, ◌&&◌, ◌==◌, ◌%◌, nat_lt, if◌then◌else◌, List, [], length, Option, Some, None, Result, Ok}
+use Rattle.std.specs.Prelude.{◌≡◌, ℕ, Bool, true, not, ◌&&◌, ◌==◌, ◌%◌, ◌≤◌, nat_le, nat_lt, if◌then◌else◌, List, [], length, Option, Some, None, Result, Ok}
 use Rattle.std.specs.Str.{is_utf8}
 use Rattle.std.specs.Cmp.Lexicographic.{slice_cmp}
 use Rattle.std.specs.List.{list_all}
@@ -8,7 +8,9 @@ use Rattle.std.specs.Ordering.{nat_cmp}
 use Rattle.pcm_format.specs.declared.settings.Settings.{Settings}
 use Rattle.pcm_format.specs.Frames.{frame_bytes}
 use Rattle.pcm_feeder.specs.Filters.{Filters, as_filters, no_filters}
-use Rattle.pcm_desk.specs.Device.{DeviceSeen, IsInLimits, seen}
+use Rattle.pcm_desk.specs.declared.device.Device.{Device}
+use Rattle.pcm_desk.specs.declared.limits.TheConstants.{MIX_FRAMES}
+use Rattle.pcm_desk.specs.Device.{DeviceSeen, IsInLimits, mix_frames, seen, unfiltered}
 use Rattle.pcm_desk.specs.Usual.{usual_settings}
 use Rattle.toml.specs.Data.{Members}
 use Rattle.toml.specs.Parse.{parse_document}
@@ -35,7 +37,15 @@ use Rattle.pcm_config.specs.Sections.{section_keys, sections_in}
 -- what is settled of a run without a configuration
 abbrev pub usual_config : Config
 usual_config = record {
-  device = record { settings = usual_settings; block_frames = 256; ring_frames = 1024; play_slots = 4; record_slots = 4; quality = 1 };
+  device = record {
+    settings = usual_settings;
+    mix = usual_settings;
+    block_frames = 256;
+    ring_frames = 1024;
+    play_slots = 4;
+    record_slots = 4;
+    quality = 1;
+  };
   container = Raw;
   capture = None;
   files = [];
@@ -52,11 +62,16 @@ abbrev pub has_capture : List FilePath → Option (List ℕ) → Bool
 has_capture files None = true
 has_capture files (Some name) = is_named files name
 
+-- whether an interrupt mixes no more frames than it may
+abbrev pub can_mix : Device → Bool
+can_mix device = nat_le (mix_frames (unfiltered device)) MIX_FRAMES
+
 -- all that is settled, put together
 abbrev pub config_with : Hardware → Option (List ℕ) → Slots → List FilePath → Filters → Config
 config_with hardware capture slots files filters = record {
   device = record {
     settings = hardware.settings;
+    mix = slots.mix;
     block_frames = hardware.block_frames;
     ring_frames = hardware.ring_frames;
     play_slots = slots.play;
@@ -69,11 +84,13 @@ config_with hardware capture slots files filters = record {
   tables = filters;
 }
 
--- what is judged of the whole: the form of the file that is played to, then the file that is recorded from
+-- What is judged of the whole: the form of the file that is played to, then the file that is recorded from, and then
+-- how many frames an interrupt mixes, which only a rate of the mix can make too many that isn't the device's.
 abbrev pub whole_read : Config → Result Config ConfigRefusal
 whole_read config =
     if not (can_hold config.container config.device.settings) then refused kinds.Container places.DeviceContainer
     else if not (has_capture config.files config.capture) then refused kinds.Capture places.DeviceCapture
+    else if not (can_mix config.device) then refused kinds.Range places.VchansRate
     else Ok config
 
 -- the files, the filters and the sections, beside what is settled of the device and the channels, and then the whole
@@ -89,7 +106,7 @@ unfoldable pub values_read : Members → Members → Members → List Members �
 values_read device vchans table tables eq = do
   hardware ← hardware_in device
   capture ← capture_in device
-  slots ← slots_in vchans
+  slots ← slots_in hardware.settings vchans
   lists_read hardware capture slots table tables eq
 
 -- the keys of the tables, and then their values
@@ -140,6 +157,10 @@ IsHeld config = can_hold config.container config.device.settings ≡ true
 -- the file that is recorded from is among the files
 abbrev pub HasCapture : Config → Type 0
 HasCapture config = has_capture config.files config.capture ≡ true
+
+-- an interrupt mixes no more frames than it may
+abbrev pub FitsMix : Config → Type 0
+FitsMix config = mix_frames (device_seen config) ≤ MIX_FRAMES
 
 -- the files are in the byte order of their names, and no two have one name
 abbrev pub AreInOrder : List FilePath → Type 0

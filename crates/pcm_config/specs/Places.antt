@@ -3,7 +3,7 @@ use Rattle.std.specs.Prelude.{ℕ, List, [], ◌∷◌, codes}
 use Rattle.pcm_config.specs.declared.fault.ConfigKind.{ConfigKind}
 use Rattle.pcm_config.specs.declared.fault.ConfigKind.TheVariants.{Long, Toml, Key, Kind, Range, Name, Count, Missing, Shape, Coef, Container, Capture}
 use Rattle.pcm_config.specs.declared.place.ConfigPlace.{ConfigPlace}
-use Rattle.pcm_config.specs.declared.place.ConfigPlace.TheVariants.{Top, Device, Vchans, Files, Tables, Eq, DeviceFormat, DeviceChannels, DeviceRate, DeviceHwBlock, DeviceHwBlocks, DeviceContainer, DeviceCapture, VchansPlay, VchansRecord, VchansQuality}
+use Rattle.pcm_config.specs.declared.place.ConfigPlace.TheVariants.{Top, Device, Vchans, Files, Tables, Eq, DeviceFormat, DeviceChannels, DeviceRate, DeviceHwBlock, DeviceHwBlocks, DeviceContainer, DeviceCapture, VchansPlay, VchansRecord, VchansQuality, VchansRate, VchansChannels}
 
 -- the word that names a kind
 abbrev pub config_kind_word : ConfigKind → List ℕ
@@ -38,6 +38,8 @@ place_word DeviceCapture = codes "device.capture"
 place_word VchansPlay = codes "vchans.play"
 place_word VchansRecord = codes "vchans.record"
 place_word VchansQuality = codes "vchans.quality"
+place_word VchansRate = codes "vchans.rate"
+place_word VchansChannels = codes "vchans.channels"
 
 -- the key at which a place stands in its table; the top stands in none
 abbrev pub key_of : ConfigPlace → List ℕ
@@ -57,6 +59,8 @@ key_of DeviceCapture = codes "capture"
 key_of VchansPlay = codes "play"
 key_of VchansRecord = codes "record"
 key_of VchansQuality = codes "quality"
+key_of VchansRate = codes "rate"
+key_of VchansChannels = codes "channels"
 
 -- what stands at the top of a configuration: three tables, and the arrays of filters and of sections
 abbrev pub top_places : List ConfigPlace
@@ -66,6 +70,6 @@ top_places = Device ∷ Vchans ∷ Files ∷ Tables ∷ Eq ∷ []
 abbrev pub device_places : List ConfigPlace
 device_places = DeviceFormat ∷ DeviceChannels ∷ DeviceRate ∷ DeviceHwBlock ∷ DeviceHwBlocks ∷ DeviceContainer ∷ DeviceCapture ∷ []
 
--- what may be settled of the channels of clients
+-- what may be settled of the channels of clients, and of their mix
 abbrev pub vchans_places : List ConfigPlace
-vchans_places = VchansPlay ∷ VchansRecord ∷ VchansQuality ∷ []
+vchans_places = VchansPlay ∷ VchansRecord ∷ VchansQuality ∷ VchansRate ∷ VchansChannels ∷ []

@@ -13,7 +13,7 @@ use Rattle.pcm_config.specs.declared.config.Container.TheVariants.{Raw, Wav}
 use Rattle.pcm_config.specs.declared.fault.ConfigKind.{ConfigKind}
 use Rattle.pcm_config.specs.declared.fault.ConfigKind.TheVariants.{Range, Name}
 use Rattle.pcm_config.specs.declared.place.ConfigPlace.{ConfigPlace}
-use Rattle.pcm_config.specs.declared.place.ConfigPlace.TheVariants.{DeviceFormat, DeviceChannels, DeviceRate, DeviceHwBlock, DeviceHwBlocks, DeviceContainer, VchansPlay, VchansRecord, VchansQuality}
+use Rattle.pcm_config.specs.declared.place.ConfigPlace.TheVariants.{DeviceFormat, DeviceChannels, DeviceRate, DeviceHwBlock, DeviceHwBlocks, DeviceContainer, VchansPlay, VchansRecord, VchansQuality, VchansRate, VchansChannels}
 
 -- a value that is spelled as an A and means a B
 pub record ConfigRow (A B : Type 0) : Type 0 where
@@ -53,12 +53,15 @@ numbers place least most usual =
 abbrev pub words : {B : Type 0} → ConfigPlace → (List ℕ → Option B) → B → ConfigRow (List ℕ) B
 words place named usual = record { place = place; as_kind = as_str; in_set = named; fault = Name; usual = usual }
 
+-- a row of layouts, by their channels
+abbrev pub layouts : ConfigPlace → Layout → ConfigRow ℤ Layout
+layouts place usual = record { place = place; as_kind = as_integer; in_set = layout_with; fault = Range; usual = usual }
+
 abbrev pub format_row : ConfigRow (List ℕ) Format
 format_row = words DeviceFormat format_named S16Le
 
 abbrev pub channels_row : ConfigRow ℤ Layout
-channels_row =
-    record { place = DeviceChannels; as_kind = as_integer; in_set = layout_with; fault = Range; usual = Two }
+channels_row = layouts DeviceChannels Two
 
 abbrev pub rate_row : ConfigRow ℤ ℕ
 rate_row = numbers DeviceRate 4000 192000 48000
@@ -80,3 +83,11 @@ record_row = numbers VchansRecord 0 16 4
 
 abbrev pub quality_row : ConfigRow ℤ ℕ
 quality_row = numbers VchansQuality 0 4 1
+
+-- the rate of the mix is the device's where it is left out
+abbrev pub mix_rate_row : ℕ → ConfigRow ℤ ℕ
+mix_rate_row device = numbers VchansRate 4000 192000 device
+
+-- and its layout is the device's
+abbrev pub mix_channels_row : Layout → ConfigRow ℤ Layout
+mix_channels_row device = layouts VchansChannels device

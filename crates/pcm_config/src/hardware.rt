@@ -3,11 +3,12 @@
 ghost use Rattle.std.specs.Prelude.{◌≡◌, IfOk};
 ghost use Rattle.pcm_feeder.specs.Limits.{IsRate};
 ghost use Rattle.pcm_config.specs.Lookups.{members_seen};
-ghost use Rattle.pcm_config.specs.Rows.{channels_row, container_named, container_row, format_row, layout_with};
+ghost use Rattle.pcm_config.specs.Rows.{container_named, container_row, format_row};
 ghost use Rattle.pcm_config.specs.Values.{IsHardware, hardware_in, settings_in, settled};
 
 use crate::fault::required;
-use crate::lookup::{integer_at, text_at};
+use crate::layout::layout_in;
+use crate::lookup::text_at;
 use crate::number::{NumberRow, number_in};
 use crate::{ConfigKind, ConfigPlace, ConfigRefusal, Container};
 use pcm_format::{Format, Layout, RATE_LEAST, RATE_MOST, Settings};
@@ -70,7 +71,7 @@ fn settings_in(device: Option<&Table>) -> Result<Settings, ConfigRefusal>
     ensures rate { IfOk result (λ settings. IsRate settings.rate) }
 {
     let format = format_in(device)?;
-    let layout = layout_in(device)?;
+    let layout = layout_in(device, ConfigPlace::DeviceChannels, Layout::Two)?;
     let rate = number_in(device, RATE)?;
     Ok(Settings {
         format,
@@ -86,26 +87,6 @@ fn format_in(device: Option<&Table>) -> Result<Format, ConfigRefusal>
     match text_at(device, place)? {
         None => Ok(Format::S16Le),
         Some(word) => required(ConfigKind::Name, place, Format::from_name(word.as_bytes())),
-    }
-}
-
-fn layout_in(device: Option<&Table>) -> Result<Layout, ConfigRefusal>
-    ensures { result ≡ settled channels_row (members_seen device.entry) }
-{
-    let place = ConfigPlace::DeviceChannels;
-    match integer_at(device, place)? {
-        None => Ok(Layout::Two),
-        Some(channels) => required(ConfigKind::Range, place, layout_with(channels)),
-    }
-}
-
-// The layout with so many channels.
-fn layout_with(channels: i64) -> Option<Layout>
-    ensures { result ≡ layout_with channels }
-{
-    match u32::try_from(channels) {
-        Ok(channels) => Layout::of(channels),
-        Err(_) => None,
     }
 }
 

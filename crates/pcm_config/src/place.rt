@@ -37,6 +37,10 @@ pub enum ConfigPlace {
     VchansRecord,
     /// How rates are converted.
     VchansQuality,
+    /// The frames of the mix per second.
+    VchansRate,
+    /// The samples of a frame of the mix.
+    VchansChannels,
 }
 
 impl ConfigPlace {
@@ -63,6 +67,8 @@ impl ConfigPlace {
             ConfigPlace::VchansPlay => "vchans.play",
             ConfigPlace::VchansRecord => "vchans.record",
             ConfigPlace::VchansQuality => "vchans.quality",
+            ConfigPlace::VchansRate => "vchans.rate",
+            ConfigPlace::VchansChannels => "vchans.channels",
         }
     }
 
@@ -87,6 +93,8 @@ impl ConfigPlace {
             ConfigPlace::VchansPlay => "play",
             ConfigPlace::VchansRecord => "record",
             ConfigPlace::VchansQuality => "quality",
+            ConfigPlace::VchansRate => "rate",
+            ConfigPlace::VchansChannels => "channels",
         }
     }
 }

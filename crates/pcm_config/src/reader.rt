@@ -48,10 +48,12 @@ const DEVICE: [ConfigPlace; 7] = [
 ];
 
 // The keys of the table of channels.
-const VCHANS: [ConfigPlace; 3] = [
+const VCHANS: [ConfigPlace; 5] = [
     ConfigPlace::VchansPlay,
     ConfigPlace::VchansRecord,
     ConfigPlace::VchansQuality,
+    ConfigPlace::VchansRate,
+    ConfigPlace::VchansChannels,
 ];
 
 // The three tables of a configuration, and those of its filters and of its sections.
@@ -159,7 +161,7 @@ fn values_read(alloc: Global, parts: Parts<'_>) -> Result<Config, ConfigFault>
 {
     let hardware = hardware_in(parts.device)?;
     let capture = text_at(parts.device, ConfigPlace::DeviceCapture)?;
-    let slots = slots_in(parts.vchans)?;
+    let slots = slots_in(hardware.settings, parts.vchans)?;
     lists_read(alloc, hardware, capture, slots, parts)
 }
 

@@ -1,12 +1,15 @@
 //! What a configuration settles of the channels of clients.
 
 ghost use Rattle.std.specs.Prelude.{◌≡◌, IfOk};
+ghost use Rattle.pcm_feeder.specs.Limits.{IsRate};
 ghost use Rattle.pcm_config.specs.Lookups.{members_seen};
 ghost use Rattle.pcm_config.specs.Values.{AreSlots, slots_in};
 
+use crate::mix::mix_in;
 use crate::number::{NumberRow, number_in};
 use crate::{ConfigPlace, ConfigRefusal};
 use pcm_desk::{QUALITY_MOST, SLOTS};
+use pcm_format::Settings;
 use toml::Table;
 
 // Channels that play.
@@ -33,26 +36,30 @@ const QUALITY: NumberRow = NumberRow {
     usual: 1,
 };
 
-// How many channels play and record, and how rates are converted.
+// How many channels play and record, how rates are converted, and which frames are mixed.
 #[derive(Clone, Copy)]
 pub(crate) struct Slots {
     pub(crate) play: u32,
     pub(crate) recording: u32,
     pub(crate) quality: u32,
+    pub(crate) mix: Settings,
 }
 
-// What a table settles of the channels of clients.
+// What a table settles of the channels of clients over a device with these settings.
 #[tactic(auto, unfolding(crate::specs::Values::slots_in))]
-pub(crate) fn slots_in(vchans: Option<&Table>) -> Result<Slots, ConfigRefusal>
-    ensures value { result ≡ slots_in (members_seen vchans.entry) }
+pub(crate) fn slots_in(device: Settings, vchans: Option<&Table>) -> Result<Slots, ConfigRefusal>
+    requires rate { IsRate device.rate }
+    ensures value { result ≡ slots_in device (members_seen vchans.entry) }
     ensures limits { IfOk result AreSlots }
 {
     let play = number_in(vchans, PLAY)?;
     let recording = number_in(vchans, RECORDING)?;
     let quality = number_in(vchans, QUALITY)?;
+    let mix = mix_in(device, vchans)?;
     Ok(Slots {
         play,
         recording,
         quality,
+        mix,
     })
 }

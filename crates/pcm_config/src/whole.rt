@@ -1,15 +1,16 @@
 //! What is settled, put together and judged as a whole.
 
 ghost use Rattle.std.specs.Prelude.{◌≡◌, IfOk};
+ghost use Rattle.pcm_desk.specs.Device.{HasRates};
 ghost use Rattle.pcm_config.specs.Answers.{Reads};
-ghost use Rattle.pcm_config.specs.Configs.{HasCapture, IsHeld, can_hold, config_with, has_capture, whole_read};
+ghost use Rattle.pcm_config.specs.Configs.{FitsMix, HasCapture, IsHeld, can_hold, can_mix, config_with, has_capture, whole_read};
 
 use crate::fault::refused;
 use crate::files::is_named;
 use crate::hardware::Hardware;
 use crate::slots::Slots;
 use crate::{Config, ConfigFault, ConfigKind, ConfigPlace, Container, FilePath, FilePaths, Name};
-use pcm_desk::Device;
+use pcm_desk::{Device, MIX_FRAMES};
 use pcm_feeder::Tables;
 use pcm_format::Settings;
 use pcm_wave::is_wave_format;
@@ -27,6 +28,7 @@ pub(crate) fn config_with(
     Config {
         device: Device {
             settings: hardware.settings,
+            mix: slots.mix,
             block_frames: hardware.block_frames,
             ring_frames: hardware.ring_frames,
             play_slots: slots.play,
@@ -42,16 +44,21 @@ pub(crate) fn config_with(
 
 // What is judged of the whole.
 pub(crate) fn whole_read(config: Config) -> Result<Config, ConfigFault>
+    requires rates { HasRates config.device }
     ensures read { Reads result (whole_read config) }
     ensures same { IfOk result (λ whole. whole ≡ config) }
     ensures container { IfOk result IsHeld }
     ensures capture { IfOk result HasCapture }
+    ensures mix { IfOk result FitsMix }
 {
     if !can_hold(config.container, config.device.settings) {
         return Err(refused(ConfigKind::Container, ConfigPlace::DeviceContainer));
     }
     if !has_capture(config.files.as_slice(), &config.capture) {
         return Err(refused(ConfigKind::Capture, ConfigPlace::DeviceCapture));
+    }
+    if !can_mix(config.device) {
+        return Err(refused(ConfigKind::Range, ConfigPlace::VchansRate));
     }
     Ok(config)
 }
@@ -74,4 +81,12 @@ fn has_capture(files: &[FilePath], capture: &Option<Name>) -> bool
         Some(name) => is_named(files, name.as_str()),
         None => true,
     }
+}
+
+// Whether an interrupt mixes no more frames than it may.
+fn can_mix(device: Device) -> bool
+    requires { HasRates device }
+    ensures { result ≡ can_mix device }
+{
+    device.mix_frames() <= u64::from(MIX_FRAMES)
 }

@@ -23,7 +23,7 @@ use Rattle.pcm_desk.specs.PlayBooks.{is_play_free, play_begun, write_turn}
 use Rattle.pcm_desk.specs.RecordBooks as records
 use Rattle.pcm_desk.specs.RecordBooks.{is_record_free, record_begun}
 use Rattle.pcm_desk.specs.RecordRequests.{record_ask}
-use Rattle.pcm_desk.specs.Desk.{Desk, DeskTurn, after, asking, play_at, by_way, capturing, close_on, close_play, close_record, closing, desk_at_start, held_by, interrupt_turn, ioctl_on, least_free_play, least_free_record, mixing, open_play, open_record, play_turn, play_rate_at, read_on, record_at, record_rate_at, record_turn, refusing, turning, play_unopened, record_unopened, with_play, with_record, write_on}
+use Rattle.pcm_desk.specs.Desk.{Desk, DeskTurn, after, asking, by_way, capturing, close_on, close_play, close_record, closing, desk_at_start, held_by, interrupt_turn, ioctl_on, least_free_play, least_free_record, mixed_by, mixing, open_play, open_record, play_at, play_rate_at, play_turn, play_unopened, read_on, record_at, record_rate_at, record_turn, record_unopened, refusing, turning, with_play, with_record, write_on}
 use Rattle.pcm_desk.specs.Events.{after_all}
 use Rattle.pcm_desk.specs.Own.{HoldApart, MayBeHeld, is_held, slots_of}
 use Rattle.pcm_desk.proofs.PlayHolding.{held-ask, held-mixing, held-write}
@@ -337,7 +337,7 @@ passed : (device : DeviceSeen) (n : ℕ) (desk : Desk) → HoldApart desk → Ho
 passed device n desk h = moved desk (interrupt_turn device desk n).desk (λ fd. refl) moves h
   where
     moves : (way : Way) (slot : ℕ) → IsTaken desk way slot → IsTaken (interrupt_turn device desk n).desk way slot
-    moves Play slot has = has_map IsHeld (mixing device n) desk.play slot (held-mixing device n) has
+    moves Play slot has = (let q : ℕ = mixed_by device desk.handed n in has_map IsHeld (mixing device q) desk.play slot (held-mixing device q) has)
     moves Record slot has = has_map IsRecordHeld (capturing device n) desk.recording slot (λ book is. record-held-captured (record_rate_at device book) n book is) has
 
 -- Two descriptors hold two channels after every event.

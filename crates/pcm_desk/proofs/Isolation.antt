@@ -97,35 +97,35 @@ one_refused device own held desk new same reply is = record {
 }
 
 write_one : (device : DeviceSeen) (way : Way) (slot : ℕ) (desk : Desk) (fd at count : ℕ) (source : Source) → slot < slots_of desk way
-    → TurnsOne device (own_turn device (Write fd source at count)) (channel_named way slot) desk (write_on device (Some (channel_named way slot)) desk count)
-write_one device Play slot desk fd at count source there = one_play device (write_turn count) (own_turn device (Write fd source at count)) desk slot (write_on device (Some (channel_named Play slot)) desk count) there refl refl (λ held. refl)
-write_one device Record slot desk fd at count source there = one_refused device (own_turn device (Write fd source at count)) (channel_named Record slot) desk (write_on device (Some (channel_named Record slot)) desk count) refl refl refl
+    → TurnsOne device (own_turn device desk.handed (Write fd source at count)) (channel_named way slot) desk (write_on device (Some (channel_named way slot)) desk count)
+write_one device Play slot desk fd at count source there = one_play device (write_turn count) (own_turn device desk.handed (Write fd source at count)) desk slot (write_on device (Some (channel_named Play slot)) desk count) there refl refl (λ held. refl)
+write_one device Record slot desk fd at count source there = one_refused device (own_turn device desk.handed (Write fd source at count)) (channel_named Record slot) desk (write_on device (Some (channel_named Record slot)) desk count) refl refl refl
 
 read_one : (device : DeviceSeen) (way : Way) (slot : ℕ) (desk : Desk) (fd count : ℕ) → slot < slots_of desk way
-    → TurnsOne device (own_turn device (Read fd count)) (channel_named way slot) desk (read_on device (Some (channel_named way slot)) desk count)
-read_one device Play slot desk fd count there = one_refused device (own_turn device (Read fd count)) (channel_named Play slot) desk (read_on device (Some (channel_named Play slot)) desk count) refl refl refl
-read_one device Record slot desk fd count there = one_record device (records.read_turn count) (own_turn device (Read fd count)) desk slot (read_on device (Some (channel_named Record slot)) desk count) there refl refl (λ held. refl)
+    → TurnsOne device (own_turn device desk.handed (Read fd count)) (channel_named way slot) desk (read_on device (Some (channel_named way slot)) desk count)
+read_one device Play slot desk fd count there = one_refused device (own_turn device desk.handed (Read fd count)) (channel_named Play slot) desk (read_on device (Some (channel_named Play slot)) desk count) refl refl refl
+read_one device Record slot desk fd count there = one_record device (records.read_turn count) (own_turn device desk.handed (Read fd count)) desk slot (read_on device (Some (channel_named Record slot)) desk count) there refl refl (λ held. refl)
 
 ioctl_one : (device : DeviceSeen) (way : Way) (slot : ℕ) (desk : Desk) (fd : ℕ) (request : Request) → slot < slots_of desk way
-    → TurnsOne device (own_turn device (Ioctl fd request)) (channel_named way slot) desk (ioctl_on device (Some (channel_named way slot)) desk request)
-ioctl_one device Play slot desk fd request there = one_play device (asking device request) (own_turn device (Ioctl fd request)) desk slot (ioctl_on device (Some (channel_named Play slot)) desk request) there refl refl (λ held. refl)
-ioctl_one device Record slot desk fd request there = one_record device (record_ask request) (own_turn device (Ioctl fd request)) desk slot (ioctl_on device (Some (channel_named Record slot)) desk request) there refl refl (λ held. refl)
+    → TurnsOne device (own_turn device desk.handed (Ioctl fd request)) (channel_named way slot) desk (ioctl_on device (Some (channel_named way slot)) desk request)
+ioctl_one device Play slot desk fd request there = one_play device (asking device request) (own_turn device desk.handed (Ioctl fd request)) desk slot (ioctl_on device (Some (channel_named Play slot)) desk request) there refl refl (λ held. refl)
+ioctl_one device Record slot desk fd request there = one_record device (record_ask request) (own_turn device desk.handed (Ioctl fd request)) desk slot (ioctl_on device (Some (channel_named Record slot)) desk request) there refl refl (λ held. refl)
 
 close_one : (device : DeviceSeen) (way : Way) (slot : ℕ) (desk : Desk) (fd at : ℕ) → slot < slots_of desk way
-    → TurnsOne device (own_turn device (Close fd)) (channel_named way slot) desk (close_on device (Some (channel_named way slot)) desk at)
+    → TurnsOne device (own_turn device desk.handed (Close fd)) (channel_named way slot) desk (close_on device (Some (channel_named way slot)) desk at)
 close_one device Play slot desk fd at there =
-    one_play device (λ book. record { book = closing device book; reply = Ok Done }) (own_turn device (Close fd)) desk slot (close_on device (Some (channel_named Play slot)) desk at) there refl refl (λ held. refl)
+    one_play device (λ book. record { book = closing device book; reply = Ok Done }) (own_turn device desk.handed (Close fd)) desk slot (close_on device (Some (channel_named Play slot)) desk at) there refl refl (λ held. refl)
 close_one device Record slot desk fd at there =
-    one_record device (λ book. record { book = records.closed book; reply = Ok Done }) (own_turn device (Close fd)) desk slot (close_on device (Some (channel_named Record slot)) desk at) there refl refl (λ held. refl)
+    one_record device (λ book. record { book = records.closed book; reply = Ok Done }) (own_turn device desk.handed (Close fd)) desk slot (close_on device (Some (channel_named Record slot)) desk at) there refl refl (λ held. refl)
 
 -- an open descriptor is refused
 open_one : (device : DeviceSeen) (way : Way) (settings : Settings) (held : Held) (desk : Desk) (fd : ℕ) → held_by desk fd ≡ Some held
-    → TurnsOne device (own_turn device (Open fd way settings)) held desk (open_turn desk fd way settings)
-open_one device way settings held desk fd e = rw e (one_refused device (own_turn device (Open fd way settings)) held desk (refusing desk Exist) refl refl refl)
+    → TurnsOne device (own_turn device desk.handed (Open fd way settings)) held desk (open_turn desk fd way settings)
+open_one device way settings held desk fd e = rw e (one_refused device (own_turn device desk.handed (Open fd way settings)) held desk (refusing desk Exist) refl refl refl)
 
 -- a descriptor that is open turns its own book
 turns : (device : DeviceSeen) (event : Event) (held : Held) (desk : Desk) (fd : ℕ) → descriptor_of event ≡ Some fd → held_by desk fd ≡ Some held → held.slot < slots_of desk held.way
-    → TurnsOne device (own_turn device event) held desk (after device desk event)
+    → TurnsOne device (own_turn device desk.handed event) held desk (after device desk event)
 turns device (Open at way settings) held desk fd n e there = open_one device way settings held desk at (ap (held_by desk) (named at fd n) ∙ e)
 turns device (Write at source from count) held desk fd n e there = rw (ap (held_by desk) (named at fd n) ∙ e) (write_one device held.way held.slot desk at from count source there)
 turns device (Read at count) held desk fd n e there = rw (ap (held_by desk) (named at fd n) ∙ e) (read_one device held.way held.slot desk at count there)
@@ -134,11 +134,11 @@ turns device (Close at) held desk fd n e there = rw (ap (held_by desk) (named at
 turns device (Intr frames) held desk fd n e there = cc
 
 -- an interrupt goes by each book alone
-passed : (device : DeviceSeen) (desk : Desk) (frames : ℕ) (way : Way) (slot : ℕ) → channel_at device (after device desk (Intr frames)).desk (channel_named way slot) ≡ (own_turn device (Intr frames) (channel_at device desk (channel_named way slot))).book
+passed : (device : DeviceSeen) (desk : Desk) (frames : ℕ) (way : Way) (slot : ℕ) → channel_at device (after device desk (Intr frames)).desk (channel_named way slot) ≡ (own_turn device desk.handed (Intr frames) (channel_at device desk (channel_named way slot))).book
 passed device desk frames Play slot = ap Playing (play_at-mixing device desk frames slot)
 passed device desk frames Record slot = ap Recording (record_at-capturing device desk frames slot)
 
-each_alone : (device : DeviceSeen) (event : Event) (desk : Desk) → descriptor_of event ≡ None → (held : Held) → channel_at device (after device desk event).desk held ≡ (own_turn device event (channel_at device desk held)).book
+each_alone : (device : DeviceSeen) (event : Event) (desk : Desk) → descriptor_of event ≡ None → (held : Held) → channel_at device (after device desk event).desk held ≡ (own_turn device desk.handed event (channel_at device desk held)).book
 each_alone device (Open at way settings) desk n held = cc
 each_alone device (Write at source from count) desk n held = cc
 each_alone device (Read at count) desk n held = cc

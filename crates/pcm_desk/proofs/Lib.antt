@@ -18,3 +18,4 @@ pub mod Refused
 pub mod Silent
 pub mod Props
 pub mod Ratios
+pub mod Straight

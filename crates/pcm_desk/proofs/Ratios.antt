@@ -1,24 +1,27 @@
 -- The plans between a client and the device fit, whatever rate the client has.
-use Rattle.std.proofs.Common.{◌≤◌, ◌<◌, ◌*◌, ℕ, List, [], ◌∷◌, inl, inr, arith}
+use Rattle.std.proofs.Common.{◌≡◌, ◌≢◌, ◌≤◌, ◌<◌, ◌+◌, ◌*◌, ◌/◌, ◌==◌, ℕ, List, [], ◌∷◌, inl, inr, sym, ap, ◌∙◌, subst, arith}
 use Rattle.std.specs.Prelude.{All}
 use Rattle.std.proofs.Math.Nat.{mul-le-mul_right}
-use Rattle.std.proofs.lemmas.Bool.{cases_lt}
+use Rattle.std.proofs.lemmas.Bool.{cases_lt, cond_both, eqb-false, eqb-true}
 use Rattle.std.proofs.lemmas.List.Elements.{All-head, All-tail}
 use Rattle.pcm_format.specs.Formats.{bits_of}
 use Rattle.pcm_format.specs.Frames.{Frame}
 use Rattle.pcm_format.specs.declared.settings.Settings.{Settings}
 use Rattle.pcm_rate.specs.declared.rate.Rate.{Rate}
-use Rattle.pcm_rate.specs.Rates.{IsRatio, can, len}
-use Rattle.pcm_rate.proofs.Counts.{below_div_up, can-le-len}
+use Rattle.pcm_rate.specs.Rates.{IsRatio, can, len, need}
+use Rattle.pcm_rate.proofs.Counts.{below_div_up, can-le-len, div_grows, need-apart, need-unchanged, need_grows}
 use Rattle.pcm_feeder.specs.declared.stage.Spec.{Spec}
 use Rattle.pcm_feeder.specs.declared.stage.Spec.TheVariants.{Matrix, Hold, Linear, Poly, Volume, Depth, Eq}
-use Rattle.pcm_feeder.specs.Limits.{IsRate, IsSpec}
+use Rattle.pcm_feeder.specs.Filters.{Filters}
+use Rattle.pcm_feeder.specs.Limits.{AreFilters, IsRate, IsSpec}
 use Rattle.pcm_plan.specs.Fits.{HaveBits, IsPlan, HaveTables}
 use Rattle.pcm_plan.specs.Plans.{rate_among}
 use Rattle.pcm_plan.specs.Through.{recs}
 use Rattle.pcm_plan.proofs.Bits.{recs-bits}
-use Rattle.pcm_plan.proofs.Fits.{play-fits, play-ratio, play-tables, record-fits, record-ratio, record-tables}
-use Rattle.pcm_desk.specs.Device.{DeviceSeen, IsDevice, device_settings, filters_of, quality_of, play_plan_between, play_rate_between, mix_settings, record_plan_between, record_rate_between}
+use Rattle.pcm_plan.proofs.Fits.{play-fits, play-ratio, play-tables, record-changes, record-fits, record-level, record-ratio, record-tables}
+use Rattle.pcm_desk.specs.declared.device.Device.{Device}
+use Rattle.pcm_desk.specs.Device.{DeviceSeen, HasRates, IsDevice, device_settings, filters_of, quality_of, play_plan_between, play_rate_between, mix_frames, mix_settings, mixed_for, parent_plan, parent_rate, record_plan_between, record_rate_between, ring_frames, seen}
+use Rattle.pcm_desk.specs.Desk.{mixed_by}
 
 -- ---- from a client that plays to the mix
 
@@ -53,6 +56,66 @@ pub record-bits-between : (device : DeviceSeen) (settings : Settings) → IsDevi
     → HaveBits (bits_of settings.format) (recs (record_plan_between device settings) (filters_of device) frames from count)
 record-bits-between device settings d s frames from count have =
     recs-bits (filters_of device) (quality_of device) settings (device_settings device) frames from count s have
+
+-- ---- from the mix to the device
+
+-- a device of these settings, whatever filters there are
+pub device-is : (filters : Filters) (device : Device) → HasRates device → AreFilters filters → IsDevice (seen filters device)
+device-is filters device has are = record { rate = has.rate; mix_rate = has.mix_rate; filters = are }
+
+-- the stages between the mix and the device fit each other
+pub parent-plan-fits : (device : DeviceSeen) → IsDevice device → IsPlan (parent_plan device)
+parent-plan-fits device d = record-fits (filters_of device) (quality_of device) (device_settings device) (mix_settings device) d.filters d.rate d.mix_rate
+
+-- the device's filters are those that they ask for
+pub parent-tables : (device : DeviceSeen) → IsDevice device → HaveTables (parent_plan device).stages (filters_of device)
+parent-tables device d = record-tables (filters_of device) (quality_of device) (device_settings device) (mix_settings device) d.filters d.rate d.mix_rate
+
+-- both rates between them are above 0
+pub parent-ratio : (device : DeviceSeen) → IsDevice device → IsRatio (parent_rate device)
+parent-ratio device d = record-ratio (filters_of device) (quality_of device) (device_settings device) (mix_settings device) d.filters d.rate d.mix_rate
+
+-- what the device gets of mixed frames is within the bits of its format
+pub parent-bits : (device : DeviceSeen) → IsDevice device → (frames : List Frame) (from count : ℕ) → HaveBits 32 frames
+    → HaveBits (bits_of (device_settings device).format) (recs (parent_plan device) (filters_of device) frames from count)
+parent-bits device d frames from count have = recs-bits (filters_of device) (quality_of device) (device_settings device) (mix_settings device) frames from count d.rate have
+
+-- more frames that were handed over need no fewer mixed ones
+pub mixed-grows : (device : DeviceSeen) (handed later : ℕ) → IsDevice device → handed ≤ later → mixed_for device handed ≤ mixed_for device later
+mixed-grows device handed later d h = need_grows (parent_rate device) handed later (parent-ratio device d).dst h
+
+-- an interrupt mixes what stands between
+pub mixed-behind : (device : DeviceSeen) (handed n : ℕ) → IsDevice device → mixed_for device handed + mixed_by device handed n ≡ mixed_for device (handed + n)
+mixed-behind device handed n d = let grows = mixed-grows device handed (handed + n) d (omega arith) in omega (arith, grows)
+
+-- an interrupt mixes no more frames than are counted with its device
+pub mix-within : (device : DeviceSeen) (handed n : ℕ) → IsDevice device → n ≤ ring_frames device → mixed_by device handed n ≤ mix_frames device
+mix-within device handed n d few =
+    let mix = (mix_settings device).rate in
+    let rate = (device_settings device).rate in
+    let ring = ring_frames device in
+    cond_both (rate == mix) ring (ring * mix / rate + 33) (λ most. mixed_by device handed n ≤ most)
+    (λ same. level (sym (eqb-true rate mix same))) (λ other. apart (λ same. eqb-false rate mix other (sym same)))
+  where
+    level : (mix_settings device).rate ≡ (device_settings device).rate → mixed_by device handed n ≤ ring_frames device
+    level same =
+        let is = record-level (filters_of device) (quality_of device) (device_settings device) (mix_settings device) same in
+        let before = ap (λ (r : Rate). need r handed) is ∙ need-unchanged handed in
+        let behind = ap (λ (r : Rate). need r (handed + n)) is ∙ need-unchanged (handed + n) in
+        omega (arith, before, behind, few)
+
+    apart : (mix_settings device).rate ≢ (device_settings device).rate → mixed_by device handed n ≤ ring_frames device * (mix_settings device).rate / (device_settings device).rate + 33
+    apart differ =
+        let mix = (mix_settings device).rate in
+        let rate = (device_settings device).rate in
+        let is = record-changes (filters_of device) (quality_of device) (device_settings device) (mix_settings device) d.filters differ in
+        let dst = (parent-ratio device d).dst in
+        let above : 0 < rate = subst (λ (k : ℕ). 0 < k) is.dst_is dst in
+        let most = need-apart (parent_rate device) handed n dst in
+        let last : n * (parent_rate device).src / (parent_rate device).dst ≡ n * mix / rate = ap (λ (k : ℕ). n * k / (parent_rate device).dst) is.src_is ∙ ap (λ (k : ℕ). n * mix / k) is.dst_is in
+        let longest = div_grows (n * mix) (ring_frames device * mix) rate above (mul-le-mul_right {m = n} {n = ring_frames device} mix few) in
+        let ahead = is.lookahead in
+        omega (arith, most, last, longest, ahead)
 
 -- ---- how many frames come
 

@@ -5,7 +5,7 @@ use Rattle.std.proofs.lemmas.Bool.{cases_lt, cases_eq}
 use Rattle.pcm_desk.specs.declared.play_book.PlayBook.{PlayBook}
 use Rattle.pcm_desk.specs.declared.record_book.RecordBook.{RecordBook}
 use Rattle.pcm_desk.specs.Device.{DeviceSeen}
-use Rattle.pcm_desk.specs.Desk.{Desk, play_at, capturing, interrupt_turn, mixing, record_at, record_unopened, play_unopened, with_play, with_record}
+use Rattle.pcm_desk.specs.Desk.{Desk, capturing, interrupt_turn, mixed_by, mixing, play_at, play_unopened, record_at, record_unopened, with_play, with_record}
 
 -- the book of a slot after one book was set
 pub play_at-with : (device : DeviceSeen) (desk : Desk) (at slot : ℕ) (book : PlayBook)
@@ -25,12 +25,13 @@ mixing-play_unopened device zero = refl
 mixing-play_unopened device (suc n) = refl
 
 -- the book of a slot after an interrupt
-pub play_at-mixing : (device : DeviceSeen) (desk : Desk) (n slot : ℕ) → play_at device (interrupt_turn device desk n).desk slot ≡ mixing device n (play_at device desk slot)
+pub play_at-mixing : (device : DeviceSeen) (desk : Desk) (n slot : ℕ) → play_at device (interrupt_turn device desk n).desk slot ≡ mixing device (mixed_by device desk.handed n) (play_at device desk slot)
 play_at-mixing device desk n slot =
+    let q : ℕ = mixed_by device desk.handed n in
     elim (cases_lt slot (length desk.play)) [
-      | inl here ↦ get_or-map (mixing device n) desk.play slot (play_unopened device) (play_unopened device) here
-      | inr past ↦ get_or_past (map (mixing device n) desk.play) slot (play_unopened device) (omega (arith, length-map desk.play (mixing device n)))
-          ∙ sym (ap (mixing device n) (get_or_past desk.play slot (play_unopened device) past) ∙ mixing-play_unopened device n)
+      | inl here ↦ get_or-map (mixing device q) desk.play slot (play_unopened device) (play_unopened device) here
+      | inr past ↦ get_or_past (map (mixing device q) desk.play) slot (play_unopened device) (omega (arith, length-map desk.play (mixing device q)))
+          ∙ sym (ap (mixing device q) (get_or_past desk.play slot (play_unopened device) past) ∙ mixing-play_unopened device q)
     ]
 
 -- the record book of a slot after one was set

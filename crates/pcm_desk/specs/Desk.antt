@@ -1,5 +1,5 @@
 -- The desk: the books by slot, who holds which, and how far the device is. An event gives a new desk and a reply.
-use Rattle.std.specs.Prelude.{ℕ, zero, suc, ◌+◌, Option, Some, None, is_some, if◌then◌else◌, List, map, position, replicate, slice_index_or, slice_set, Result, Ok, Err}
+use Rattle.std.specs.Prelude.{ℕ, zero, suc, ◌+◌, ◌-◌, Option, Some, None, is_some, if◌then◌else◌, List, map, position, replicate, slice_index_or, slice_set, Result, Ok, Err}
 use Rattle.pcm_format.specs.declared.settings.Settings.{Settings}
 use Rattle.pcm_oss.specs.declared.event.Event.{Event}
 use Rattle.pcm_oss.specs.declared.event.Event.TheVariants.{Open, Write, Read, Ioctl, Close, Intr}
@@ -17,7 +17,7 @@ use Rattle.pcm_desk.specs.declared.record_book.RecordBook.{RecordBook}
 use Rattle.pcm_desk.specs.declared.record_book.RecordState.TheVariants as record_states
 use Rattle.pcm_desk.specs.declared.device.Held.{Held}
 use Rattle.pcm_desk.specs.declared.limits.TheConstants.{DESCRIPTORS}
-use Rattle.pcm_desk.specs.Device.{DeviceSeen, device_settings, mix_settings, play_slots, play_rate_between, record_rate_between, record_slots}
+use Rattle.pcm_desk.specs.Device.{DeviceSeen, device_settings, mix_settings, mixed_for, play_slots, play_rate_between, record_rate_between, record_slots}
 use Rattle.pcm_desk.specs.declared.turn.Turn.{Turn}
 use Rattle.pcm_desk.specs.PlayBooks.{close_turn, is_play_free, play_begun, refilled, write_turn}
 use Rattle.pcm_desk.specs.PlayRequests.{play_ask}
@@ -181,9 +181,9 @@ close_record device desk fd slot = record {
 abbrev pub close_on : DeviceSeen → Option Held → Desk → ℕ → DeskTurn
 close_on device held desk fd = turning (close_play device desk fd) (close_record device desk fd) held desk
 
--- how many frames an interrupt of n mixes
-abbrev pub mixed_by : DeviceSeen → Desk → ℕ → ℕ
-mixed_by device desk n = n
+-- how many frames an interrupt of n mixes, where so many were handed over before: those that the n need beside what is mixed
+abbrev pub mixed_by : DeviceSeen → ℕ → ℕ → ℕ
+mixed_by device handed n = mixed_for device (handed + n) - mixed_for device handed
 
 -- a book once so many frames were mixed; where nothing is mixed it stays
 abbrev pub mixing : DeviceSeen → ℕ → PlayBook → PlayBook
@@ -197,7 +197,7 @@ capturing device n book = records.captured (record_rate_at device book) n book
 -- an interrupt of n frames hands them over, mixes what stands for them, and then captures as many
 abbrev pub interrupt_turn : DeviceSeen → Desk → ℕ → DeskTurn
 interrupt_turn device desk n =
-    let frames = mixed_by device desk n in
+    let frames = mixed_by device desk.handed n in
     record {
       desk = record desk { play = map (mixing device frames) desk.play; recording = map (capturing device n) desk.recording; handed = desk.handed + n; mixed = desk.mixed + frames };
       reply = Ok (Number n);

@@ -1,14 +1,18 @@
 -- What the rules read of a device. Whatever a device has beside it is read by one more word here.
-use Rattle.std.specs.Prelude.{◌≡◌, ℕ, ◌<◌, ◌≤◌}
+use Rattle.std.specs.Prelude.{ℕ, ◌<◌, ◌≤◌, ◌+◌, ◌*◌, ◌/◌, Bool, ◌&&◌, ◌==◌, if◌then◌else◌, map}
 use Rattle.pcm_format.specs.declared.settings.Settings.{Settings}
-use Rattle.pcm_format.specs.Frames.{frame_bytes}
+use Rattle.pcm_format.specs.Formats.{bits_of}
+use Rattle.pcm_format.specs.Frames.{Frame, frame_bytes}
+use Rattle.pcm_format.specs.Layouts.{channels_of}
+use Rattle.pcm_format.specs.Samples.{at_full}
 use Rattle.pcm_rate.specs.declared.rate.Rate.{Rate}
+use Rattle.pcm_rate.specs.Rates.{need}
 use Rattle.pcm_feeder.specs.Filters.{Filters, no_filters}
 use Rattle.pcm_feeder.specs.Limits.{IsRate, AreFilters}
 use Rattle.pcm_plan.specs.Plans.{PlanSeen, plan_play, plan_record, rate_in_plan}
 use Rattle.pcm_desk.specs.declared.device.Device.{Device}
 use Rattle.pcm_desk.specs.declared.device.TheConstants.{QUALITY_MOST}
-use Rattle.pcm_desk.specs.declared.limits.TheConstants.{RING_FRAMES, SLOTS}
+use Rattle.pcm_desk.specs.declared.limits.TheConstants.{MIX_FRAMES, RING_FRAMES, SLOTS}
 
 pub record DeviceSeen : Type 0 where
   -- the frames that are handed over, and captured
@@ -26,7 +30,7 @@ pub record DeviceSeen : Type 0 where
 abbrev pub seen : Filters → Device → DeviceSeen
 seen filters device = record {
   settings = device.settings;
-  mix = device.settings;
+  mix = device.mix;
   slots = device.play_slots;
   recorders = device.record_slots;
   ring = device.ring_frames;
@@ -91,13 +95,46 @@ record_plan_between device settings = plan_record (filters_of device) (quality_o
 abbrev pub record_rate_between : DeviceSeen → Settings → Rate
 record_rate_between device settings = rate_in_plan (record_plan_between device settings)
 
+-- the plan from the mix to the frames that are handed over
+abbrev pub parent_plan : DeviceSeen → PlanSeen
+parent_plan device = plan_record (filters_of device) (quality_of device) (device_settings device) (mix_settings device)
+
+-- the change of rate from the mix to the frames that are handed over
+abbrev pub parent_rate : DeviceSeen → Rate
+parent_rate device = rate_in_plan (parent_plan device)
+
+-- a mixed frame at 32 bits, which that plan takes
+abbrev pub full_frame : DeviceSeen → Frame → Frame
+full_frame device frame = map (at_full (bits_of (mix_settings device).format)) frame
+
+-- what is mixed is handed over as it is: with as many channels, at the same rate, and with as many bits
+abbrev pub is_straight : DeviceSeen → Bool
+is_straight device =
+    channels_of (mix_settings device).layout == channels_of (device_settings device).layout
+    && (mix_settings device).rate == (device_settings device).rate
+    && bits_of (mix_settings device).format == bits_of (device_settings device).format
+
+-- how many frames are mixed once so many were handed over: as many as these need
+abbrev pub mixed_for : DeviceSeen → ℕ → ℕ
+mixed_for device handed = need (parent_rate device) handed
+
 -- a device with rates within the limits, as its filters are
 pub record IsDevice (device : DeviceSeen) : Type 0 where
   pub rate : IsRate (device_settings device).rate
   pub mix_rate : IsRate (mix_settings device).rate
-  -- what is mixed is handed over as it is
-  pub same : mix_settings device ≡ device_settings device
   pub filters : AreFilters (filters_of device)
+
+-- both rates of a device, whatever its filters
+pub record HasRates (device : Device) : Type 0 where
+  pub rate : IsRate device.settings.rate
+  pub mix_rate : IsRate device.mix.rate
+
+-- How many frames an interrupt mixes at most, whatever filters there are. Those beside the frames that last as long are of a
+-- filter, which reads ahead.
+abbrev pub mix_frames : DeviceSeen → ℕ
+mix_frames device =
+    if (device_settings device).rate == (mix_settings device).rate then ring_frames device
+    else ring_frames device * (mix_settings device).rate / (device_settings device).rate + 33
 
 -- a device within the limits of a run
 pub record IsInLimits (device : DeviceSeen) : Type 0 where
@@ -105,6 +142,7 @@ pub record IsInLimits (device : DeviceSeen) : Type 0 where
   pub block : 0 < block_frames device
   pub ring : block_frames device ≤ ring_frames device
   pub ring_most : ring_frames device ≤ RING_FRAMES
+  pub mix_most : mix_frames device ≤ MIX_FRAMES
   pub slots_most : play_slots device ≤ SLOTS
   pub recorders_most : record_slots device ≤ SLOTS
   pub quality : quality_of device ≤ QUALITY_MOST

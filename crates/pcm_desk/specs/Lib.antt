@@ -10,5 +10,5 @@ pub mod RecordRequests
 pub mod RecordSafe
 pub mod Desk
 pub mod Own
-pub mod OwnEvents
 pub mod Events
+pub mod OwnEvents

@@ -21,7 +21,7 @@ use Rattle.pcm_desk.specs.PlayBooks.{write_turn}
 use Rattle.pcm_desk.specs.RecordBooks as records
 use Rattle.pcm_desk.specs.RecordBooks.{is_record_free}
 use Rattle.pcm_desk.specs.RecordRequests.{record_ask}
-use Rattle.pcm_desk.specs.Desk.{Desk, asking, play_at, by_way, capturing, closing, held_by, mixing, record_at}
+use Rattle.pcm_desk.specs.Desk.{Desk, asking, play_at, by_way, capturing, closing, held_by, mixed_by, mixing, record_at}
 
 -- the descriptor that a client's event names
 abbrev pub descriptor_of : Event → Option ℕ
@@ -64,18 +64,20 @@ abbrev pub closing_own : DeviceSeen → Channel → Channel
 closing_own device (Playing book) = Playing (closing device book)
 closing_own device (Recording book) = Recording (records.closed book)
 
-abbrev pub passing : DeviceSeen → ℕ → Channel → Channel
-passing device n (Playing book) = Playing (mixing device n book)
-passing device n (Recording book) = Recording (capturing device n book)
+-- what an interrupt of n leaves, where so many frames were handed over before
+abbrev pub passing : DeviceSeen → ℕ → ℕ → Channel → Channel
+passing device handed n (Playing book) = Playing (mixing device (mixed_by device handed n) book)
+passing device handed n (Recording book) = Recording (capturing device n book)
 
--- a book and the reply after an event of its own, or after an interrupt; a descriptor that is open can't be opened
-abbrev pub own_turn : DeviceSeen → Event → Channel → Turn Channel
-own_turn device (Open fd way settings) channel = refused Exist channel
-own_turn device (Write fd source at count) channel = own_write count channel
-own_turn device (Read fd count) channel = own_read count channel
-own_turn device (Ioctl fd request) channel = own_ioctl device request channel
-own_turn device (Close fd) channel = doing (closing_own device channel)
-own_turn device (Intr n) channel = telling (Number n) (passing device n channel)
+-- A book and the reply after an event of its own, or after an interrupt, where so many frames were handed over before. A descriptor
+-- that is open can't be opened.
+abbrev pub own_turn : DeviceSeen → ℕ → Event → Channel → Turn Channel
+own_turn device handed (Open fd way settings) channel = refused Exist channel
+own_turn device handed (Write fd source at count) channel = own_write count channel
+own_turn device handed (Read fd count) channel = own_read count channel
+own_turn device handed (Ioctl fd request) channel = own_ioctl device request channel
+own_turn device handed (Close fd) channel = doing (closing_own device channel)
+own_turn device handed (Intr n) channel = telling (Number n) (passing device handed n channel)
 
 -- a channel that a descriptor may hold: it isn't free, and doesn't drain behind a close
 abbrev pub is_held : PlayState → Bool
@@ -108,8 +110,8 @@ held_after _ held = Some held
 -- where it is open, its channel goes by the book of that channel alone, every other channel stays, and it holds its own until it is
 -- closed
 pub record GoesAlone (device : DeviceSeen) (event : Event) (old new : Desk) (reply : Result Answer Errno) (fd : ℕ) (held : Held) : Type 0 where
-  pub own : channel_at device new held ≡ (own_turn device event (channel_at device old held)).book
-  pub answer : reply ≡ (own_turn device event (channel_at device old held)).reply
+  pub own : channel_at device new held ≡ (own_turn device old.handed event (channel_at device old held)).book
+  pub answer : reply ≡ (own_turn device old.handed event (channel_at device old held)).reply
   pub until : held_by new fd ≡ held_after event held
   pub others : (other : Held) → other ≢ held → channel_at device new other ≡ channel_at device old other
 
@@ -126,7 +128,7 @@ pub record GoesByDescriptor (device : DeviceSeen) (event : Event) (old new : Des
 
 -- Of an interrupt: it goes by each channel alone, and leaves what every descriptor holds, or that it is shut.
 pub record GoesByEach (device : DeviceSeen) (event : Event) (old new : Desk) : Type 0 where
-  pub each : (held : Held) → channel_at device new held ≡ (own_turn device event (channel_at device old held)).book
+  pub each : (held : Held) → channel_at device new held ≡ (own_turn device old.handed event (channel_at device old held)).book
   pub passes : (fd : ℕ) → held_by new fd ≡ held_by old fd
 
 -- What an event leaves of the channels of a desk, and its reply: no book looks at another.

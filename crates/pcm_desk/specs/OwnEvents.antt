@@ -1,5 +1,5 @@
 -- What the events of one descriptor come to along a list of events, from its opening on until its close.
-use Rattle.std.specs.Prelude.{◌≡◌, ℕ, Bool, true, false, ◌==◌, if◌then◌else◌, List, [], ◌∷◌, Option, Some, None, Result}
+use Rattle.std.specs.Prelude.{◌≡◌, ℕ, ◌+◌, Bool, true, false, ◌==◌, if◌then◌else◌, List, [], ◌∷◌, Option, Some, None, Result}
 use Rattle.pcm_format.specs.declared.settings.Settings.{Settings}
 use Rattle.pcm_oss.specs.declared.event.Event.{Event}
 use Rattle.pcm_oss.specs.declared.event.Event.TheVariants.{Open, Write, Read, Ioctl, Close, Intr}
@@ -13,6 +13,7 @@ use Rattle.pcm_desk.specs.PlayBooks.{play_begun}
 use Rattle.pcm_desk.specs.RecordBooks.{record_begun}
 use Rattle.pcm_desk.specs.Desk.{Desk, DeskTurn, after, by_way, held_by}
 use Rattle.pcm_desk.specs.declared.turn.Turn.{Turn}
+use Rattle.pcm_desk.specs.Events.{frames_taken}
 use Rattle.pcm_desk.specs.Own.{Channel, Playing, Recording, descriptor_of, own_turn}
 
 -- a descriptor is this one; an event that names none is everyone's
@@ -51,17 +52,18 @@ replies_to device fd desk (event ∷ events) =
     let turn : DeskTurn = after device desk event in
     if concerns fd event then turn.reply ∷ (if closes fd event then [] else replies_to device fd turn.desk events) else replies_to device fd turn.desk events
 
--- the replies to a channel's own events, by its book alone
-abbrev pub own_replies : DeviceSeen → Channel → List Event → List (Result Answer Errno)
-own_replies device channel [] = []
-own_replies device channel (event ∷ events) =
-    let turn : Turn Channel = own_turn device event channel in
-    turn.reply ∷ own_replies device turn.book events
+-- the replies to a channel's own events and the interrupts between them, by its book alone and how many frames were handed over before
+abbrev pub own_replies : DeviceSeen → ℕ → Channel → List Event → List (Result Answer Errno)
+own_replies device handed channel [] = []
+own_replies device handed channel (event ∷ events) =
+    let turn : Turn Channel = own_turn device handed event channel in
+    turn.reply ∷ own_replies device (handed + frames_taken event) turn.book events
 
 -- and its book after them
-abbrev pub own_after : DeviceSeen → Channel → List Event → Channel
-own_after device channel [] = channel
-own_after device channel (event ∷ events) = own_after device (own_turn device event channel).book events
+abbrev pub own_after : DeviceSeen → ℕ → Channel → List Event → Channel
+own_after device handed channel [] = channel
+own_after device handed channel (event ∷ events) =
+    own_after device (handed + frames_taken event) (own_turn device handed event channel).book events
 
 -- a channel whose opening begins
 abbrev pub channel_begun : Way → Settings → Channel

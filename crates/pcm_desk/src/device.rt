@@ -19,7 +19,10 @@ pub const QUALITY_MOST: u32 = 4;
 /// What is settled of a device before the first event.
 #[derive(Clone, Copy, Debug, PartialEq, Eq)]
 pub struct Device {
+    /// The frames that are handed over, and captured.
     pub settings: Settings,
+    /// The frames that are mixed, of as many bits.
+    pub mix: Settings,
     /// Frames that an interrupt takes where a script names no number.
     pub block_frames: u32,
     /// Frames of the device's ring.
@@ -33,7 +36,7 @@ pub struct Device {
 }
 
 impl Device {
-    ghost use Rattle.pcm_desk.specs.Device.{IsInLimits, unfiltered};
+    ghost use Rattle.pcm_desk.specs.Device.{HasRates, IsInLimits, is_straight, mix_frames, unfiltered};
     ghost use Rattle.pcm_desk.specs.Usual.{usual_device};
 
     /// The device of a run without a configuration: 16 bits, stereo, 48 kHz, a ring of four blocks of 256 frames,
@@ -42,17 +45,43 @@ impl Device {
         ensures value { unfiltered result ≡ usual_device }
         ensures limits { IsInLimits (unfiltered result) }
     {
+        let settings = Settings {
+            format: Format::S16Le,
+            layout: Layout::Two,
+            rate: 48000,
+        };
         Device {
-            settings: Settings {
-                format: Format::S16Le,
-                layout: Layout::Two,
-                rate: 48000,
-            },
+            settings,
+            mix: settings,
             block_frames: 256,
             ring_frames: 1024,
             play_slots: 4,
             record_slots: 4,
             quality: 1,
+        }
+    }
+
+    /// Whether what is mixed is handed over as it is.
+    pub fn is_straight(&self) -> bool
+        ensures { result ≡ is_straight (unfiltered self.now) }
+    {
+        let (mix, settings) = (self.mix, self.settings);
+        mix.layout.channels() == settings.layout.channels()
+            && mix.rate == settings.rate
+            && mix.format.bits() == settings.format.bits()
+    }
+
+    /// How many frames an interrupt mixes at most.
+    pub fn mix_frames(&self) -> u64
+        requires { HasRates self.now }
+        ensures { result ≡ mix_frames (unfiltered self.now) }
+    {
+        let ring = u64::from(self.ring_frames);
+        let (mix, rate) = (u64::from(self.mix.rate), u64::from(self.settings.rate));
+        if rate == mix {
+            ring
+        } else {
+            ring * mix / rate + 33
         }
     }
 }

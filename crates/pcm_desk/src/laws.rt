@@ -73,24 +73,24 @@ pub fn openings_stand_alone()
     ensures told { (device : DeviceSeen) (desk : Desk) (fd : ℕ) (held : Held) (events : List Event)
         → HoldApart desk → held_by desk fd ≡ Some held
         → replies_to device fd desk events
-        ≡ own_replies device (channel_at device desk held) (own_events fd events) }
+        ≡ own_replies device desk.handed (channel_at device desk held) (own_events fd events) }
     ensures holds { (device : DeviceSeen) (desk : Desk) (fd : ℕ) (held : Held) (events : List Event)
         → HoldApart desk → held_by desk fd ≡ Some held → All (λ event. closes fd event ≡ false) events
         → held_by (after_all device desk events) fd ≡ Some held }
     ensures book { (device : DeviceSeen) (desk : Desk) (fd : ℕ) (held : Held) (events : List Event)
         → HoldApart desk → held_by desk fd ≡ Some held → All (λ event. closes fd event ≡ false) events
         → channel_at device (after_all device desk events) held
-        ≡ own_after device (channel_at device desk held) (own_events fd events) }
+        ≡ own_after device desk.handed (channel_at device desk held) (own_events fd events) }
     // two openings, of one script or of two
     ensures alike { (device : DeviceSeen) (fd at : ℕ) (way : Way) (settings : Settings) (held theirs : Held)
         (one new other anew : Desk) (events others : List Event)
-        → HoldApart one → HoldApart other
+        → HoldApart one → HoldApart other → one.handed ≡ other.handed
         → Opens device fd way settings held one new → Opens device at way settings theirs other anew
         → own_events fd events ≡ own_events at others
         → replies_to device fd new events ≡ replies_to device at anew others }
     ensures books_alike { (device : DeviceSeen) (fd at : ℕ) (way : Way) (settings : Settings) (held theirs : Held)
         (one new other anew : Desk) (events others : List Event)
-        → HoldApart one → HoldApart other
+        → HoldApart one → HoldApart other → one.handed ≡ other.handed
         → Opens device fd way settings held one new → Opens device at way settings theirs other anew
         → All (λ event. closes fd event ≡ false) events → All (λ event. closes at event ≡ false) others
         → own_events fd events ≡ own_events at others

@@ -18,7 +18,9 @@ pub use device::{Device, Held, OPENING, QUALITY_MOST};
 pub use laws::{
     books_stay_in_order, descriptors_hold_apart, openings_stand_alone, record_books_stay_in_order,
 };
-pub use limits::{DESCRIPTORS, DEVICE_BYTES, EVENTS, READ_BYTES, RING_FRAMES, SLOTS, WRITE_BYTES};
+pub use limits::{
+    DESCRIPTORS, DEVICE_BYTES, EVENTS, MIX_FRAMES, READ_BYTES, RING_FRAMES, SLOTS, WRITE_BYTES,
+};
 pub use opening::{ALL_FORMATS, CAPABILITIES, Opening};
 pub use play_book::{PlayBook, PlayState};
 pub use play_requests::PLAY_BIT;

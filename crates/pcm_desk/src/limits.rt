@@ -18,5 +18,8 @@ pub const DEVICE_BYTES: u64 = 268435456;
 /// The greatest ring of a device, in frames.
 pub const RING_FRAMES: u32 = 262144;
 
+/// The frames that an interrupt mixes at most.
+pub const MIX_FRAMES: u32 = 262144;
+
 /// How many clients of each way a device has at most.
 pub const SLOTS: u32 = 16;

@@ -1,4 +1,4 @@
--- The block of an interrupt, folded over the slots, is the mix of its positions.
+-- The block that an interrupt mixes, folded over the slots, is the mix of its positions.
 use Rattle.std.proofs.Common.{◌≡◌, ℕ, zero, suc, ◌+◌, ◌*◌, Bool, true, false, cond, eqb, List, [], ◌∷◌, ◌++◌, replicate, fold, ℤ, pos, refl, sym, ap, ◌∙◌, subst, arith, zero-add}
 use Rattle.std.specs.Prelude.{IfSome, ◌&&◌, ◌||◌, not}
 use Rattle.std.specs.List.{range_with_len, flat_map}
@@ -18,20 +18,20 @@ use Rattle.pcm_desk.specs.declared.play_book.PlayState.{PlayState}
 use Rattle.pcm_desk.specs.declared.play_book.PlayState.TheVariants.{Free, Setup, Primed, Running, Draining}
 use Rattle.pcm_desk.specs.PlayBooks.{finished, frames_written, gives, is_play_free, refilled}
 use Rattle.pcm_desk.specs.Device.{DeviceSeen, mix_settings, play_slots}
-use Rattle.pcm_desk.specs.Desk.{play_at, mixing, play_rate_at}
+use Rattle.pcm_desk.specs.Desk.{mixed_by, mixing, play_at, play_rate_at}
+use Rattle.pcm_desk.proofs.Slots.{play_at-mixing}
 use Rattle.pcm_sound.specs.Gains.{GainSet, book_gain, last_gain}
 use Rattle.pcm_sound.specs.Runs.{Run, marking, playing, sounding}
 use Rattle.pcm_sound.specs.Story.{Story, told}
 use Rattle.pcm_sound.specs.Mix.{Table, adding, mix_of}
-use Rattle.pcm_sound.specs.DeviceList.{table_of, silence_in, mix_at, device_frame}
+use Rattle.pcm_sound.specs.DeviceList.{table_of, silence_in, mix_at}
 use Rattle.pcm_sound.specs.Added.{turned}
 use Rattle.pcm_sound.specs.Valid.{StoryIsValid}
-use Rattle.pcm_sound.proofs.DeviceLists.{IsDeviceFrame, mix_of-same, mix_of-more, mix_of-frame, sounding-frame, new_block}
+use Rattle.pcm_sound.proofs.DeviceLists.{IsMixedFrame, mix_of-same, mix_of-more, mix_of-frame, sounding-frame}
 use Rattle.pcm_sound.proofs.Slots.{playing-own}
 use Rattle.pcm_sound.proofs.Sounding.{sounding-marking}
-use Rattle.pcm_desk.proofs.Slots.{play_at-mixing}
 use Rattle.pcm_sound.proofs.Turns.{turn}
-use Rattle.pcm_vchan.specs.Blocks.{silent_block, mixed_onto, block_of}
+use Rattle.pcm_vchan.specs.Blocks.{silent_samples, mixed_onto, block_of}
 use Rattle.pcm_engine.specs.Stands.{bytes_counted}
 use Rattle.pcm_engine.proofs.Counted.{counted-newest}
 
@@ -42,23 +42,23 @@ silence-joined frame_size a (suc n) =
     let more : suc n * frame_size ≡ frame_size + n * frame_size = omega arith in
     ap (λ xs. replicate frame_size (pos 0) ++ xs) (silence-joined frame_size (a + 1) n) ∙ replicate-append-replicate frame_size (n * frame_size) (pos 0) ∙ ap (λ k. replicate k (pos 0)) (sym more)
 
--- the table of a story after an interrupt
+-- the table of a story after an interrupt that mixes n frames
 abbrev pub next_table : DeviceSeen → Story → ℕ → Table
 next_table device story n slot position =
     sounding device (last_gain (story.gains slot) position) (playing device story.desk.mixed n (play_at device story.desk slot) (story.runs slot)) position
 
-next_frames : (device : DeviceSeen) (story : Story) (n : ℕ) → StoryIsValid device story → (slot position : ℕ) → IfSome (next_table device story n slot position) (IsDeviceFrame device)
+next_frames : (device : DeviceSeen) (story : Story) (n : ℕ) → StoryIsValid device story → (slot position : ℕ) → IfSome (next_table device story n slot position) (IsMixedFrame device)
 next_frames device story n v slot position =
     sounding-frame device (last_gain (story.gains slot) position) (playing device story.desk.mixed n (play_at device story.desk slot) (story.runs slot)) position v.limits
     (playing-own device story.desk.mixed n (play_at device story.desk slot) (story.runs slot) (v.slots slot).own)
 
--- the mix of the first slots at the positions of an interrupt
+-- the mix of the first slots at its positions
 abbrev pub front_mix : DeviceSeen → Story → ℕ → ℕ → ℕ → Frame
 front_mix device story n slots k = mix_of (bits_of (mix_settings device).format) (silence_in (mix_settings device)) (next_table device story n) slots (story.desk.mixed + k)
 
 -- the block of the first slots is their mix
 fold-front : (device : DeviceSeen) (story : Story) (n j : ℕ) → StoryIsValid device story
-    → mixed_onto device n story.desk.play (bytes_counted device story) j (silent_block device n) ≡ flat_map (front_mix device story n j) (range_with_len 0 n)
+    → mixed_onto device n story.desk.play (bytes_counted device story) j (silent_samples (mix_settings device) n) ≡ flat_map (front_mix device story n j) (range_with_len 0 n)
 fold-front device story n zero v = sym (silence-joined (channels_of (mix_settings device).layout) 0 n)
 fold-front device story n (suc j) v =
     let book : PlayBook = play_at device story.desk j in
@@ -70,9 +70,9 @@ fold-front device story n (suc j) v =
     (λ some. counted-newest device story.desk.mixed book (story.runs j) (v.slots j) some)
     (λ k l. v.gains j (story.desk.mixed + k) (omega arith))
     (λ k l. mix_of-frame device (bits_of (mix_settings device).format) (next_table device story n) j (story.desk.mixed + k) (λ slot. next_frames device story n v slot (story.desk.mixed + k))) in
-    ap (λ m. fold onto (silent_block device n) (range_with_len 0 m)) next
-    ∙ ap (fold onto (silent_block device n)) (range-add 0 j 1 ∙ ap (λ a. range_with_len 0 j ++ a ∷ []) (zero-add j))
-    ∙ fold-append onto (silent_block device n) (range_with_len 0 j) (j ∷ [])
+    ap (λ m. fold onto (silent_samples (mix_settings device) n) (range_with_len 0 m)) next
+    ∙ ap (fold onto (silent_samples (mix_settings device) n)) (range-add 0 j 1 ∙ ap (λ a. range_with_len 0 j ++ a ∷ []) (zero-add j))
+    ∙ fold-append onto (silent_samples (mix_settings device) n) (range_with_len 0 j) (j ∷ [])
     ∙ ap (turned device n book bytes) (fold-front device story n j v)
     ∙ sym added
     ∙ flat_map-range-same (λ k. adding (bits_of (mix_settings device).format) (sum k) (next_table device story n j (story.desk.mixed + k))) (front_mix device story n (suc j)) 0 n
@@ -111,32 +111,58 @@ quiet_mixing device zero book = record { free = λ e. e; volume = refl }
 quiet_mixing device (suc n) book = quiet_refilled book.state (play_rate_at device book) (suc n) book
 
 -- an interrupt sets no gain
-gains-kept : (device : DeviceSeen) (pool : Pool) (story : Story) (n slot : ℕ) → (told device pool story (Intr n)).gains slot ≡ story.gains slot
+gains-kept : (device : DeviceSeen) (pool : Pool) (story : Story) (n slot : ℕ)
+    → (told device pool story (Intr n)).gains slot ≡ story.gains slot
 gains-kept device pool story n slot =
     let old : PlayBook = play_at device story.desk slot in
     let new : PlayBook = play_at device (told device pool story (Intr n)).desk slot in
-    let q : Quiet old new = subst (Quiet old) (sym (play_at-mixing device story.desk n slot)) (quiet_mixing device n old) in
-    ap (λ (b : Bool). cond b (record { position = story.desk.mixed; gain = book_gain new } ∷ story.gains slot) (story.gains slot))
+    let q : Quiet old new = subst (Quiet old) (sym (play_at-mixing device story.desk n slot))
+    (quiet_mixing device (mixed_by device story.desk.handed n) old) in
+    ap (λ (b : Bool). cond b (record { position = story.desk.mixed; gain = book_gain new } ∷ story.gains slot)
+    (story.gains slot))
     (quiet (is_play_free old.state) (is_play_free new.state) old.volume new.volume q.free q.volume)
 
--- what the slots give once the story is told
-told_table : (device : DeviceSeen) (pool : Pool) (story : Story) (n slot position : ℕ) → table_of device (told device pool story (Intr n)) slot position ≡ next_table device story n slot position
+-- what the slots give once an interrupt of n frames is told
+told_table : (device : DeviceSeen) (pool : Pool) (story : Story) (n slot position : ℕ)
+    → table_of device (told device pool story (Intr n)) slot position
+    ≡ next_table device story (mixed_by device story.desk.handed n) slot position
 told_table device pool story n slot position =
     let old : PlayBook = play_at device story.desk slot in
     let new : PlayBook = play_at device (told device pool story (Intr n)).desk slot in
-    let runs : List Run = playing device story.desk.mixed n old (story.runs slot) in
-    ap (λ (gains : List GainSet). sounding device (last_gain gains position) (marking story.desk.mixed (Intr n) old new runs) position) (gains-kept device pool story n slot)
+    let runs : List Run = playing device story.desk.mixed (mixed_by device story.desk.handed n) old (story.runs slot) in
+    ap (λ (gains : List GainSet). sounding device (last_gain gains position)
+    (marking story.desk.mixed (Intr n) old new runs) position) (gains-kept device pool story n slot)
     ∙ sounding-marking device (last_gain (story.gains slot) position) story.desk.mixed (Intr n) old new runs position
 
--- the block of an interrupt is the mix of its positions
+-- they are frames of the mix
+pub told-frames : (device : DeviceSeen) (pool : Pool) (story : Story) (n : ℕ) → StoryIsValid device story
+    → (slot position : ℕ)
+    → IfSome (table_of device (told device pool story (Intr n)) slot position) (IsMixedFrame device)
+told-frames device pool story n v slot position =
+    subst (λ given. IfSome given (IsMixedFrame device)) (sym (told_table device pool story n slot position))
+    (next_frames device story (mixed_by device story.desk.handed n) v slot position)
+
+-- the block that an interrupt of n frames mixes, from the books and the bytes of a story
+abbrev pub story_block : DeviceSeen → Story → ℕ → List ℤ
+story_block device story n =
+    block_of device (mixed_by device story.desk.handed n) story.desk.play (bytes_counted device story)
+    (play_slots device)
+
+-- it is the mix of its positions
 pub block-mixed : (device : DeviceSeen) (pool : Pool) (story : Story) (n : ℕ) → StoryIsValid device story
-    → block_of device n story.desk.play (bytes_counted device story) (play_slots device) ≡ new_block device pool story n
+    → story_block device story n
+    ≡ flat_map (mix_at device (table_of device (told device pool story (Intr n))))
+    (range_with_len story.desk.mixed (mixed_by device story.desk.handed n))
 block-mixed device pool story n v =
-    let table : Table = table_of device (told device pool story (Intr n)) in
-    let made : ℕ → Frame = device_frame device (mix_at device table) in
-    fold-front device story n (play_slots device) v
-    ∙ flat_map-range-same (front_mix device story n (play_slots device)) (λ k. made (story.desk.handed + k)) 0 n
-    (λ k l. ap (λ place. mix_of (bits_of (mix_settings device).format) (silence_in (mix_settings device)) (next_table device story n) (play_slots device) (place + (0 + k))) v.mixed
-    ∙ sym (mix_of-same (bits_of (mix_settings device).format) (silence_in (mix_settings device)) table (next_table device story n) (play_slots device) (story.desk.handed + (0 + k)) (λ slot. told_table device pool story n slot (story.desk.handed + (0 + k)))))
-    ∙ flat_map-range-shift made story.desk.handed 0 n
-    ∙ ap (λ a. flat_map made (range_with_len a n)) (let e : story.desk.handed + 0 ≡ story.desk.handed = omega arith in e)
+    let slots : ℕ = play_slots device in
+    let q : ℕ = mixed_by device story.desk.handed n in
+    let position : ℕ = story.desk.mixed in
+    let now : Table = table_of device (told device pool story (Intr n)) in
+    let next : Table = next_table device story q in
+    let none : position + 0 ≡ position = omega arith in
+    fold-front device story q slots v
+    ∙ flat_map-range-same (front_mix device story q slots) (λ k. mix_at device now (position + k)) 0 q
+    (λ k l. sym (mix_of-same (bits_of (mix_settings device).format) (silence_in (mix_settings device)) now next slots
+    (position + (0 + k)) (λ slot. told_table device pool story n slot (position + (0 + k)))))
+    ∙ flat_map-range-shift (mix_at device now) position 0 q
+    ∙ ap (λ from. flat_map (mix_at device now) (range_with_len from q)) none

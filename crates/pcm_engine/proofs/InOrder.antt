@@ -24,9 +24,9 @@ use Rattle.pcm_record.specs.Channels.{IsRecordReady}
 use Rattle.pcm_record.proofs.Moving as recorders
 use Rattle.pcm_vchan.specs.Slots.{PlayAreOf, RecordAreOf, play_books_of, record_books_of}
 use Rattle.pcm_vchan.proofs.Channels.{some_channel}
-use Rattle.pcm_vchan.specs.Parents.{AreClosable, AreServed, play_channels, record_channels}
+use Rattle.pcm_vchan.specs.Parents.{AreClosable, AreServed, HasBus, play_channels, record_channels}
 use Rattle.pcm_engine.specs.declared.engine.EngineOf.{EngineOf}
-use Rattle.pcm_engine.specs.Engines.{AreReady, BooksAreSafe, RecordsAreSafe, RingsHold, desk_of}
+use Rattle.pcm_engine.specs.Engines.{AreReady, BooksAreSafe, RecordsAreSafe, RingsHold, desk_of, device_of}
 
 -- ---- channels that play
 
@@ -97,10 +97,11 @@ rings-hold engine = record {
 -- ---- an engine whose channels are ready
 
 pub ready-all : {B : Type 0} (kind : B → Kind) (kept : B → Kept) (engine : EngineOf B) → All (IsPlayReady kind kept engine.tables) (play_channels engine.parent) → All (IsRecordReady kind kept engine.tables) (record_channels engine.parent)
-    → AreReady kind kept engine
-ready-all kind kept engine playing recording = record {
+    → HasBus kept (device_of engine) engine.parent → AreReady kind kept engine
+ready-all kind kept engine playing recording bus = record {
   playing = playing;
   recording = recording;
+  bus = bus;
   books = books_safe kind kept engine.tables engine.parent.device (desk_of engine) (play_channels engine.parent) refl engine.own playing;
   records = records_safe kind kept engine.tables engine.parent.device (desk_of engine) (record_channels engine.parent) refl engine.recorders_own recording;
   rings = rings-hold engine;

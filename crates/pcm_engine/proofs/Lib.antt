@@ -1,8 +1,10 @@
 pub mod Counted
 pub mod Desks
+pub mod Buses
 pub mod InOrder
 pub mod Turning
 pub mod Blocks
+pub mod Mixing
 pub mod Standing
 pub mod Recording
 pub mod Starting

@@ -34,6 +34,6 @@ stands-alike kept engine one other events alike s =
     let device : DeviceSeen = device_of engine in
     let same : story_of device one events ≡ story_of device other events = sym (story-alike device one other events alike) in
     record {
-      playing = subst (PartsStand kept device (desk_of engine) (play_channels engine.parent) engine.parent.ring.bytes) same s.playing;
+      playing = subst (PartsStand kept device (desk_of engine) (play_channels engine.parent) engine.parent.bus.chain engine.parent.ring.bytes) same s.playing;
       recording = subst (RecordersStand kept device other (record_channels engine.parent)) same (recorders_alike kept device one other (record_channels engine.parent) (story_of device one events) alike.captured s.recording);
     }

@@ -1,6 +1,6 @@
 -- A desk, channels and a ring that stand for a story stand for it with one event more.
 use Rattle.std.proofs.Common.{◌≡◌, ℕ, ◌+◌, ◌*◌, ◌<◌, ◌≤◌, List, ◌++◌, length, get_or, take, drop, refl, sym, ap, ◌∙◌, subst, arith}
-use Rattle.std.proofs.lemmas.List.{append-nil, take-append-le, drop-append-le, drop-drop, get_or-map}
+use Rattle.std.proofs.lemmas.List.{append-nil, take-append-le, get_or-map}
 use Rattle.std.proofs.Math.Seq.{take-add}
 use Rattle.std.proofs.Math.Nat.{mul-le-mul_right}
 use Rattle.pcm_oss.specs.declared.event.Event.{Event}
@@ -9,8 +9,8 @@ use Rattle.pcm_wave.specs.declared.pool.Pool.{Pool}
 use Rattle.pcm_feeder.specs.declared.kind.Kind.{Kind}
 use Rattle.pcm_feeder.specs.Kept.{Kept}
 use Rattle.pcm_desk.specs.declared.play_book.PlayBook.{PlayBook}
-use Rattle.pcm_desk.specs.Device.{DeviceSeen, device_frame_bytes, filters_of, play_slots, ring_frames}
-use Rattle.pcm_desk.specs.Desk.{Desk, play_at, play_unopened, held_by, after}
+use Rattle.pcm_desk.specs.Device.{DeviceSeen, device_frame_bytes, device_settings, filters_of, parent_plan, play_slots, ring_frames}
+use Rattle.pcm_desk.specs.Desk.{Desk, play_at, play_unopened, held_by, after, mixed_by}
 use Rattle.pcm_desk.specs.Events.{Fits, bytes_handed, frames_taken}
 use Rattle.pcm_sound.specs.Runs.{carrying, newest_bytes}
 use Rattle.pcm_sound.specs.Story.{Story, told}
@@ -22,11 +22,17 @@ use Rattle.pcm_sound.proofs.DeviceLists.{length-device_bytes, device_body-bytes,
 use Rattle.pcm_play.specs.declared.channel.PlayChannelOf.{PlayChannelOf}
 use Rattle.pcm_vchan.specs.Slots.{play_books_of, AllPlayStand}
 use Rattle.pcm_play.specs.Channels.{PlayStands}
-use Rattle.pcm_engine.specs.Steps.{bytes_brought, ChannelsMove, ring_after}
-use Rattle.pcm_vchan.specs.Blocks.{block_bytes, block_of}
-use Rattle.pcm_engine.specs.Stands.{bytes_counted, PartsStand}
+use Rattle.pcm_format.specs.Frames.{Frame}
+use Rattle.pcm_feeder.specs.Streams.{interleaved}
+use Rattle.pcm_plan.specs.Through.{recs}
+use Rattle.pcm_chain.specs.declared.chain.ChainOf.{ChainOf}
+use Rattle.pcm_engine.specs.Steps.{BusMoves, bytes_brought, ChannelsMove}
+use Rattle.pcm_vchan.specs.Blocks.{block_bytes, block_of, turned_ring}
+use Rattle.pcm_vchan.specs.Buses.{mixed_at_once}
+use Rattle.pcm_vchan.specs.Handovers.{HasMade, raised_frames}
+use Rattle.pcm_engine.specs.Stands.{bytes_counted, story_frames, PartsStand}
 use Rattle.pcm_engine.proofs.Counted.{counted-kept, counted-written}
-use Rattle.pcm_engine.proofs.Blocks.{block-mixed}
+use Rattle.pcm_engine.proofs.Mixing.{mixed-kept, mixed-on, ring-on}
 
 -- the book of a slot is that of its channel
 pub play_at-books : {B : Type 0} (device : DeviceSeen) (desk : Desk) (channels : List (PlayChannelOf B)) (slot : ℕ) (other : PlayChannelOf B) → desk.play ≡ play_books_of channels → slot < length channels → play_at device desk slot ≡ (get_or channels slot other).book
@@ -34,19 +40,19 @@ play_at-books {B = B} device desk channels slot other play there =
     ap (λ (books : List PlayBook). get_or books slot (play_unopened device)) play ∙ get_or-map (λ (c : PlayChannelOf B). c.book) channels slot other (play_unopened device) there
 
 -- what a desk, channels and a ring are to each other before and after an event
-pub record Stepped {B : Type 0} (kind : B → Kind) (kept : B → Kept) (device : DeviceSeen) (pool : Pool) (event : Event) (old new : Desk) (before now : List (PlayChannelOf B)) (ring_before ring_now : List ℕ) : Type 0 where
+pub record Stepped {B : Type 0} (kind : B → Kind) (kept : B → Kept) (device : DeviceSeen) (pool : Pool) (event : Event) (old new : Desk) (before now : List (PlayChannelOf B)) (chain_before chain_now : ChainOf B) (ring_before ring_now : List ℕ) : Type 0 where
   pub desk : new ≡ (after device old event).desk
   pub play_before : old.play ≡ play_books_of before
   pub play_now : new.play ≡ play_books_of now
   pub slots : length now ≡ length before
   pub all_slots : length before ≡ play_slots device
-  pub channels : ChannelsMove kind kept (filters_of device) pool event before now
-  pub ring : (streams : ℕ → List ℕ) → AllPlayStand kept (filters_of device) before streams → ring_now ≡ ring_after device event (play_books_of before) streams (length before) ring_before
+  pub channels : ChannelsMove kind kept device pool old.handed event before now
+  pub bus : BusMoves kept device old.handed event before chain_before chain_now ring_before ring_now
 
 -- the part of a step that is about a story: its own desks stand at both ends
-abbrev StoryStep : {B : Type 0} → (B → Kind) → (B → Kept) → DeviceSeen → Pool → Story → Event → List (PlayChannelOf B) → List (PlayChannelOf B) → List ℕ → List ℕ → Type 0
-StoryStep kind kept device pool story event before now ring_before ring_now =
-    Stepped kind kept device pool event story.desk (told device pool story event).desk before now ring_before ring_now
+abbrev StoryStep : {B : Type 0} → (B → Kind) → (B → Kept) → DeviceSeen → Pool → Story → Event → List (PlayChannelOf B) → List (PlayChannelOf B) → ChainOf B → ChainOf B → List ℕ → List ℕ → Type 0
+StoryStep kind kept device pool story event before now chain_before chain_now ring_before ring_now =
+    Stepped kind kept device pool event story.desk (told device pool story event).desk before now chain_before chain_now ring_before ring_now
 
 -- ---- channels
 
@@ -95,15 +101,15 @@ counts_told device pool story (Intr n) slot fits v more =
     let written : ℕ = (play_at device (told device pool story (Intr n)).desk slot).written in
     record {
       are = marks device pool story (Intr n) slot
-          ∙ ap (take written) (newest_bytes-playing device story.desk.mixed n old (story.runs slot))
+          ∙ ap (take written) (newest_bytes-playing device story.desk.mixed (mixed_by device story.desk.handed n) old (story.runs slot))
           ∙ counted-kept old written (newest_bytes (story.runs slot)) (omega arith);
     }
 
 -- each channel stands for its slot after an event
-slots_stand : {B : Type 0} (kind : B → Kind) (kept : B → Kept) (device : DeviceSeen) (pool : Pool) (story : Story) (event : Event) (before now : List (PlayChannelOf B)) (ring_before ring_now : List ℕ)
-    → Fits device pool event → StoryStep kind kept device pool story event before now ring_before ring_now → PartsStand kept device story.desk before ring_before story
+slots_stand : {B : Type 0} (kind : B → Kind) (kept : B → Kept) (device : DeviceSeen) (pool : Pool) (story : Story) (event : Event) (before now : List (PlayChannelOf B)) (chain_before chain_now : ChainOf B) (ring_before ring_now : List ℕ)
+    → Fits device pool event → StoryStep kind kept device pool story event before now chain_before chain_now ring_before ring_now → PartsStand kept device story.desk before chain_before ring_before story
     → (slot : ℕ) (other : PlayChannelOf B) → slot < length now → PlayStands kept (filters_of device) (get_or now slot other) (play_at device (told device pool story event).desk slot) (bytes_counted device (told device pool story event) slot)
-slots_stand kind kept device pool story event before now ring_before ring_now fits st s slot other within =
+slots_stand kind kept device pool story event before now chain_before chain_now ring_before ring_now fits st s slot other within =
     let same = st.slots in
     let there : slot < length before = omega arith in
     let was = play_at-books device story.desk before slot other st.play_before there in
@@ -117,76 +123,91 @@ slots_stand kind kept device pool story event before now ring_before ring_now fi
     (subst (λ (b : PlayBook). PlayStands kept (filters_of device) (get_or now slot other) b (take b.written (bytes_counted device story slot ++ bytes_brought pool event))) (sym is) stands)
 
 -- each channel stands for its book and the bytes that its slot counts
-all_stand : {B : Type 0} (kept : B → Kept) (device : DeviceSeen) (story : Story) (channels : List (PlayChannelOf B)) (ring : List ℕ) → story.desk.play ≡ play_books_of channels → PartsStand kept device story.desk channels ring story
+all_stand : {B : Type 0} (kept : B → Kept) (device : DeviceSeen) (story : Story) (channels : List (PlayChannelOf B)) (chain : ChainOf B) (ring : List ℕ) → story.desk.play ≡ play_books_of channels → PartsStand kept device story.desk channels chain ring story
     → AllPlayStand kept (filters_of device) channels (bytes_counted device story)
-all_stand kept device story channels ring play s = λ slot other there.
+all_stand kept device story channels chain ring play s = λ slot other there.
     subst (λ (b : PlayBook). PlayStands kept (filters_of device) (get_or channels slot other) b (bytes_counted device story slot)) (play_at-books device story.desk channels slot other play there) (s.slots slot other there)
 
--- ---- the device's ring
+-- ---- the bus, and the device's ring
 
--- the device's ring after an event that takes no frames
-ring_kept : (device : DeviceSeen) (pool : Pool) (story : Story) (event : Event) (ring_before ring_now : List ℕ) → Fits device pool event → frames_taken event ≡ 0 → ring_now ≡ ring_before
-    → StoryIsValid device story → ring_before ≡ drop (story.desk.handed * device_frame_bytes device) (device_bytes device story)
-    → ring_now ≡ drop ((told device pool story event).desk.handed * device_frame_bytes device) (device_bytes device (told device pool story event))
-ring_kept device pool story event ring_before ring_now fits none same v is =
+-- a chain and a ring stand for a story
+abbrev BusStands : {B : Type 0} → (B → Kept) → DeviceSeen → ChainOf B → List ℕ → Story → Type 0
+BusStands kept device chain ring story =
+    HasMade kept device chain (story_frames device story story.desk.handed) story.desk.handed
+    × (ring ≡ drop (story.desk.handed * device_frame_bytes device) (device_bytes device story))
+
+-- they stand for it after an event that takes no frames
+bus_kept : {B : Type 0} (kept : B → Kept) (device : DeviceSeen) (pool : Pool) (story : Story) (event : Event) (chain_before chain_now : ChainOf B) (ring_before ring_now : List ℕ) → Fits device pool event → frames_taken event ≡ 0
+    → (chain_now ≡ chain_before) × (ring_now ≡ ring_before) → StoryIsValid device story → BusStands kept device chain_before ring_before story → BusStands kept device chain_now ring_now (told device pool story event)
+bus_kept {B} kept device pool story event chain_before chain_now ring_before ring_now fits none same v is =
     let k = keeps device pool story event fits none v in
-    same ∙ is
-    ∙ ap (λ handed. drop (handed * device_frame_bytes device) (device_bytes device story)) (sym k.handed_same)
-    ∙ ap (drop ((told device pool story event).desk.handed * device_frame_bytes device)) (sym (device_bytes-same device pool story event v k.handed_same))
+    let new : Story = told device pool story event in
+    let frames : List Frame = story_frames device story story.desk.handed in (
+      subst (λ (chain : ChainOf B). HasMade kept device chain (story_frames device new new.desk.handed) new.desk.handed) (sym same.0)
+          (subst (λ (all : List Frame). HasMade kept device chain_before all new.desk.handed) (sym (mixed-kept device pool story event v k.handed_same))
+          (subst (HasMade kept device chain_before frames) (sym k.handed_same) is.0)),
+      same.1 ∙ is.1
+          ∙ ap (λ handed. drop (handed * device_frame_bytes device) (device_bytes device story)) (sym k.handed_same)
+          ∙ ap (drop (new.desk.handed * device_frame_bytes device)) (sym (device_bytes-same device pool story event v k.handed_same)),
+    )
 
--- the device's ring after an event
-ring_told : {B : Type 0} (kind : B → Kind) (kept : B → Kept) (device : DeviceSeen) (pool : Pool) (story : Story) (event : Event) (before now : List (PlayChannelOf B)) (ring_before ring_now : List ℕ)
-    → Fits device pool event → StoryStep kind kept device pool story event before now ring_before ring_now → PartsStand kept device story.desk before ring_before story
-    → ring_now ≡ drop ((told device pool story event).desk.handed * device_frame_bytes device) (device_bytes device (told device pool story event))
-ring_told kind kept device pool story (Open fd way settings) before now ring_before ring_now fits st s =
-    ring_kept device pool story (Open fd way settings) ring_before ring_now fits refl (st.ring (bytes_counted device story) (all_stand kept device story before ring_before st.play_before s)) s.valid s.ring_is
-ring_told kind kept device pool story (Write fd source at count) before now ring_before ring_now fits st s =
-    ring_kept device pool story (Write fd source at count) ring_before ring_now fits refl (st.ring (bytes_counted device story) (all_stand kept device story before ring_before st.play_before s)) s.valid s.ring_is
-ring_told kind kept device pool story (Read fd count) before now ring_before ring_now fits st s =
-    ring_kept device pool story (Read fd count) ring_before ring_now fits refl (st.ring (bytes_counted device story) (all_stand kept device story before ring_before st.play_before s)) s.valid s.ring_is
-ring_told kind kept device pool story (Ioctl fd request) before now ring_before ring_now fits st s =
-    ring_kept device pool story (Ioctl fd request) ring_before ring_now fits refl (st.ring (bytes_counted device story) (all_stand kept device story before ring_before st.play_before s)) s.valid s.ring_is
-ring_told kind kept device pool story (Close fd) before now ring_before ring_now fits st s =
-    ring_kept device pool story (Close fd) ring_before ring_now fits refl (st.ring (bytes_counted device story) (all_stand kept device story before ring_before st.play_before s)) s.valid s.ring_is
-ring_told kind kept device pool story (Intr n) before now ring_before ring_now fits st s =
-    let z : ℕ = device_frame_bytes device in
+-- the bus and the ring of parts that stand for a story do
+bus_before : {B : Type 0} (kept : B → Kept) (device : DeviceSeen) (story : Story) (channels : List (PlayChannelOf B)) (chain : ChainOf B) (ring : List ℕ) → PartsStand kept device story.desk channels chain ring story → BusStands kept device chain ring story
+bus_before kept device story channels chain ring s = (s.bus, s.ring_is)
+
+-- and they do after an event
+bus_told : {B : Type 0} (kind : B → Kind) (kept : B → Kept) (device : DeviceSeen) (pool : Pool) (story : Story) (event : Event) (before now : List (PlayChannelOf B)) (chain_before chain_now : ChainOf B) (ring_before ring_now : List ℕ)
+    → Fits device pool event → StoryStep kind kept device pool story event before now chain_before chain_now ring_before ring_now → PartsStand kept device story.desk before chain_before ring_before story
+    → BusStands kept device chain_now ring_now (told device pool story event)
+bus_told kind kept device pool story (Open fd way settings) before now chain_before chain_now ring_before ring_now fits st s =
+    bus_kept kept device pool story (Open fd way settings) chain_before chain_now ring_before ring_now fits refl st.bus s.valid (bus_before kept device story before chain_before ring_before s)
+bus_told kind kept device pool story (Write fd source at count) before now chain_before chain_now ring_before ring_now fits st s =
+    bus_kept kept device pool story (Write fd source at count) chain_before chain_now ring_before ring_now fits refl st.bus s.valid (bus_before kept device story before chain_before ring_before s)
+bus_told kind kept device pool story (Read fd count) before now chain_before chain_now ring_before ring_now fits st s =
+    bus_kept kept device pool story (Read fd count) chain_before chain_now ring_before ring_now fits refl st.bus s.valid (bus_before kept device story before chain_before ring_before s)
+bus_told kind kept device pool story (Ioctl fd request) before now chain_before chain_now ring_before ring_now fits st s =
+    bus_kept kept device pool story (Ioctl fd request) chain_before chain_now ring_before ring_now fits refl st.bus s.valid (bus_before kept device story before chain_before ring_before s)
+bus_told kind kept device pool story (Close fd) before now chain_before chain_now ring_before ring_now fits st s =
+    bus_kept kept device pool story (Close fd) chain_before chain_now ring_before ring_now fits refl st.bus s.valid (bus_before kept device story before chain_before ring_before s)
+bus_told kind kept device pool story (Intr n) before now chain_before chain_now ring_before ring_now fits st s =
     let handed : ℕ = story.desk.handed in
-    let bytes : List ℕ = device_bytes device story in
-    let block : List ℕ = block_bytes device (new_block device pool story n) in
-    let long = length-device_bytes device story s.valid in
-    let room : (handed + n) * z ≤ (ring_frames device + handed) * z = mul-le-mul_right z (let within = fits.1 in omega arith) in
-    let sum : handed * z + n * z ≡ (handed + n) * z = omega arith in
-    st.ring (bytes_counted device story) (all_stand kept device story before ring_before st.play_before s)
-    ∙ ap (λ (books : List PlayBook). drop (n * z) ring_before ++ block_bytes device (block_of device n books (bytes_counted device story) (length before))) (sym st.play_before)
-    ∙ ap (λ slots. drop (n * z) ring_before ++ block_bytes device (block_of device n story.desk.play (bytes_counted device story) slots)) st.all_slots
-    ∙ ap (λ ring. drop (n * z) ring ++ block_bytes device (block_of device n story.desk.play (bytes_counted device story) (play_slots device))) s.ring_is
-    ∙ ap (λ samples. drop (n * z) (drop (handed * z) bytes) ++ block_bytes device samples) (block-mixed device pool story n s.valid)
-    ∙ ap (λ rest. rest ++ block) (drop-drop (n * z) (handed * z) bytes ∙ ap (λ k. drop k bytes) sum)
-    ∙ sym (drop-append-le ((handed + n) * z) bytes block (omega arith))
-    ∙ ap (drop ((handed + n) * z)) (sym (device_bytes-interrupt device pool story n s.valid))
+    let q : ℕ = mixed_by device handed n in
+    let streams : ℕ → List ℕ = bytes_counted device story in
+    let x : List Frame = story_frames device story handed in
+    let turned = st.bus streams x (all_stand kept device story before chain_before ring_before st.play_before s) s.bus in
+    let all : x ++ mixed_at_once device handed n before streams ≡ story_frames device (told device pool story (Intr n)) (handed + n) =
+    ap (λ (books : List PlayBook). x ++ raised_frames device (block_of device q books streams (length before))) (sym st.play_before)
+    ∙ ap (λ slots. x ++ raised_frames device (block_of device q story.desk.play streams slots)) st.all_slots
+    ∙ mixed-on device pool story n s.valid in (
+      subst (λ (frames : List Frame). HasMade kept device chain_now frames (handed + n)) all turned.made,
+      turned.ring
+          ∙ ap (λ (frames : List Frame). turned_ring (device_settings device) n (interleaved (recs (parent_plan device) (filters_of device) frames handed n)) ring_before) all
+          ∙ ring-on device pool story n ring_before s.valid fits.1 s.ring_is,
+    )
 
 -- ---- all parts
 
-stands_on : {B : Type 0} (kind : B → Kind) (kept : B → Kept) (device : DeviceSeen) (pool : Pool) (story : Story) (event : Event) (before now : List (PlayChannelOf B)) (ring_before ring_now : List ℕ)
-    → Fits device pool event → StoryStep kind kept device pool story event before now ring_before ring_now → PartsStand kept device story.desk before ring_before story
-    → PartsStand kept device (told device pool story event).desk now ring_now (told device pool story event)
-stands_on kind kept device pool story event before now ring_before ring_now fits st s = record {
+stands_on : {B : Type 0} (kind : B → Kind) (kept : B → Kept) (device : DeviceSeen) (pool : Pool) (story : Story) (event : Event) (before now : List (PlayChannelOf B)) (chain_before chain_now : ChainOf B) (ring_before ring_now : List ℕ)
+    → Fits device pool event → StoryStep kind kept device pool story event before now chain_before chain_now ring_before ring_now → PartsStand kept device story.desk before chain_before ring_before story
+    → PartsStand kept device (told device pool story event).desk now chain_now ring_now (told device pool story event)
+stands_on kind kept device pool story event before now chain_before chain_now ring_before ring_now fits st s = record {
   desk_is = refl;
-  slots = slots_stand kind kept device pool story event before now ring_before ring_now fits st s;
-  ring_is = ring_told kind kept device pool story event before now ring_before ring_now fits st s;
+  slots = slots_stand kind kept device pool story event before now chain_before chain_now ring_before ring_now fits st s;
+  bus = (bus_told kind kept device pool story event before now chain_before chain_now ring_before ring_now fits st s).0;
+  ring_is = (bus_told kind kept device pool story event before now chain_before chain_now ring_before ring_now fits st s).1;
   valid = valid-told device pool story event fits s.valid;
 }
 
 -- What stood for a story stands, one step on, for the story with one event more.
-pub stands-told : {B : Type 0} (kind : B → Kind) (kept : B → Kept) (device : DeviceSeen) (pool : Pool) (story : Story) (event : Event) (old new : Desk) (before now : List (PlayChannelOf B)) (ring_before ring_now : List ℕ)
-    → Fits device pool event → Stepped kind kept device pool event old new before now ring_before ring_now → PartsStand kept device old before ring_before story
-    → PartsStand kept device new now ring_now (told device pool story event)
-stands-told kind kept device pool story event old new before now ring_before ring_now fits st s =
-    let from_story : Stepped kind kept device pool event story.desk new before now ring_before ring_now = subst (λ (d : Desk). Stepped kind kept device pool event d new before now ring_before ring_now) s.desk_is st in
+pub stands-told : {B : Type 0} (kind : B → Kind) (kept : B → Kept) (device : DeviceSeen) (pool : Pool) (story : Story) (event : Event) (old new : Desk) (before now : List (PlayChannelOf B)) (chain_before chain_now : ChainOf B) (ring_before ring_now : List ℕ)
+    → Fits device pool event → Stepped kind kept device pool event old new before now chain_before chain_now ring_before ring_now → PartsStand kept device old before chain_before ring_before story
+    → PartsStand kept device new now chain_now ring_now (told device pool story event)
+stands-told kind kept device pool story event old new before now chain_before chain_now ring_before ring_now fits st s =
+    let from_story : Stepped kind kept device pool event story.desk new before now chain_before chain_now ring_before ring_now = subst (λ (d : Desk). Stepped kind kept device pool event d new before now chain_before chain_now ring_before ring_now) s.desk_is st in
     let same : new ≡ (told device pool story event).desk = from_story.desk in
-    let to_story : StoryStep kind kept device pool story event before now ring_before ring_now = subst (λ (d : Desk). Stepped kind kept device pool event story.desk d before now ring_before ring_now) same from_story in
-    let stood : PartsStand kept device story.desk before ring_before story = subst (λ (d : Desk). PartsStand kept device d before ring_before story) s.desk_is s in
-    subst (λ (d : Desk). PartsStand kept device d now ring_now (told device pool story event)) (sym same) (stands_on kind kept device pool story event before now ring_before ring_now fits to_story stood)
+    let to_story : StoryStep kind kept device pool story event before now chain_before chain_now ring_before ring_now = subst (λ (d : Desk). Stepped kind kept device pool event story.desk d before now chain_before chain_now ring_before ring_now) same from_story in
+    let stood : PartsStand kept device story.desk before chain_before ring_before story = subst (λ (d : Desk). PartsStand kept device d before chain_before ring_before story) s.desk_is s in
+    subst (λ (d : Desk). PartsStand kept device d now chain_now ring_now (told device pool story event)) (sym same) (stands_on kind kept device pool story event before now chain_before chain_now ring_before ring_now fits to_story stood)
 
 -- an event that takes no frames leaves the device's bytes
 body_kept : (device : DeviceSeen) (pool : Pool) (story : Story) (event : Event) (ring : List ℕ) → Fits device pool event → frames_taken event ≡ 0 → StoryIsValid device story
@@ -202,18 +223,18 @@ body_kept device pool story event ring fits none v =
     ∙ ap (λ n. device_body device story ++ take n ring) (sym no_bytes)
 
 -- what an event hands over is the front of the device's ring
-pub body-told : {B : Type 0} (kept : B → Kept) (device : DeviceSeen) (pool : Pool) (story : Story) (event : Event) (desk : Desk) (channels : List (PlayChannelOf B)) (ring : List ℕ) → Fits device pool event → PartsStand kept device desk channels ring story
+pub body-told : {B : Type 0} (kept : B → Kept) (device : DeviceSeen) (pool : Pool) (story : Story) (event : Event) (desk : Desk) (channels : List (PlayChannelOf B)) (chain : ChainOf B) (ring : List ℕ) → Fits device pool event → PartsStand kept device desk channels chain ring story
     → device_body device (told device pool story event) ≡ device_body device story ++ take (bytes_handed device event) ring
-body-told kept device pool story (Open fd way settings) desk channels ring fits s = body_kept device pool story (Open fd way settings) ring fits refl s.valid
-body-told kept device pool story (Write fd source at count) desk channels ring fits s = body_kept device pool story (Write fd source at count) ring fits refl s.valid
-body-told kept device pool story (Read fd count) desk channels ring fits s = body_kept device pool story (Read fd count) ring fits refl s.valid
-body-told kept device pool story (Ioctl fd request) desk channels ring fits s = body_kept device pool story (Ioctl fd request) ring fits refl s.valid
-body-told kept device pool story (Close fd) desk channels ring fits s = body_kept device pool story (Close fd) ring fits refl s.valid
-body-told kept device pool story (Intr n) desk channels ring fits s =
+body-told kept device pool story (Open fd way settings) desk channels chain ring fits s = body_kept device pool story (Open fd way settings) ring fits refl s.valid
+body-told kept device pool story (Write fd source at count) desk channels chain ring fits s = body_kept device pool story (Write fd source at count) ring fits refl s.valid
+body-told kept device pool story (Read fd count) desk channels chain ring fits s = body_kept device pool story (Read fd count) ring fits refl s.valid
+body-told kept device pool story (Ioctl fd request) desk channels chain ring fits s = body_kept device pool story (Ioctl fd request) ring fits refl s.valid
+body-told kept device pool story (Close fd) desk channels chain ring fits s = body_kept device pool story (Close fd) ring fits refl s.valid
+body-told kept device pool story (Intr n) desk channels chain ring fits s =
     let z : ℕ = device_frame_bytes device in
     let handed : ℕ = story.desk.handed in
     let bytes : List ℕ = device_bytes device story in
-    let block : List ℕ = block_bytes device (new_block device pool story n) in
+    let block : List ℕ = block_bytes (device_settings device) (new_block device pool story n) in
     let long = length-device_bytes device story s.valid in
     let room : (handed + n) * z ≤ (ring_frames device + handed) * z = mul-le-mul_right z (let within = fits.1 in omega arith) in
     let sum : (handed + n) * z ≡ handed * z + n * z = omega arith in

@@ -23,9 +23,9 @@ use Rattle.pcm_play.specs.Channels.{IsPlayReady}
 use Rattle.pcm_engine.specs.Desks.{desk_with}
 use Rattle.pcm_record.specs.Channels.{IsRecordReady}
 use Rattle.pcm_engine.specs.Stands.{PartsStand, RecordersStand}
-use Rattle.pcm_engine.specs.Steps.{ChannelsMove, RecordersMove, bytes_answered, front_taken, ring_after}
-use Rattle.pcm_vchan.specs.Parents.{play_books, play_channels, record_channels}
-use Rattle.pcm_vchan.specs.Slots.{AllPlayStand, AllRecordStand}
+use Rattle.pcm_engine.specs.Steps.{BusMoves, ChannelsMove, RecordersMove, bytes_answered, front_taken}
+use Rattle.pcm_vchan.specs.Parents.{HasBus, play_channels, record_channels}
+use Rattle.pcm_vchan.specs.Slots.{AllRecordStand}
 
 -- the engine's device, beside the filters of its run
 abbrev pub device_of : {B : Type 0} → EngineOf B → DeviceSeen
@@ -41,7 +41,7 @@ waiting_in engine = map (λ channel. channel.path.ring.bytes) (record_channels e
 
 -- the engine stands for a list of events, whose bytes are found in a pool
 pub record Stands {B : Type 0} (kept : B → Kept) (engine : EngineOf B) (pool : Pool) (events : List Event) : Type 0 where
-  pub playing : PartsStand kept (device_of engine) (desk_of engine) (play_channels engine.parent) engine.parent.ring.bytes (story_of (device_of engine) pool events)
+  pub playing : PartsStand kept (device_of engine) (desk_of engine) (play_channels engine.parent) engine.parent.bus.chain engine.parent.ring.bytes (story_of (device_of engine) pool events)
   pub recording : RecordersStand kept (device_of engine) pool (record_channels engine.parent) (story_of (device_of engine) pool events)
 
 -- what it stands for with one pool, it stands for with every pool that is the same to those events
@@ -90,17 +90,17 @@ TakesFront event engine got = (fd count : ℕ) → event ≡ Read fd count
 -- what it moves of the channels that play
 abbrev pub StepMoves : {B : Type 0} → (B → Kind) → (B → Kept) → Pool → Event → EngineOf B → EngineOf B → Type 0
 StepMoves kind kept pool event old new =
-    ChannelsMove kind kept old.tables pool event (play_channels old.parent) (play_channels new.parent)
+    ChannelsMove kind kept (device_of old) pool old.parent.handed event (play_channels old.parent) (play_channels new.parent)
 
 -- and of those that record
 abbrev pub StepCaptures : {B : Type 0} → (B → Kind) → (B → Kept) → Pool → Event → EngineOf B → EngineOf B → Type 0
 StepCaptures kind kept pool event old new =
     RecordersMove kind kept (device_of old) pool old.parent.handed event (record_channels old.parent) (record_channels new.parent)
 
--- and of the device's ring, whatever bytes its channels stand for
+-- and of its bus and the device's ring, whatever bytes its channels stand for
 abbrev pub StepTurns : {B : Type 0} → (B → Kept) → Event → EngineOf B → EngineOf B → Type 0
-StepTurns kept event old new = (streams : ℕ → List ℕ) → AllPlayStand kept old.tables (play_channels old.parent) streams
-    → new.parent.ring.bytes ≡ ring_after (device_of old) event (play_books old.parent) streams (length (play_channels old.parent)) old.parent.ring.bytes
+StepTurns kept event old new =
+    BusMoves kept (device_of old) old.parent.handed event (play_channels old.parent) old.parent.bus.chain new.parent.bus.chain old.parent.ring.bytes new.parent.ring.bytes
 
 -- ---- what holds of every engine
 
@@ -118,11 +118,12 @@ pub record RingsHold {B : Type 0} (engine : EngineOf B) : Type 0 where
   pub recording : All (λ channel. length channel.path.ring.bytes ≤ ring_bytes channel.book.opening) (record_channels engine.parent)
   pub device : length engine.parent.ring.bytes ≡ ring_frames (device_of engine) * device_frame_bytes (device_of engine)
 
--- Each box of the engine is of its place's kind, each channel stands for its book, all books are in order, and no ring passes its
--- size. Every engine is so, from its first moment on, with whatever pools it is stepped; no type can say it of boxes.
+-- Each box of the engine is of its place's kind, each channel stands for its book, the bus has made what was handed over, all books are in
+-- order, and no ring passes its size. Every engine is so, from its first moment on, with whatever pools it is stepped; no type can say it of boxes.
 pub record AreReady {B : Type 0} (kind : B → Kind) (kept : B → Kept) (engine : EngineOf B) : Type 0 where
   pub playing : All (IsPlayReady kind kept engine.tables) (play_channels engine.parent)
   pub recording : All (IsRecordReady kind kept engine.tables) (record_channels engine.parent)
+  pub bus : HasBus kept (device_of engine) engine.parent
   pub books : BooksAreSafe (device_of engine) (desk_of engine)
   pub records : RecordsAreSafe (device_of engine) (desk_of engine)
   pub rings : RingsHold engine

@@ -1,5 +1,5 @@
 -- What one event leaves of an engine's parts.
-use Rattle.std.specs.Prelude.{ℕ, ◌*◌, min, List, [], ◌++◌, take, drop, Option, Some, None, slice_index_or}
+use Rattle.std.specs.Prelude.{◌≡◌, ℕ, min, List, [], take, drop, Option, Some, None, slice_index_or}
 use Rattle.pcm_oss.specs.declared.event.Event.{Event}
 use Rattle.pcm_oss.specs.declared.event.Event.TheVariants.{Write, Read, Intr}
 use Rattle.pcm_wave.specs.declared.pool.Pool.{Pool}
@@ -8,13 +8,12 @@ use Rattle.pcm_feeder.specs.declared.kind.Kind.{Kind}
 use Rattle.pcm_feeder.specs.Filters.{Filters}
 use Rattle.pcm_feeder.specs.Kept.{Kept}
 use Rattle.pcm_feeder.specs.Streams.{interleaved}
-use Rattle.pcm_desk.specs.declared.play_book.PlayBook.{PlayBook}
 use Rattle.pcm_desk.specs.declared.device.Held.{Held}
-use Rattle.pcm_desk.specs.Device.{DeviceSeen, device_frame_bytes, device_settings, filters_of}
-use Rattle.pcm_desk.specs.Desk.{Desk, by_way, held_by}
+use Rattle.pcm_chain.specs.declared.chain.ChainOf.{ChainOf}
+use Rattle.pcm_desk.specs.Device.{DeviceSeen, device_settings, filters_of}
+use Rattle.pcm_desk.specs.Desk.{Desk, by_way, held_by, mixed_by}
 use Rattle.pcm_desk.specs.Own.{Channel, Playing, Recording, channel_at}
 use Rattle.pcm_desk.specs.RecordBooks.{record_fill_of}
-use Rattle.pcm_desk.specs.Events.{frames_taken}
 use Rattle.pcm_play.specs.declared.channel.PlayChannelOf.{PlayChannelOf}
 use Rattle.pcm_play.specs.Channels.{PlayMoves}
 use Rattle.pcm_record.specs.declared.channel.RecordChannelOf.{RecordChannelOf}
@@ -22,7 +21,7 @@ use Rattle.pcm_record.specs.Channels.{RecordMoves}
 use Rattle.pcm_vchan.specs.Slots.{Each}
 use Rattle.pcm_vchan.specs.declared.parent.ParentOf.{ParentOf}
 use Rattle.pcm_vchan.specs.Parents.{EachCaptures}
-use Rattle.pcm_vchan.specs.Blocks.{block_bytes, block_of}
+use Rattle.pcm_vchan.specs.Buses.{TurnsBus}
 use Rattle.pcm_vchan.specs.Captures.{Captures}
 
 -- the bytes that an event brings
@@ -30,14 +29,20 @@ abbrev pub bytes_brought : Pool → Event → List ℕ
 bytes_brought pool (Write fd source at count) = bytes_at pool source at count
 bytes_brought pool event = []
 
--- the channels after an event
-abbrev pub ChannelsMove : {B : Type 0} → (B → Kind) → (B → Kept) → Filters → Pool → Event → List (PlayChannelOf B) → List (PlayChannelOf B) → Type 0
-ChannelsMove kind kept filters pool event old new = Each (PlayMoves kind kept filters (bytes_brought pool event) (frames_taken event)) old new
+-- the frames that an event mixes, where so many were handed over before
+abbrev pub frames_mixed : DeviceSeen → ℕ → Event → ℕ
+frames_mixed device handed (Intr n) = mixed_by device handed n
+frames_mixed device handed event = 0
 
--- the bytes of the device's ring after an event, from the books of the slots and the bytes of their runs
-abbrev pub ring_after : DeviceSeen → Event → List PlayBook → (ℕ → List ℕ) → ℕ → List ℕ → List ℕ
-ring_after device (Intr n) books streams slots ring = drop (n * device_frame_bytes device) ring ++ block_bytes device (block_of device n books streams slots)
-ring_after device event books streams slots ring = ring
+-- the channels after an event, where so many frames were handed over before
+abbrev pub ChannelsMove : {B : Type 0} → (B → Kind) → (B → Kept) → DeviceSeen → Pool → ℕ → Event → List (PlayChannelOf B) → List (PlayChannelOf B) → Type 0
+ChannelsMove kind kept device pool handed event old new =
+    Each (PlayMoves kind kept (filters_of device) (bytes_brought pool event) (frames_mixed device handed event)) old new
+
+-- the chain between the mix and the device, and the device's ring, after an event
+abbrev pub BusMoves : {B : Type 0} → (B → Kept) → DeviceSeen → ℕ → Event → List (PlayChannelOf B) → ChainOf B → ChainOf B → List ℕ → List ℕ → Type 0
+BusMoves kept device handed (Intr n) channels old new ring after = TurnsBus kept device handed n channels old new ring after
+BusMoves kept device handed event channels old new ring after = (new ≡ old) × (after ≡ ring)
 
 -- the channels that record after an event, once so many frames were handed over
 abbrev pub RecordersMove : {B : Type 0} → (B → Kind) → (B → Kept) → DeviceSeen → Pool → ℕ → Event → List (RecordChannelOf B) → List (RecordChannelOf B) → Type 0

@@ -2,12 +2,12 @@
 
 ghost use Rattle.std.specs.Prelude.{◌≡◌, [], ◌+◌, ◌*◌, ◌<◌, ◌≤◌, length, take, drop, All, IfOk, IsErr};
 ghost use Rattle.pcm_fixed.specs.Fixed.{fixed_len};
-ghost use Rattle.pcm_desk.specs.declared.limits.TheConstants.{RING_FRAMES};
+ghost use Rattle.pcm_desk.specs.declared.limits.TheConstants.{MIX_FRAMES, RING_FRAMES};
 ghost use Rattle.pcm_engine.specs.declared.limits.TheConstants.{STEPS};
 ghost use Rattle.pcm_desk.specs.Events.{Fits, bytes_handed};
 ghost use Rattle.pcm_desk.specs.Device.{seen};
 ghost use Rattle.pcm_desk.specs.Own.{HoldApart};
-ghost use Rattle.pcm_vchan.specs.Parents.{play_channels, record_channels};
+ghost use Rattle.pcm_vchan.specs.Parents.{play_channels, record_channels, HasBus};
 ghost use Rattle.pcm_vchan.specs.Slots.{PlayAreOf, RecordAreOf};
 ghost use Rattle.pcm_desk.proofs.Props.{hold_props};
 ghost use Rattle.pcm_engine.specs.Desks.{desk_with};
@@ -37,11 +37,11 @@ pub struct EngineOf<B> {
     ghost recorders_own: { RecordAreOf parent.device (record_channels parent) },
     ghost apart: { HoldApart (desk_with parent descriptors.held) } by { Prim.hlevel hold_props },
     ghost counted: { All (λ channel. channel.book.done + channel.book.written ≤ RING_BYTES * steps) (play_channels parent) },
-    ghost given: { All (λ channel. channel.book.given ≤ RING_FRAMES * steps) (play_channels parent) },
+    ghost given: { All (λ channel. channel.book.given ≤ MIX_FRAMES * steps) (play_channels parent) },
     ghost kept: { All (λ channel. channel.book.kept ≤ RING_BYTES * steps) (record_channels parent) },
     ghost captured_within: { All (λ channel. channel.book.captured ≤ RING_FRAMES * steps) (record_channels parent) },
     ghost captured_size: { fixed_len captured ≡ parent.device.ring_frames * channels_of parent.device.settings.layout },
-    ghost mixed_within: { parent.mixed ≤ RING_FRAMES * steps },
+    ghost mixed_within: { parent.mixed ≤ MIX_FRAMES * steps },
     ghost handed_within: { parent.handed ≤ RING_FRAMES * steps },
 }
 
@@ -162,7 +162,8 @@ impl<B: Feeder> EngineOf<B> {
         ensures refused { IsErr reply.new.result → IsUnchanged self.old self.new }
         ensures channels { StepMoves B.kind B.kept pool.now event.now self.old self.new }
         ensures recorders { StepCaptures B.kind B.kept pool.now event.now self.old self.new }
-        ensures ring { StepTurns B.kept event.now self.old self.new }
+        ensures bus { HasBus B.kept (device_of self.old) self.new.parent }
+        ensures turns { StepTurns B.kept event.now self.old self.new }
         ensures count { result ≡ bytes_handed (device_of self.old) event.now }
         ensures out { take result out.new ≡ take result self.old.parent.ring.bytes }
         ensures rest { drop result out.new ≡ drop result out.old }

@@ -4,7 +4,8 @@ ghost use Rattle.std.specs.Prelude.{◌≡◌, ◌+◌, ◌*◌, ◌^◌, ◌<�
 ghost use Rattle.pcm_format.specs.Frames.{frame_bytes};
 ghost use Rattle.pcm_format.specs.Layouts.{channels_of};
 ghost use Rattle.pcm_wave.specs.Pools.{IsCaptureIn};
-ghost use Rattle.pcm_vchan.specs.Parents.{play_channels, record_channels, AreDue, EachMixes, EachPlayMoves, RingTurns};
+ghost use Rattle.pcm_desk.specs.Device.{seen};
+ghost use Rattle.pcm_vchan.specs.Parents.{mixed_in, play_channels, record_channels, AreDue, BusTurns, EachMixes, EachPlayMoves, HasBus};
 ghost use Rattle.pcm_vchan.specs.Slots.{PlayAreOf, RecordAreOf};
 ghost use Rattle.pcm_engine.specs.Steps.{CapturesPool};
 
@@ -29,21 +30,23 @@ pub fn interrupt<B: Feeder>(
     requires out { frames * frame_bytes parent.old.device.settings ≤ length out.old }
     requires due { AreDue B.kind B.kept tables.now frames parent.old }
     requires handed { parent.old.handed + frames < 2 ^ 64 }
-    requires mixed { parent.old.mixed + frames < 2 ^ 64 }
+    requires mixed { parent.old.mixed + mixed_in tables.now frames parent.old < 2 ^ 64 }
     ensures device { parent.new.device ≡ parent.old.device }
     ensures own { PlayAreOf parent.new.device (play_channels parent.new) }
     ensures recorders_own { RecordAreOf parent.new.device (record_channels parent.new) }
     ensures slots { length (play_channels parent.new) ≡ length (play_channels parent.old) }
     ensures recorders_slots { length (record_channels parent.new) ≡ length (record_channels parent.old) }
-    ensures channels { EachPlayMoves B.kind B.kept tables.now [] frames parent.old parent.new }
-    ensures books { EachMixes tables.now frames parent.old parent.new }
+    ensures channels { EachPlayMoves B.kind B.kept tables.now []
+        (mixed_in tables.now frames parent.old) parent.old parent.new }
+    ensures books { EachMixes tables.now (mixed_in tables.now frames parent.old) parent.old parent.new }
     ensures recorders { CapturesPool B.kind B.kept tables.now pool.now frames parent.old parent.new }
     ensures handed { parent.new.handed ≡ parent.old.handed + frames }
-    ensures mixed { parent.new.mixed ≡ parent.old.mixed + frames }
+    ensures mixed { parent.new.mixed ≡ parent.old.mixed + mixed_in tables.now frames parent.old }
     ensures count { result ≡ frames * frame_bytes parent.old.device.settings }
     ensures out { take result out.new ≡ take result parent.old.ring.bytes }
     ensures rest { drop result out.new ≡ drop result out.old }
-    ensures ring { RingTurns B.kept tables.now frames parent.old parent.new }
+    ensures bus { HasBus B.kept (seen tables.now parent.old.device) parent.new }
+    ensures turns { BusTurns B.kept tables.now frames parent.old parent.new }
     ensures captured { length captured.new ≡ length captured.old }
 {
     let n = frames as usize;

@@ -6,8 +6,8 @@ ghost use Rattle.pcm_feeder.specs.declared.rack.TheConstants.{RACKS};
 use crate::{Feeder, Kind};
 use std::alloc::{AllocError, AllocFailed, Global};
 
-/// How many racks a run has: one for each play slot and each record slot.
-pub const RACKS: usize = 32;
+/// How many racks a run has: one for each play slot, one for each record slot, and one for the way from the mix to the device.
+pub const RACKS: usize = 33;
 
 /// The boxes of a rack, one for each kind of stage.
 #[derive(Drop)]

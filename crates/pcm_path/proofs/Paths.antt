@@ -1,5 +1,5 @@
 -- What stays of a path from one call to the next.
-use Rattle.std.proofs.Common.{◌≡◌, ℕ, List, refl, sym, ap, ◌∙◌, subst}
+use Rattle.std.proofs.Common.{◌≡◌, ℕ, List, sym, ap, ◌∙◌, subst}
 use Rattle.pcm_format.specs.declared.settings.Settings.{Settings}
 use Rattle.pcm_ring.specs.Ring.{Ring}
 use Rattle.pcm_rate.specs.Rates.{IsRatio}
@@ -11,7 +11,8 @@ use Rattle.pcm_plan.specs.Plans.{PlanSeen, rate_in_plan}
 use Rattle.pcm_chain.specs.Chains.{plan_in}
 use Rattle.pcm_desk.specs.declared.device.Device.{Device}
 use Rattle.pcm_desk.specs.declared.opening.Opening.{Opening}
-use Rattle.pcm_desk.specs.Device.{IsDevice, seen}
+use Rattle.pcm_desk.specs.Device.{HasRates, IsDevice, seen}
+use Rattle.pcm_desk.proofs.Ratios.{device-is}
 use Rattle.pcm_path.specs.declared.path.PathOf.{PathOf}
 use Rattle.pcm_path.specs.Ways.{plan_between}
 use Rattle.pcm_path.specs.Paths.{IsPlanned, Serves}
@@ -20,7 +21,7 @@ use Rattle.pcm_path.specs.Paths.{IsPlanned, Serves}
 pub serves-as : {B : Type 0} (was now : Opening) (old new : PathOf B) (bytes : List ℕ) → new.device ≡ old.device → plan_in new.chain ≡ plan_in old.chain → new.ring ≡ record old.ring { bytes = bytes }
     → now.settings ≡ was.settings → now.fragments ≡ was.fragments → Serves was old → Serves now new
 serves-as was now old new bytes device plan ring settings fragments s = record {
-  device_rate = subst (λ (d : Device). IsRate d.settings.rate) (sym device) s.device_rate;
+  device = subst HasRates (sym device) s.device;
   rate = subst (λ (r : Settings). IsRate r.rate) (sym settings) s.rate;
   ratio = subst (λ (p : PlanSeen). IsRatio (rate_in_plan p)) (sym plan) s.ratio;
   room = ap (λ (r : Ring). r.max) ring ∙ s.room;
@@ -37,4 +38,4 @@ planned-as way filters was now old new device plan settings p = record {
 
 -- the device of a path that serves an opening, with the filters of its plan
 pub device-served : {B : Type 0} (way : Way) (filters : Filters) (opening : Opening) (settings : Settings) (path : PathOf B) → Serves opening path → IsPlanned way filters settings path → IsDevice (seen filters path.device)
-device-served way filters opening settings path s p = record { rate = s.device_rate; mix_rate = s.device_rate; same = refl; filters = p.limits }
+device-served way filters opening settings path s p = device-is filters path.device s.device p.limits

@@ -11,15 +11,15 @@ use Rattle.pcm_plan.specs.Plans.{rate_in_plan}
 use Rattle.pcm_chain.specs.Chains.{plan_in, ChainStands}
 use Rattle.pcm_chain.specs.Pushes.{HasRecorded}
 use Rattle.pcm_desk.specs.declared.opening.Opening.{Opening}
-use Rattle.pcm_desk.specs.Device.{seen}
+use Rattle.pcm_desk.specs.Device.{HasRates, seen}
 use Rattle.pcm_desk.specs.Openings.{ring_bytes}
 use Rattle.pcm_path.specs.Ways.{plan_between}
 use Rattle.pcm_path.specs.declared.path.PathOf.{PathOf}
 
--- A path serves an opening: the rates of device and client are within the limits, those of the chain's plan are above 0, and the
+-- A path serves an opening: the rates of device, mix and client are within the limits, those of the chain's plan are above 0, and the
 -- ring has the size that the opening's fragments give, out of the room that the greatest ring takes.
 pub record Serves {B : Type 0} (opening : Opening) (path : PathOf B) : Type 0 where
-  pub device_rate : IsRate path.device.settings.rate
+  pub device : HasRates path.device
   pub rate : IsRate opening.settings.rate
   pub ratio : IsRatio (rate_in_plan (plan_in path.chain))
   pub room : path.ring.max ≡ RING_BYTES

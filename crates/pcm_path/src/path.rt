@@ -8,7 +8,7 @@ ghost use Rattle.pcm_feeder.specs.Limits.{AreFilters, IsRate};
 ghost use Rattle.pcm_feeder.specs.Racks.{HaveKinds, IsRack};
 ghost use Rattle.pcm_plan.specs.Plans.{rate_in_plan};
 ghost use Rattle.pcm_chain.specs.Chains.{boxes_in, plan_in};
-ghost use Rattle.pcm_desk.specs.Device.{seen};
+ghost use Rattle.pcm_desk.specs.Device.{HasRates, seen};
 ghost use Rattle.pcm_path.specs.Ways.{plan_between};
 
 use pcm_chain::ChainOf;
@@ -20,7 +20,7 @@ use pcm_plan::{Plan, plan_play, plan_record};
 use pcm_ring::ByteRing;
 use std::alloc::{AllocError, Global};
 
-/// The ring and the chain between a client and the device.
+/// The ring and the chain between a client and the device: to the mix, or from the frames captured.
 #[derive(Drop)]
 pub struct PathOf<B> {
     pub device: Device,
@@ -50,7 +50,7 @@ impl<B: Feeder> PathOf<B> {
     /// A run of an opening of a way begins: an empty ring, of the size that its fragments give, and a chain that goes by the
     /// plan of its settings.
     pub fn begin(&mut self, way: Way, tables: &Tables, opening: &Opening)
-        requires device { IsRate self.old.device.settings.rate }
+        requires device { HasRates self.old.device }
         requires rate { IsRate opening.now.settings.rate }
         requires fragments { AreFragments opening.now.fragments }
         requires room { self.old.ring.max ≡ RING_BYTES }
@@ -82,16 +82,16 @@ impl<B: Feeder> PathOf<B> {
     }
 }
 
-// The plan between a client of a way and the device.
+// The plan from a client that plays to the mix, or from the device to one that records.
 fn plan_of(way: Way, tables: &Tables, device: &Device, client: &Settings) -> Plan
-    requires device { IsRate device.now.settings.rate }
+    requires device { HasRates device.now }
     requires client { IsRate client.now.rate }
     ensures value { result ≡ plan_between way (seen tables.now device.now) client.now }
     ensures limits { AreFilters tables.now }
     ensures ratio { IsRatio (rate_in_plan result) }
 {
     match way {
-        Way::Play => plan_play(client, &device.settings, device.quality, tables),
+        Way::Play => plan_play(client, &device.mix, device.quality, tables),
         Way::Record => plan_record(client, &device.settings, device.quality, tables),
     }
 }

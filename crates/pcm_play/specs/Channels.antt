@@ -49,11 +49,11 @@ pub record IsPlayReady {B : Type 0} (kind : B → Kind) (kept : B → Kept) (fil
   pub planned : IsPlayPlanned filters channel
   pub stands : PlayStandsForSome kept filters channel
 
--- buffers for a block of so many frames of a device: one that holds the frames of a channel, and one whose samples have its bits
+-- buffers for a block of so many frames of a device's mix: one that holds the frames of a channel, and one whose samples have its bits
 pub record HoldBlock (device : Device) (n : ℕ) (frames sum : List ℤ) : Type 0 where
-  pub frames_whole : length frames ≡ n * channels_of device.settings.layout
-  pub sum_whole : length sum ≡ n * channels_of device.settings.layout
-  pub fits : All (FitsBits (bits_of device.settings.format)) sum
+  pub frames_whole : length frames ≡ n * channels_of device.mix.layout
+  pub sum_whole : length sum ≡ n * channels_of device.mix.layout
+  pub fits : All (FitsBits (bits_of device.mix.format)) sum
 
 -- whatever bytes a channel stands for, it adds what the rules say of them to a block of so many frames
 abbrev pub AddsTo : {B : Type 0} → (B → Kept) → Filters → Device → ℕ → List ℤ → List ℤ → PlayChannelOf B → Type 0

@@ -8,7 +8,7 @@ ghost use Rattle.pcm_feeder.specs.Limits.{IsRate};
 ghost use Rattle.pcm_feeder.specs.Racks.{HaveKinds, IsRack};
 ghost use Rattle.pcm_plan.specs.Plans.{rate_in_plan};
 ghost use Rattle.pcm_chain.specs.Chains.{boxes_in, plan_in};
-ghost use Rattle.pcm_desk.specs.Device.{seen};
+ghost use Rattle.pcm_desk.specs.Device.{HasRates, seen};
 ghost use Rattle.pcm_desk.specs.PlayBooks.{is_play_free, play_begun, play_fill_of, write_turn};
 ghost use Rattle.pcm_desk.specs.PlaySafe.{PlayIsSafe};
 ghost use Rattle.pcm_desk.proofs.Props.{book_props};
@@ -46,7 +46,7 @@ impl<B: Feeder> PlayChannelOf<B> {
         tables: &Tables,
         rack: RackOf<B>,
     ) -> Result<PlayChannelOf<B>, AllocError>
-        requires device { IsRate device.settings.rate }
+        requires device { HasRates device }
         requires kinds { IsRack B.kind rack }
         ensures book { IfOk result (λ made. made.book ≡ play_unopened (seen tables.now device)) }
         ensures device { IfOk result (λ made. made.path.device ≡ device) }
@@ -57,7 +57,7 @@ impl<B: Feeder> PlayChannelOf<B> {
         let mut path = PathOf::new(alloc, device, rack)?;
         let book = PlayBook {
             state: PlayState::Free,
-            ..PlayBook::begun(device.settings)
+            ..PlayBook::begun(device.mix)
         };
         path.begin(Way::Play, tables, &book.opening);
         Ok(PlayChannelOf { book, path })
@@ -148,12 +148,12 @@ impl<B: Feeder> PlayChannelOf<B> {
         ensures device { self.new.path.device ≡ self.old.path.device }
         ensures moves { PlayMoves B.kind B.kept tables.now [] n self.old self.new }
         ensures sum { AddsTo B.kept tables.now self.old.path.device n sum.old sum.new self.old }
-        ensures fits { All (FitsBits (bits_of self.old.path.device.settings.format)) sum.new }
+        ensures fits { All (FitsBits (bits_of self.old.path.device.mix.format)) sum.new }
     {
         if !self.book.is_started() {
             return;
         }
-        let settings = self.path.device.settings;
+        let settings = self.path.device.mix;
         let format = self.book.opening.settings.format;
         let ended = self.book.is_draining();
         let gain = gain_of(self.book.volume);

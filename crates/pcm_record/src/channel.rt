@@ -9,7 +9,7 @@ ghost use Rattle.pcm_feeder.specs.Racks.{HaveKinds, IsRack};
 ghost use Rattle.pcm_plan.specs.Plans.{rate_in_plan};
 ghost use Rattle.pcm_chain.specs.Chains.{boxes_in, plan_in};
 ghost use Rattle.pcm_desk.specs.declared.limits.TheConstants.{RING_FRAMES};
-ghost use Rattle.pcm_desk.specs.Device.{seen};
+ghost use Rattle.pcm_desk.specs.Device.{HasRates, seen};
 ghost use Rattle.pcm_desk.specs.RecordBooks.{closed, is_record_free, read_turn, record_begun, record_fill_of};
 ghost use Rattle.pcm_desk.specs.RecordRequests.{record_ask};
 ghost use Rattle.pcm_desk.specs.RecordSafe.{RecordIsSafe};
@@ -47,7 +47,7 @@ impl<B: Feeder> RecordChannelOf<B> {
         tables: &Tables,
         rack: RackOf<B>,
     ) -> Result<RecordChannelOf<B>, AllocError>
-        requires device { IsRate device.settings.rate }
+        requires device { HasRates device }
         requires kinds { IsRack B.kind rack }
         ensures book { IfOk result (λ made. made.book ≡ record_unopened (seen tables.now device)) }
         ensures device { IfOk result (λ made. made.path.device ≡ device) }

@@ -3,7 +3,7 @@ use Rattle.std.proofs.Common.{◌≡◌, ℕ, suc, zero, ◌+◌, ◌-◌, ◌*�
 use Rattle.std.specs.Prelude.{IfSome, find}
 use Rattle.std.proofs.Math.Seq.{take-append-add}
 use Rattle.std.specs.List.{range_with_len, flat_map}
-use Rattle.std.proofs.lemmas.List.{take_all, map-append, length-map, length-replicate}
+use Rattle.std.proofs.lemmas.List.{take_all, length-map, length-replicate}
 use Rattle.std.proofs.lemmas.List.Concat.{flat_map-append}
 use Rattle.std.proofs.lemmas.List.Sums.{fold-append}
 use Rattle.std.proofs.lemmas.List.FromFn.{length-range_with_len}
@@ -15,24 +15,30 @@ use Rattle.pcm_oss.specs.declared.event.Event.TheVariants.{Intr}
 use Rattle.pcm_wave.specs.declared.pool.Pool.{Pool}
 use Rattle.pcm_format.specs.Formats.{bits_of, bytes_of}
 use Rattle.pcm_format.specs.Layouts.{channels_of}
-use Rattle.pcm_format.specs.Samples.{spelled}
+use Rattle.pcm_format.specs.Samples.{at_full, spelled}
 use Rattle.pcm_format.specs.Frames.{Frame, frame_at, frames, whole_frames, spelled_frame, spelled_frames}
-use Rattle.pcm_format.proofs.Ranges.{map-range-same, range-add}
+use Rattle.pcm_format.proofs.Ranges.{map-range-add, map-range-same, range-add}
 use Rattle.pcm_format.proofs.Streams.{length-frame_at}
 use Rattle.pcm_format.proofs.Spelling.{length-flat_map-spelled}
 use Rattle.pcm_feeder.specs.declared.stage.Gain.{Gain}
-use Rattle.pcm_feeder.specs.Streams.{HaveChannels}
+use Rattle.pcm_feeder.specs.Filters.{Filters}
+use Rattle.pcm_feeder.specs.Layouts.{unity}
+use Rattle.pcm_feeder.specs.Streams.{HaveChannels, interleaved}
+use Rattle.pcm_rate.proofs.Counts.{can-greatest}
 use Rattle.pcm_feeder.specs.Limits.{IsRate}
 use Rattle.pcm_mix.proofs.Blocks.{length-mixed}
-use Rattle.pcm_desk.specs.Device.{DeviceSeen, IsDevice, device_frame_bytes, device_settings, filters_of, mix_settings, play_plan_between, play_slots, ring_frames}
-use Rattle.pcm_plan.proofs.Through.{length-out}
-use Rattle.pcm_desk.proofs.Ratios.{plan-between-fits}
+use Rattle.pcm_desk.specs.Device.{DeviceSeen, IsDevice, device_frame_bytes, device_settings, filters_of, full_frame, mix_settings, mixed_for, parent_plan, parent_rate, play_plan_between, play_slots, ring_frames}
+use Rattle.pcm_desk.specs.Desk.{mixed_by}
+use Rattle.pcm_plan.specs.Plans.{PlanSeen}
+use Rattle.pcm_plan.specs.Through.{recs}
+use Rattle.pcm_plan.proofs.Through.{length-out, length-outs, outs-add, outs-append, outs-channels}
+use Rattle.pcm_desk.proofs.Ratios.{mixed-behind, parent-plan-fits, parent-ratio, plan-between-fits}
 use Rattle.pcm_sound.specs.Given.{given_frame}
 use Rattle.pcm_sound.specs.Gains.{last_gain}
 use Rattle.pcm_sound.specs.Runs.{Run, Piece, covers, run_frames, piece_frame, first_of, sounding}
 use Rattle.pcm_sound.specs.Story.{Story, told}
 use Rattle.pcm_sound.specs.Mix.{Table, adding, mix_of}
-use Rattle.pcm_sound.specs.DeviceList.{table_of, silence_in, mix_at, device_frame, device_list, device_bytes, device_body}
+use Rattle.pcm_sound.specs.DeviceList.{table_of, silence_in, mix_at, mixed_frames, device_frames, device_list, device_bytes, device_body}
 use Rattle.pcm_sound.specs.Valid.{HasRate, StoryIsValid}
 use Rattle.pcm_sound.proofs.Stories.{table_of-told}
 
@@ -51,19 +57,53 @@ mix_of-more bits silent table slots position =
     ap (fold (λ (sum : Frame) (slot : ℕ). adding bits sum (table slot position)) silent) (range-add 0 slots 1 ∙ ap (λ a. range_with_len 0 slots ++ a ∷ []) (zero-add slots))
     ∙ fold-append (λ (sum : Frame) (slot : ℕ). adding bits sum (table slot position)) silent (range_with_len 0 slots) (slots ∷ [])
 
--- the frames that were mixed stay as they were
-pub device_list-same : (device : DeviceSeen) (a b : Table) (count : ℕ) → ((slot position : ℕ) → position < count → a slot position ≡ b slot position) → device_list device a count ≡ device_list device b count
-device_list-same device a b count h =
-    ap (λ mixed. replicate (ring_frames device) (silence_in (device_settings device)) ++ mixed)
-    (map-range-same (device_frame device (mix_at device a)) (device_frame device (mix_at device b)) count
-    (λ position l. mix_of-same (bits_of (mix_settings device).format) (silence_in (mix_settings device)) a b (play_slots device) position (λ slot. h slot position l)))
+-- tables that agree have one mix
+pub mixed_frames-same : (device : DeviceSeen) (a b : Table) (count : ℕ) → ((slot position : ℕ) → position < count → a slot position ≡ b slot position) → mixed_frames device (mix_at device a) count ≡ mixed_frames device (mix_at device b) count
+mixed_frames-same device a b count h =
+    map-range-same (λ position. full_frame device (mix_at device a position)) (λ position. full_frame device (mix_at device b position)) count
+    (λ position l. ap (full_frame device) (mix_of-same (bits_of (mix_settings device).format) (silence_in (mix_settings device)) a b (play_slots device) position (λ slot. h slot position l)))
 
--- more positions
-pub device_list-more : (device : DeviceSeen) (table : Table) (count n : ℕ) → device_list device table (count + n) ≡ device_list device table count ++ map (device_frame device (mix_at device table)) (range_with_len count n)
-device_list-more device table count n =
-    ap (λ positions. replicate (ring_frames device) (silence_in (device_settings device)) ++ map (device_frame device (mix_at device table)) positions) (range-add 0 count n ∙ ap (λ a. range_with_len 0 count ++ range_with_len a n) (zero-add count))
-    ∙ ap (λ mixed. replicate (ring_frames device) (silence_in (device_settings device)) ++ mixed) (map-append (device_frame device (mix_at device table)) (range_with_len 0 count) (range_with_len count n))
-    ∙ sym (append_assoc (replicate (ring_frames device) (silence_in (device_settings device))) (map (device_frame device (mix_at device table)) (range_with_len 0 count)) (map (device_frame device (mix_at device table)) (range_with_len count n)))
+-- the frames that were mixed stay as they were, and so does what was made of them
+pub device_list-same : (device : DeviceSeen) (a b : Table) (handed : ℕ) → ((slot position : ℕ) → position < mixed_for device handed → a slot position ≡ b slot position) → device_list device a handed ≡ device_list device b handed
+device_list-same device a b handed h =
+    ap (λ mixed. replicate (ring_frames device) (silence_in (device_settings device)) ++ recs (parent_plan device) (filters_of device) mixed 0 handed) (mixed_frames-same device a b (mixed_for device handed) h)
+
+-- more of the mix
+pub mixed_frames-more : (device : DeviceSeen) (mix : ℕ → Frame) (count n : ℕ) → mixed_frames device mix (count + n) ≡ mixed_frames device mix count ++ map (λ position. full_frame device (mix position)) (range_with_len count n)
+mixed_frames-more device mix count n =
+    map-range-add (λ position. full_frame device (mix position)) 0 count n
+    ∙ ap (λ from. mixed_frames device mix count ++ map (λ position. full_frame device (mix position)) (range_with_len from n)) (zero-add count)
+
+pub length-mixed_frames : (device : DeviceSeen) (mix : ℕ → Frame) (count : ℕ) → length (mixed_frames device mix count) ≡ count
+length-mixed_frames device mix count = length-map (range_with_len 0 count) (λ position. full_frame device (mix position)) ∙ length-range_with_len 0 count
+
+-- what was made of the mix stays when more is mixed
+device_frames-later : (device : DeviceSeen) (mix : ℕ → Frame) (handed n : ℕ) → IsDevice device → device_frames device mix (handed + n) 0 handed ≡ device_frames device mix handed 0 handed
+device_frames-later device mix handed n d =
+    let plan : PlanSeen = parent_plan device in
+    let tables : Filters = filters_of device in
+    let count : ℕ = mixed_for device handed in
+    let q : ℕ = mixed_by device handed n in
+    let front : List Frame = mixed_frames device mix count in
+    let more : List Frame = map (λ position. full_frame device (mix position)) (range_with_len count q) in
+    let ratio = parent-ratio device d in
+    let allowed = (can-greatest (parent_rate device) ratio.src ratio.dst handed (length front)).0 (let is = length-mixed_frames device mix count in omega (arith, is)) in
+    ap (λ k. recs plan tables (mixed_frames device mix k) 0 handed) (sym (mixed-behind device handed n d))
+    ∙ ap (λ list. recs plan tables list 0 handed) (mixed_frames-more device mix count q)
+    ∙ outs-append plan tables unity front more 0 handed (parent-plan-fits device d) (omega (arith, allowed))
+
+-- more frames handed over
+pub device_list-more : (device : DeviceSeen) (table : Table) (handed n : ℕ) → IsDevice device
+    → device_list device table (handed + n) ≡ device_list device table handed ++ device_frames device (mix_at device table) (handed + n) handed n
+device_list-more device table handed n d =
+    let silent : List Frame = replicate (ring_frames device) (silence_in (device_settings device)) in
+    let mix : ℕ → Frame = mix_at device table in
+    let behind : List Frame = device_frames device mix (handed + n) handed n in
+    ap (λ list. silent ++ list)
+    (outs-add (parent_plan device) (filters_of device) unity (mixed_frames device mix (mixed_for device (handed + n))) 0 handed n
+    ∙ ap (λ from. device_frames device mix (handed + n) 0 handed ++ device_frames device mix (handed + n) from n) (zero-add handed)
+    ∙ ap (λ list. list ++ behind) (device_frames-later device mix handed n d))
+    ∙ sym (append_assoc silent (device_frames device mix handed 0 handed) behind)
 
 length-silence : (settings : Settings) → length (silence_in settings) ≡ channels_of settings.layout
 length-silence settings = length-replicate (channels_of settings.layout) (pos 0)
@@ -75,17 +115,17 @@ frames-channels settings bytes =
     All-map (λ (frame : Frame). length frame ≡ channels_of settings.layout) (frame_at settings bytes) (range_with_len 0 count)
     (λ k d l. length-frame_at settings bytes (get_or (range_with_len 0 count) k d))
 
--- a frame has the device's channels
-abbrev pub IsDeviceFrame : DeviceSeen → Frame → Type 0
-IsDeviceFrame device frame = length frame ≡ channels_of (mix_settings device).layout
+-- a frame has the channels of the mix
+abbrev pub IsMixedFrame : DeviceSeen → Frame → Type 0
+IsMixedFrame device frame = length frame ≡ channels_of (mix_settings device).layout
 
--- what a client's frames give is a frame of the device
-pub length-given_frame : (device : DeviceSeen) (settings : Settings) (bytes : List ℕ) (k : ℕ) (gain : Gain) → IsDevice device → IsRate settings.rate → IsDeviceFrame device (given_frame device settings (frames settings bytes) k gain)
+-- what a client's frames give is a frame of the mix
+pub length-given_frame : (device : DeviceSeen) (settings : Settings) (bytes : List ℕ) (k : ℕ) (gain : Gain) → IsDevice device → IsRate settings.rate → IsMixedFrame device (given_frame device settings (frames settings bytes) k gain)
 length-given_frame device settings bytes k gain d s =
     length-out (play_plan_between device settings) (filters_of device) (frames settings bytes) k gain (plan-between-fits device settings d s) (frames-channels settings bytes)
 
 piece_frame-frame : (device : DeviceSeen) (gain : Gain) (settings : Settings) (bytes : List ℕ) (position : ℕ) (found : Option Piece) → IsDevice device → IsRate settings.rate
-    → IfSome (piece_frame device gain settings (frames settings bytes) position found) (IsDeviceFrame device)
+    → IfSome (piece_frame device gain settings (frames settings bytes) position found) (IsMixedFrame device)
 piece_frame-frame device gain settings bytes position None d s = tt
 piece_frame-frame device gain settings bytes position (Some piece) d s = length-given_frame device settings bytes (piece.index + (position - piece.position)) gain d s
 
@@ -93,102 +133,130 @@ first_of-either : (P : Frame → Type 0) (a b : Option Frame) → IfSome a P →
 first_of-either P None b p q = q
 first_of-either P (Some frame) b p q = p
 
--- what a slot gives is a frame of the device
-pub sounding-frame : (device : DeviceSeen) (gain : Gain) (runs : List Run) (position : ℕ) → IsDevice device → All HasRate runs → IfSome (sounding device gain runs position) (IsDeviceFrame device)
+-- what a slot gives is a frame of the mix
+pub sounding-frame : (device : DeviceSeen) (gain : Gain) (runs : List Run) (position : ℕ) → IsDevice device → All HasRate runs → IfSome (sounding device gain runs position) (IsMixedFrame device)
 sounding-frame device gain [] position d own = tt
 sounding-frame device gain (run ∷ runs) position d own =
-    first_of-either (IsDeviceFrame device) (piece_frame device gain run.settings (run_frames run) position (find (covers position) run.pieces)) (sounding device gain runs position)
+    first_of-either (IsMixedFrame device) (piece_frame device gain run.settings (run_frames run) position (find (covers position) run.pieces)) (sounding device gain runs position)
     (piece_frame-frame device gain run.settings run.bytes position (find (covers position) run.pieces) d (All-head HasRate run runs own))
     (sounding-frame device gain runs position d (All-tail HasRate run runs own))
 
-adding-frame : (device : DeviceSeen) (bits : ℕ) (sum : Frame) (given : Option Frame) → IsDeviceFrame device sum → IfSome given (IsDeviceFrame device) → IsDeviceFrame device (adding bits sum given)
+adding-frame : (device : DeviceSeen) (bits : ℕ) (sum : Frame) (given : Option Frame) → IsMixedFrame device sum → IfSome given (IsMixedFrame device) → IsMixedFrame device (adding bits sum given)
 adding-frame device bits sum None s g = s
 adding-frame device bits sum (Some frame) s g = length-mixed bits sum frame (s ∙ sym g) ∙ s
 
-fold-frame : (device : DeviceSeen) (bits : ℕ) (table : Table) (position : ℕ) (sum : Frame) (slots : List ℕ) → IsDeviceFrame device sum → ((slot : ℕ) → IfSome (table slot position) (IsDeviceFrame device))
-    → IsDeviceFrame device (fold (λ s slot. adding bits s (table slot position)) sum slots)
+fold-frame : (device : DeviceSeen) (bits : ℕ) (table : Table) (position : ℕ) (sum : Frame) (slots : List ℕ) → IsMixedFrame device sum → ((slot : ℕ) → IfSome (table slot position) (IsMixedFrame device))
+    → IsMixedFrame device (fold (λ s slot. adding bits s (table slot position)) sum slots)
 fold-frame device bits table position sum [] s g = s
 fold-frame device bits table position sum (slot ∷ slots) s g = fold-frame device bits table position (adding bits sum (table slot position)) slots (adding-frame device bits sum (table slot position) s (g slot)) g
 
--- the mix of some slots is a frame of the device
-pub mix_of-frame : (device : DeviceSeen) (bits : ℕ) (table : Table) (slots position : ℕ) → ((slot : ℕ) → IfSome (table slot position) (IsDeviceFrame device)) → IsDeviceFrame device (mix_of bits (silence_in (mix_settings device)) table slots position)
+-- the mix of some slots is one
+pub mix_of-frame : (device : DeviceSeen) (bits : ℕ) (table : Table) (slots position : ℕ) → ((slot : ℕ) → IfSome (table slot position) (IsMixedFrame device)) → IsMixedFrame device (mix_of bits (silence_in (mix_settings device)) table slots position)
 mix_of-frame device bits table slots position g = fold-frame device bits table position (silence_in (mix_settings device)) (range_with_len 0 slots) (length-silence (mix_settings device)) g
 
--- silence of the device is a frame of it
-silence-frame : (device : DeviceSeen) → IsDevice device → IsDeviceFrame device (silence_in (device_settings device))
-silence-frame device d = length-silence (device_settings device) ∙ ap (λ (settings : Settings). channels_of settings.layout) (sym d.same)
+-- a frame has the channels of the device
+abbrev pub IsDeviceFrame : DeviceSeen → Frame → Type 0
+IsDeviceFrame device frame = length frame ≡ channels_of (device_settings device).layout
 
-pub device_list-frames : (device : DeviceSeen) (table : Table) (count : ℕ) → IsDevice device → ((slot position : ℕ) → IfSome (table slot position) (IsDeviceFrame device)) → All (IsDeviceFrame device) (device_list device table count)
-device_list-frames device table count d g =
-    All-append (IsDeviceFrame device) (replicate (ring_frames device) (silence_in (device_settings device))) (map (device_frame device (mix_at device table)) (range_with_len 0 count))
-    (All-replicate (IsDeviceFrame device) (ring_frames device) (silence_in (device_settings device)) (silence-frame device d))
-    (All-map (IsDeviceFrame device) (device_frame device (mix_at device table)) (range_with_len 0 count)
-    (λ k d l. mix_of-frame device (bits_of (mix_settings device).format) table (play_slots device) (get_or (range_with_len 0 count) k d) (λ slot. g slot (get_or (range_with_len 0 count) k d))))
+-- the frames of a mix have its channels
+pub mixed_frames-frames : (device : DeviceSeen) (table : Table) (count : ℕ) → ((slot position : ℕ) → IfSome (table slot position) (IsMixedFrame device)) → All (IsMixedFrame device) (mixed_frames device (mix_at device table) count)
+mixed_frames-frames device table count g =
+    All-map (IsMixedFrame device) (λ position. full_frame device (mix_at device table position)) (range_with_len 0 count)
+    (λ k d l. (let position : ℕ = get_or (range_with_len 0 count) k d in
+    length-map (mix_at device table position) (at_full (bits_of (mix_settings device).format))
+    ∙ mix_of-frame device (bits_of (mix_settings device).format) table (play_slots device) position (λ slot. g slot position)))
 
-length-spelled_frame : (device : DeviceSeen) (frame : Frame) → IsDevice device → IsDeviceFrame device frame → length (spelled_frame (device_settings device).format frame) ≡ device_frame_bytes device
-length-spelled_frame device frame d h =
+-- and what is made of them those of the device
+pub device_list-frames : (device : DeviceSeen) (table : Table) (handed : ℕ) → IsDevice device → ((slot position : ℕ) → IfSome (table slot position) (IsMixedFrame device)) → All (IsDeviceFrame device) (device_list device table handed)
+device_list-frames device table handed d g =
+    let mixed : List Frame = mixed_frames device (mix_at device table) (mixed_for device handed) in
+    All-append (IsDeviceFrame device) (replicate (ring_frames device) (silence_in (device_settings device))) (device_frames device (mix_at device table) handed 0 handed)
+    (All-replicate (IsDeviceFrame device) (ring_frames device) (silence_in (device_settings device)) (length-silence (device_settings device)))
+    (outs-channels (parent_plan device) (filters_of device) unity mixed 0 handed (parent-plan-fits device d) (mixed_frames-frames device table (mixed_for device handed) g))
+
+pub length-device_list : (device : DeviceSeen) (table : Table) (handed : ℕ) → length (device_list device table handed) ≡ ring_frames device + handed
+length-device_list device table handed =
+    let silent : List Frame = replicate (ring_frames device) (silence_in (device_settings device)) in
+    let ring = length-replicate (ring_frames device) (silence_in (device_settings device)) in
+    let made = length-outs (parent_plan device) (filters_of device) unity (mixed_frames device (mix_at device table) (mixed_for device handed)) 0 handed in
+    length-append silent (device_frames device (mix_at device table) handed 0 handed) ∙ omega (arith, ring, made)
+
+length-spelled_frame : (device : DeviceSeen) (frame : Frame) → IsDeviceFrame device frame → length (spelled_frame (device_settings device).format frame) ≡ device_frame_bytes device
+length-spelled_frame device frame h =
     length-flat_map-spelled (device_settings device).format frame
-    ∙ ap (λ n. n * bytes_of (device_settings device).format) (h ∙ ap (λ (settings : Settings). channels_of settings.layout) d.same)
+    ∙ ap (λ n. n * bytes_of (device_settings device).format) h
 
 -- the bytes of the device's frames
-pub length-spelled_frames : (device : DeviceSeen) (list : List Frame) → IsDevice device → All (IsDeviceFrame device) list → length (spelled_frames (device_settings device).format list) ≡ length list * device_frame_bytes device
-length-spelled_frames device [] d v = omega arith
-length-spelled_frames device (frame ∷ list) d v =
-    let here = length-spelled_frame device frame d (All-head (IsDeviceFrame device) frame list v) in
-    let rest = length-spelled_frames device list d (All-tail (IsDeviceFrame device) frame list v) in
+pub length-spelled_frames : (device : DeviceSeen) (list : List Frame) → All (IsDeviceFrame device) list → length (spelled_frames (device_settings device).format list) ≡ length list * device_frame_bytes device
+length-spelled_frames device [] v = omega arith
+length-spelled_frames device (frame ∷ list) v =
+    let here = length-spelled_frame device frame (All-head (IsDeviceFrame device) frame list v) in
+    let rest = length-spelled_frames device list (All-tail (IsDeviceFrame device) frame list v) in
     omega (arith, length-append (spelled_frame (device_settings device).format frame) (spelled_frames (device_settings device).format list))
 
 -- the first frames are the first bytes
-pub spelled_frames-take : (device : DeviceSeen) (n : ℕ) (list : List Frame) → IsDevice device → All (IsDeviceFrame device) list → spelled_frames (device_settings device).format (take n list) ≡ take (n * device_frame_bytes device) (spelled_frames (device_settings device).format list)
-spelled_frames-take device zero list d v = let none : 0 * device_frame_bytes device ≡ 0 = omega arith in rw none refl
-spelled_frames-take device (suc n) [] d v = sym (take_all (suc n * device_frame_bytes device) [] (omega arith))
-spelled_frames-take device (suc n) (frame ∷ list) d v =
+pub spelled_frames-take : (device : DeviceSeen) (n : ℕ) (list : List Frame) → All (IsDeviceFrame device) list → spelled_frames (device_settings device).format (take n list) ≡ take (n * device_frame_bytes device) (spelled_frames (device_settings device).format list)
+spelled_frames-take device zero list v = let none : 0 * device_frame_bytes device ≡ 0 = omega arith in rw none refl
+spelled_frames-take device (suc n) [] v = sym (take_all (suc n * device_frame_bytes device) [] (omega arith))
+spelled_frames-take device (suc n) (frame ∷ list) v =
     let first : List ℕ = spelled_frame (device_settings device).format frame in
     let rest : List ℕ = spelled_frames (device_settings device).format list in
-    let size = length-spelled_frame device frame d (All-head (IsDeviceFrame device) frame list v) in
+    let size = length-spelled_frame device frame (All-head (IsDeviceFrame device) frame list v) in
     let count : suc n * device_frame_bytes device ≡ length first + n * device_frame_bytes device = omega arith in
-    ap (λ bytes. first ++ bytes) (spelled_frames-take device n list d (All-tail (IsDeviceFrame device) frame list v))
+    ap (λ bytes. first ++ bytes) (spelled_frames-take device n list (All-tail (IsDeviceFrame device) frame list v))
     ∙ sym (take-append-add first rest (n * device_frame_bytes device))
     ∙ ap (λ bytes. take bytes (first ++ rest)) (sym count)
 
-spelled_frames-map : (format : Format) (f : ℕ → Frame) (positions : List ℕ) → spelled_frames format (map f positions) ≡ flat_map (spelled format) (flat_map f positions)
-spelled_frames-map format f [] = refl
-spelled_frames-map format f (position ∷ positions) =
-    ap (λ bytes. flat_map (spelled format) (f position) ++ bytes) (spelled_frames-map format f positions)
-    ∙ sym (flat_map-append (spelled format) (f position) (flat_map f positions))
+-- the bytes of frames are those of their samples
+spelled_frames-joined : (format : Format) (list : List Frame) → spelled_frames format list ≡ flat_map (spelled format) (interleaved list)
+spelled_frames-joined format [] = refl
+spelled_frames-joined format (frame ∷ list) =
+    ap (λ bytes. flat_map (spelled format) frame ++ bytes) (spelled_frames-joined format list)
+    ∙ sym (flat_map-append (spelled format) frame (interleaved list))
 
-pub table-frames : (device : DeviceSeen) (story : Story) → StoryIsValid device story → (slot position : ℕ) → IfSome (table_of device story slot position) (IsDeviceFrame device)
+pub table-frames : (device : DeviceSeen) (story : Story) → StoryIsValid device story → (slot position : ℕ) → IfSome (table_of device story slot position) (IsMixedFrame device)
 table-frames device story v slot position = sounding-frame device (last_gain (story.gains slot) position) (story.runs slot) position v.limits (v.slots slot).own
 
 -- how long they are
 pub length-device_bytes : (device : DeviceSeen) (story : Story) → StoryIsValid device story → length (device_bytes device story) ≡ ((ring_frames device) + story.desk.handed) * device_frame_bytes device
 length-device_bytes device story v =
-    length-spelled_frames device (device_list device (table_of device story) story.desk.handed) v.limits (device_list-frames device (table_of device story) story.desk.handed v.limits (table-frames device story v))
-    ∙ ap (λ n. n * device_frame_bytes device) (length-append (replicate (ring_frames device) (silence_in (device_settings device))) (map (device_frame device (mix_at device (table_of device story))) (range_with_len 0 story.desk.handed))
-    ∙ (let ring = length-replicate (ring_frames device) (silence_in (device_settings device)) in
-    let mixed_length : length (map (device_frame device (mix_at device (table_of device story))) (range_with_len 0 story.desk.handed)) ≡ story.desk.handed = length-map (range_with_len 0 story.desk.handed) (device_frame device (mix_at device (table_of device story))) ∙ length-range_with_len 0 story.desk.handed in
-    omega arith))
+    length-spelled_frames device (device_list device (table_of device story) story.desk.handed) (device_list-frames device (table_of device story) story.desk.handed v.limits (table-frames device story v))
+    ∙ ap (λ n. n * device_frame_bytes device) (length-device_list device (table_of device story) story.desk.handed)
 
 -- what was handed over is the front of them
 pub device_body-bytes : (device : DeviceSeen) (story : Story) → StoryIsValid device story → device_body device story ≡ take (story.desk.handed * device_frame_bytes device) (device_bytes device story)
 device_body-bytes device story v =
-    spelled_frames-take device story.desk.handed (device_list device (table_of device story) story.desk.handed) v.limits (device_list-frames device (table_of device story) story.desk.handed v.limits (table-frames device story v))
+    spelled_frames-take device story.desk.handed (device_list device (table_of device story) story.desk.handed) (device_list-frames device (table_of device story) story.desk.handed v.limits (table-frames device story v))
 
 -- the new frames of an interrupt, joined
 abbrev pub new_block : DeviceSeen → Pool → Story → ℕ → List ℤ
-new_block device pool story n = flat_map (device_frame device (mix_at device (table_of device (told device pool story (Intr n))))) (range_with_len story.desk.handed n)
+new_block device pool story n =
+    interleaved (device_frames device (mix_at device (table_of device (told device pool story (Intr n)))) (story.desk.handed + n) story.desk.handed n)
 
--- an interrupt mixes its frames behind those that were mixed before
+-- the tables before and after an event agree where it was mixed before
+agree-before : (device : DeviceSeen) (pool : Pool) (story : Story) (event : Event) → StoryIsValid device story → (slot position : ℕ) → position < mixed_for device story.desk.handed
+    → table_of device (told device pool story event) slot position ≡ table_of device story slot position
+agree-before device pool story event v slot position l = table_of-told device pool story event slot position v (let level = v.mixed in omega (arith, level, l))
+
+-- what is mixed stays as it was
+pub mixed_frames-told : (device : DeviceSeen) (pool : Pool) (story : Story) (event : Event) → StoryIsValid device story
+    → mixed_frames device (mix_at device (table_of device (told device pool story event))) (mixed_for device story.desk.handed) ≡ mixed_frames device (mix_at device (table_of device story)) (mixed_for device story.desk.handed)
+mixed_frames-told device pool story event v =
+    mixed_frames-same device (table_of device (told device pool story event)) (table_of device story) (mixed_for device story.desk.handed) (agree-before device pool story event v)
+
+-- an interrupt makes its frames behind those that were made before
 pub device_bytes-interrupt : (device : DeviceSeen) (pool : Pool) (story : Story) (n : ℕ) → StoryIsValid device story
     → device_bytes device (told device pool story (Intr n)) ≡ device_bytes device story ++ flat_map (spelled (device_settings device).format) (new_block device pool story n)
 device_bytes-interrupt device pool story n v =
+    let format : Format = (device_settings device).format in
     let new : Story = told device pool story (Intr n) in
-    ap (spelled_frames (device_settings device).format)
-    (device_list-more device (table_of device new) story.desk.handed n
-    ∙ ap (λ list. list ++ map (device_frame device (mix_at device (table_of device new))) (range_with_len story.desk.handed n))
-    (device_list-same device (table_of device new) (table_of device story) story.desk.handed (λ slot position l. table_of-told device pool story (Intr n) slot position v (let even = v.mixed in omega arith))))
-    ∙ flat_map-append (spelled_frame (device_settings device).format) (device_list device (table_of device story) story.desk.handed) (map (device_frame device (mix_at device (table_of device new))) (range_with_len story.desk.handed n))
-    ∙ ap (λ bytes. device_bytes device story ++ bytes) (spelled_frames-map (device_settings device).format (device_frame device (mix_at device (table_of device new))) (range_with_len story.desk.handed n))
+    let handed : ℕ = story.desk.handed in
+    let behind : List Frame = device_frames device (mix_at device (table_of device new)) (handed + n) handed n in
+    ap (spelled_frames format)
+    (device_list-more device (table_of device new) handed n v.limits
+    ∙ ap (λ list. list ++ behind) (device_list-same device (table_of device new) (table_of device story) handed (agree-before device pool story (Intr n) v)))
+    ∙ flat_map-append (spelled_frame format) (device_list device (table_of device story) handed) behind
+    ∙ ap (λ bytes. device_bytes device story ++ bytes) (spelled_frames-joined format behind)
 
 -- every other event leaves them
 pub device_bytes-same : (device : DeviceSeen) (pool : Pool) (story : Story) (event : Event) → StoryIsValid device story → (told device pool story event).desk.handed ≡ story.desk.handed
@@ -196,4 +264,4 @@ pub device_bytes-same : (device : DeviceSeen) (pool : Pool) (story : Story) (eve
 device_bytes-same device pool story event v e =
     let new : Story = told device pool story event in
     ap (λ count. spelled_frames (device_settings device).format (device_list device (table_of device new) count)) e
-    ∙ ap (spelled_frames (device_settings device).format) (device_list-same device (table_of device new) (table_of device story) story.desk.handed (λ slot position l. table_of-told device pool story event slot position v (let even = v.mixed in omega arith)))
+    ∙ ap (spelled_frames (device_settings device).format) (device_list-same device (table_of device new) (table_of device story) story.desk.handed (agree-before device pool story event v))

@@ -67,8 +67,8 @@ next_recording device pool handed event (Playing old) new recording = recording
 abbrev own_told : DeviceSeen → Pool → Channel → recordings.Recording → ℕ → List Event → List Reply
 own_told device pool channel recording handed [] = []
 own_told device pool channel recording handed (event ∷ events) =
-    record { result = (own_turn device event channel).reply; bytes = own_bytes event channel recording }
-    ∷ own_told device pool (own_turn device event channel).book (next_recording device pool handed event channel (own_turn device event channel).book recording) (handed + frames_taken event) events
+    record { result = (own_turn device handed event channel).reply; bytes = own_bytes event channel recording }
+    ∷ own_told device pool (own_turn device handed event channel).book (next_recording device pool handed event channel (own_turn device handed event channel).book recording) (handed + frames_taken event) events
 
 -- the recording of what a descriptor holds
 abbrev own_recording : Story → Held → recordings.Recording
@@ -171,12 +171,12 @@ told_step device pool story event events fd held true closing o c h m rest =
     is : IsMine device event held fd story.desk
     is = mine-turns device event story.desk fd held o h m
 
-    first : reply_to device story event ≡ record { result = (own_turn device event channel).reply; bytes = own_bytes event channel recording }
+    first : reply_to device story event ≡ record { result = (own_turn device story.desk.handed event channel).reply; bytes = own_bytes event channel recording }
     first = λ i. record { result = is.reply i; bytes = bytes_own device pool story event fd held o m i }
 
     -- from the story's own channel to the channel by itself
     goes_on : (more : List Event) → told_by device pool new held more
-        ≡ own_told device pool (own_turn device event channel).book (next_recording device pool story.desk.handed event channel (own_turn device event channel).book recording) (story.desk.handed + frames_taken event) more
+        ≡ own_told device pool (own_turn device story.desk.handed event channel).book (next_recording device pool story.desk.handed event channel (own_turn device story.desk.handed event channel).book recording) (story.desk.handed + frames_taken event) more
     goes_on more =
         ap (λ (r : recordings.Recording). own_told device pool (channel_at device new.desk held) r new.desk.handed more) (next_told device pool story event held.way held.slot)
         ∙ ap (λ (n : ℕ). own_told device pool (channel_at device new.desk held) (next_recording device pool story.desk.handed event channel (channel_at device new.desk held) recording) n more) (handed-taken device story.desk event)
@@ -187,7 +187,7 @@ told_step device pool story event events fd held true closing o c h m rest =
     behind true e = ap (λ (r : Reply). r ∷ []) first
     behind false e =
         ap (λ (r : Reply). r ∷ client_replies device pool fd new events) first
-        ∙ ap (λ (list : List Reply). record { result = (own_turn device event channel).reply; bytes = own_bytes event channel recording } ∷ list) (rest (is.holds e) ∙ goes_on (own_events fd events))
+        ∙ ap (λ (list : List Reply). record { result = (own_turn device story.desk.handed event channel).reply; bytes = own_bytes event channel recording } ∷ list) (rest (is.holds e) ∙ goes_on (own_events fd events))
 told_step device pool story event events fd held false closing o c h m rest =
     let new : Story = told device pool story event in
     let more : List Event = own_events fd events in
@@ -234,21 +234,21 @@ read_settings : (count : ℕ) (book : RecordBook) → (read_turn count book).boo
 read_settings count book = read_in (nat_lt 0 count && eqb (record_fill_of book) 0) count book
 
 -- it stays in order
-safe_own : (device : DeviceSeen) (event : Event) (channel : Channel) → IsSafe device channel → IsSafe device (own_turn device event channel).book
-safe_own device (Open fd way settings) channel s = s
-safe_own device (Write fd source at count) (Playing book) s = tt
-safe_own device (Write fd source at count) (Recording book) s = s
-safe_own device (Read fd count) (Playing book) s = tt
-safe_own device (Read fd count) (Recording book) s =
+safe_own : (device : DeviceSeen) (handed : ℕ) (event : Event) (channel : Channel) → IsSafe device channel → IsSafe device (own_turn device handed event channel).book
+safe_own device handed (Open fd way settings) channel s = s
+safe_own device handed (Write fd source at count) (Playing book) s = tt
+safe_own device handed (Write fd source at count) (Recording book) s = s
+safe_own device handed (Read fd count) (Playing book) s = tt
+safe_own device handed (Read fd count) (Recording book) s =
     subst (λ (settings : Settings). RecordIsSafe (record_rate_between device settings) (read_turn count book).book) (sym (read_settings count book)) (record-safe-read (record_rate_at device book) count book s)
-safe_own device (Ioctl fd request) (Playing book) s = tt
-safe_own device (Ioctl fd request) (Recording book) s =
+safe_own device handed (Ioctl fd request) (Playing book) s = tt
+safe_own device handed (Ioctl fd request) (Recording book) s =
     let new : RecordBook = (record_ask request book).book in
     record-safe-ask (record_rate_at device book) (record_rate_at device new) request book (λ e. ap (λ (settings : Settings). record_rate_between device settings) (record-ask-settings request book e)) s
-safe_own device (Close fd) (Playing book) s = tt
-safe_own device (Close fd) (Recording book) s = record-safe-closed (record_rate_at device book) book s
-safe_own device (Intr n) (Playing book) s = tt
-safe_own device (Intr n) (Recording book) s =
+safe_own device handed (Close fd) (Playing book) s = tt
+safe_own device handed (Close fd) (Recording book) s = record-safe-closed (record_rate_at device book) book s
+safe_own device handed (Intr n) (Playing book) s = tt
+safe_own device handed (Intr n) (Recording book) s =
     subst (λ (settings : Settings). RecordIsSafe (record_rate_between device settings) (capturing device n book)) (sym (captured_settings book.state device n book)) (record-safe-captured (record_rate_at device book) n book s)
 
 -- equal bytes are read of equal recordings, and none of a channel that has none
@@ -272,13 +272,13 @@ bytes_alike device (Close fd) channel one other s same = refl
 bytes_alike device (Intr n) channel one other s same = refl
 
 -- a channel that plays never records
-plays_on : (device : DeviceSeen) (event : Event) (book : PlayBook) → runs (own_turn device event (Playing book)).book ≡ false
-plays_on device (Open fd way settings) book = refl
-plays_on device (Write fd source at count) book = refl
-plays_on device (Read fd count) book = refl
-plays_on device (Ioctl fd request) book = refl
-plays_on device (Close fd) book = refl
-plays_on device (Intr n) book = refl
+plays_on : (device : DeviceSeen) (handed : ℕ) (event : Event) (book : PlayBook) → runs (own_turn device handed event (Playing book)).book ≡ false
+plays_on device handed (Open fd way settings) book = refl
+plays_on device handed (Write fd source at count) book = refl
+plays_on device handed (Read fd count) book = refl
+plays_on device handed (Ioctl fd request) book = refl
+plays_on device handed (Close fd) book = refl
+plays_on device handed (Intr n) book = refl
 
 -- recordings that are equal while they run go on to be, where the same is captured
 going_same : (device : DeviceSeen) (pool more : Pool) (handed : ℕ) (event : Event) (old : RecordBook) (new : Channel) (one other : recordings.Recording) → capture_frames more ≡ capture_frames pool → (is_running old.state ≡ true → other ≡ one)
@@ -293,20 +293,20 @@ going_same device pool more handed event old (Recording new) one other frames sa
     at true e is running = ap (going_on device more event old new) (same e) ∙ going-alike device pool more event old new one frames
 
 next_alike : (device : DeviceSeen) (pool more : Pool) (handed : ℕ) (event : Event) (channel : Channel) (one other : recordings.Recording) → capture_frames more ≡ capture_frames pool → (runs channel ≡ true → other ≡ one)
-    → let new : Channel = (own_turn device event channel).book in
+    → let new : Channel = (own_turn device handed event channel).book in
     runs new ≡ true → next_recording device more handed event channel new other ≡ next_recording device pool handed event channel new one
-next_alike device pool more handed event (Playing book) one other frames same running = absurd (let clash : true ≡ false = sym running ∙ plays_on device event book in cc)
-next_alike device pool more handed event (Recording book) one other frames same running = going_same device pool more handed event book (own_turn device event (Recording book)).book one other frames same running
+next_alike device pool more handed event (Playing book) one other frames same running = absurd (let clash : true ≡ false = sym running ∙ plays_on device handed event book in cc)
+next_alike device pool more handed event (Recording book) one other frames same running = going_same device pool more handed event book (own_turn device handed event (Recording book)).book one other frames same running
 
 told_alike : (device : DeviceSeen) (pool more : Pool) (channel : Channel) (one other : recordings.Recording) (handed : ℕ) (events : List Event) → capture_frames more ≡ capture_frames pool → IsSafe device channel → (runs channel ≡ true → other ≡ one)
     → own_told device more channel other handed events ≡ own_told device pool channel one handed events
 told_alike device pool more channel one other handed [] frames s same = refl
 told_alike device pool more channel one other handed (event ∷ events) frames s same =
-    let turn : Turn Channel = own_turn device event channel in
+    let turn : Turn Channel = own_turn device handed event channel in
     let next : recordings.Recording = next_recording device more handed event channel turn.book other in
     ap (λ (bytes : List ℕ). record { result = turn.reply; bytes = bytes } ∷ own_told device more turn.book next (handed + frames_taken event) events) (bytes_alike device event channel one other s same)
     ∙ ap (λ (list : List Reply). record { result = turn.reply; bytes = own_bytes event channel one } ∷ list)
-    (told_alike device pool more turn.book (next_recording device pool handed event channel turn.book one) next (handed + frames_taken event) events frames (safe_own device event channel s)
+    (told_alike device pool more turn.book (next_recording device pool handed event channel turn.book one) next (handed + frames_taken event) events frames (safe_own device handed event channel s)
     (λ running. next_alike device pool more handed event channel one other frames same running))
 
 -- ---- two openings

@@ -1,24 +1,23 @@
 -- The device's bytes without a shortage: what the runs are from their starts to their ends.
-use Rattle.std.proofs.Common.{◌≡◌, ℕ, ◌+◌, ◌-◌, ◌*◌, ◌<◌, ◌≤◌, List, length, map, take, replicate, min, Option, Some, None, inl, inr, refl, sym, ap, ◌∙◌, arith, All, length-append, length-take}
+use Rattle.std.proofs.Common.{◌≡◌, ℕ, ◌+◌, ◌-◌, ◌*◌, ◌<◌, ◌≤◌, List, length, take, min, Option, Some, None, inl, inr, refl, sym, ap, ◌∙◌, arith, All, length-take}
 use Rattle.std.specs.Prelude.{◌≢◌, option_map}
-use Rattle.std.specs.List.{range_with_len}
 use Rattle.std.proofs.Math.Nat.{mul-le-mul_right}
 use Rattle.std.proofs.lemmas.Bool.{cases_lt}
-use Rattle.std.proofs.lemmas.List.{length-map, length-replicate, take-append-le, take-take, take_all}
+use Rattle.std.proofs.lemmas.List.{take-append-le, take-take, take_all}
 use Rattle.std.proofs.lemmas.List.Elements.{All-weaker}
-use Rattle.std.proofs.lemmas.List.FromFn.{length-range_with_len}
 use Rattle.pcm_format.specs.Frames.{Frame, spelled_frames}
 use Rattle.pcm_feeder.specs.declared.stage.Gain.{Gain}
-use Rattle.pcm_desk.specs.Device.{DeviceSeen, device_frame_bytes, device_settings, ring_frames}
+use Rattle.pcm_desk.specs.Device.{DeviceSeen, IsDevice, device_frame_bytes, device_settings, ring_frames}
+use Rattle.pcm_desk.proofs.Ratios.{mixed-grows}
 use Rattle.pcm_desk.specs.Desk.{play_at}
 use Rattle.pcm_sound.specs.Gains.{last_gain}
 use Rattle.pcm_sound.specs.Runs.{Run}
 use Rattle.pcm_sound.specs.Story.{Story}
 use Rattle.pcm_sound.specs.Mix.{Table}
-use Rattle.pcm_sound.specs.DeviceList.{device_body, device_body_of, device_bytes, device_frame, device_list, mix_at, silence_in, table_of}
+use Rattle.pcm_sound.specs.DeviceList.{device_body, device_body_of, device_bytes, device_frames, device_list, mix_at, table_of}
 use Rattle.pcm_sound.specs.Plain.{AgreeInCommon, HasNoShortage, IsInPlace, IsUnbroken, SoundAlike, Span, plain_table, span_at, span_frame, spans_of}
 use Rattle.pcm_sound.specs.Valid.{StoryIsValid}
-use Rattle.pcm_sound.proofs.DeviceLists.{device_body-bytes, device_list-frames, device_list-more, device_list-same, length-device_bytes, spelled_frames-take, table-frames}
+use Rattle.pcm_sound.proofs.DeviceLists.{device_body-bytes, device_list-frames, device_list-more, device_list-same, length-device_bytes, length-device_list, spelled_frames-take, table-frames}
 use Rattle.pcm_sound.proofs.Heard.{RunIsHeard, heard-in_place, runs-heard, sounding-spans, spans-earlier}
 
 -- ---- one story
@@ -64,19 +63,13 @@ alike_tables device until one other first second v w unbroken whole alike slot p
     ∙ sym (spans-earlier device same until other.desk.mixed position (other.runs slot) h second)
     ∙ sym (table_of-plain device other slot position w whole)
 
-length-device_list : (device : DeviceSeen) (table : Table) (count : ℕ) → length (device_list device table count) ≡ ring_frames device + count
-length-device_list device table count =
-    let ring = length-replicate (ring_frames device) (silence_in (device_settings device)) in
-    let frames : length (map (device_frame device (mix_at device table)) (range_with_len 0 count)) ≡ count = length-map (range_with_len 0 count) (device_frame device (mix_at device table)) ∙ length-range_with_len 0 count in
-    length-append (replicate (ring_frames device) (silence_in (device_settings device))) (map (device_frame device (mix_at device table)) (range_with_len 0 count)) ∙ omega arith
-
 -- the front of the device's frames is there once as many were handed over
-list_front : (device : DeviceSeen) (table : Table) (until count : ℕ) → until ≤ count → take until (device_list device table count) ≡ take until (device_list device table until)
-list_front device table until count h =
+list_front : (device : DeviceSeen) (table : Table) (until count : ℕ) → IsDevice device → until ≤ count → take until (device_list device table count) ≡ take until (device_list device table until)
+list_front device table until count d h =
     let split : count ≡ until + (count - until) = omega arith in
     ap (λ k. take until (device_list device table k)) split
-    ∙ ap (take until) (device_list-more device table until (count - until))
-    ∙ take-append-le until (device_list device table until) (map (device_frame device (mix_at device table)) (range_with_len until (count - until))) (omega (arith, length-device_list device table until))
+    ∙ ap (take until) (device_list-more device table until (count - until) d)
+    ∙ take-append-le until (device_list device table until) (device_frames device (mix_at device table) (until + (count - until)) until (count - until)) (omega (arith, length-device_list device table until))
 
 take_both : {X : Type 0} (a b : ℕ) (xs : List X) → take b (take a xs) ≡ take (min a b) xs
 take_both a b xs =
@@ -108,7 +101,7 @@ body_front device story count v =
     ap (take (count * size)) (device_body-bytes device story v)
     ∙ take_both (story.desk.handed * size) (count * size) (device_bytes device story)
     ∙ ap (λ bytes. take bytes (device_bytes device story)) (min_times story.desk.handed count size)
-    ∙ sym (spelled_frames-take device (min story.desk.handed count) list v.limits (device_list-frames device (table_of device story) story.desk.handed v.limits (table-frames device story v)))
+    ∙ sym (spelled_frames-take device (min story.desk.handed count) list (device_list-frames device (table_of device story) story.desk.handed v.limits (table-frames device story v)))
 
 -- how long it is
 pub length-device_body : (device : DeviceSeen) (story : Story) → StoryIsValid device story → length (device_body device story) ≡ story.desk.handed * device_frame_bytes device
@@ -122,20 +115,22 @@ pub alike-bodies : (device : DeviceSeen) (one other : Story) → StoryIsValid de
     → SoundAlike device (min one.desk.mixed other.desk.mixed) one other → AgreeInCommon (device_body device one) (device_body device other)
 alike-bodies device one other v w unbroken whole alike =
     let until : ℕ = min one.desk.mixed other.desk.mixed in
+    let common : ℕ = min one.desk.handed other.desk.handed in
     let spell : List Frame → List ℕ = spelled_frames (device_settings device).format in
     let first : List Frame = device_list device (table_of device one) one.desk.handed in
     let second : List Frame = device_list device (table_of device other) other.desk.handed in
-    let even = v.mixed in
-    let level = w.mixed in
-    let common : min one.desk.handed other.desk.handed ≡ until = omega arith in
-    let common_too : min other.desk.handed one.desk.handed ≡ until = omega arith in
+    let level = v.mixed in
+    let same = w.mixed in
+    let below = mixed-grows device common one.desk.handed v.limits (omega arith) in
+    let under = mixed-grows device common other.desk.handed v.limits (omega arith) in
+    let turned : min other.desk.handed one.desk.handed ≡ common = omega arith in
     ap (λ bytes. take bytes (device_body device one)) (length-device_body device other w)
     ∙ body_front device one other.desk.handed v
-    ∙ ap (λ n. spell (take n first)) common
-    ∙ ap spell (list_front device (table_of device one) until one.desk.handed (omega arith))
-    ∙ ap (λ (list : List Frame). spell (take until list))
-    (device_list-same device (table_of device one) (table_of device other) until (alike_tables device until one other (omega arith) (omega arith) v w unbroken whole alike))
-    ∙ ap spell (sym (list_front device (table_of device other) until other.desk.handed (omega arith)))
-    ∙ ap (λ n. spell (take n second)) (sym common_too)
+    ∙ ap spell (list_front device (table_of device one) common one.desk.handed v.limits (omega arith))
+    ∙ ap (λ (list : List Frame). spell (take common list))
+    (device_list-same device (table_of device one) (table_of device other) common
+    (λ slot position l. alike_tables device until one other (omega arith) (omega arith) v w unbroken whole alike slot position (omega (arith, l, below, under, level, same))))
+    ∙ ap spell (sym (list_front device (table_of device other) common other.desk.handed v.limits (omega arith)))
+    ∙ ap (λ n. spell (take n second)) (sym turned)
     ∙ sym (body_front device other one.desk.handed w)
     ∙ ap (λ bytes. take bytes (device_body device other)) (sym (length-device_body device one v))

@@ -26,15 +26,15 @@ use Rattle.pcm_desk.specs.declared.record_book.RecordBook.{RecordBook}
 use Rattle.pcm_desk.specs.RecordBooks as records
 use Rattle.pcm_desk.specs.RecordBooks.{record_begun}
 use Rattle.pcm_desk.specs.RecordRequests.{record_ask}
-use Rattle.pcm_desk.specs.Device.{DeviceSeen, IsDevice, play_slots, play_rate_between}
+use Rattle.pcm_desk.specs.Device.{DeviceSeen, IsDevice, mixed_for, play_rate_between, play_slots}
 use Rattle.pcm_desk.specs.PlayBooks.{is_draining, is_play_free, play_begun, write_turn}
 use Rattle.pcm_desk.specs.PlaySafe.{PlayIsSafe}
-use Rattle.pcm_desk.specs.Desk.{Desk, DeskTurn, play_unopened, held_by, least_free_play, least_free_record, play_at, record_at, by_way, with_play, with_record, with_descriptor, refusing, open_play, open_record, open_turn, play_turn, record_turn, turning, write_on, read_on, asking, ioctl_on, close_on, close_play, close_record, closing, mixing, after, play_rate_at}
+use Rattle.pcm_desk.specs.Desk.{Desk, DeskTurn, after, asking, by_way, close_on, close_play, close_record, closing, held_by, ioctl_on, least_free_play, least_free_record, mixed_by, mixing, open_play, open_record, open_turn, play_at, play_rate_at, play_turn, play_unopened, read_on, record_at, record_turn, refusing, turning, with_descriptor, with_play, with_record, write_on}
 use Rattle.pcm_desk.specs.Events.{Fits, frames_taken}
 use Rattle.pcm_desk.proofs.PlaySafe.{unstarted, safe-begun, safe-write, safe-close, safe-refilled, settings-refilled}
 use Rattle.pcm_desk.proofs.PlaySafeAsking.{safe-ask}
 use Rattle.pcm_desk.proofs.PlayLeaves.{ask-leaves, close-leaves, close-keeps}
-use Rattle.pcm_desk.proofs.Ratios.{ratio-between}
+use Rattle.pcm_desk.proofs.Ratios.{mixed-behind, ratio-between}
 use Rattle.pcm_desk.proofs.Slots.{play_at-mixing, play_at-with}
 use Rattle.pcm_sound.specs.Gains.{GainSet, begins, book_gain, last_gain, sets_volume}
 use Rattle.pcm_sound.specs.Runs.{Run, asks_drop, drops, taking, playing, carrying, marking, sounding}
@@ -427,7 +427,7 @@ valid-kept device pool story event k v = record {
   safe = k.safe;
   placed = λ slot. subst (λ (mixed : ℕ). SlotIsPlaced device mixed (play_at device (after device story.desk event).desk slot) ((told device pool story event).runs slot)) (sym k.mixed_same) (k.placed slot);
   gains = gains-told device pool story event (let same = k.mixed_same in omega arith) v;
-  mixed = k.mixed_same ∙ v.mixed ∙ sym k.handed_same;
+  mixed = k.mixed_same ∙ v.mixed ∙ ap (mixed_for device) (sym k.handed_same);
 }
 
 valid-interrupted : (device : DeviceSeen) (pool : Pool) (story : Story) (n : ℕ) → StoryIsValid device story → StoryIsValid device (told device pool story (Intr n))
@@ -435,17 +435,20 @@ valid-interrupted device pool story n v = record {
   limits = v.limits;
   slots = λ slot.
       let old : PlayBook = play_at device story.desk slot in
-      valid-at device pool story (Intr n) (story.desk.mixed + n) slot v.limits refl
-      (subst (λ (b : PlayBook). IsUntold device (story.desk.mixed + n) old b (playing device story.desk.mixed n old (story.runs slot))) (sym (play_at-mixing device story.desk n slot))
-      (untold-mixing device story.desk.mixed n old (story.runs slot) v.limits (v.safe slot) (v.slots slot)));
-  safe = λ slot. subst (IsSafeAt device) (sym (play_at-mixing device story.desk n slot)) (safe-mixing device n (play_at device story.desk slot) v.limits (v.slots slot).settings (v.safe slot));
+      valid-at device pool story (Intr n) (story.desk.mixed + q) slot v.limits refl
+      (subst (λ (b : PlayBook). IsUntold device (story.desk.mixed + q) old b (playing device story.desk.mixed q old (story.runs slot))) (sym (play_at-mixing device story.desk n slot))
+      (untold-mixing device story.desk.mixed q old (story.runs slot) v.limits (v.safe slot) (v.slots slot)));
+  safe = λ slot. subst (IsSafeAt device) (sym (play_at-mixing device story.desk n slot)) (safe-mixing device q (play_at device story.desk slot) v.limits (v.slots slot).settings (v.safe slot));
   placed = λ slot.
       let old : PlayBook = play_at device story.desk slot in
-      subst (λ (b : PlayBook). SlotIsPlaced device (story.desk.mixed + n) b (marking story.desk.mixed (Intr n) old b (playing device story.desk.mixed n old (story.runs slot)))) (sym (play_at-mixing device story.desk n slot))
-      (placed-mixing device story.desk.mixed n old (story.runs slot) v.limits (v.safe slot) (v.slots slot) (v.placed slot));
+      subst (λ (b : PlayBook). SlotIsPlaced device (story.desk.mixed + q) b (marking story.desk.mixed (Intr n) old b (playing device story.desk.mixed q old (story.runs slot)))) (sym (play_at-mixing device story.desk n slot))
+      (placed-mixing device story.desk.mixed q old (story.runs slot) v.limits (v.safe slot) (v.slots slot) (v.placed slot));
   gains = gains-told device pool story (Intr n) (omega arith) v;
-  mixed = ap (λ frames. frames + n) v.mixed;
+  mixed = ap (λ frames. frames + q) v.mixed ∙ mixed-behind device story.desk.handed n v.limits;
 }
+  where
+    q : ℕ
+    q = mixed_by device story.desk.handed n
 
 -- a story stays valid through an event that fits
 pub valid-told : (device : DeviceSeen) (pool : Pool) (story : Story) (event : Event) → Fits device pool event → StoryIsValid device story → StoryIsValid device (told device pool story event)
@@ -503,7 +506,7 @@ sounding-carrying device pool story (Write fd source at count) gain slot positio
 sounding-carrying device pool story (Read fd count) gain slot position v h = refl
 sounding-carrying device pool story (Ioctl fd request) gain slot position v h = refl
 sounding-carrying device pool story (Close fd) gain slot position v h = refl
-sounding-carrying device pool story (Intr n) gain slot position v h = sounding-playing device gain story.desk.mixed n position (play_at device story.desk slot) (story.runs slot) h
+sounding-carrying device pool story (Intr n) gain slot position v h = sounding-playing device gain story.desk.mixed (mixed_by device story.desk.handed n) position (play_at device story.desk slot) (story.runs slot) h
 
 -- what was mixed stays as it was
 pub table_of-told : (device : DeviceSeen) (pool : Pool) (story : Story) (event : Event) (slot position : ℕ) → StoryIsValid device story → position < story.desk.mixed → table_of device (told device pool story event) slot position ≡ table_of device story slot position

@@ -1,5 +1,5 @@
 -- What one slot adds to the block of an interrupt, from the bytes of its run.
-use Rattle.std.proofs.Common.{◌≡◌, ℕ, ◌+◌, ◌*◌, ◌<◌, true, List, [], ◌∷◌, ◌++◌, map, take, drop, Option, Some, inl, inr, ℤ, refl, sym, ap, ◌∙◌, arith, add-zero}
+use Rattle.std.proofs.Common.{◌≡◌, ℕ, zero, suc, ◌+◌, ◌*◌, ◌<◌, true, List, [], ◌∷◌, ◌++◌, map, take, drop, Option, Some, inl, inr, ℤ, refl, sym, ap, ◌∙◌, arith, add-zero}
 use Rattle.std.specs.List.{range_with_len, flat_map}
 use Rattle.std.proofs.lemmas.Bool.{cases_lt}
 use Rattle.pcm_format.specs.declared.settings.Settings.{Settings}
@@ -21,7 +21,7 @@ use Rattle.pcm_sound.specs.Mix.{adding}
 use Rattle.pcm_sound.specs.Added.{turned}
 use Rattle.pcm_sound.specs.Valid.{SlotIsValid}
 use Rattle.pcm_sound.proofs.Sounding.{sounding-playing_given, sounding-playing_none}
-use Rattle.pcm_sound.proofs.DeviceLists.{IsDeviceFrame, length-given_frame}
+use Rattle.pcm_sound.proofs.DeviceLists.{IsMixedFrame, length-given_frame}
 use Rattle.pcm_sound.proofs.Blocks.{adding-block}
 
 flat_map-elements : {X : Type 0} (f : ℕ → List X) (xs : List ℕ) → flat_map (λ x. x) (map f xs) ≡ flat_map f xs
@@ -44,7 +44,7 @@ SlotTurn device position n book runs gains bytes sum =
     ≡ turned device n book bytes (flat_map sum (range_with_len 0 n))
 
 turn-silent : (device : DeviceSeen) (position n : ℕ) (book : PlayBook) (runs : List Run) (gains : ℕ → Gain) (bytes : List ℕ) (sum : ℕ → Frame) → giving (play_rate_at device book) n book ≡ 0 → SlotIsValid device position book runs
-    → ((k : ℕ) → k < n → IsDeviceFrame device (sum k)) → SlotTurn device position n book runs gains bytes sum
+    → ((k : ℕ) → k < n → IsMixedFrame device (sum k)) → SlotTurn device position n book runs gains bytes sum
 turn-silent device position n book runs gains bytes sum none v s =
     let size : ℕ = channels_of (mix_settings device).layout in
     let bits : ℕ = bits_of (mix_settings device).format in
@@ -55,7 +55,7 @@ turn-silent device position n book runs gains bytes sum none v s =
 
 turn-started : (device : DeviceSeen) (position n : ℕ) (book : PlayBook) (run : Run) (runs : List Run) (gains : ℕ → Gain) (bytes : List ℕ) (sum : ℕ → Frame) → IsDevice device → is_started book.state ≡ true
     → SlotIsValid device position book (run ∷ runs) → bytes ≡ run.bytes → ((k : ℕ) → k < n → gains k ≡ book_gain book)
-    → ((k : ℕ) → k < n → IsDeviceFrame device (sum k)) → SlotTurn device position n book (run ∷ runs) gains bytes sum
+    → ((k : ℕ) → k < n → IsMixedFrame device (sum k)) → SlotTurn device position n book (run ∷ runs) gains bytes sum
 turn-started device position n book run runs gains bytes sum d started v is one s =
     let size : ℕ = channels_of (mix_settings device).layout in
     let bits : ℕ = bits_of (mix_settings device).format in
@@ -78,16 +78,27 @@ turn-started device position n book run runs gains bytes sum d started v is one 
 
 turn-with : (device : DeviceSeen) (position n : ℕ) (book : PlayBook) (runs : List Run) (gains : ℕ → Gain) (bytes : List ℕ) (sum : ℕ → Frame) → IsDevice device → is_started book.state ≡ true
     → SlotIsValid device position book runs → (0 < book.written → bytes ≡ newest_bytes runs) → ((k : ℕ) → k < n → gains k ≡ book_gain book)
-    → ((k : ℕ) → k < n → IsDeviceFrame device (sum k)) → SlotTurn device position n book runs gains bytes sum
+    → ((k : ℕ) → k < n → IsMixedFrame device (sum k)) → SlotTurn device position n book runs gains bytes sum
 turn-with device position n book [] gains bytes sum d started v is one s = absurd (v.newest (v.started started))
 turn-with device position n book (run ∷ runs) gains bytes sum d started v is one s = turn-started device position n book run runs gains bytes sum d started v (is (v.started started)) one s
 
 -- What a slot adds to the block of an interrupt is what its plan makes of the bytes of its run, and no more.
 pub turn : (device : DeviceSeen) (position n : ℕ) (book : PlayBook) (runs : List Run) (gains : ℕ → Gain) (bytes : List ℕ) (sum : ℕ → Frame) → IsDevice device
     → SlotIsValid device position book runs → (0 < book.written → bytes ≡ newest_bytes runs) → ((k : ℕ) → k < n → gains k ≡ book_gain book)
-    → ((k : ℕ) → k < n → IsDeviceFrame device (sum k)) → SlotTurn device position n book runs gains bytes sum
+    → ((k : ℕ) → k < n → IsMixedFrame device (sum k)) → SlotTurn device position n book runs gains bytes sum
 turn device position n book runs gains bytes sum d v is one s =
     elim (cases_lt 0 (giving (play_rate_at device book) n book)) [
       | inl some ↦ turn-with device position n book runs gains bytes sum d (allowed-started book.state (play_rate_at device book) book (omega arith)) v is one s
       | inr none ↦ turn-silent device position n book runs gains bytes sum (omega arith) v s
     ]
+
+-- an interrupt that mixes nothing adds nothing
+onto-nothing : (bits k : ℕ) (add : List ℤ) → mixed bits (take k []) add ++ drop k [] ≡ []
+onto-nothing bits zero add = refl
+onto-nothing bits (suc k) add = refl
+
+pub turned-nothing : (device : DeviceSeen) (book : PlayBook) (bytes : List ℕ) → turned device 0 book bytes [] ≡ []
+turned-nothing device book bytes =
+    let count : ℕ = giving (play_rate_at device book) 0 book in
+    onto-nothing (bits_of (mix_settings device).format) (count * channels_of (mix_settings device).layout)
+    (given_samples device (book_gain book) book.opening.settings bytes book.given count)

@@ -1,4 +1,4 @@
--- What the device gets: the silence of its ring, then what stands for the mix, spelled.
+-- What the device gets: the silence of its ring, then what the parent's plan makes of the mix, spelled.
 use Rattle.std.specs.Prelude.{ℕ, List, ◌++◌, map, replicate, take}
 use Rattle.std.specs.List.{range_with_len}
 use Rattle.pcm_format.specs.declared.settings.Settings.{Settings}
@@ -8,7 +8,8 @@ use Rattle.pcm_format.specs.Formats.{bits_of}
 use Rattle.pcm_format.specs.Layouts.{channels_of}
 use Rattle.pcm_format.specs.Frames.{Frame, spelled_frames}
 use Rattle.pcm_feeder.specs.Streams.{silence}
-use Rattle.pcm_desk.specs.Device.{DeviceSeen, device_settings, mix_settings, play_slots, ring_frames}
+use Rattle.pcm_plan.specs.Through.{recs}
+use Rattle.pcm_desk.specs.Device.{DeviceSeen, device_settings, filters_of, full_frame, mix_settings, mixed_for, parent_plan, play_slots, ring_frames}
 use Rattle.pcm_sound.specs.Gains.{last_gain}
 use Rattle.pcm_sound.specs.Runs.{sounding}
 use Rattle.pcm_sound.specs.Story.{Story, story_of}
@@ -27,14 +28,19 @@ abbrev pub mix_at : DeviceSeen → Table → ℕ → Frame
 mix_at device table position =
     mix_of (bits_of (mix_settings device).format) (silence_in (mix_settings device)) table (play_slots device) position
 
--- frame k behind the ring's silence: the mix at its place, since the settings of both are the same
-abbrev pub device_frame : DeviceSeen → (ℕ → Frame) → ℕ → Frame
-device_frame device mix k = mix k
+-- the first frames of a mix, at 32 bits
+abbrev pub mixed_frames : DeviceSeen → (ℕ → Frame) → ℕ → List Frame
+mixed_frames device mix count = map (λ position. full_frame device (mix position)) (range_with_len 0 count)
+
+-- so many frames of the device from one on, once so many were handed over: what the parent's plan makes of all that is mixed by then
+abbrev pub device_frames : DeviceSeen → (ℕ → Frame) → ℕ → ℕ → ℕ → List Frame
+device_frames device mix handed from count =
+    recs (parent_plan device) (filters_of device) (mixed_frames device mix (mixed_for device handed)) from count
 
 -- the frames of the device once so many were handed over: its ring begins as silence
 abbrev pub device_list : DeviceSeen → Table → ℕ → List Frame
 device_list device table handed =
-    replicate (ring_frames device) (silence_in (device_settings device)) ++ map (device_frame device (mix_at device table)) (range_with_len 0 handed)
+    replicate (ring_frames device) (silence_in (device_settings device)) ++ device_frames device (mix_at device table) handed 0 handed
 
 -- the bytes of all frames of the device, handed over or still in its ring
 abbrev pub device_bytes : DeviceSeen → Story → List ℕ

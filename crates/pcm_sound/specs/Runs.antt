@@ -106,7 +106,7 @@ marking position event old new (run ∷ runs) = marked position event old new ru
 -- The bytes and the pieces of a slot's runs after an event: what was written is what the book grew by.
 abbrev pub carrying : DeviceSeen → Pool → Desk → Event → PlayBook → PlayBook → List Run → List Run
 carrying device pool desk (Write fd source at count) old new runs = taking (bytes_at pool source at (new.written - old.written)) old runs
-carrying device pool desk (Intr n) old new runs = playing device desk.mixed (mixed_by device desk n) old runs
+carrying device pool desk (Intr n) old new runs = playing device desk.mixed (mixed_by device desk.handed n) old runs
 carrying device pool desk event old new runs = runs
 
 -- the runs of a slot after an event at a desk, from its book before and after

@@ -6,7 +6,7 @@ use Rattle.pcm_rate.specs.declared.rate.Rate.{Rate}
 use Rattle.pcm_rate.specs.Rates.{can, len}
 use Rattle.pcm_feeder.specs.Limits.{IsRate}
 use Rattle.pcm_desk.specs.declared.play_book.PlayBook.{PlayBook}
-use Rattle.pcm_desk.specs.Device.{DeviceSeen, IsDevice, play_rate_between}
+use Rattle.pcm_desk.specs.Device.{DeviceSeen, IsDevice, mixed_for, play_rate_between}
 use Rattle.pcm_desk.specs.PlayBooks.{is_draining, is_started}
 use Rattle.pcm_desk.specs.PlaySafe.{PlayIsSafe}
 use Rattle.pcm_desk.specs.declared.record_book.RecordBook.{RecordBook}
@@ -64,8 +64,8 @@ pub record StoryIsValid (device : DeviceSeen) (story : Story) : Type 0 where
   pub placed : (slot : ℕ) → SlotIsPlaced device story.desk.mixed (play_at device story.desk slot) (story.runs slot)
   -- from now on each slot has the gain of its book's volume
   pub gains : (slot position : ℕ) → story.desk.mixed ≤ position → last_gain (story.gains slot) position ≡ book_gain (play_at device story.desk slot)
-  -- what stands for all frames that were handed over is mixed
-  pub mixed : story.desk.mixed ≡ story.desk.handed
+  -- just the frames are mixed that those handed over need
+  pub mixed : story.desk.mixed ≡ mixed_for device story.desk.handed
 
 -- a recording that has started is what its book counts: the bytes kept, those that were read, and the frames handed over
 -- since; where no interrupt lost a frame, it is all that came of what is recorded

@@ -5,7 +5,6 @@ use Rattle.std.proofs.Props.{props}
 use mathlib.Core.HLevel.{is_prop→PathP}
 use Rattle.pcm_fixed.specs.Fixed.{fixed_len}
 use Rattle.pcm_format.specs.Frames.{Frame, frame_bytes}
-use Rattle.pcm_format.specs.Layouts.{channels_of}
 use Rattle.pcm_desk.specs.declared.limits.TheConstants.{RING_FRAMES, SLOTS}
 use Rattle.std.specs.List.{position_or_len, prefix_len}
 use Rattle.std.proofs.lemmas.List.{get_or-map, map-set, length-map, length-set, get_or_default, same_lists}
@@ -145,18 +144,17 @@ record_books_of-captured {B = B} device n old new same each =
 -- ---- a parent
 
 -- a parent with other channels that are the old ones is the old one
-pub parent_same : {B : Type 0} (new old : ParentOf B) (device : new.device ≡ old.device) (channels : new.channels ≡ old.channels) (recorders : new.recorders ≡ old.recorders) (ring : new.ring ≡ old.ring) → new.handed ≡ old.handed → new.mixed ≡ old.mixed
-    → new.bytes ≡ old.bytes → new.frames ≡ old.frames → new.sum ≡ old.sum → new ≡ old
-parent_same {B = B} new old device channels recorders ring handed mixed bytes frames sum = λ i. record {
+pub parent_same : {B : Type 0} (new old : ParentOf B) (device : new.device ≡ old.device) (channels : new.channels ≡ old.channels) (recorders : new.recorders ≡ old.recorders) (bus : new.bus ≡ old.bus) (ring : new.ring ≡ old.ring)
+    → new.handed ≡ old.handed → new.mixed ≡ old.mixed → new ≡ old
+parent_same {B = B} new old device channels recorders bus ring handed mixed = λ i. record {
   device = device i;
   channels = channels i;
   recorders = recorders i;
+  bus = bus i;
   ring = ring i;
   handed = handed i;
   mixed = mixed i;
-  bytes = bytes i;
-  frames = frames i;
-  sum = sum i;
+  bus_of = is_prop→PathP (λ j. (bus j).device ≡ device j) (λ j. hlevel props) new.bus_of old.bus_of i;
   within = is_prop→PathP (λ j. (device j).ring_frames ≤ RING_FRAMES) (λ j. hlevel props) new.within old.within i;
   slots = is_prop→PathP (λ j. fixed_len (channels j) ≡ (device j).play_slots) (λ j. hlevel props) new.slots old.slots i;
   slots_within = is_prop→PathP (λ j. (device j).play_slots ≤ SLOTS) (λ j. hlevel props) new.slots_within old.slots_within i;
@@ -164,7 +162,4 @@ parent_same {B = B} new old device channels recorders ring handed mixed bytes fr
   recorders_within = is_prop→PathP (λ j. (device j).record_slots ≤ SLOTS) (λ j. hlevel props) new.recorders_within old.recorders_within i;
   size = is_prop→PathP (λ j. (ring j).size ≡ (device j).ring_frames * frame_bytes (device j).settings) (λ j. hlevel props) new.size old.size i;
   full = is_prop→PathP (λ j. length (ring j).bytes ≡ (device j).ring_frames * frame_bytes (device j).settings) (λ j. hlevel props) new.full old.full i;
-  bytes_size = is_prop→PathP (λ j. fixed_len (bytes j) ≡ (device j).ring_frames * frame_bytes (device j).settings) (λ j. hlevel props) new.bytes_size old.bytes_size i;
-  frames_size = is_prop→PathP (λ j. fixed_len (frames j) ≡ (device j).ring_frames * channels_of (device j).settings.layout) (λ j. hlevel props) new.frames_size old.frames_size i;
-  sum_size = is_prop→PathP (λ j. fixed_len (sum j) ≡ (device j).ring_frames * channels_of (device j).settings.layout) (λ j. hlevel props) new.sum_size old.sum_size i;
 }

@@ -1,8 +1,9 @@
--- A block of the mix, from the books of the slots and the bytes of their runs.
+-- What is mixed at an interrupt, from the books of the slots and the bytes of their runs, and the ring that takes what comes of it.
 use Rattle.std.specs.Prelude.{◌≡◌, ℕ, ◌*◌, List, ◌++◌, length, drop, fold, replicate, slice_index_or, ℤ, pos}
 use Rattle.std.specs.List.{flat_map, range_with_len}
 use Rattle.pcm_feeder.specs.Filters.{Filters}
 use Rattle.pcm_feeder.specs.Kept.{Kept}
+use Rattle.pcm_format.specs.declared.settings.Settings.{Settings}
 use Rattle.pcm_format.specs.Frames.{frame_bytes}
 use Rattle.pcm_format.specs.Layouts.{channels_of}
 use Rattle.pcm_format.specs.Samples.{spelled}
@@ -14,9 +15,9 @@ use Rattle.pcm_sound.specs.Added.{turned}
 use Rattle.pcm_play.specs.declared.channel.PlayChannelOf.{PlayChannelOf}
 use Rattle.pcm_vchan.specs.Slots.{AllPlayStand, play_books_of}
 
--- so many samples of silence
-abbrev pub silent_block : DeviceSeen → ℕ → List ℤ
-silent_block device n = replicate (n * channels_of (mix_settings device).layout) (pos 0)
+-- the samples of so many frames of silence
+abbrev pub silent_samples : Settings → ℕ → List ℤ
+silent_samples settings n = replicate (n * channels_of settings.layout) (pos 0)
 
 -- a block of the mix once the first slots gave their frames to it, from their books and the bytes of their runs
 abbrev pub mixed_onto : DeviceSeen → ℕ → List PlayBook → (ℕ → List ℕ) → ℕ → List ℤ → List ℤ
@@ -25,15 +26,19 @@ mixed_onto device n books streams slots sum =
 
 -- the same, from silence on
 abbrev pub block_of : DeviceSeen → ℕ → List PlayBook → (ℕ → List ℕ) → ℕ → List ℤ
-block_of device n books streams slots = mixed_onto device n books streams slots (silent_block device n)
+block_of device n books streams slots = mixed_onto device n books streams slots (silent_samples (mix_settings device) n)
 
--- the bytes of a block
-abbrev pub block_bytes : DeviceSeen → List ℤ → List ℕ
-block_bytes device block = flat_map (spelled (device_settings device).format) block
+-- the bytes of samples
+abbrev pub block_bytes : Settings → List ℤ → List ℕ
+block_bytes settings block = flat_map (spelled settings.format) block
 
 -- the bytes of a ring full of silence
 abbrev pub silent_ring : DeviceSeen → List ℕ
-silent_ring device = block_bytes device (silent_block device (ring_frames device))
+silent_ring device = block_bytes (device_settings device) (silent_samples (device_settings device) (ring_frames device))
+
+-- the bytes of a ring that has handed its n oldest frames over, and got these samples behind the rest
+abbrev pub turned_ring : Settings → ℕ → List ℤ → List ℕ → List ℕ
+turned_ring settings n block bytes = drop (n * frame_bytes settings) bytes ++ block_bytes settings block
 
 -- ---- whatever bytes the channels stand for
 
@@ -42,12 +47,7 @@ abbrev pub MixesOnto : {B : Type 0} → (B → Kept) → Filters → Device → 
 MixesOnto kept filters device n channels old new = (streams : ℕ → List ℕ) → AllPlayStand kept filters channels streams
     → new ≡ mixed_onto (seen filters device) n (play_books_of channels) streams (length channels) old
 
--- the bytes of a block of theirs
-abbrev pub MixesBlock : {B : Type 0} → (B → Kept) → Filters → Device → ℕ → List (PlayChannelOf B) → List ℕ → Type 0
-MixesBlock kept filters device n channels bytes = (streams : ℕ → List ℕ) → AllPlayStand kept filters channels streams
-    → bytes ≡ block_bytes (seen filters device) (block_of (seen filters device) n (play_books_of channels) streams (length channels))
-
--- the bytes of a ring that hands its oldest frames over, and gets a block of theirs
-abbrev pub TurnsRing : {B : Type 0} → (B → Kept) → Filters → Device → ℕ → List (PlayChannelOf B) → List ℕ → List ℕ → Type 0
-TurnsRing kept filters device n channels old new = (streams : ℕ → List ℕ) → AllPlayStand kept filters channels streams
-    → new ≡ drop (n * frame_bytes device.settings) old ++ block_bytes (seen filters device) (block_of (seen filters device) n (play_books_of channels) streams (length channels))
+-- a block of theirs
+abbrev pub MixesBlock : {B : Type 0} → (B → Kept) → Filters → Device → ℕ → List (PlayChannelOf B) → List ℤ → Type 0
+MixesBlock kept filters device n channels block = (streams : ℕ → List ℕ) → AllPlayStand kept filters channels streams
+    → block ≡ block_of (seen filters device) n (play_books_of channels) streams (length channels)

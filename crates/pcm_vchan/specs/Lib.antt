@@ -1,5 +1,7 @@
 pub mod Slots
 pub mod Blocks
+pub mod Handovers
+pub mod Buses
 pub mod Captures
 pub mod Parents
 pub mod Lending

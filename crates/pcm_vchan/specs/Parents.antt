@@ -5,12 +5,11 @@ use Rattle.pcm_format.specs.declared.settings.Settings.{Settings}
 use Rattle.pcm_format.specs.Frames.{Frame}
 use Rattle.pcm_oss.specs.declared.reply.Errno.{Errno}
 use Rattle.pcm_oss.specs.declared.reply.Errno.TheVariants.{Busy}
-use Rattle.pcm_feeder.specs.Limits.{IsRate}
 use Rattle.pcm_feeder.specs.Racks.{HaveKinds}
 use Rattle.pcm_chain.specs.Chains.{boxes_in}
 use Rattle.pcm_desk.specs.declared.device.Device.{Device}
-use Rattle.pcm_desk.specs.declared.limits.TheConstants.{RING_FRAMES, SLOTS}
-use Rattle.pcm_desk.specs.Device.{seen}
+use Rattle.pcm_desk.specs.declared.limits.TheConstants.{MIX_FRAMES, RING_FRAMES, SLOTS}
+use Rattle.pcm_desk.specs.Device.{DeviceSeen, HasRates, mix_frames, seen, unfiltered}
 use Rattle.pcm_desk.specs.declared.play_book.PlayBook.{PlayBook}
 use Rattle.pcm_desk.specs.declared.record_book.RecordBook.{RecordBook}
 use Rattle.pcm_feeder.specs.declared.kind.Kind.{Kind}
@@ -18,13 +17,14 @@ use Rattle.pcm_feeder.specs.Filters.{Filters}
 use Rattle.pcm_feeder.specs.Kept.{Kept}
 use Rattle.pcm_desk.specs.PlayBooks.{play_begun}
 use Rattle.pcm_desk.specs.RecordBooks.{record_begun}
-use Rattle.pcm_desk.specs.Desk.{least_free_play, least_free_record}
+use Rattle.pcm_desk.specs.Desk.{least_free_play, least_free_record, mixed_by}
 use Rattle.pcm_play.specs.declared.channel.PlayChannelOf.{PlayChannelOf}
 use Rattle.pcm_play.specs.Channels.{IsPlayReady, IsPlayUnopened, PlayMoves}
 use Rattle.pcm_record.specs.declared.channel.RecordChannelOf.{RecordChannelOf}
 use Rattle.pcm_record.specs.Channels.{IsRecordReady, IsRecordUnopened, RecordMoves}
 use Rattle.pcm_vchan.specs.declared.parent.ParentOf.{ParentOf}
-use Rattle.pcm_vchan.specs.Blocks.{TurnsRing}
+use Rattle.pcm_vchan.specs.Buses.{HasMadeSome, TurnsBus}
+use Rattle.pcm_vchan.specs.Handovers.{IsPlannedBy}
 use Rattle.pcm_vchan.specs.Captures.{AllCapture}
 use Rattle.pcm_vchan.specs.Slots.{Each, IsPlayDue, IsRecordDue, Mixes, PlayAreOf, RecordAreOf, play_books_of, record_books_of}
 
@@ -45,8 +45,9 @@ record_books parent = record_books_of (record_channels parent)
 
 -- a device that a parent can be made for
 pub record HasLimits (device : Device) : Type 0 where
-  pub rate : IsRate device.settings.rate
+  pub rates : HasRates device
   pub ring : device.ring_frames ≤ RING_FRAMES
+  pub mix : mix_frames (unfiltered device) ≤ MIX_FRAMES
   pub slots : device.play_slots ≤ SLOTS
   pub recorders : device.record_slots ≤ SLOTS
 
@@ -70,10 +71,20 @@ pub record AreClosable {B : Type 0} (kind : B → Kind) (parent : ParentOf B) : 
 abbrev pub TotalsFit : {B : Type 0} → ParentOf B → Type 0
 TotalsFit parent = All (λ channel. channel.book.done + channel.book.written < 2 ^ 64) (play_channels parent)
 
--- all are ready for an interrupt of so many frames
+-- how many frames an interrupt of n mixes
+abbrev pub mixed_in : {B : Type 0} → Filters → ℕ → ParentOf B → ℕ
+mixed_in filters n parent = mixed_by (seen filters parent.device) parent.handed n
+
+-- its bus goes by its plan, and has made what was handed over
+pub record HasBus {B : Type 0} (kept : B → Kept) (device : DeviceSeen) (parent : ParentOf B) : Type 0 where
+  pub planned : IsPlannedBy device parent.bus.chain
+  pub made : HasMadeSome kept device parent.bus.chain parent.handed
+
+-- all are ready for an interrupt of so many frames, and so is its bus
 pub record AreDue {B : Type 0} (kind : B → Kind) (kept : B → Kept) (filters : Filters) (frames : ℕ) (parent : ParentOf B) : Type 0 where
-  pub playing : All (IsPlayDue kind kept filters parent.device frames) (play_channels parent)
+  pub playing : All (IsPlayDue kind kept filters parent.device (mixed_in filters frames parent)) (play_channels parent)
   pub recording : All (IsRecordDue kind kept filters parent.device frames) (record_channels parent)
+  pub bus : HasBus kept (seen filters parent.device) parent
 
 -- nobody has opened one that plays
 abbrev pub ArePlayUnopened : {B : Type 0} → (B → Kind) → (B → Kept) → Filters → Device → ParentOf B → Type 0
@@ -99,9 +110,9 @@ EachMixes filters n old new = Each (Mixes (seen filters old.device) n) (play_cha
 abbrev pub EachCaptures : {B : Type 0} → (B → Kind) → (B → Kept) → Filters → ℕ → List ℤ → ParentOf B → ParentOf B → Type 0
 EachCaptures kind kept filters n samples old new = AllCapture kind kept (seen filters old.device) n samples (record_channels old) (record_channels new)
 
--- and of the parent's ring
-abbrev pub RingTurns : {B : Type 0} → (B → Kept) → Filters → ℕ → ParentOf B → ParentOf B → Type 0
-RingTurns kept filters n old new = TurnsRing kept filters old.device n (play_channels old) old.ring.bytes new.ring.bytes
+-- and of the parent's bus and ring
+abbrev pub BusTurns : {B : Type 0} → (B → Kept) → Filters → ℕ → ParentOf B → ParentOf B → Type 0
+BusTurns kept filters n old new = TurnsBus kept (seen filters old.device) old.handed n (play_channels old) old.bus.chain new.bus.chain old.ring.bytes new.ring.bytes
 
 -- ---- opening a slot
 
@@ -121,9 +132,10 @@ pub record Begins {Book : Type 0} (slots : ℕ) (least : Option ℕ) (begun : Bo
   pub books : new ≡ books_begun least begun old
   pub there : IfOk result (λ slot. slot < slots)
 
--- all but the channels is as before: the device, its ring and its counts, and how many channels there are of each way
+-- all but the channels is as before: the device, its bus, its ring and its counts, and how many channels there are of each way
 pub record KeepsOutput {B : Type 0} (old new : ParentOf B) : Type 0 where
   pub device_same : new.device ≡ old.device
+  pub bus_same : new.bus ≡ old.bus
   pub ring_same : new.ring.bytes ≡ old.ring.bytes
   pub handed_same : new.handed ≡ old.handed
   pub mixed_same : new.mixed ≡ old.mixed

@@ -1,7 +1,9 @@
 //! What all clients of a device share: the slots, the mix, and the ring that the device takes from.
-//! An interrupt hands the oldest frames over, and mixes as many new ones from all slots in their order.
+//! An interrupt hands the oldest frames over, mixes what as many new ones need from all slots in their order, and makes these of it.
 #![tactic(auto)]
 
+mod bus;
+mod handover;
 mod mixer;
 mod parent;
 mod recorder;

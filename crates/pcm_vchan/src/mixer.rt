@@ -1,19 +1,19 @@
-//! One block of the mix, from all channels in the order of their slots, and the ring that it goes into.
+//! One block of the mix, from all channels in the order of their slots, and the ring that takes what comes of it.
 
-ghost use Rattle.std.specs.Prelude.{◌≡◌, pos, [], ◌*◌, ◌<◌, ◌≤◌, length, take, replicate, flat_map, All, IfOk};
+ghost use Rattle.std.specs.Prelude.{◌≡◌, [], ◌*◌, ◌<◌, ◌≤◌, length, take, All, IfOk};
 ghost use Rattle.pcm_num.specs.Limit.{FitsBits};
-ghost use Rattle.pcm_format.specs.Formats.{bits_of, bytes_of};
+ghost use Rattle.pcm_format.specs.Formats.{bits_of};
 ghost use Rattle.pcm_format.specs.Layouts.{channels_of};
 ghost use Rattle.pcm_format.specs.Frames.{frame_bytes};
-ghost use Rattle.pcm_format.specs.Samples.{spelled};
-ghost use Rattle.pcm_desk.specs.Device.{seen};
+ghost use Rattle.pcm_desk.specs.declared.limits.TheConstants.{RING_FRAMES};
+ghost use Rattle.pcm_desk.specs.Device.{seen, unfiltered};
 ghost use Rattle.pcm_play.specs.Channels.{AddsTo, HoldBlock, PlayMoves};
 ghost use Rattle.pcm_vchan.specs.Slots.{AreMixed, AtSlot, ChangesAt, IsPlayDue, Mixes, OthersStay};
-ghost use Rattle.pcm_vchan.specs.Blocks.{MixesBlock, MixesOnto, TurnsRing};
+ghost use Rattle.pcm_vchan.specs.Blocks.{silent_ring, turned_ring, MixesBlock, MixesOnto};
 
 use pcm_desk::Device;
 use pcm_feeder::{Feeder, Tables};
-use pcm_format::spell_frames;
+use pcm_format::{Settings, spell_frames};
 use pcm_play::PlayChannelOf;
 use pcm_ring::ByteRing;
 use std::alloc::{AllocError, Global};
@@ -32,7 +32,7 @@ fn mix_channels<B: Feeder>(
     requires block { HoldBlock device n frames.old sum.old }
     ensures mixed { AreMixed B.kind B.kept tables.now device n channels.old channels.new }
     ensures sum { MixesOnto B.kept tables.now device n channels.old sum.old sum.new }
-    ensures fits { All (FitsBits (bits_of device.settings.format)) sum.new }
+    ensures fits { All (FitsBits (bits_of device.mix.format)) sum.new }
 {
     for slot in 0..channels.len() {
         mix_slot(device, tables, channels, slot, n, frames, sum);
@@ -58,85 +58,73 @@ fn mix_slot<B: Feeder>(
     ensures moves { ChangesAt (PlayMoves B.kind B.kept tables.now [] n) slot channels.old channels.new }
     ensures book { ChangesAt (Mixes (seen tables.now device) n) slot channels.old channels.new }
     ensures sum { AtSlot (AddsTo B.kept tables.now device n sum.old sum.new) channels.old slot }
-    ensures fits { All (FitsBits (bits_of device.settings.format)) sum.new }
+    ensures fits { All (FitsBits (bits_of device.mix.format)) sum.new }
 {
     channels[slot].refill(tables, n, frames, sum);
 }
 
-// Mixes a block of `n` frames from silence on, and spells it. `frames` and `sum` are scratch.
-fn mix_block<B: Feeder>(
+/// Mixes a block of `n` frames from silence on. `part` holds the frames of one channel meanwhile.
+pub fn mix_block<B: Feeder>(
     device: Device,
     tables: &Tables,
     channels: &mut [PlayChannelOf<B>],
     n: usize,
-    bytes: &mut [u8],
-    frames: &mut [i32],
+    part: &mut [i32],
     sum: &mut [i32],
 )
-    requires some { 0 < n }
     requires due { All (IsPlayDue B.kind B.kept tables.now device n) channels.old }
-    requires bytes { length bytes.old ≡ n * frame_bytes device.settings }
-    requires frames { n * channels_of device.settings.layout ≤ length frames.old }
-    requires sum { n * channels_of device.settings.layout ≤ length sum.old }
+    requires part { length part.old ≡ n * channels_of device.mix.layout }
+    requires sum { length sum.old ≡ n * channels_of device.mix.layout }
     ensures mixed { AreMixed B.kind B.kept tables.now device n channels.old channels.new }
-    ensures bytes { MixesBlock B.kept tables.now device n channels.old bytes.new }
+    ensures block { MixesBlock B.kept tables.now device n channels.old sum.new }
+    ensures fits { All (FitsBits (bits_of device.mix.format)) sum.new }
 {
-    let samples = n * device.settings.layout.channels();
-    let sum = &mut sum[..samples];
     sum.fill(0);
-    mix_channels(device, tables, channels, n, &mut frames[..samples], sum);
-    spell_frames(device.settings.format, sum, bytes);
+    if n > 0 {
+        mix_channels(device, tables, channels, n, part, sum);
+    }
 }
 
-/// Hands the oldest `n` frames of a full ring over, and puts a block of as many from all channels behind the rest.
-/// `bytes`, `frames` and `sum` are scratch.
-pub fn turn_ring<B: Feeder>(
-    device: Device,
-    tables: &Tables,
-    channels: &mut [PlayChannelOf<B>],
+/// Hands the oldest frames of a full ring over, as many as `out` holds, and puts a block of as many behind the rest. The bytes are
+/// scratch.
+pub fn turn_ring(
+    settings: Settings,
     n: usize,
+    block: &[i32],
     ring: &mut ByteRing,
     bytes: &mut [u8],
-    frames: &mut [i32],
-    sum: &mut [i32],
     out: &mut [u8],
 )
-    requires some { 0 < n }
-    requires due { All (IsPlayDue B.kind B.kept tables.now device n) channels.old }
     requires full { length ring.old.bytes ≡ ring.old.size }
-    requires within { n * frame_bytes device.settings ≤ ring.old.size }
-    requires out { length out.old ≡ n * frame_bytes device.settings }
-    requires bytes { n * frame_bytes device.settings ≤ length bytes.old }
-    requires frames { n * channels_of device.settings.layout ≤ length frames.old }
-    requires sum { n * channels_of device.settings.layout ≤ length sum.old }
-    ensures mixed { AreMixed B.kind B.kept tables.now device n channels.old channels.new }
+    requires within { n * frame_bytes settings ≤ ring.old.size }
+    requires out { length out.old ≡ n * frame_bytes settings }
+    requires bytes { n * frame_bytes settings ≤ length bytes.old }
+    requires block { length block.now ≡ n * channels_of settings.layout }
+    requires fits { All (FitsBits (bits_of settings.format)) block.now }
     ensures size { ring.new.size ≡ ring.old.size }
     ensures full { length ring.new.bytes ≡ ring.old.size }
-    ensures out { out.new ≡ take (n * frame_bytes device.settings) ring.old.bytes }
-    ensures ring { TurnsRing B.kept tables.now device n channels.old ring.old.bytes ring.new.bytes }
+    ensures out { out.new ≡ take (n * frame_bytes settings) ring.old.bytes }
+    ensures ring { ring.new.bytes ≡ turned_ring settings n block.now ring.old.bytes }
 {
-    let block = &mut bytes[..n * device.settings.frame_bytes()];
+    let spelled = &mut bytes[..n * settings.frame_bytes()];
     ring.take(out);
-    mix_block(device, tables, channels, n, block, frames, sum);
-    ring.put(block);
+    spell_frames(settings.format, block, spelled);
+    ring.put(spelled);
 }
 
-/// The ring of a device, full of the silence that is handed in. The bytes are scratch.
-pub fn silent_ring(
-    alloc: Global,
-    device: Device,
-    silence: &[i32],
-    bytes: &mut [u8],
-) -> Result<ByteRing, AllocError>
-    requires silent { silence.now ≡ replicate (length silence.now) (pos 0) }
-    requires bytes { length bytes.old ≡ length silence.now * bytes_of device.settings.format }
-    ensures size { IfOk result (λ made. made.size ≡ length bytes.old) }
-    ensures full { IfOk result (λ made. length made.bytes ≡ length bytes.old) }
-    ensures ring { IfOk result (λ made. made.bytes
-        ≡ flat_map (spelled device.settings.format) silence.now) }
+/// The ring of a device, full of silence.
+pub fn silent_ring(alloc: Global, device: Device) -> Result<ByteRing, AllocError>
+    requires { device.ring_frames ≤ RING_FRAMES }
+    ensures size { IfOk result (λ made. made.size ≡ device.ring_frames * frame_bytes device.settings) }
+    ensures full { IfOk result (λ made. length made.bytes ≡ device.ring_frames * frame_bytes device.settings) }
+    ensures ring { IfOk result (λ made. made.bytes ≡ silent_ring (unfiltered device)) }
 {
-    spell_frames(device.settings.format, silence, bytes);
+    let settings = device.settings;
+    let frames = device.ring_frames as usize;
+    let silence = vec![in alloc; 0i32; frames * settings.layout.channels()]?;
+    let mut bytes = vec![in alloc; 0u8; frames * settings.frame_bytes()]?;
+    spell_frames(settings.format, &silence, &mut bytes);
     let mut ring = ByteRing::new(alloc, bytes.len())?;
-    ring.put(bytes);
+    ring.put(&bytes);
     Ok(ring)
 }

@@ -8,15 +8,17 @@ ghost use Rattle.pcm_format.specs.Layouts.{channels_of};
 ghost use Rattle.pcm_feeder.specs.Limits.{IsRate};
 ghost use Rattle.pcm_feeder.specs.Racks.{AreRacks, list_of};
 ghost use Rattle.pcm_desk.specs.declared.limits.TheConstants.{RING_FRAMES, SLOTS};
-ghost use Rattle.pcm_desk.specs.Device.{seen};
+ghost use Rattle.pcm_desk.specs.Device.{seen, HasRates};
 ghost use Rattle.pcm_desk.specs.PlayBooks.{is_play_free};
 ghost use Rattle.pcm_desk.specs.RecordBooks.{is_record_free};
 ghost use Rattle.pcm_vchan.specs.Slots.{PlayAreOf, RecordAreOf};
 ghost use Rattle.pcm_play.specs.Channels.{IsPlayReady, IsPlayUnopened};
 ghost use Rattle.pcm_record.specs.Channels.{IsRecordReady, IsRecordUnopened};
 ghost use Rattle.pcm_vchan.specs.Blocks.{silent_ring};
+ghost use Rattle.pcm_vchan.specs.Handovers.{HasMade, IsPlannedBy};
 
-use crate::mixer::{silent_ring, turn_ring};
+use crate::bus::BusOf;
+use crate::mixer::silent_ring;
 use crate::recorder::capture_all;
 use pcm_desk::{Device, SLOTS};
 use pcm_feeder::{Feeder, RackOf, RacksOf, Tables};
@@ -28,18 +30,18 @@ use pcm_record::RecordChannelOf;
 use pcm_ring::ByteRing;
 use std::alloc::{AllocError, Global};
 
-/// The channels of a device by slot, those that play and those that record, its ring, which is always full, and how many frames were handed over and mixed.
+/// The channels of a device by slot, those that play and those that record, the bus from the former to its ring, which is always full, and
+/// how many frames were handed over and mixed.
 #[derive(Drop)]
 pub struct ParentOf<B> {
     pub device: Device,
     pub channels: Fixed<PlayChannelOf<B>>,
     pub recorders: Fixed<RecordChannelOf<B>>,
+    pub bus: BusOf<B>,
     pub ring: ByteRing,
     pub handed: u64,
     pub mixed: u64,
-    bytes: Fixed<u8>,
-    frames: Fixed<i32>,
-    sum: Fixed<i32>,
+    ghost bus_of: { bus.device ≡ device },
     ghost within: { device.ring_frames ≤ RING_FRAMES },
     ghost slots: { fixed_len channels ≡ device.play_slots },
     ghost slots_within: { device.play_slots ≤ SLOTS },
@@ -47,18 +49,15 @@ pub struct ParentOf<B> {
     ghost recorders_within: { device.record_slots ≤ SLOTS },
     ghost size: { ring.size ≡ device.ring_frames * frame_bytes device.settings },
     ghost full: { length ring.bytes ≡ device.ring_frames * frame_bytes device.settings },
-    ghost bytes_size: { fixed_len bytes ≡ device.ring_frames * frame_bytes device.settings },
-    ghost frames_size: { fixed_len frames ≡ device.ring_frames * channels_of device.settings.layout },
-    ghost sum_size: { fixed_len sum ≡ device.ring_frames * channels_of device.settings.layout },
 }
 
 impl<B: Feeder> ParentOf<B> {
     ghost use Rattle.pcm_oss.specs.declared.event.Way.TheVariants.{Play, Record};
-    ghost use Rattle.pcm_vchan.specs.Parents.{play_channels, record_channels, AreDue, ArePlayUnopened, AreRecordUnopened, AreServed, EachCaptures, EachMixes, EachPlayMoves, HasLimits, KeepsOutput, OpensPlay, OpensRecord, RingTurns};
+    ghost use Rattle.pcm_vchan.specs.Parents.{play_channels, record_channels, mixed_in, AreDue, ArePlayUnopened, AreRecordUnopened, AreServed, EachCaptures, EachMixes, EachPlayMoves, HasBus, HasLimits, KeepsOutput, OpensPlay, OpensRecord, BusTurns};
     ghost use Rattle.pcm_vchan.specs.Lending.{LendsChannel, LendsRecorder};
 
     /// A device that nobody has opened, whose ring is full of silence. Each slot gets a rack: those that play the first
-    /// sixteen, and those that record the others.
+    /// sixteen, those that record the next ones, and the bus the last one.
     pub fn new(
         alloc: Global,
         device: Device,
@@ -72,30 +71,26 @@ impl<B: Feeder> ParentOf<B> {
         ensures channels { IfOk result (ArePlayUnopened B.kind B.kept tables.now device) }
         ensures recorders { IfOk result (λ made. length (record_channels made) ≡ device.record_slots) }
         ensures recording { IfOk result (AreRecordUnopened B.kind B.kept tables.now device) }
+        ensures planned { IfOk result (λ made. IsPlannedBy (seen tables.now device) made.bus.chain) }
+        ensures made { IfOk result (λ made. HasMade B.kept (seen tables.now device) made.bus.chain [] 0) }
         ensures ring { IfOk result (λ made. made.ring.bytes ≡ silent_ring (seen tables.now device)) }
         ensures handed { IfOk result (λ made. made.handed ≡ 0) }
         ensures mixed { IfOk result (λ made. made.mixed ≡ 0) }
     {
         let mut playing = racks.into_list();
-        let recording = playing.split_off(SLOTS as usize)?;
+        let mut recording = playing.split_off(SLOTS as usize)?;
+        let bus = BusOf::new(alloc, device, tables, recording.pop().unwrap())?;
         let channels = free_channels(alloc, device, tables, playing)?;
         let recorders = free_recorders(alloc, device, tables, recording)?;
-        let size = device.ring_frames as usize * device.settings.frame_bytes();
-        let samples = device.ring_frames as usize * device.settings.layout.channels();
-        let mut bytes = vec![in alloc; 0u8; size]?;
-        let frames = vec![in alloc; 0i32; samples]?;
-        let sum = vec![in alloc; 0i32; samples]?;
-        let ring = silent_ring(alloc, device, &sum, &mut bytes)?;
+        let ring = silent_ring(alloc, device)?;
         Ok(ParentOf {
             device,
             channels: Fixed::new(channels),
             recorders: Fixed::new(recorders),
+            bus,
             ring,
             handed: 0,
             mixed: 0,
-            bytes: Fixed::new(bytes),
-            frames: Fixed::new(frames),
-            sum: Fixed::new(sum),
         })
     }
 
@@ -169,8 +164,8 @@ impl<B: Feeder> ParentOf<B> {
         &mut self.recorders[slot]
     }
 
-    /// The device's interrupt: hands the oldest `n` frames over, mixes as many from all channels that play, and gives as
-    /// many captured ones to all that record.
+    /// The device's interrupt: hands the oldest `n` frames over, mixes what the next ones need from all channels that play, and gives
+    /// `n` captured ones to all that record.
     pub fn interrupt(&mut self, tables: &Tables, n: usize, captured: &[i32], out: &mut [u8])
         requires some { 0 < n }
         requires within { n ≤ self.old.device.ring_frames }
@@ -178,35 +173,34 @@ impl<B: Feeder> ParentOf<B> {
         requires out { length out.old ≡ n * frame_bytes self.old.device.settings }
         requires due { AreDue B.kind B.kept tables.now n self.old }
         requires handed { self.old.handed + n < 2 ^ 64 }
-        requires mixed { self.old.mixed + n < 2 ^ 64 }
+        requires mixed { self.old.mixed + mixed_in tables.now n self.old < 2 ^ 64 }
         ensures device { self.new.device ≡ self.old.device }
         ensures own { PlayAreOf self.new.device (play_channels self.new) }
         ensures slots { length (play_channels self.new) ≡ length (play_channels self.old) }
-        ensures channels { EachPlayMoves B.kind B.kept tables.now [] n self.old self.new }
-        ensures books { EachMixes tables.now n self.old self.new }
+        ensures channels { EachPlayMoves B.kind B.kept tables.now []
+            (mixed_in tables.now n self.old) self.old self.new }
+        ensures books { EachMixes tables.now (mixed_in tables.now n self.old) self.old self.new }
         ensures recorders_own { RecordAreOf self.new.device (record_channels self.new) }
         ensures recorders_slots { length (record_channels self.new) ≡ length (record_channels self.old) }
         ensures recorders { EachCaptures B.kind B.kept tables.now n captured.now self.old self.new }
         ensures handed { self.new.handed ≡ self.old.handed + n }
-        ensures mixed { self.new.mixed ≡ self.old.mixed + n }
+        ensures mixed { self.new.mixed ≡ self.old.mixed + mixed_in tables.now n self.old }
         ensures out { out.new
             ≡ take (n * frame_bytes self.old.device.settings) self.old.ring.bytes }
-        ensures ring { RingTurns B.kept tables.now n self.old self.new }
+        ensures bus { HasBus B.kept (seen tables.now self.old.device) self.new }
+        ensures turns { BusTurns B.kept tables.now n self.old self.new }
     {
-        turn_ring(
-            self.device,
+        let mixed = self.bus.turn(
             tables,
             &mut self.channels,
+            self.handed,
             n,
             &mut self.ring,
-            &mut self.bytes,
-            &mut self.frames,
-            &mut self.sum,
             out,
         );
         capture_all(self.device, tables, &mut self.recorders, n, captured);
         self.handed += n as u64;
-        self.mixed += n as u64;
+        self.mixed += mixed as u64;
     }
 
     /// How many frames were mixed so far.
@@ -242,7 +236,7 @@ fn free_channels<B: Feeder>(
     tables: &Tables,
     racks: Vec<RackOf<B>>,
 ) -> Result<Vec<PlayChannelOf<B>>, AllocError>
-    requires device { IsRate device.settings.rate }
+    requires device { HasRates device }
     requires enough { device.play_slots ≤ vec_len racks }
     requires kinds { AreRacks B.kind racks.items }
     ensures slots { IfOk result (λ made. length made.items ≡ device.play_slots) }
@@ -264,7 +258,7 @@ fn free_recorders<B: Feeder>(
     tables: &Tables,
     racks: Vec<RackOf<B>>,
 ) -> Result<Vec<RecordChannelOf<B>>, AllocError>
-    requires device { IsRate device.settings.rate }
+    requires device { HasRates device }
     requires enough { device.record_slots ≤ vec_len racks }
     requires kinds { AreRacks B.kind racks.items }
     ensures slots { IfOk result (λ made. length made.items ≡ device.record_slots) }

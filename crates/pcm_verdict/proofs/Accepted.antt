@@ -1,5 +1,5 @@
 -- What holds of a run that is accepted: its device is within the limits, and its events fit that.
-use Rattle.std.proofs.Common.{refl, ◌≡◌, ℕ, List, [], Option, None, Some, Result, Ok, Err, IfOk, All, arith, subst}
+use Rattle.std.proofs.Common.{◌≡◌, ℕ, List, [], Option, None, Some, Result, Ok, Err, IfOk, All, arith, subst}
 use Rattle.std.proofs.lemmas.List.Elements.{All-nil}
 use Rattle.pcm_wave.specs.DataFiles.{DataFileSeen}
 use Rattle.pcm_desk.specs.Device.{IsInLimits, unfiltered}
@@ -50,10 +50,11 @@ config-within (Err refusal) kept = tt
 
 usual-within : IsInLimits (device_seen usual_config)
 usual-within = record {
-  device_is = record { rate = record { least = omega arith; most = omega arith }; mix_rate = record { least = omega arith; most = omega arith }; same = refl; filters = record { count = omega arith; each = All-nil _; few = omega arith; sections = All-nil _ } };
+  device_is = record { rate = record { least = omega arith; most = omega arith }; mix_rate = record { least = omega arith; most = omega arith }; filters = record { count = omega arith; each = All-nil _; few = omega arith; sections = All-nil _ } };
   block = omega arith;
   ring = omega arith;
   ring_most = omega arith;
+  mix_most = omega arith;
   slots_most = omega arith;
   recorders_most = omega arith;
   quality = omega arith;

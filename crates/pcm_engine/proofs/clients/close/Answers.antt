@@ -1,8 +1,11 @@
 use Rattle.pcm_desk.specs.declared.device.Held.{Held}
-use Rattle.std.proofs.Common.{List, Option, None, sym, ap, ◌∙◌, arith}
+use Rattle.std.proofs.Common.{List, [], Option, None, get_or, sym, ap, ◌∙◌, arith}
 use Rattle.pcm_fixed.proofs.Items.{items-count}
 use Rattle.pcm_desk.specs.Device.{seen}
 use Rattle.pcm_desk.specs.Desk.{Desk, with_descriptor, held_by}
+use Rattle.pcm_play.proofs.Moving.{moves-nothing}
+use Rattle.pcm_record.proofs.Moving as recorders
+use Rattle.pcm_vchan.specs.Parents.{play_channels, record_channels}
 use Rattle.pcm_engine.specs.Desks.{desk_with}
 use Rattle.pcm_engine.proofs.Turning.{closes-held, play-there, record-there, holding-is}
 use Rattle.pcm_engine.proofs.clients.close.Goals as goal
@@ -28,3 +31,9 @@ returns-clause-desk g c =
     ap (λ (list : List (Option Held)). desk_with c.close_channel-answer.new.parent list) c.set.ensures
     ∙ ap (λ (d : Desk). with_descriptor d c.args.fd None) (c.close_channel-answer.ensures.desk filters descriptors ready)
     ∙ closes-held device desk c.args.fd (held_by desk c.args.fd) held (holding-is (held_by (desk_with parent c.args.descriptors.now.held) c.args.fd) c.in_ok-held.held (sym c.holding.ensures ∙ c.in_ok-held.was))
+
+pub returns-in_err-held-clause-channels : goal.returns-in_err-held-clause-channels
+returns-in_err-held-clause-channels g c = λ filters slot other there. moves-nothing g.B.Feeder.kind g.B.Feeder.kept filters [] 0 (get_or (play_channels c.args.parent.now) slot other)
+
+pub returns-in_err-held-clause-recorders : goal.returns-in_err-held-clause-recorders
+returns-in_err-held-clause-recorders g c = λ filters slot other there. recorders.moves-nothing g.B.Feeder.kind g.B.Feeder.kept filters [] 0 (get_or (record_channels c.args.parent.now) slot other)

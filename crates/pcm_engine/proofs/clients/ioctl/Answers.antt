@@ -102,7 +102,7 @@ returns-in-Play-clause-refused g c =
     let held = c.in_ok-held.held in
     let e = holding-is (held_by (desk_with parent c.args.descriptors.now.held) c.args.fd) c.in_ok-held.held (sym c.holding.ensures ∙ c.in_ok-held.was) in
     on_err_weaker c.ioctl.result
-    (λ same. parent_same _ parent refl (item-kept parent.channels held.slot c.ioctl.new.self c.play.result.now (same ∙ c.play.ensures.value)) refl refl refl refl refl refl refl)
+    (λ same. parent_same _ parent refl (item-kept parent.channels held.slot c.ioctl.new.self c.play.result.now (same ∙ c.play.ensures.value)) refl refl refl refl refl)
     c.ioctl.ensures.refused
 
 pub returns-in-Play-clause-desk : goal.returns-in-Play-clause-desk
@@ -159,7 +159,7 @@ returns-in-Record-clause-refused g c =
     let held = c.in_ok-held.held in
     let e = holding-is (held_by (desk_with parent c.args.descriptors.now.held) c.args.fd) c.in_ok-held.held (sym c.holding.ensures ∙ c.in_ok-held.was) in
     on_err_weaker c.ioctl-in-Record.result
-    (λ same. parent_same _ parent refl refl (item-kept parent.recorders held.slot c.ioctl-in-Record.new.self c.recorder.result.now (same ∙ c.recorder.ensures.value)) refl refl refl refl refl refl)
+    (λ same. parent_same _ parent refl refl (item-kept parent.recorders held.slot c.ioctl-in-Record.new.self c.recorder.result.now (same ∙ c.recorder.ensures.value)) refl refl refl refl)
     c.ioctl-in-Record.ensures.refused
 
 pub returns-in-Record-clause-desk : goal.returns-in-Record-clause-desk

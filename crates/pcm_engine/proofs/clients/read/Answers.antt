@@ -1,4 +1,4 @@
-use Rattle.std.proofs.Common.{[], length, take, drop, refl, sym, ap, ◌∙◌, subst, arith}
+use Rattle.std.proofs.Common.{[], get_or, length, take, drop, refl, sym, ap, ◌∙◌, subst, arith}
 use Rattle.std.proofs.lemmas.Result.{on_err_weaker}
 use Rattle.pcm_fixed.proofs.Items.{item-kept, items-count}
 use Rattle.pcm_oss.specs.declared.event.Way.TheVariants.{Record}
@@ -41,7 +41,7 @@ returns-clause-refused g c =
     let held = channel_of Record c.in_ok-slot.slot in
     let e = recording-is (held_by (desk_with parent c.args.descriptors.now.held) c.args.fd) c.in_ok-slot.slot (sym c.recording.ensures ∙ c.in_ok-slot.was) in
     on_err_weaker c.read.result
-    (λ same. parent_same _ parent refl refl (item-kept parent.recorders held.slot c.read.new.self c.recorder.result.now (same ∙ c.recorder.ensures.value)) refl refl refl refl refl refl)
+    (λ same. parent_same _ parent refl refl (item-kept parent.recorders held.slot c.read.new.self c.recorder.result.now (same ∙ c.recorder.ensures.value)) refl refl refl refl)
     c.read.ensures.refused
 
 pub returns-clause-turn : goal.returns-clause-turn
@@ -81,3 +81,6 @@ returns-clause-bytes g c = λ filters bytes frames stand.
     let stands = subst (λ (channel : RecordChannelOf _). RecordStands g.B.Feeder.kept filters channel channel.book (bytes held.slot) (frames held.slot)) (sym c.recorder.ensures.value) (stand held.slot lent there) in
     c.read.ensures.bytes filters (bytes held.slot) (frames held.slot) stands
     ∙ ap (λ k. take k (drop lent.book.read (bytes held.slot))) (ap bytes_due c.read.ensures.reply ∙ read-due n lent.book) ∙ sym got
+
+pub returns-in_err-slot-clause-recorders : goal.returns-in_err-slot-clause-recorders
+returns-in_err-slot-clause-recorders g c = λ filters slot other there. recorders.moves-nothing g.B.Feeder.kind g.B.Feeder.kept filters [] 0 (get_or (record_channels c.args.parent.now) slot other)

@@ -1,4 +1,4 @@
-use Rattle.std.proofs.Common.{◌+◌, ◌<◌, length, get_or, refl, sym, ap, ◌∙◌, subst, arith}
+use Rattle.std.proofs.Common.{rules, ◌+◌, ◌<◌, length, get_or, refl, sym, ap, ◌∙◌, subst, arith}
 use Rattle.std.proofs.lemmas.Result.{on_err_weaker}
 use Rattle.pcm_fixed.proofs.Items.{item-kept, items-count}
 use Rattle.pcm_oss.specs.declared.event.Way.TheVariants.{Play}
@@ -54,7 +54,7 @@ returns-clause-refused g c =
     let held = channel_of Play c.in_ok-slot.slot in
     let e = playing-is (held_by (desk_with parent c.args.descriptors.now.held) c.args.fd) c.in_ok-slot.slot (sym c.playing.ensures ∙ c.in_ok-slot.was) in
     on_err_weaker c.write.result
-    (λ same. parent_same _ parent refl (item-kept parent.channels held.slot c.write.new.self c.play.result.now (same ∙ c.play.ensures.value)) refl refl refl refl refl refl refl)
+    (λ same. parent_same _ parent refl (item-kept parent.channels held.slot c.write.new.self c.play.result.now (same ∙ c.play.ensures.value)) refl refl refl refl refl)
     c.write.ensures.refused
 
 pub returns-clause-turn : goal.returns-clause-turn
@@ -80,3 +80,6 @@ returns-clause-channels g c = λ filters.
     let there = play-there parent c.args.descriptors.now.held c.args.fd held c.requires.apart e refl in
     each_set (PlayMoves g.B.Feeder.kind g.B.Feeder.kept filters c.args.bytes.now 0) (play_channels parent) held.slot c.play.result.now c.write.new.self there c.play.ensures.value (c.write.ensures.moves filters)
     (moves-nothing g.B.Feeder.kind g.B.Feeder.kept filters c.args.bytes.now 0)
+
+pub returns-in_err-slot-clause-turn : goal.returns-in_err-slot-clause-turn
+returns-in_err-slot-clause-turn g c = record { desk = λ filters. search rules; reply = λ filters. search rules }

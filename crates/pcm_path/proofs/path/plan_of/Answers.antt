@@ -1,9 +1,9 @@
-use Rattle.std.proofs.Common.{refl, sym, ap, ◌∙◌, subst}
+use Rattle.std.proofs.Common.{sym, ap, ◌∙◌, subst}
 use Rattle.pcm_oss.specs.declared.event.Way.{Way}
 use Rattle.pcm_rate.specs.Rates.{IsRatio}
 use Rattle.pcm_plan.specs.Plans.{PlanSeen, rate_in_plan}
 use Rattle.pcm_desk.specs.Device.{seen}
-use Rattle.pcm_desk.proofs.Ratios.{ratio-between, record-ratio-between}
+use Rattle.pcm_desk.proofs.Ratios.{device-is, ratio-between, record-ratio-between}
 use Rattle.pcm_path.specs.Ways.{plan_between}
 use Rattle.pcm_path.proofs.path.plan_of.Goals as goal
 
@@ -18,9 +18,9 @@ returns-in-Record-clause-value c =
 pub returns-in-Play-clause-ratio : goal.returns-in-Play-clause-ratio
 returns-in-Play-clause-ratio c =
     subst (λ (p : PlanSeen). IsRatio (rate_in_plan p)) (sym c.plan_play.ensures.value)
-    (ratio-between (seen c.args.tables.now c.args.device.now) c.args.client.now (record { rate = c.requires.device; mix_rate = c.requires.device; same = refl; filters = c.plan_play.ensures.limits }) c.requires.client)
+    (ratio-between (seen c.args.tables.now c.args.device.now) c.args.client.now (device-is c.args.tables.now c.args.device.now c.requires.device c.plan_play.ensures.limits) c.requires.client)
 
 pub returns-in-Record-clause-ratio : goal.returns-in-Record-clause-ratio
 returns-in-Record-clause-ratio c =
     subst (λ (p : PlanSeen). IsRatio (rate_in_plan p)) (sym c.plan_record.ensures.value)
-    (record-ratio-between (seen c.args.tables.now c.args.device.now) c.args.client.now (record { rate = c.requires.device; mix_rate = c.requires.device; same = refl; filters = c.plan_record.ensures.limits }) c.requires.client)
+    (record-ratio-between (seen c.args.tables.now c.args.device.now) c.args.client.now (device-is c.args.tables.now c.args.device.now c.requires.device c.plan_record.ensures.limits) c.requires.client)

@@ -1,42 +1,56 @@
-use Rattle.std.proofs.Common.{◌≡◌, ◌*◌, pos, length, take, replicate, All, sym, ap, ◌∙◌, subst, arith, length-take}
-use Rattle.std.proofs.Math.Nat.{mul_assoc}
+use Rattle.std.proofs.Common.{◌≡◌, ◌*◌, ℕ, [], pos, length, get_or, replicate, All, refl, sym, ap, ◌∙◌, subst, arith, zero-mul}
+use Rattle.std.specs.List.{range_with_len}
 use Rattle.std.proofs.lemmas.List.Elements.{All-replicate}
 use Rattle.pcm_num.specs.Limit.{FitsBits}
-use Rattle.pcm_format.specs.Formats.{bits_of, bytes_of}
+use Rattle.pcm_format.specs.Formats.{bits_of}
 use Rattle.pcm_format.specs.Layouts.{channels_of}
 use Rattle.pcm_format.proofs.Spelling.{silence-fits}
 use Rattle.pcm_desk.specs.Device.{seen}
+use Rattle.pcm_desk.specs.Desk.{mixing}
+use Rattle.pcm_play.proofs.Moving.{moves-nothing}
 use Rattle.pcm_vchan.specs.Slots.{play_books_of}
-use Rattle.pcm_vchan.specs.Blocks.{block_bytes, mixed_onto}
+use Rattle.pcm_vchan.specs.Blocks.{block_of, mixed_onto}
+use Rattle.pcm_vchan.proofs.Blocks.{block-nothing}
 use Rattle.pcm_vchan.proofs.mixer.mix_block.Goals as goal
 
 pub mix_channels-requires-clause-block : goal.mix_channels-requires-clause-block
 mix_channels-requires-clause-block g c =
-    let P = FitsBits (bits_of c.args.device.settings.format) in
-    let width : c.args.n * c.channels.result ≡ c.args.n * channels_of c.args.device.settings.layout = ap (λ k. c.args.n * k) c.channels.ensures in
+    let P = FitsBits (bits_of c.args.device.mix.format) in
     record {
-      frames_whole = omega (arith, length-take (c.args.n * c.channels.result) c.args.frames.now, width, c.requires.frames);
-      sum_whole = omega (arith, c.fill.ensures.len, length-take (c.args.n * c.channels.result) c.args.sum.now, width, c.requires.sum);
-      fits = subst (All P) (sym (c.fill.ensures.after (λ y same. same))) (All-replicate P (length (take (c.args.n * c.channels.result) c.args.sum.now)) (pos 0) (silence-fits (bits_of c.args.device.settings.format)));
+      frames_whole = c.requires.part;
+      sum_whole = c.fill.ensures.len ∙ c.requires.sum;
+      fits = subst (All P) (sym (c.fill.ensures.after (λ y same. same))) (All-replicate P (length c.args.sum.now) (pos 0) (silence-fits (bits_of c.args.device.mix.format)));
     }
 
-pub spell_frames-requires-clause-range : goal.spell_frames-requires-clause-range
-spell_frames-requires-clause-range g c = c.mix_channels.ensures.fits
-
-pub spell_frames-requires-clause-lengths : goal.spell_frames-requires-clause-lengths
-spell_frames-requires-clause-lengths g c =
-    let settings = c.args.device.settings in
-    let width : c.args.n * c.channels.result ≡ c.args.n * channels_of settings.layout = ap (λ k. c.args.n * k) c.channels.ensures in
-    let samples : length c.mix_channels.new.sum ≡ c.args.n * channels_of settings.layout =
-    omega (arith, c.mix_channels.auto.sum, c.fill.ensures.len, length-take (c.args.n * c.channels.result) c.args.sum.now, c.requires.sum) in
-    c.requires.bytes ∙ sym (mul_assoc c.args.n (channels_of settings.layout) (bytes_of settings.format)) ∙ sym (ap (λ k. k * bytes_of settings.format) samples)
-
-pub returns-clause-bytes : goal.returns-clause-bytes
-returns-clause-bytes g c = λ streams stand.
+pub returns-then-n-gt0-clause-block : goal.returns-then-n-gt0-clause-block
+returns-then-n-gt0-clause-block g c = λ streams stand.
     let device = seen c.args.tables.now c.args.device in
     let slots = length c.args.channels.now in
-    let width : c.args.n * c.channels.result ≡ c.args.n * channels_of c.args.device.settings.layout = ap (λ k. c.args.n * k) c.channels.ensures in
-    let long : length (take (c.args.n * c.channels.result) c.args.sum.now) ≡ c.args.n * channels_of c.args.device.settings.layout =
-    omega (arith, length-take (c.args.n * c.channels.result) c.args.sum.now, c.requires.sum) in
-    let silent : c.fill.new.self ≡ replicate (c.args.n * channels_of c.args.device.settings.layout) (pos 0) = c.fill.ensures.after (λ y same. same) ∙ ap (λ k. replicate k (pos 0)) long in
-    c.spell_frames.ensures ∙ ap (block_bytes device) (c.mix_channels.ensures.sum streams stand ∙ ap (mixed_onto device c.args.n (play_books_of c.args.channels.now) streams slots) silent)
+    let silent : c.fill.new.self ≡ replicate (c.args.n * channels_of c.args.device.mix.layout) (pos 0) = c.fill.ensures.after (λ y same. same) ∙ ap (λ k. replicate k (pos 0)) c.requires.sum in
+    c.mix_channels.ensures.sum streams stand ∙ ap (mixed_onto device c.args.n (play_books_of c.args.channels.now) streams slots) silent
+
+pub returns-else-n-gt0-clause-mixed : goal.returns-else-n-gt0-clause-mixed
+returns-else-n-gt0-clause-mixed g c =
+    let none : c.args.n ≡ 0 = omega (arith, c.if-n-gt0.false) in
+    record {
+      own = λ slot other h. (c.requires.due slot other h).own;
+      moves = λ slot other h. moves-nothing g.B.Feeder.kind g.B.Feeder.kept c.args.tables.now [] c.args.n (get_or c.args.channels.now slot other);
+      books = λ slot other h. subst (λ (n : ℕ). (get_or c.args.channels.now slot other).book ≡ mixing (seen c.args.tables.now c.args.device) n (get_or c.args.channels.now slot other).book) (sym none) refl;
+    }
+
+pub returns-else-n-gt0-clause-block : goal.returns-else-n-gt0-clause-block
+returns-else-n-gt0-clause-block g c = λ streams stand.
+    let device = seen c.args.tables.now c.args.device in
+    let books = play_books_of c.args.channels.now in
+    let slots = length c.args.channels.now in
+    let none : c.args.n ≡ 0 = omega (arith, c.if-n-gt0.false) in
+    let empty : length c.args.sum.now ≡ 0 = c.requires.sum ∙ ap (λ n. n * channels_of c.args.device.mix.layout) none ∙ zero-mul (channels_of c.args.device.mix.layout) in
+    c.fill.ensures.after (λ y same. same) ∙ ap (λ k. replicate k (pos 0)) empty
+    ∙ sym (ap (λ n. block_of device n books streams slots) none
+    ∙ ap (λ k. mixed_onto device 0 books streams slots (replicate k (pos 0))) (zero-mul (channels_of c.args.device.mix.layout))
+    ∙ block-nothing device books streams (range_with_len 0 slots))
+
+pub returns-else-n-gt0-clause-fits : goal.returns-else-n-gt0-clause-fits
+returns-else-n-gt0-clause-fits g c =
+    let P = FitsBits (bits_of c.args.device.mix.format) in
+    subst (All P) (sym (c.fill.ensures.after (λ y same. same))) (All-replicate P (length c.args.sum.now) (pos 0) (silence-fits (bits_of c.args.device.mix.format)))

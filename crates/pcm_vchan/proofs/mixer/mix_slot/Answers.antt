@@ -59,4 +59,4 @@ returns-clause-sum g c = λ other bytes stands.
     of_device ∙ ap (λ (n : PlayChannelOf _). turned (seen c.args.tables.now c.args.device) c.args.n n.book bytes sum) same
 
 pub returns-clause-fits : goal.returns-clause-fits
-returns-clause-fits g c = subst (λ (d : Device). All (FitsBits (bits_of d.settings.format)) c.refill.new.sum) ((c.requires.due c.index-channels-slot.result).own) c.refill.ensures.fits
+returns-clause-fits g c = subst (λ (d : Device). All (FitsBits (bits_of d.mix.format)) c.refill.new.sum) ((c.requires.due c.index-channels-slot.result).own) c.refill.ensures.fits

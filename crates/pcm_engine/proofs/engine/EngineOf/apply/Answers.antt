@@ -1,4 +1,4 @@
-use Rattle.std.proofs.Common.{ℕ, ◌+◌, ◌*◌, List, [], get_or, length, sym, ap, ◌∙◌, subst, arith}
+use Rattle.std.proofs.Common.{rules, ℕ, ◌+◌, ◌*◌, List, [], get_or, length, sym, ap, ◌∙◌, subst, arith}
 use Rattle.pcm_fixed.specs.declared.fixed.Fixed.{Fixed}
 use Rattle.pcm_fixed.specs.Fixed.{fixed_items}
 use Rattle.pcm_oss.specs.declared.event.Event.{Event}
@@ -8,7 +8,7 @@ use Rattle.pcm_oss.specs.declared.fragments.TheConstants.{RING_BYTES}
 use Rattle.pcm_desk.specs.declared.device.Device.{Device}
 use Rattle.pcm_play.specs.declared.channel.PlayChannelOf.{PlayChannelOf}
 use Rattle.pcm_record.specs.declared.channel.RecordChannelOf.{RecordChannelOf}
-use Rattle.pcm_desk.specs.declared.limits.TheConstants.{RING_FRAMES}
+use Rattle.pcm_desk.specs.declared.limits.TheConstants.{MIX_FRAMES, RING_FRAMES}
 use Rattle.pcm_oss.specs.Replies.{Reply}
 use Rattle.pcm_desk.specs.Desk.{after, held_by, write_on}
 use Rattle.pcm_desk.specs.Own.{HoldApart}
@@ -19,10 +19,11 @@ use Rattle.pcm_record.specs.Channels.{RecordMoves}
 use Rattle.pcm_record.proofs.Moving as recorders
 use Rattle.pcm_vchan.specs.Slots.{PlayAreOf, Each, RecordAreOf}
 use Rattle.pcm_engine.specs.Engines.{device_of, desk_of}
-use Rattle.pcm_engine.specs.Steps.{ChannelsMove, RecordersMove, bytes_answered}
+use Rattle.pcm_engine.specs.Steps.{BusMoves, ChannelsMove, RecordersMove, bytes_answered}
 use Rattle.pcm_vchan.proofs.Channels.{play_books_of-mixed, record_books_of-captured}
-use Rattle.pcm_vchan.specs.Parents.{play_channels, record_channels}
+use Rattle.pcm_vchan.specs.Parents.{mixed_in, play_channels, record_channels}
 use Rattle.pcm_engine.proofs.Desks.{count-stays, count-within, desk_with-mixed}
+use Rattle.pcm_engine.proofs.Buses.{bus-same, bus-stays, mixes-few}
 use Rattle.pcm_engine.proofs.InOrder.{closable, served}
 use Rattle.pcm_engine.proofs.Recording.{length-captured}
 use Rattle.pcm_engine.proofs.engine.EngineOf.apply.Goals as goal
@@ -38,7 +39,7 @@ invariant_of-self-in-Write g c =
       own = c.write.ensures.own;
       counted = count-within (λ (c : PlayChannelOf _). c.book.done + c.book.written) RING_BYTES old.steps (play_channels old.parent) (play_channels new) same
           (λ slot other there. let more = (c.write.ensures.channels old.tables slot other there).grown in omega (arith, more)) old.counted;
-      given = count-within (λ (c : PlayChannelOf _). c.book.given) RING_FRAMES old.steps (play_channels old.parent) (play_channels new) same
+      given = count-within (λ (c : PlayChannelOf _). c.book.given) MIX_FRAMES old.steps (play_channels old.parent) (play_channels new) same
           (λ slot other there. let more = (c.write.ensures.channels old.tables slot other there).given in omega (arith, more)) old.given;
       recorders_own = subst (λ (v : Fixed (RecordChannelOf _)). RecordAreOf new.device (fixed_items v)) (sym c.write.ensures.recorders) (subst (λ (d : Device). RecordAreOf d (record_channels old.parent)) (sym output.device_same) old.recorders_own);
       kept = count-stays (λ (c : RecordChannelOf _). c.book.kept) RING_BYTES old.steps (record_channels old.parent) (record_channels new) (ap (λ (v : Fixed (RecordChannelOf _)). fixed_items v) c.write.ensures.recorders) old.kept;
@@ -59,7 +60,7 @@ invariant_of-self-in-Ioctl g c =
       own = c.ioctl.ensures.own;
       counted = count-within (λ (c : PlayChannelOf _). c.book.done + c.book.written) RING_BYTES old.steps (play_channels old.parent) (play_channels new) same
           (λ slot other there. let more = (c.ioctl.ensures.channels slot other there).grown in omega (arith, more)) old.counted;
-      given = count-within (λ (c : PlayChannelOf _). c.book.given) RING_FRAMES old.steps (play_channels old.parent) (play_channels new) same
+      given = count-within (λ (c : PlayChannelOf _). c.book.given) MIX_FRAMES old.steps (play_channels old.parent) (play_channels new) same
           (λ slot other there. let more = (c.ioctl.ensures.channels slot other there).given in omega (arith, more)) old.given;
       recorders_own = c.ioctl.ensures.recorders_own;
       kept = count-within (λ (c : RecordChannelOf _). c.book.kept) RING_BYTES old.steps (record_channels old.parent) (record_channels new) output.recorders_same
@@ -77,14 +78,16 @@ interrupt-requires-clause-due g c =
     let old = c.args.self.now in
     let fits = rw c.in-Intr.is at c.requires.fits in
     let within = old.parent.within in
+    let few = mixes-few old.tables c.in-Intr.frames old.parent c.requires.ready.bus.planned.limits fits.1 in
     record {
+      bus = c.requires.ready.bus;
       playing = λ slot other there.
           let given = old.given slot other there in
           let counted = old.counted slot other there in
           record {
             own = old.own slot other there;
             ready = c.requires.ready.playing slot other there;
-            given = omega (arith, given, within, fits.1, c.requires.count);
+            given = omega (arith, given, few, c.requires.count);
             counted = omega (arith, counted, c.requires.count);
           };
       recording = λ slot other there.
@@ -115,7 +118,9 @@ invariant_of-self-in-Intr g c =
     let fits = rw c.in-Intr.is at c.requires.fits in
     let same = c.interrupt.ensures.slots in
     let within = old.parent.within in
-    let books = play_books_of-mixed (device_of old) c.in-Intr.frames (play_channels old.parent) (play_channels new) same c.interrupt.ensures.books in
+    let q : ℕ = mixed_in old.tables c.in-Intr.frames old.parent in
+    let few = mixes-few old.tables c.in-Intr.frames old.parent c.requires.ready.bus.planned.limits fits.1 in
+    let books = play_books_of-mixed (device_of old) q (play_channels old.parent) (play_channels new) same c.interrupt.ensures.books in
     let recorded = record_books_of-captured (device_of old) c.in-Intr.frames (record_channels old.parent) (record_channels new) c.interrupt.ensures.recorders_slots (λ slot other there. (c.interrupt.ensures.recorders slot other there).book) in
     let desk = desk_with-mixed (device_of old) old.parent new old.descriptors.held c.in-Intr.frames books recorded c.interrupt.ensures.handed c.interrupt.ensures.mixed in
     let brought = length-captured old.parent.device.settings.layout c.args.pool.now old.parent.handed c.in-Intr.frames c.requires.captures in
@@ -124,15 +129,15 @@ invariant_of-self-in-Intr g c =
       own = c.interrupt.ensures.own;
       counted = count-within (λ (c : PlayChannelOf _). c.book.done + c.book.written) RING_BYTES old.steps (play_channels old.parent) (play_channels new) same
           (λ slot other there. let more = (c.interrupt.ensures.channels slot other there).grown in omega (arith, more)) old.counted;
-      given = count-within (λ (c : PlayChannelOf _). c.book.given) RING_FRAMES old.steps (play_channels old.parent) (play_channels new) same
-          (λ slot other there. let more = (c.interrupt.ensures.channels slot other there).given in omega (arith, more, fits.1)) old.given;
+      given = count-within (λ (c : PlayChannelOf _). c.book.given) MIX_FRAMES old.steps (play_channels old.parent) (play_channels new) same
+          (λ slot other there. let more = (c.interrupt.ensures.channels slot other there).given in omega (arith, more, few)) old.given;
       recorders_own = c.interrupt.ensures.recorders_own;
       kept = count-within (λ (c : RecordChannelOf _). c.book.kept) RING_BYTES old.steps (record_channels old.parent) (record_channels new) c.interrupt.ensures.recorders_slots
           (λ slot other there. (c.interrupt.ensures.recorders slot other there).moves.kept) old.kept;
       captured_within = count-within (λ (c : RecordChannelOf _). c.book.captured) RING_FRAMES old.steps (record_channels old.parent) (record_channels new) c.interrupt.ensures.recorders_slots
           (λ slot other there. let more = (c.interrupt.ensures.recorders slot other there).moves.captured in omega (arith, more, brought, fits.1)) old.captured_within;
       captured_size = old.captured_size ∙ ap (λ (d : Device). d.ring_frames * channels_of d.settings.layout) (sym c.interrupt.ensures.device);
-      mixed_within = omega (arith, c.interrupt.ensures.mixed, old.mixed_within, fits.1);
+      mixed_within = omega (arith, c.interrupt.ensures.mixed, old.mixed_within, few);
       handed_within = omega (arith, c.interrupt.ensures.handed, old.handed_within, fits.1);
     }
 
@@ -141,7 +146,8 @@ returns-in-Intr-clause-desk g c =
     let old = c.args.self.now in
     let new = c.interrupt.new.parent in
     let n : ℕ = c.in-Intr.frames in
-    let books = play_books_of-mixed (device_of old) n (play_channels old.parent) (play_channels new) c.interrupt.ensures.slots c.interrupt.ensures.books in
+    let q : ℕ = mixed_in old.tables n old.parent in
+    let books = play_books_of-mixed (device_of old) q (play_channels old.parent) (play_channels new) c.interrupt.ensures.slots c.interrupt.ensures.books in
     let recorded = record_books_of-captured (device_of old) n (record_channels old.parent) (record_channels new) c.interrupt.ensures.recorders_slots (λ slot other there. (c.interrupt.ensures.recorders slot other there).book) in
     desk_with-mixed (device_of old) old.parent new old.descriptors.held n books recorded c.interrupt.ensures.handed c.interrupt.ensures.mixed
     ∙ sym (ap (λ (event : Event). (after (device_of old) (desk_of old) event).desk) c.in-Intr.is)
@@ -181,7 +187,7 @@ returns-in-Read-clause-bytes g c = λ bytes frames stand.
 pub returns-in-Read-clause-channels : goal.returns-in-Read-clause-channels
 returns-in-Read-clause-channels g c =
     let old = c.args.self.now in
-    subst (λ (event : Event). ChannelsMove g.B.Feeder.kind g.B.Feeder.kept old.tables c.args.pool.now event (play_channels old.parent) (play_channels c.answer_read.new.parent)) (sym c.in-Read.is)
+    subst (λ (event : Event). ChannelsMove g.B.Feeder.kind g.B.Feeder.kept (device_of old) c.args.pool.now old.parent.handed event (play_channels old.parent) (play_channels c.answer_read.new.parent)) (sym c.in-Read.is)
     (subst (λ (v : Fixed (PlayChannelOf _)). Each (PlayMoves g.B.Feeder.kind g.B.Feeder.kept old.tables [] 0) (play_channels old.parent) (fixed_items v)) (sym c.answer_read.ensures.channels)
     (λ slot other there. moves-nothing g.B.Feeder.kind g.B.Feeder.kept old.tables [] 0 (get_or (play_channels old.parent) slot other)))
 
@@ -194,7 +200,7 @@ returns-in-Read-clause-recorders g c =
 pub returns-in-Ioctl-clause-channels : goal.returns-in-Ioctl-clause-channels
 returns-in-Ioctl-clause-channels g c =
     let old = c.args.self.now in
-    subst (λ (event : Event). ChannelsMove g.B.Feeder.kind g.B.Feeder.kept old.tables c.args.pool.now event (play_channels old.parent) (play_channels c.ioctl.new.parent)) (sym c.in-Ioctl.is)
+    subst (λ (event : Event). ChannelsMove g.B.Feeder.kind g.B.Feeder.kept (device_of old) c.args.pool.now old.parent.handed event (play_channels old.parent) (play_channels c.ioctl.new.parent)) (sym c.in-Ioctl.is)
     (c.ioctl.ensures.channels)
 
 pub returns-in-Close-clause-desk : goal.returns-in-Close-clause-desk
@@ -210,7 +216,7 @@ returns-in-Close-clause-reply g c =
 pub returns-in-Close-clause-channels : goal.returns-in-Close-clause-channels
 returns-in-Close-clause-channels g c =
     let old = c.args.self.now in
-    subst (λ (event : Event). ChannelsMove g.B.Feeder.kind g.B.Feeder.kept old.tables c.args.pool.now event (play_channels old.parent) (play_channels c.close.new.parent)) (sym c.in-Close.is)
+    subst (λ (event : Event). ChannelsMove g.B.Feeder.kind g.B.Feeder.kept (device_of old) c.args.pool.now old.parent.handed event (play_channels old.parent) (play_channels c.close.new.parent)) (sym c.in-Close.is)
     (c.close.ensures.channels old.tables)
 
 pub returns-in-Close-clause-recorders : goal.returns-in-Close-clause-recorders
@@ -223,12 +229,12 @@ pub returns-in-Write-clause-channels : goal.returns-in-Write-clause-channels
 returns-in-Write-clause-channels g c =
     let before = (play_channels c.args.self.now.parent) in
     let now = (play_channels c.write.new.parent) in
-    subst (λ (event : Event). ChannelsMove g.B.Feeder.kind g.B.Feeder.kept c.args.self.now.tables c.args.pool.now event before now) (sym c.in-Write.is)
+    subst (λ (event : Event). ChannelsMove g.B.Feeder.kind g.B.Feeder.kept (device_of c.args.self.now) c.args.pool.now c.args.self.now.parent.handed event before now) (sym c.in-Write.is)
     (subst (λ (bytes : List ℕ). Each (PlayMoves g.B.Feeder.kind g.B.Feeder.kept c.args.self.now.tables bytes 0) before now) c.bytes_at-bytes.ensures.bytes (c.write.ensures.channels c.args.self.now.tables))
 
 pub returns-in-Intr-clause-channels : goal.returns-in-Intr-clause-channels
 returns-in-Intr-clause-channels g c =
-    subst (λ (event : Event). ChannelsMove g.B.Feeder.kind g.B.Feeder.kept c.args.self.now.tables c.args.pool.now event (play_channels c.args.self.now.parent) (play_channels c.interrupt.new.parent)) (sym c.in-Intr.is)
+    subst (λ (event : Event). ChannelsMove g.B.Feeder.kind g.B.Feeder.kept (device_of c.args.self.now) c.args.pool.now c.args.self.now.parent.handed event (play_channels c.args.self.now.parent) (play_channels c.interrupt.new.parent)) (sym c.in-Intr.is)
     c.interrupt.ensures.channels
 
 pub invariant_of-self : goal.invariant_of-self
@@ -242,7 +248,7 @@ invariant_of-self g c =
       apart = subst HoldApart (sym c.open-answer.ensures.desk) (apart-after (device_of old) (desk_of old) (Open c.in-Open.fd c.in-Open.way c.in-Open.settings) old.apart);
       counted = count-within (λ (c : PlayChannelOf _). c.book.done + c.book.written) RING_BYTES old.steps (play_channels old.parent) (play_channels new) same
           (λ slot other there. let more = (c.open-answer.ensures.channels slot other there).grown in omega (arith, more)) old.counted;
-      given = count-within (λ (c : PlayChannelOf _). c.book.given) RING_FRAMES old.steps (play_channels old.parent) (play_channels new) same
+      given = count-within (λ (c : PlayChannelOf _). c.book.given) MIX_FRAMES old.steps (play_channels old.parent) (play_channels new) same
           (λ slot other there. let more = (c.open-answer.ensures.channels slot other there).given in omega (arith, more)) old.given;
       recorders_own = c.open-answer.ensures.recorders_own;
       kept = count-within (λ (c : RecordChannelOf _). c.book.kept) RING_BYTES old.steps (record_channels old.parent) (record_channels new) output.recorders_same
@@ -265,7 +271,7 @@ invariant_of-self-in-Close g c =
       apart = subst HoldApart (sym (c.close.ensures.desk old.tables c.requires.ready.playing)) (apart-after (device_of old) (desk_of old) (Close c.in-Close.fd) old.apart);
       counted = count-within (λ (c : PlayChannelOf _). c.book.done + c.book.written) RING_BYTES old.steps (play_channels old.parent) (play_channels new) same
           (λ slot other there. let more = (c.close.ensures.channels old.tables slot other there).grown in omega (arith, more)) old.counted;
-      given = count-within (λ (c : PlayChannelOf _). c.book.given) RING_FRAMES old.steps (play_channels old.parent) (play_channels new) same
+      given = count-within (λ (c : PlayChannelOf _). c.book.given) MIX_FRAMES old.steps (play_channels old.parent) (play_channels new) same
           (λ slot other there. let more = (c.close.ensures.channels old.tables slot other there).given in omega (arith, more)) old.given;
       recorders_own = c.close.ensures.recorders_own;
       kept = count-within (λ (c : RecordChannelOf _). c.book.kept) RING_BYTES old.steps (record_channels old.parent) (record_channels new) output.recorders_same
@@ -287,7 +293,7 @@ invariant_of-self-in-Read g c =
       apart = subst HoldApart (sym (c.answer_read.ensures.turn.desk old.tables)) (apart-after (device_of old) (desk_of old) (Read c.in-Read.fd c.in-Read.len) old.apart);
       own = subst (λ (v : Fixed (PlayChannelOf _)). PlayAreOf new.device (fixed_items v)) (sym c.answer_read.ensures.channels) (subst (λ (d : Device). PlayAreOf d (play_channels old.parent)) (sym output.device_same) old.own);
       counted = count-stays (λ (c : PlayChannelOf _). c.book.done + c.book.written) RING_BYTES old.steps (play_channels old.parent) (play_channels new) stays old.counted;
-      given = count-stays (λ (c : PlayChannelOf _). c.book.given) RING_FRAMES old.steps (play_channels old.parent) (play_channels new) stays old.given;
+      given = count-stays (λ (c : PlayChannelOf _). c.book.given) MIX_FRAMES old.steps (play_channels old.parent) (play_channels new) stays old.given;
       recorders_own = c.answer_read.ensures.recorders_own;
       kept = count-within (λ (c : RecordChannelOf _). c.book.kept) RING_BYTES old.steps (record_channels old.parent) (record_channels new) output.recorders_same
           (λ slot other there. (c.answer_read.ensures.recorders old.tables slot other there).kept) old.kept;
@@ -297,3 +303,86 @@ invariant_of-self-in-Read g c =
       mixed_within = omega (arith, output.mixed_same, old.mixed_within);
       handed_within = omega (arith, output.handed_same, old.handed_within);
     }
+
+pub returns-in-Open-clause-bus : goal.returns-in-Open-clause-bus
+returns-in-Open-clause-bus g c =
+    let old = c.args.self.now in
+    bus-stays g.B.Feeder.kept (device_of old) old.parent c.open-answer.new.parent c.open-answer.ensures.output c.requires.ready.bus
+
+pub returns-in-Open-clause-turns : goal.returns-in-Open-clause-turns
+returns-in-Open-clause-turns g c =
+    let old = c.args.self.now in
+    let new = c.open-answer.new.parent in
+    subst (λ (event : Event). BusMoves g.B.Feeder.kept (device_of old) old.parent.handed event (play_channels old.parent) old.parent.bus.chain new.bus.chain old.parent.ring.bytes new.ring.bytes) (sym c.in-Open.is)
+    (bus-same old.parent new c.open-answer.ensures.output)
+
+pub returns-in-Write-clause-bus : goal.returns-in-Write-clause-bus
+returns-in-Write-clause-bus g c =
+    let old = c.args.self.now in
+    bus-stays g.B.Feeder.kept (device_of old) old.parent c.write.new.parent c.write.ensures.output c.requires.ready.bus
+
+pub returns-in-Write-clause-turns : goal.returns-in-Write-clause-turns
+returns-in-Write-clause-turns g c =
+    let old = c.args.self.now in
+    let new = c.write.new.parent in
+    subst (λ (event : Event). BusMoves g.B.Feeder.kept (device_of old) old.parent.handed event (play_channels old.parent) old.parent.bus.chain new.bus.chain old.parent.ring.bytes new.ring.bytes) (sym c.in-Write.is)
+    (bus-same old.parent new c.write.ensures.output)
+
+pub returns-in-Read-clause-bus : goal.returns-in-Read-clause-bus
+returns-in-Read-clause-bus g c =
+    let old = c.args.self.now in
+    bus-stays g.B.Feeder.kept (device_of old) old.parent c.answer_read.new.parent c.answer_read.ensures.output c.requires.ready.bus
+
+pub returns-in-Read-clause-turns : goal.returns-in-Read-clause-turns
+returns-in-Read-clause-turns g c =
+    let old = c.args.self.now in
+    let new = c.answer_read.new.parent in
+    subst (λ (event : Event). BusMoves g.B.Feeder.kept (device_of old) old.parent.handed event (play_channels old.parent) old.parent.bus.chain new.bus.chain old.parent.ring.bytes new.ring.bytes) (sym c.in-Read.is)
+    (bus-same old.parent new c.answer_read.ensures.output)
+
+pub returns-in-Ioctl-clause-bus : goal.returns-in-Ioctl-clause-bus
+returns-in-Ioctl-clause-bus g c =
+    let old = c.args.self.now in
+    bus-stays g.B.Feeder.kept (device_of old) old.parent c.ioctl.new.parent c.ioctl.ensures.output c.requires.ready.bus
+
+pub returns-in-Ioctl-clause-turns : goal.returns-in-Ioctl-clause-turns
+returns-in-Ioctl-clause-turns g c =
+    let old = c.args.self.now in
+    let new = c.ioctl.new.parent in
+    subst (λ (event : Event). BusMoves g.B.Feeder.kept (device_of old) old.parent.handed event (play_channels old.parent) old.parent.bus.chain new.bus.chain old.parent.ring.bytes new.ring.bytes) (sym c.in-Ioctl.is)
+    (bus-same old.parent new c.ioctl.ensures.output)
+
+pub returns-in-Close-clause-bus : goal.returns-in-Close-clause-bus
+returns-in-Close-clause-bus g c =
+    let old = c.args.self.now in
+    bus-stays g.B.Feeder.kept (device_of old) old.parent c.close.new.parent c.close.ensures.output c.requires.ready.bus
+
+pub returns-in-Close-clause-turns : goal.returns-in-Close-clause-turns
+returns-in-Close-clause-turns g c =
+    let old = c.args.self.now in
+    let new = c.close.new.parent in
+    subst (λ (event : Event). BusMoves g.B.Feeder.kept (device_of old) old.parent.handed event (play_channels old.parent) old.parent.bus.chain new.bus.chain old.parent.ring.bytes new.ring.bytes) (sym c.in-Close.is)
+    (bus-same old.parent new c.close.ensures.output)
+
+pub returns-in-Intr-clause-turns : goal.returns-in-Intr-clause-turns
+returns-in-Intr-clause-turns g c =
+    let old = c.args.self.now in
+    let new = c.interrupt.new.parent in
+    subst (λ (event : Event). BusMoves g.B.Feeder.kept (device_of old) old.parent.handed event (play_channels old.parent) old.parent.bus.chain new.bus.chain old.parent.ring.bytes new.ring.bytes) (sym c.in-Intr.is)
+    c.interrupt.ensures.turns
+
+pub interrupt-requires-clause-mixed : goal.interrupt-requires-clause-mixed
+interrupt-requires-clause-mixed g c =
+    let old = c.args.self.now in
+    let fits = rw c.in-Intr.is at c.requires.fits in
+    let few = mixes-few old.tables c.in-Intr.frames old.parent c.requires.ready.bus.planned.limits fits.1 in
+    omega (arith, few, old.mixed_within, c.requires.count)
+
+pub returns-in-Open-clause-channels : goal.returns-in-Open-clause-channels
+returns-in-Open-clause-channels g c =
+    let old = c.args.self.now in
+    subst (λ (event : Event). ChannelsMove g.B.Feeder.kind g.B.Feeder.kept (device_of old) c.args.pool.now old.parent.handed event (play_channels old.parent) (play_channels c.open-answer.new.parent)) (sym c.in-Open.is)
+    (c.open-answer.ensures.channels)
+
+pub returns-in-Open-clause-refused : goal.returns-in-Open-clause-refused
+returns-in-Open-clause-refused g c = λ err. record { parent_same = search rules; descriptors_same = search rules }

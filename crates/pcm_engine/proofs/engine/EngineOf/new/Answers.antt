@@ -1,5 +1,5 @@
 use Rattle.pcm_desk.specs.declared.device.Held.{Held}
-use Rattle.std.proofs.Common.{◌≡◌, ◌*◌, List, Option, None, Some, get_or, sym, ap, ◌∙◌, subst, arith}
+use Rattle.std.proofs.Common.{◌≡◌, ◌*◌, List, [], Option, None, Some, get_or, sym, ap, ◌∙◌, subst, arith}
 use Rattle.pcm_desk.specs.declared.play_book.PlayBook.{PlayBook}
 use Rattle.pcm_desk.proofs.Apart.{apart-shut}
 use Rattle.pcm_sound.proofs.Stories.{get_or-same}
@@ -12,7 +12,8 @@ use Rattle.pcm_engine.specs.Stands.{RecordersStand}
 use Rattle.pcm_engine.proofs.InOrder.{ready-all}
 use Rattle.pcm_engine.proofs.Starting.{parent-starts, ready-unopened, record-ready-unopened, record_books_of-unopened, recorders-start}
 use Rattle.pcm_engine.proofs.engine.EngineOf.new.Goals as goal
-use Rattle.pcm_vchan.specs.Parents.{play_channels, record_channels}
+use Rattle.pcm_vchan.specs.Handovers.{HasMade}
+use Rattle.pcm_vchan.specs.Parents.{HasBus, play_channels, record_channels}
 
 pub invariant_of-result : goal.invariant_of-result
 invariant_of-result g c =
@@ -38,6 +39,12 @@ pub returns-clause-ready : goal.returns-clause-ready
 returns-clause-ready g c = ready-all g.B.Feeder.kind g.B.Feeder.kept _
     (ready-unopened g.B.Feeder.kind g.B.Feeder.kept c.args.tables c.args.device (play_channels c.in_ok-parent.parent) c.in_ok-parent.ensures.channels)
     (record-ready-unopened g.B.Feeder.kind g.B.Feeder.kept c.args.tables c.args.device (record_channels c.in_ok-parent.parent) c.in_ok-parent.ensures.recording)
+    (let e = c.in_ok-parent.ensures in
+    let parent = c.in_ok-parent.parent in
+    subst (λ (d : Device). HasBus g.B.Feeder.kept (seen c.args.tables d) parent) (sym e.device) (record {
+      planned = e.planned;
+      made = record { frames = []; made = subst (HasMade g.B.Feeder.kept (seen c.args.tables c.args.device) parent.bus.chain []) (sym e.handed) e.made };
+    }))
 
 pub returns-clause-stands : goal.returns-clause-stands
 returns-clause-stands g c = λ pool.
@@ -46,6 +53,6 @@ returns-clause-stands g c = λ pool.
     let books = record_books_of-unopened g.B.Feeder.kind g.B.Feeder.kept c.args.tables c.args.device (record_channels parent) e.recorders e.recording in
     let started = recorders-start g.B.Feeder.kind g.B.Feeder.kept c.args.tables c.args.device pool (record_channels parent) c.requires.limits.device_is e.recording in
     record {
-      playing = parent-starts g.B.Feeder.kind g.B.Feeder.kept c.args.tables c.args.device parent c.all_shut.result.held c.requires.limits.device_is c.all_shut.ensures e.device e.slots books e.channels e.ring e.handed e.mixed;
+      playing = parent-starts g.B.Feeder.kind g.B.Feeder.kept c.args.tables c.args.device parent c.all_shut.result.held c.requires.limits.device_is c.all_shut.ensures e.device e.slots books e.channels e.made e.ring e.handed e.mixed;
       recording = subst (λ (d : Device). RecordersStand g.B.Feeder.kept (seen c.args.tables d) pool (record_channels parent) (story_at_start (seen c.args.tables d))) (sym e.device) started;
     }

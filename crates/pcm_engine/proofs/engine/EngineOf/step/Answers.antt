@@ -10,7 +10,6 @@ use Rattle.pcm_play.specs.Channels.{IsPlayReady}
 use Rattle.pcm_record.specs.Channels.{IsRecordReady}
 use Rattle.pcm_sound.specs.StoryReplies.{bytes_to}
 use Rattle.pcm_desk.specs.Desk.{Desk, after, held_by}
-use Rattle.pcm_desk.specs.Events.{frames_taken}
 use Rattle.pcm_desk.specs.Own.{IsIsolated}
 use Rattle.pcm_sound.specs.Story.{story_of, story_at_start}
 use Rattle.pcm_sound.specs.DeviceList.{device_body}
@@ -18,10 +17,10 @@ use Rattle.pcm_sound.specs.Valid.{StoryIsValid}
 use Rattle.pcm_sound.proofs.Plain.{plain-body}
 use Rattle.pcm_sound.proofs.Stories.{told_all-push}
 use Rattle.pcm_engine.specs.Stands.{PartsStand, RecordersStand, bytes_kept, frames_captured}
-use Rattle.pcm_engine.specs.Steps.{bytes_answered, bytes_brought}
+use Rattle.pcm_engine.specs.Steps.{bytes_answered, bytes_brought, frames_mixed}
 use Rattle.pcm_engine.specs.Engines.{device_of, desk_of}
 use Rattle.pcm_vchan.proofs.Channels.{ready-after}
-use Rattle.pcm_vchan.specs.Parents.{play_channels, record_channels}
+use Rattle.pcm_vchan.specs.Parents.{HasBus, play_channels, record_channels}
 use Rattle.pcm_desk.proofs.Isolation.{isolated}
 use Rattle.pcm_engine.proofs.InOrder.{ready-all, rings-hold}
 use Rattle.pcm_engine.proofs.Recording.{all-record, answered-told, recorders-ready, recorders-told, reply-made}
@@ -34,10 +33,12 @@ returns-clause-ready g c =
     let old = c.args.self.now in
     let new = c.apply.new.self in
     let playing = subst (λ (t : Filters). All (IsPlayReady g.B.Feeder.kind g.B.Feeder.kept t) (play_channels new.parent)) (sym c.apply.ensures.tables)
-    (ready-after g.B.Feeder.kind g.B.Feeder.kept old.tables (bytes_brought c.args.pool.now c.args.event.now) (frames_taken c.args.event.now) (play_channels old.parent) (play_channels new.parent) c.apply.ensures.slots c.apply.ensures.channels c.requires.ready.playing) in
+    (ready-after g.B.Feeder.kind g.B.Feeder.kept old.tables (bytes_brought c.args.pool.now c.args.event.now) (frames_mixed (device_of old) old.parent.handed c.args.event.now) (play_channels old.parent) (play_channels new.parent) c.apply.ensures.slots c.apply.ensures.channels c.requires.ready.playing) in
     let recording = subst (λ (t : Filters). All (IsRecordReady g.B.Feeder.kind g.B.Feeder.kept t) (record_channels new.parent)) (sym c.apply.ensures.tables)
     (recorders-ready g.B.Feeder.kind g.B.Feeder.kept (device_of old) c.args.pool.now old.parent.handed c.args.event.now (record_channels old.parent) (record_channels new.parent) c.apply.ensures.recorders_slots c.apply.ensures.recorders c.requires.ready.recording) in
-    ready-all g.B.Feeder.kind g.B.Feeder.kept new playing recording
+    let same : device_of new ≡ device_of old = ap (λ (d : Device). seen new.tables d) c.apply.ensures.device ∙ ap (λ (t : Filters). seen t old.parent.device) c.apply.ensures.tables in
+    let bus = subst (λ (d : DeviceSeen). HasBus g.B.Feeder.kept d new.parent) (sym same) c.apply.ensures.bus in
+    ready-all g.B.Feeder.kind g.B.Feeder.kept new playing recording bus
 
 pub returns-clause-stands : goal.returns-clause-stands
 returns-clause-stands g c = λ events s.
@@ -48,25 +49,25 @@ returns-clause-stands g c = λ events s.
     let event = c.args.event.now in
     let story = story_of device pool events in
     let kept = g.B.Feeder.kept in
-    let step : Stepped g.B.Feeder.kind kept device pool event (desk_of old) (desk_of new) (play_channels old.parent) (play_channels new.parent) old.parent.ring.bytes new.parent.ring.bytes = record {
+    let step : Stepped g.B.Feeder.kind kept device pool event (desk_of old) (desk_of new) (play_channels old.parent) (play_channels new.parent) old.parent.bus.chain new.parent.bus.chain old.parent.ring.bytes new.parent.ring.bytes = record {
       desk = c.apply.ensures.desk;
       play_before = refl;
       play_now = refl;
       slots = c.apply.ensures.slots;
       all_slots = items-count old.parent.channels ∙ old.parent.slots;
       channels = c.apply.ensures.channels;
-      ring = c.apply.ensures.ring;
+      bus = c.apply.ensures.turns;
     } in
-    let stood = stands-told g.B.Feeder.kind kept device pool story event (desk_of old) (desk_of new) (play_channels old.parent) (play_channels new.parent) old.parent.ring.bytes new.parent.ring.bytes c.requires.fits step s.playing in
-    let pushed : PartsStand kept device (desk_of new) (play_channels new.parent) new.parent.ring.bytes (story_of device pool (events ++ event ∷ [])) =
-    subst (PartsStand kept device (desk_of new) (play_channels new.parent) new.parent.ring.bytes) (sym (told_all-push device pool (story_at_start device) events event)) stood in
+    let stood = stands-told g.B.Feeder.kind kept device pool story event (desk_of old) (desk_of new) (play_channels old.parent) (play_channels new.parent) old.parent.bus.chain new.parent.bus.chain old.parent.ring.bytes new.parent.ring.bytes c.requires.fits step s.playing in
+    let pushed : PartsStand kept device (desk_of new) (play_channels new.parent) new.parent.bus.chain new.parent.ring.bytes (story_of device pool (events ++ event ∷ [])) =
+    subst (PartsStand kept device (desk_of new) (play_channels new.parent) new.parent.bus.chain new.parent.ring.bytes) (sym (told_all-push device pool (story_at_start device) events event)) stood in
     let recorded = recorders-told g.B.Feeder.kind kept device old.parent.device pool story event (desk_of old) (desk_of new) (record_channels old.parent) (record_channels new.parent) c.requires.captures c.requires.fits refl old.recorders_own
     s.playing.desk_is c.apply.ensures.desk refl refl c.apply.ensures.recorders_slots c.apply.ensures.recorders s.playing.valid s.recording in
     let recording : RecordersStand kept device pool (record_channels new.parent) (story_of device pool (events ++ event ∷ [])) =
     subst (RecordersStand kept device pool (record_channels new.parent)) (sym (told_all-push device pool (story_at_start device) events event)) recorded in
     let same : device_of new ≡ device = ap (λ (d : Device). seen new.tables d) c.apply.ensures.device ∙ ap (λ (t : Filters). seen t old.parent.device) c.apply.ensures.tables in
     record {
-      playing = subst (λ (d : DeviceSeen). PartsStand kept d (desk_of new) (play_channels new.parent) new.parent.ring.bytes (story_of d pool (events ++ event ∷ []))) (sym same) pushed;
+      playing = subst (λ (d : DeviceSeen). PartsStand kept d (desk_of new) (play_channels new.parent) new.parent.bus.chain new.parent.ring.bytes (story_of d pool (events ++ event ∷ []))) (sym same) pushed;
       recording = subst (λ (d : DeviceSeen). RecordersStand kept d pool (record_channels new.parent) (story_of d pool (events ++ event ∷ []))) (sym same) recording;
     }
 
@@ -93,7 +94,7 @@ returns-clause-bytes g c = λ events s.
     let event = c.args.event.now in
     let story = story_of device pool events in
     ap (device_body device) (told_all-push device pool (story_at_start device) events event)
-    ∙ body-told g.B.Feeder.kept device pool story event (desk_of old) (play_channels old.parent) old.parent.ring.bytes c.requires.fits s.playing
+    ∙ body-told g.B.Feeder.kept device pool story event (desk_of old) (play_channels old.parent) old.parent.bus.chain old.parent.ring.bytes c.requires.fits s.playing
     ∙ ap (λ (n : ℕ). device_body device story ++ take n old.parent.ring.bytes) (sym c.apply.ensures.count)
     ∙ ap (λ (bytes : List ℕ). device_body device story ++ bytes) (sym c.apply.ensures.out)
 

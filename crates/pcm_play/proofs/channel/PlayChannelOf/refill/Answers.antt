@@ -138,12 +138,12 @@ returns-else-self-eq0-clause-sum g c = λ bytes s.
 
 pub returns-then-self-eq0-clause-fits : goal.returns-then-self-eq0-clause-fits
 returns-then-self-eq0-clause-fits g c =
-    All-append (FitsBits (bits_of c.args.self.now.path.device.settings.format)) c.mix_into.new.acc (drop (c.pull-pulled.result.given * c.channels.result) c.args.sum.now)
+    All-append (FitsBits (bits_of c.args.self.now.path.device.mix.format)) c.mix_into.new.acc (drop (c.pull-pulled.result.given * c.channels.result) c.args.sum.now)
     (subst (λ b. All (FitsBits b) c.mix_into.new.acc) c.bits.ensures c.mix_into.ensures.fits)
-    (All-drop (FitsBits (bits_of c.args.self.now.path.device.settings.format)) (c.pull-pulled.result.given * c.channels.result) c.args.sum.now c.requires.block.fits)
+    (All-drop (FitsBits (bits_of c.args.self.now.path.device.mix.format)) (c.pull-pulled.result.given * c.channels.result) c.args.sum.now c.requires.block.fits)
 
 pub returns-else-self-eq0-clause-fits : goal.returns-else-self-eq0-clause-fits
 returns-else-self-eq0-clause-fits g c =
-    All-append (FitsBits (bits_of c.args.self.now.path.device.settings.format)) c.mix_into.new.acc (drop (c.pull-pulled.result.given * c.channels.result) c.args.sum.now)
+    All-append (FitsBits (bits_of c.args.self.now.path.device.mix.format)) c.mix_into.new.acc (drop (c.pull-pulled.result.given * c.channels.result) c.args.sum.now)
     (subst (λ b. All (FitsBits b) c.mix_into.new.acc) c.bits.ensures c.mix_into.ensures.fits)
-    (All-drop (FitsBits (bits_of c.args.self.now.path.device.settings.format)) (c.pull-pulled.result.given * c.channels.result) c.args.sum.now c.requires.block.fits)
+    (All-drop (FitsBits (bits_of c.args.self.now.path.device.mix.format)) (c.pull-pulled.result.given * c.channels.result) c.args.sum.now c.requires.block.fits)

@@ -1,80 +1,55 @@
-use Rattle.std.proofs.Common.{◌≡◌, ◌*◌, ℕ, pos, length, replicate, sym, ap, ◌∙◌, subst, arith}
-use Rattle.std.proofs.Math.Nat.{mul_assoc, mul-le-mul_right}
-use Rattle.std.specs.List.{flat_map}
-use Rattle.std.proofs.lemmas.List.Elements.{All-take, All-drop}
-use Rattle.pcm_format.specs.Formats.{bytes_of}
-use Rattle.pcm_format.specs.Frames.{frame_bytes}
-use Rattle.pcm_format.specs.Layouts.{channels_of}
-use Rattle.pcm_format.specs.Samples.{spelled}
-use Rattle.pcm_format.proofs.Streams.{channels_of-most, frame_bytes-most}
+use Rattle.std.proofs.Common.{List, [], ◌∷◌, ◌++◌, sym, ap, ◌∙◌, subst}
+use Rattle.std.specs.Prelude.{All}
+use Rattle.std.specs.Option.{option_to_list}
+use Rattle.std.proofs.lemmas.List.Elements.{All-cons, All-head, All-nil, All-tail, All-take, All-drop}
 use Rattle.pcm_feeder.specs.Racks.{AreRacks, IsRack}
+use Rattle.pcm_play.specs.Channels.{IsPlayUnopened}
+use Rattle.pcm_record.specs.Channels.{IsRecordUnopened}
 use Rattle.pcm_vchan.proofs.parent.ParentOf.new.Goals as goal
 
-pub overflow_mul-size : goal.overflow_mul-size
-overflow_mul-size g c =
-    let most = mul-le-mul_right c.frame_bytes.result c.requires.limits.ring in
-    let width = frame_bytes-most c.args.device.settings in
-    let is = c.frame_bytes.ensures in
-    record { fits = omega arith }
+-- what holds of all elements holds of those before some, and of those behind
+before : {X : Type 0} (P : X → Type 0) (xs ys : List X) → All P (xs ++ ys) → All P xs
+before P [] ys all = All-nil P
+before P (x ∷ xs) ys all = All-cons P x xs (All-head P x (xs ++ ys) all) (before P xs ys (All-tail P x (xs ++ ys) all))
 
-pub free_channels-requires-clause-enough : goal.free_channels-requires-clause-enough
-free_channels-requires-clause-enough g c = omega (arith, c.in_ok-recording.ensures.len, c.requires.limits.slots)
+behind : {X : Type 0} (P : X → Type 0) (xs ys : List X) → All P (xs ++ ys) → All P ys
+behind P [] ys all = all
+behind P (x ∷ xs) ys all = behind P xs ys (All-tail P x (xs ++ ys) all)
+
+pub new-requires-clause-kinds : goal.new-requires-clause-kinds
+new-requires-clause-kinds g c =
+    let all : AreRacks g.B.Feeder.kind c.in_ok-recording.recording.items =
+    subst (AreRacks g.B.Feeder.kind) (sym c.in_ok-recording.ensures.tail) (All-drop (IsRack g.B.Feeder.kind) 16 c.into_list-playing.result.items (c.into_list-playing.ensures.kinds c.requires.kinds)) in
+    let parted = c.pop.ensures.items ∙ ap (λ last. c.pop.new.self.items ++ option_to_list last) c.unwrap.ensures in
+    All-head (IsRack g.B.Feeder.kind) c.unwrap.result [] (behind (IsRack g.B.Feeder.kind) c.pop.new.self.items (c.unwrap.result ∷ []) (subst (AreRacks g.B.Feeder.kind) parted all))
 
 pub free_channels-requires-clause-kinds : goal.free_channels-requires-clause-kinds
 free_channels-requires-clause-kinds g c =
     subst (AreRacks g.B.Feeder.kind) (sym c.in_ok-recording.ensures.items) (All-take (IsRack g.B.Feeder.kind) 16 c.into_list-playing.result.items (c.into_list-playing.ensures.kinds c.requires.kinds))
 
-pub free_recorders-requires-clause-enough : goal.free_recorders-requires-clause-enough
-free_recorders-requires-clause-enough g c = omega (arith, c.in_ok-recording.ensures.tail_len, c.into_list-playing.ensures.count, c.requires.limits.recorders)
-
 pub free_recorders-requires-clause-kinds : goal.free_recorders-requires-clause-kinds
 free_recorders-requires-clause-kinds g c =
-    subst (AreRacks g.B.Feeder.kind) (sym c.in_ok-recording.ensures.tail) (All-drop (IsRack g.B.Feeder.kind) 16 c.into_list-playing.result.items (c.into_list-playing.ensures.kinds c.requires.kinds))
-
-pub silent_ring-requires-clause-silent : goal.silent_ring-requires-clause-silent
-silent_ring-requires-clause-silent g c =
-    let silent = c.deref.ensures.value ∙ c.in_ok-sum.ensures.items_if_clones_equal (λ y same. same) in
-    silent ∙ sym (ap (λ k. replicate k (pos 0)) (c.deref.ensures.len ∙ c.in_ok-sum.ensures.len))
-
-pub silent_ring-requires-clause-bytes : goal.silent_ring-requires-clause-bytes
-silent_ring-requires-clause-bytes g c =
-    let settings = c.args.device.settings in
-    let bytes : length c.deref_mut.result.now ≡ c.args.device.ring_frames * (channels_of settings.layout * bytes_of settings.format) =
-    c.deref_mut.ensures.len ∙ c.in_ok-bytes.ensures.len ∙ ap (λ z. c.args.device.ring_frames * z) c.frame_bytes.ensures in
-    let samples : length c.deref.result.now ≡ c.args.device.ring_frames * channels_of settings.layout =
-    c.deref.ensures.len ∙ c.in_ok-sum.ensures.len ∙ ap (λ k. c.args.device.ring_frames * k) c.channels.ensures in
-    bytes ∙ sym (mul_assoc c.args.device.ring_frames (channels_of settings.layout) (bytes_of settings.format)) ∙ sym (ap (λ n. n * bytes_of settings.format) samples)
+    let all : AreRacks g.B.Feeder.kind c.in_ok-recording.recording.items =
+    subst (AreRacks g.B.Feeder.kind) (sym c.in_ok-recording.ensures.tail) (All-drop (IsRack g.B.Feeder.kind) 16 c.into_list-playing.result.items (c.into_list-playing.ensures.kinds c.requires.kinds)) in
+    before (IsRack g.B.Feeder.kind) c.pop.new.self.items (option_to_list c.pop.result) (subst (AreRacks g.B.Feeder.kind) c.pop.ensures.items all)
 
 pub invariant_of-result : goal.invariant_of-result
 invariant_of-result g c =
-    let device = c.args.device in
-    let z : ℕ = frame_bytes device.settings in
-    let size : device.ring_frames * c.frame_bytes.result ≡ device.ring_frames * z = ap (λ k. device.ring_frames * k) c.frame_bytes.ensures in
-    let width : device.ring_frames * c.channels.result ≡ device.ring_frames * channels_of device.settings.layout = ap (λ k. device.ring_frames * k) c.channels.ensures in
-    let room = c.deref_mut.ensures.len ∙ c.in_ok-bytes.ensures.len ∙ size in
     record {
+      bus_of = c.in_ok-bus.ensures.device;
       within = c.requires.limits.ring;
-      slots = c.new.ensures.len ∙ c.in_ok-channels.channels.ok.0 ∙ c.in_ok-channels.ensures.slots;
+      slots = c.new-2.ensures.len ∙ c.in_ok-channels.channels.ok.0 ∙ c.in_ok-channels.ensures.slots;
       slots_within = c.requires.limits.slots;
-      recorders_count = c.new-2.ensures.len ∙ c.in_ok-recorders.recorders.ok.0 ∙ c.in_ok-recorders.ensures.slots;
+      recorders_count = c.new-3.ensures.len ∙ c.in_ok-recorders.recorders.ok.0 ∙ c.in_ok-recorders.ensures.slots;
       recorders_within = c.requires.limits.recorders;
-      size = c.in_ok-ring.ensures.size ∙ room;
-      full = c.in_ok-ring.ensures.full ∙ room;
-      bytes_size = c.new-3.ensures.len ∙ c.in_ok-bytes.ensures.len ∙ size;
-      frames_size = c.new-4.ensures.len ∙ c.in_ok-frames.ensures.len ∙ width;
-      sum_size = c.new-5.ensures.len ∙ c.in_ok-sum.ensures.len ∙ width;
+      size = c.in_ok-ring.ensures.size;
+      full = c.in_ok-ring.ensures.full;
     }
 
-pub overflow_mul-samples : goal.overflow_mul-samples
-overflow_mul-samples g c =
-    let most = mul-le-mul_right c.channels.result c.requires.limits.ring in
-    let few = channels_of-most c.args.device.settings.layout in
-    let is = c.channels.ensures in
-    record { fits = omega arith }
+pub returns-clause-channels : goal.returns-clause-channels
+returns-clause-channels g c =
+    subst (All (IsPlayUnopened g.B.Feeder.kind g.B.Feeder.kept c.args.tables.now c.args.device)) (sym c.new-2.ensures.items) c.in_ok-channels.ensures.channels
 
-pub returns-clause-ring : goal.returns-clause-ring
-returns-clause-ring g c =
-    let device = c.args.device in
-    let width : device.ring_frames * c.channels.result ≡ device.ring_frames * channels_of device.settings.layout = ap (λ k. device.ring_frames * k) c.channels.ensures in
-    let silent = c.deref.ensures.value ∙ c.in_ok-sum.ensures.items_if_clones_equal (λ y same. same) in
-    c.in_ok-ring.ensures.ring ∙ ap (flat_map (spelled device.settings.format)) (silent ∙ ap (λ k. replicate k (pos 0)) width)
+pub returns-clause-recording : goal.returns-clause-recording
+returns-clause-recording g c =
+    subst (All (IsRecordUnopened g.B.Feeder.kind g.B.Feeder.kept c.args.tables.now c.args.device)) (sym c.new-3.ensures.items) c.in_ok-recorders.ensures.channels

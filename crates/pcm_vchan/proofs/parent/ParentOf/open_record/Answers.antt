@@ -16,6 +16,7 @@ invariant_of-self g c =
     let within = c.in-Some.ensures.within in
     let there : c.in-Some.slot < length (record_channels old) = omega (arith, items-count old.recorders) in
     record {
+      bus_of = old.bus_of;
       within = old.within;
       slots = old.slots;
       slots_within = old.slots_within;
@@ -23,9 +24,6 @@ invariant_of-self g c =
       recorders_within = old.recorders_within;
       size = old.size;
       full = old.full;
-      bytes_size = old.bytes_size;
-      frames_size = old.frames_size;
-      sum_size = old.sum_size;
     }
 
 pub returns-in_default-clause-opens : goal.returns-in_default-clause-opens

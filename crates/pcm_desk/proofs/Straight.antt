@@ -1,0 +1,212 @@
+-- A device that gets what is mixed as it is: as many frames are mixed as are handed over, and these are they.
+use Rattle.std.proofs.Common.{◌≡◌, ◌==◌, ◌&&◌, ◌<◌, ◌≤◌, ◌+◌, ◌-◌, ℕ, ℤ, pos, negsuc, true, nat_le, List, [], ◌∷◌, ◌++◌, length, map, take, drop, get_or, refl, sym, ap, ◌∙◌, arith}
+use Rattle.std.specs.List.{range_with_len}
+use Rattle.std.proofs.lemmas.Bool.{and_parts, cond-true, cond_both, eqb-true}
+use Rattle.std.proofs.lemmas.Int.{ints}
+use Rattle.std.proofs.lemmas.List.{get_or-append-add, get_or-drop, get_or-map, get_or-take, length-drop, length-take}
+use Rattle.std.proofs.lemmas.List.FromFn.{fill_by_all, length-map-range_with_len}
+use Rattle.pcm_num.proofs.Floors.{floor_div-mul_pow}
+use Rattle.pcm_format.specs.declared.settings.Settings.{Settings}
+use Rattle.pcm_format.specs.Formats.{bits_of}
+use Rattle.pcm_format.specs.Frames.{Frame}
+use Rattle.pcm_format.specs.Layouts.{channels_of}
+use Rattle.pcm_format.specs.Samples.{at_full}
+use Rattle.pcm_format.proofs.Ranges.{map-range-shift, part-of-range}
+use Rattle.pcm_rate.specs.declared.rate.Rate.{Rate}
+use Rattle.pcm_rate.specs.Rates.{need}
+use Rattle.pcm_rate.proofs.Counts.{need-unchanged}
+use Rattle.pcm_feeder.specs.declared.stage.Spec.{Spec}
+use Rattle.pcm_feeder.specs.declared.stage.Spec.TheVariants.{Depth, Matrix}
+use Rattle.pcm_feeder.specs.Filters.{Filters}
+use Rattle.pcm_feeder.specs.Layouts.{unity}
+use Rattle.pcm_feeder.specs.Stages.{at_bits, conv}
+use Rattle.pcm_feeder.specs.Streams.{Stream, silence, stream_of}
+use Rattle.pcm_plan.specs.Plans.{converter_of, converting, depth_stages, matrix_stages, rate_stages}
+use Rattle.pcm_plan.specs.Through.{rec, recs, through}
+use Rattle.pcm_plan.proofs.Fits.{record-level}
+use Rattle.pcm_desk.specs.Device.{DeviceSeen, device_settings, filters_of, full_frame, is_straight, mix_settings, mixed_for, parent_plan, quality_of}
+use Rattle.pcm_desk.specs.Desk.{mixed_by}
+
+-- ---- what is equal
+
+-- as many channels, the same rate, and as many bits
+record IsEqual (device : DeviceSeen) : Type 0 where
+  channels : (channels_of (mix_settings device).layout == channels_of (device_settings device).layout) ≡ true
+  rate : ((mix_settings device).rate == (device_settings device).rate) ≡ true
+  bits : (bits_of (mix_settings device).format == bits_of (device_settings device).format) ≡ true
+
+equal : (device : DeviceSeen) → is_straight device ≡ true → IsEqual device
+equal device straight =
+    let from = mix_settings device in
+    let to = device_settings device in
+    let channels = channels_of from.layout == channels_of to.layout in
+    let rate = from.rate == to.rate in
+    let bits = bits_of from.format == bits_of to.format in
+    let all = and_parts (channels && rate) bits straight in
+    let first = and_parts channels rate all.0 in
+    record { channels = first.0; rate = first.1; bits = all.1 }
+
+-- as many channels are mixed as the device has
+pub straight-channels : (device : DeviceSeen) → is_straight device ≡ true
+    → channels_of (mix_settings device).layout ≡ channels_of (device_settings device).layout
+straight-channels device straight =
+    eqb-true (channels_of (mix_settings device).layout) (channels_of (device_settings device).layout)
+    (equal device straight).channels
+
+-- with as many bits
+pub straight-bits : (device : DeviceSeen) → is_straight device ≡ true
+    → bits_of (mix_settings device).format ≡ bits_of (device_settings device).format
+straight-bits device straight =
+    eqb-true (bits_of (mix_settings device).format) (bits_of (device_settings device).format)
+    (equal device straight).bits
+
+-- ---- how many frames
+
+-- as many frames are mixed as are handed over
+pub straight-count : (device : DeviceSeen) (handed : ℕ) → is_straight device ≡ true → mixed_for device handed ≡ handed
+straight-count device handed straight =
+    let from = mix_settings device in
+    let to = device_settings device in
+    let same = eqb-true from.rate to.rate (equal device straight).rate in
+    ap (λ (rate : Rate). need rate handed) (record-level (filters_of device) (quality_of device) to from same)
+    ∙ need-unchanged handed
+
+-- so an interrupt mixes as many as it hands over
+pub straight-by : (device : DeviceSeen) (handed n : ℕ) → is_straight device ≡ true
+    → mixed_by device handed n ≡ n
+straight-by device handed n straight =
+    let before = straight-count device handed straight in
+    let behind = straight-count device (handed + n) straight in
+    omega (arith, before, behind)
+
+-- ---- which frames
+
+-- the plan has at most a stage to fewer bits
+straight-stages : (device : DeviceSeen) → is_straight device ≡ true
+    → (parent_plan device).stages
+    ≡ depth_stages (bits_of (device_settings device).format) (channels_of (device_settings device).layout)
+straight-stages device straight =
+    ap (λ way. way ++ depth_stages (bits_of to.format) (channels_of to.layout)) nothing
+  where
+    from : Settings
+    from = mix_settings device
+
+    to : Settings
+    to = device_settings device
+
+    is : IsEqual device
+    is = equal device straight
+
+    matrix : matrix_stages from.layout to.layout ≡ []
+    matrix =
+        cond-true (channels_of from.layout == channels_of to.layout) [] (Matrix from.layout to.layout ∷ [])
+        is.channels
+
+    rated : ℕ → List Spec
+    rated channels = rate_stages (filters_of device) (quality_of device) from.rate to.rate channels
+
+    level : (channels : ℕ) → rated channels ≡ []
+    level channels =
+        let converter = converter_of (filters_of device) (quality_of device) from.rate to.rate channels in
+        cond-true (from.rate == to.rate) [] (converter ∷ []) is.rate
+
+    nothing : converting (filters_of device) (quality_of device) from to ≡ []
+    nothing =
+        let source = channels_of from.layout in
+        let target = channels_of to.layout in
+        let moved = matrix_stages from.layout to.layout in
+        cond_both (nat_le target source) (moved ++ rated target) (rated source ++ moved) (λ way. way ≡ [])
+        (λ fewer. ap (λ first. first ++ rated target) matrix ∙ level target)
+        (λ more. ap (λ first. first ++ moved) (level source) ∙ matrix)
+
+-- samples of so many bits, brought to 32 and back
+there-and-back : (bits : ℕ) (frame : Frame) → at_bits bits (map (at_full bits) frame) ≡ frame
+there-and-back bits [] = refl
+there-and-back bits (sample ∷ frame) =
+    ap (λ first. first ∷ at_bits bits (map (at_full bits) frame)) (floor_div-mul_pow sample (32 - bits))
+    ∙ ap (λ rest. sample ∷ rest) (there-and-back bits frame)
+
+-- samples of 32 bits, brought to 32
+full-same : (frame : Frame) → map (at_full 32) frame ≡ frame
+full-same [] = refl
+full-same (sample ∷ frame) =
+    ap (λ first. first ∷ map (at_full 32) frame) (times-one sample) ∙ ap (λ rest. sample ∷ rest) (full-same frame)
+  where
+    times-one : (z : ℤ) → at_full 32 z ≡ z
+    times-one (pos n) = ap pos (omega arith)
+    times-one (negsuc n) = omega (arith, ints)
+
+-- a frame through that stage, if there is one, is the frame before it was brought to 32 bits
+depth-back : (tables : Filters) (bits channels : ℕ) (x : Stream) (k : ℕ) (frame : Frame)
+    → x (pos k) ≡ map (at_full bits) frame
+    → through tables unity (depth_stages bits channels) x (pos k) ≡ frame
+unfolding conv
+depth-back tables bits channels x k frame here =
+    cond_both (bits == 32) [] (Depth bits channels ∷ []) (λ specs. through tables unity specs x (pos k) ≡ frame)
+    (λ whole. here ∙ ap (λ (n : ℕ). map (at_full n) frame) (eqb-true bits 32 whole) ∙ full-same frame)
+    (λ fewer. ap (at_bits bits) here ∙ there-and-back bits frame)
+
+-- where a mixed frame comes to the plan at 32 bits, it is handed over as it was mixed
+straight-at : (device : DeviceSeen) (x : List Frame) (k : ℕ) (frame : Frame) → is_straight device ≡ true
+    → stream_of (channels_of (mix_settings device).layout) x (pos k) ≡ full_frame device frame
+    → rec (parent_plan device) (filters_of device) x k ≡ frame
+straight-at device x k frame straight here =
+    let tables = filters_of device in
+    let to = device_settings device in
+    let sound = stream_of (channels_of (mix_settings device).layout) x in
+    ap (λ (specs : List Spec). through tables unity specs sound (pos k)) (straight-stages device straight)
+    ∙ depth-back tables (bits_of to.format) (channels_of to.layout) sound k frame
+    (here ∙ ap (λ (bits : ℕ). map (at_full bits) frame) (straight-bits device straight))
+
+-- mixed frames behind any others are handed over as they were mixed
+pub straight-behind : (device : DeviceSeen) (x frames : List Frame) → is_straight device ≡ true
+    → recs (parent_plan device) (filters_of device) (x ++ map (full_frame device) frames) (length x) (length frames)
+    ≡ frames
+straight-behind device x frames straight =
+    let raised = map (full_frame device) frames in
+    let given : ℕ → Frame = rec (parent_plan device) (filters_of device) (x ++ raised) in
+    let s = silence (channels_of (mix_settings device).layout) in
+    let none : length x + 0 ≡ length x = omega arith in
+    sym (fill_by_all (λ i. given (length x + i)) frames (length frames) [] refl
+    (λ i below. sym (straight-at device (x ++ raised) (length x + i) (get_or frames i []) straight
+    (get_or-append-add x raised i s ∙ get_or-map (full_frame device) frames i [] s below)))
+    ∙ map-range-shift given (length x) 0 (length frames)
+    ∙ ap (λ start. map given (range_with_len start (length frames))) none)
+
+-- a mixed frame is handed over as it was mixed
+pub straight-rec : (device : DeviceSeen) (frames : List Frame) (k : ℕ) (other : Frame)
+    → is_straight device ≡ true → k < length frames
+    → rec (parent_plan device) (filters_of device) (map (full_frame device) frames) k ≡ get_or frames k other
+straight-rec device frames k other straight below =
+    let s = silence (channels_of (mix_settings device).layout) in
+    straight-at device (map (full_frame device) frames) k (get_or frames k other) straight
+    (get_or-map (full_frame device) frames k other s below)
+
+-- and so are several
+pub straight-recs : (device : DeviceSeen) (frames : List Frame) (from n : ℕ)
+    → is_straight device ≡ true → from + n ≤ length frames
+    → recs (parent_plan device) (filters_of device) (map (full_frame device) frames) from n
+    ≡ take n (drop from frames)
+straight-recs device frames from n straight within =
+    let none : from + 0 ≡ from = omega arith in
+    let given : ℕ → Frame = rec (parent_plan device) (filters_of device) (map (full_frame device) frames) in
+    let part = take n (drop from frames) in
+    let count : length part ≡ n = omega (arith, within, length-take n (drop from frames), length-drop from frames) in
+    sym (fill_by_all (λ i. given (from + i)) part n [] count
+    (λ i below. get_or-take n (drop from frames) i [] below ∙ get_or-drop from frames i []
+    ∙ sym (straight-rec device frames (from + i) [] straight (omega (arith, below, within))))
+    ∙ map-range-shift given from 0 n ∙ ap (λ start. map given (range_with_len start n)) none)
+
+-- where each frame is mixed from its place
+pub straight-mixed : (device : DeviceSeen) (mix : ℕ → Frame) (count from n : ℕ)
+    → is_straight device ≡ true → from + n ≤ count
+    → recs (parent_plan device) (filters_of device)
+    (map (full_frame device) (map mix (range_with_len 0 count))) from n
+    ≡ map mix (range_with_len from n)
+straight-mixed device mix count from n straight within =
+    let none : from + 0 ≡ from = omega arith in
+    let mixed = map mix (range_with_len 0 count) in
+    let all : from + n ≤ length mixed = omega (arith, within, length-map-range_with_len mix 0 count) in
+    straight-recs device mixed from n straight all
+    ∙ part-of-range mix from n count within
+    ∙ map-range-shift mix from 0 n ∙ ap (λ start. map mix (range_with_len start n)) none

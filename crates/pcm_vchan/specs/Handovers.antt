@@ -1,0 +1,61 @@
+-- What a device gets of mixed samples, and what its chain has made before.
+use Rattle.std.specs.Prelude.{◌≡◌, ℕ, ◌+◌, ◌*◌, ℤ, false, List, ◌++◌, length, map}
+use Rattle.pcm_format.specs.Frames.{Frame}
+use Rattle.pcm_format.specs.Layouts.{channels_of}
+use Rattle.pcm_feeder.specs.Kept.{Kept}
+use Rattle.pcm_feeder.specs.Streams.{HaveChannels, frames_of, interleaved}
+use Rattle.pcm_plan.specs.Fits.{HaveBits}
+use Rattle.pcm_plan.specs.Through.{recs}
+use Rattle.pcm_chain.specs.declared.chain.ChainOf.{ChainOf}
+use Rattle.pcm_chain.specs.Chains.{plan_in}
+use Rattle.pcm_chain.specs.Gives.{GivesExactly}
+use Rattle.pcm_desk.specs.Desk.{mixed_by}
+use Rattle.pcm_desk.specs.Device.{DeviceSeen, IsDevice, filters_of, full_frame, is_straight, mix_settings, mixed_for, parent_plan}
+
+-- the device is within its limits, and a chain goes by the plan from its mix to it
+pub record IsPlannedBy {B : Type 0} (device : DeviceSeen) (chain : ChainOf B) : Type 0 where
+  pub limits : IsDevice device
+  pub plan_is : plan_in chain ≡ parent_plan device
+
+-- samples of the mix as frames of 32 bits
+abbrev pub raised_frames : DeviceSeen → List ℤ → List Frame
+raised_frames device samples =
+    map (full_frame device) (frames_of (channels_of (mix_settings device).layout) samples)
+
+-- samples are the frames that are mixed for n of the device, where so many were handed over before
+abbrev pub AreMixedFor : DeviceSeen → List ℤ → ℕ → ℕ → Type 0
+AreMixedFor device samples handed n =
+    length samples ≡ mixed_by device handed n * channels_of (mix_settings device).layout
+
+-- The frames x were mixed, at 32 bits, and the chain has made as many frames of the device of them as
+-- were handed over. A chain that is passed over has nothing to keep.
+pub record HasMade {B : Type 0} (kept : B → Kept) (device : DeviceSeen) (chain : ChainOf B)
+    (x : List Frame) (handed : ℕ) : Type 0 where
+  pub bits : HaveBits 32 x
+  pub channels : HaveChannels (channels_of (mix_settings device).layout) x
+  pub count : length x ≡ mixed_for device handed
+  pub exactly : is_straight device ≡ false → GivesExactly kept (filters_of device) chain x handed
+
+-- the chain has made what was handed over of some frames, and the samples are those that are mixed for n more
+pub record CanMake {B : Type 0} (kept : B → Kept) (device : DeviceSeen) (chain : ChainOf B)
+    (samples : List ℤ) (n : ℕ) : Type 0 where
+  pub frames : List Frame
+  pub handed : ℕ
+  pub made : HasMade kept device chain frames handed
+  pub enough : AreMixedFor device samples handed n
+
+-- What handing n frames over means to whoever knows the frames x that were mixed before and how many
+-- were handed over: the chain has made these too, and they are the plan's next ones over all frames.
+pub record MakesMore {B : Type 0} (kept : B → Kept) (device : DeviceSeen) (samples : List ℤ) (n : ℕ)
+    (chain : ChainOf B) (x : List Frame) (handed : ℕ) (given : List ℤ) : Type 0 where
+  pub made : HasMade kept device chain (x ++ raised_frames device samples) (handed + n)
+  pub frames : given ≡ interleaved
+      (recs (parent_plan device) (filters_of device) (x ++ raised_frames device samples) handed n)
+
+-- it means that to whoever knows them
+abbrev pub MakesOn : {B : Type 0} → (B → Kept) → DeviceSeen → List ℤ → ℕ
+    → ChainOf B → ChainOf B → List ℤ → Type 0
+MakesOn kept device samples n old new given =
+    (x : List Frame) (handed : ℕ) → HasMade kept device old x handed
+    → AreMixedFor device samples handed n
+    → MakesMore kept device samples n new x handed given
