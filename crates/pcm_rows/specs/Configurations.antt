@@ -1,11 +1,12 @@
 -- Configurations: one that settles all, and parts of others, with what they settle.
 use Prim.Native.String.{String}
-use Rattle.std.specs.Prelude.{ℕ, pos, negsuc, List, [], ◌∷◌, ◌++◌, codes, Some, Result}
+use Rattle.std.specs.Prelude.{ℕ, ◌*◌, pos, negsuc, List, [], ◌∷◌, ◌++◌, codes, Some, Result}
 use Rattle.pcm_format.specs.declared.format.Format.TheVariants.{S24Le}
-use Rattle.pcm_format.specs.declared.layout.Layout.TheVariants.{Six}
+use Rattle.pcm_format.specs.declared.layout.Layout.TheVariants.{One, Six}
 use Rattle.pcm_feeder.specs.declared.section.Section.{Section}
 use Rattle.pcm_feeder.specs.declared.table.Table.{Table}
 use Rattle.pcm_feeder.specs.Filters.{as_filters, no_filters}
+use Rattle.pcm_desk.specs.Usual.{usual_settings}
 use Rattle.pcm_config.specs.declared.config.Config.{Config}
 use Rattle.pcm_config.specs.declared.config.Container.TheVariants.{Wav}
 use Rattle.pcm_config.specs.declared.config.FilePath.{FilePath}
@@ -32,6 +33,8 @@ whole_text = joined (
     ∷ codes "play = 16"
     ∷ codes "record = 0"
     ∷ codes "quality = 4"
+    ∷ codes "rate = 22050"
+    ∷ codes "channels = 1"
     ∷ codes "[files]"
     ∷ codes "room = \"in.wav\""
     ∷ codes "a_1 = \"/\""
@@ -49,6 +52,7 @@ abbrev pub whole_config : Config
 whole_config = record {
   device = record {
     settings = record { format = S24Le; layout = Six; rate = 44100 };
+    mix = record { format = S24Le; layout = One; rate = 22050 };
     block_frames = 128;
     ring_frames = 256;
     play_slots = 16;
@@ -59,6 +63,24 @@ whole_config = record {
   container = Wav;
   capture = Some (codes "room");
   files = whole_files;
+}
+
+-- ---- the mix
+
+-- a ring of so many blocks of 4096 frames, and a rate of the mix
+abbrev pub ring_text : String → String → List ℕ
+ring_text blocks rate =
+    codes "[device]\nhw_block = 4096\nhw_blocks = " ++ codes blocks
+    ++ codes "\n[vchans]\nrate = " ++ codes rate ++ 10 ∷ []
+
+-- what is usual, but for these
+abbrev pub config_of_ring : ℕ → ℕ → Config
+config_of_ring blocks rate = record usual_config {
+  device = record usual_config.device {
+    mix = record usual_settings { rate = rate };
+    block_frames = 4096;
+    ring_frames = 4096 * blocks;
+  };
 }
 
 -- ---- filters

@@ -17,6 +17,7 @@ pub mod PlainRows
 pub mod FilterRows
 pub mod EqualiserRows
 pub mod RecordingRows
+pub mod MixRows
 pub mod Waves
 pub mod Configurations
 pub mod ConversionRows

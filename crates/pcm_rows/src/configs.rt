@@ -3,11 +3,11 @@
 
 ghost use Rattle.std.specs.Prelude.{◌≡◌, ◌++◌, codes, Ok, [], ◌∷◌};
 ghost use Rattle.pcm_config.specs.declared.fault.ConfigKind.TheVariants.{Capture, Coef, Container, Count, Key, Kind, Missing, Name, Range, Shape, Toml};
-ghost use Rattle.pcm_config.specs.declared.place.ConfigPlace.TheVariants.{Device, DeviceCapture, DeviceChannels, DeviceContainer, DeviceFormat, DeviceHwBlock, DeviceHwBlocks, DeviceRate, Eq, Files, Tables, Top, Vchans, VchansPlay, VchansQuality, VchansRecord};
+ghost use Rattle.pcm_config.specs.declared.place.ConfigPlace.TheVariants.{Device, DeviceCapture, DeviceChannels, DeviceContainer, DeviceFormat, DeviceHwBlock, DeviceHwBlocks, DeviceRate, Eq, Files, Tables, Top, Vchans, VchansChannels, VchansPlay, VchansQuality, VchansRate, VchansRecord};
 ghost use Rattle.pcm_config.specs.Configs.{config_read, usual_config};
 ghost use Rattle.pcm_config.specs.Judgements.{refused};
 ghost use Rattle.pcm_rows.specs.Calls.{times};
-ghost use Rattle.pcm_rows.specs.Configurations.{config_in, config_of_filters, config_of_sections, filter_of, filter_keyed, furthest, furthest_text, half_way, half_way_text, keyless_text, rowless_text, section_keyed, wave_and_rowless_text, wave_with_keys, whole_config, whole_text, widest, widest_text};
+ghost use Rattle.pcm_rows.specs.Configurations.{config_in, config_of_filters, config_of_ring, config_of_sections, filter_of, filter_keyed, furthest, furthest_text, half_way, half_way_text, keyless_text, ring_text, rowless_text, section_keyed, wave_and_rowless_text, wave_with_keys, whole_config, whole_text, widest, widest_text};
 
 /// All that may be settled, and nothing.
 pub fn configuration_that_settles_all()
@@ -102,6 +102,8 @@ pub fn kinds_of_channels_and_files()
     ensures play { config_in "vchans.play = \"4\"" ≡ refused Kind VchansPlay }
     ensures recording { config_in "vchans.record = 0.0" ≡ refused Kind VchansRecord }
     ensures quality { config_in "vchans.quality = {}" ≡ refused Kind VchansQuality }
+    ensures rate { config_in "vchans.rate = \"24000\"" ≡ refused Kind VchansRate }
+    ensures channels { config_in "vchans.channels = 1.0" ≡ refused Kind VchansChannels }
     ensures files { config_in "files.A = \"x\"\nfiles.b = 1\n" ≡ refused Kind Files }
 {}
 
@@ -131,6 +133,19 @@ pub fn numbers_of_the_channels()
     ensures record_most { config_in "vchans.record = 17" ≡ refused Range VchansRecord }
     ensures quality_least { config_in "vchans.quality = -1" ≡ refused Range VchansQuality }
     ensures quality_most { config_in "vchans.quality = 5" ≡ refused Range VchansQuality }
+    ensures rate_least { config_in "vchans.rate = 3999" ≡ refused Range VchansRate }
+    ensures rate_most { config_in "vchans.rate = 192001" ≡ refused Range VchansRate }
+    ensures three { config_in "vchans.channels = 3" ≡ refused Range VchansChannels }
+    ensures negative { config_in "vchans.channels = -1" ≡ refused Range VchansChannels }
+{}
+
+/// An interrupt mixes at most 262144 frames: 131072 * 95988 / 48000 and 33 are as many, and a rate more
+/// makes 262146. At one rate they are those of the ring, of which the greatest has 262144 too.
+pub fn mixed_frames_of_a_configuration()
+    ensures most { config_read (ring_text "32" "95988") ≡ Ok (config_of_ring 32 95988) }
+    ensures more { config_read (ring_text "32" "95989") ≡ refused Range VchansRate }
+    ensures equal { config_read (ring_text "64" "48000") ≡ Ok (config_of_ring 64 48000) }
+    ensures lower { config_read (ring_text "64" "47999") ≡ refused Range VchansRate }
 {}
 
 /// A file's name is 1 to 32 small letters, digits and `_`, and its path isn't empty.

@@ -11,7 +11,7 @@ ghost use Rattle.pcm_rows.specs.OwnRows.{among_others, by_itself, desk_of_one, i
 pub fn client_among_others()
     ensures among { own_events 0 among_others ≡ its_events }
     ensures alone { own_events 5 by_itself ≡ its_events }
-    ensures replies { own_replies usual_device (channel_begun Play usual_settings) its_events ≡ its_replies }
+    ensures replies { own_replies usual_device 0 (channel_begun Play usual_settings) its_events ≡ its_replies }
     ensures told_among { replies_to usual_device 0 (desk_of_one 0) among_others ≡ its_replies }
     ensures told_alone { replies_to usual_device 5 (desk_of_one 5) by_itself ≡ its_replies }
 {}
