@@ -4,7 +4,7 @@ ghost use Rattle.std.specs.Prelude.{◌≡◌, ◌≤◌, ◌+◌, List, [], IsT
 ghost use Rattle.pcm_format.specs.declared.layout.Layout.TheVariants.{One};
 ghost use Rattle.pcm_format.specs.Frames.{Frame};
 ghost use Rattle.pcm_feeder.specs.Limits.{IsRate};
-ghost use Rattle.pcm_plan.specs.Fits.{HaveBits, HaveTables};
+ghost use Rattle.pcm_plan.specs.Fits.{HaveTables};
 ghost use Rattle.pcm_chain.specs.Chains.{plan_in};
 ghost use Rattle.pcm_chain.specs.Gives.{GivesExactly};
 
@@ -119,10 +119,10 @@ fn may_give<B: Feeder>(
     requires source { (plan_in chain.old).source ≡ One }
     requires target { (plan_in chain.old).target ≡ One }
     requires tables { HaveTables (plan_in chain.old).stages tables.now }
-    requires gives { (x : List Frame) × HaveBits 32 x
+    requires gives { (x : List Frame)
         × GivesExactly B.kept tables.now chain.old x given }
     ensures plan { plan_in chain.new ≡ plan_in chain.old }
-    ensures gives { IsTrue result → (x : List Frame) × HaveBits 32 x
+    ensures gives { IsTrue result → (x : List Frame)
         × GivesExactly B.kept tables.now chain.new x (given + length out.old) }
 {
     let before = chain.plan().need(given as u64);

@@ -24,7 +24,7 @@ use Rattle.pcm_chain.specs.declared.counts.Advance.{Advance}
 use Rattle.pcm_chain.specs.declared.counts.Counts.{Counts}
 use Rattle.pcm_chain.specs.Chains.{plan_in, ChainStands}
 use Rattle.pcm_chain.specs.Counts.{Goes}
-use Rattle.pcm_chain.specs.Gives.{GivesExactly, Gives}
+use Rattle.pcm_chain.specs.Gives.{GivesExactly, GivesNext}
 use Rattle.pcm_chain.specs.Pulls.{Pulls}
 use Rattle.pcm_chain.specs.Pushes.{pushed_frames}
 use Rattle.pcm_chain.proofs.Pulling.{IsBlock, block-pulls, end-taken, no-silence-behind}
@@ -79,7 +79,7 @@ rest-frames plan now eaten source samples same width within =
 pub pulls-give : {B : Type 0} (kept : B → Kept) (tables : Filters) (count eaten : ℕ) (input : List Frame) (old new : ChainOf B) (start out : List ℤ) (x : List Frame) (given : ℕ)
     → plan_in new ≡ plan_in old → length start ≡ count * channels_of (plan_in old).target → HaveChannels (channels_of (plan_in old).source) (x ++ input) → GivesExactly kept tables old x given
     → length input ≡ need (rate_in_plan (plan_in old)) (given + count) - need (rate_in_plan (plan_in old)) given
-    → Pulls kept tables unity false count input old new x given (record { given = count; eaten = eaten }) start out → Gives kept tables input count old new x given out
+    → Pulls kept tables unity false count input old new x given (record { given = count; eaten = eaten }) start out → GivesNext kept tables input count old new x given out
 pulls-give {B = B} kept tables count eaten input old new start out x given same fills have exactly enough pulls = record {
   exactly = record {
     stands = subst (λ list. ChainStands kept tables new (x ++ list) 0 (given + count)) (take_all eaten input (omega (arith, far, enough, exactly.exact, grown)))

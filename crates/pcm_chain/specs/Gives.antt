@@ -7,7 +7,6 @@ use Rattle.pcm_feeder.specs.Filters.{Filters}
 use Rattle.pcm_feeder.specs.Kept.{Kept}
 use Rattle.pcm_feeder.specs.Layouts.{unity}
 use Rattle.pcm_feeder.specs.Streams.{interleaved}
-use Rattle.pcm_plan.specs.Fits.{HaveBits}
 use Rattle.pcm_plan.specs.Plans.{PlanSeen, rate_in_plan}
 use Rattle.pcm_plan.specs.Through.{recs}
 use Rattle.pcm_chain.specs.declared.chain.ChainOf.{ChainOf}
@@ -30,18 +29,17 @@ abbrev pub AreJustEnough : PlanSeen → List ℤ → ℕ → ℕ → Type 0
 AreJustEnough plan input given count = length (pushed_frames plan input)
     ≡ need (rate_in_plan plan) (given + count) - need (rate_in_plan plan) given
 
--- what a chain may be handed for `count` frames: it has eaten frames of 32 bits, just those that the ones given need
+-- what a chain may be handed for `count` frames: it has eaten just the frames that those given need, and these are what the next ones do
 pub record CanGive {B : Type 0} (kept : B → Kept) (tables : Filters) (chain : ChainOf B)
     (input : List ℤ) (count : ℕ) : Type 0 where
   pub frames : List Frame
   pub given : ℕ
-  pub bits : HaveBits 32 frames
   pub gives : GivesExactly kept tables chain frames given
   pub enough : AreJustEnough (plan_in chain) input given count
 
 -- What a give of frames means to whoever knows the frames x that were eaten before and how many were
 -- given: all are eaten, and the plan's next frames over all of them fill the buffer.
-pub record Gives {B : Type 0} (kept : B → Kept) (tables : Filters) (input : List Frame) (count : ℕ)
+pub record GivesNext {B : Type 0} (kept : B → Kept) (tables : Filters) (input : List Frame) (count : ℕ)
     (old new : ChainOf B) (x : List Frame) (given : ℕ) (out : List ℤ) : Type 0 where
   pub exactly : GivesExactly kept tables new (x ++ input) (given + count)
   pub frames : out ≡ interleaved (recs (plan_in old) tables (x ++ input) given count)
@@ -52,7 +50,7 @@ abbrev pub GivesOn : {B : Type 0} → (B → Kept) → Filters → List ℤ → 
 GivesOn kept tables input count old new out =
     (x : List Frame) (given : ℕ) → GivesExactly kept tables old x given
     → AreJustEnough (plan_in old) input given count
-    → Gives kept tables (pushed_frames (plan_in old) input) count old new x given out
+    → GivesNext kept tables (pushed_frames (plan_in old) input) count old new x given out
 
 -- a block is a pull at a gain of one that gives all that it is asked for, to whoever knows that the input suffices
 abbrev pub GivesABlock : {B : Type 0} → (B → Kept) → Filters → ℕ → List ℤ

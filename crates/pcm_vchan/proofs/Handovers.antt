@@ -179,7 +179,6 @@ pub can-give : {B : Type 0} (kept : B → Kept) (device : DeviceSeen) (chain : C
 can-give kept device chain samples out n planned other long can = record {
   frames = can.frames;
   given = can.handed;
-  bits = can.made.bits;
   gives = can.made.exactly other;
   enough = subst (AreJustEnough (plan_in chain) (raised device samples) can.handed)
       (sym (fills device (plan_in chain) out n planned.plan_is long))

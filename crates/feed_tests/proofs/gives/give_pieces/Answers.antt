@@ -21,5 +21,5 @@ loop-at-preserved g c =
       source = ap (λ (p : PlanSeen). p.source) same ∙ h.source;
       target = ap (λ (p : PlanSeen). p.target) same ∙ h.target;
       tables = subst (λ (p : PlanSeen). HaveTables p.stages c.args.tables.now) (sym same) h.tables;
-      gives = (next.0, next.1, subst (λ k. GivesExactly g.B.Feeder.kept c.args.tables.now c.may_give.new.chain next.0 (at + k)) count next.2);
+      gives = (next.0, subst (λ k. GivesExactly g.B.Feeder.kept c.args.tables.now c.may_give.new.chain next.0 (at + k)) count next.1);
     }

@@ -1,7 +1,4 @@
-use Rattle.std.proofs.Common.{◌≡◌, ◌+◌, ◌/◌, ◌++◌, ℕ, length, All, ap, ◌∙◌, subst, arith}
-use Rattle.std.proofs.lemmas.List.Elements.{All-append}
-use Rattle.pcm_num.specs.Limit.{FitsBits}
-use Rattle.pcm_format.specs.Frames.{Frame}
+use Rattle.std.proofs.Common.{◌≡◌, ◌+◌, ◌/◌, ◌++◌, ℕ, length, ap, ◌∙◌, subst, arith}
 use Rattle.pcm_format.specs.Layouts.{channels_of}
 use Rattle.pcm_feeder.proofs.Frames.{length-frames_of}
 use Rattle.pcm_chain.specs.Chains.{plan_in}
@@ -24,8 +21,7 @@ give-requires-clause-can g c =
     record {
       frames = gives.0;
       given = c.args.given;
-      bits = gives.1;
-      gives = gives.2;
+      gives = gives.1;
       enough = rw count (omega (arith, frames, c.saturating_sub.ensures, before, after, c.if-enough.true));
     }
 
@@ -39,8 +35,7 @@ returns-then-enough-clause-gives g c enough =
     let before = rw c.plan.ensures at c.need-before.ensures in
     let after = rw c.plan-2.ensures at c.need-after.ensures in
     let just : AreJustEnough plan c.args.input.now c.args.given (filling_frames plan c.args.out.now) = rw count (omega (arith, frames, c.saturating_sub.ensures, before, after, c.if-enough.true)) in
-    let next = c.give.ensures.gives gives.0 c.args.given gives.2 just in (
+    let next = c.give.ensures.gives gives.0 c.args.given gives.1 just in (
       gives.0 ++ input,
-      All-append (λ (frame : Frame). All (FitsBits 32) frame) gives.0 input gives.1 c.give.ensures.fits,
       subst (λ n. GivesExactly g.B.Feeder.kept c.args.tables.now c.give.new.self (gives.0 ++ input) (c.args.given + n)) count next.exactly,
     )
