@@ -176,7 +176,7 @@ const OF_A_CONVERSION: [(Fault, Expected); 10] = [
 
 // The line of a soak of one number.
 const SOAKED: &[u8] =
-    b"events 20000 frames 644627 accepted 11066280 read 1901843 refused 4359 errors 6492 sum 305005835\n";
+    b"events 20000 frames 644627 accepted 10594078 read 1901843 refused 4619 errors 6225 sum 302785944\n";
 
 // It reads and writes no file, and puts one line.
 const OF_A_SOAK: [(Fault, Expected); 4] = [

@@ -68,7 +68,7 @@ pub const ROWS: [Row; 4] = [
         &["soak", "7"],
         (
             0,
-            b"events 20000 frames 644627 accepted 11066280 read 1901843 refused 4359 errors 6492 sum 305005835\n",
+            b"events 20000 frames 644627 accepted 10594078 read 1901843 refused 4619 errors 6225 sum 302785944\n",
             None,
         ),
     ),

@@ -17,16 +17,16 @@ use Rattle.pcm_desk.specs.declared.play_book.PlayState.TheVariants.{Free, Setup,
 use Rattle.pcm_desk.specs.declared.record_book.RecordBook.{RecordBook}
 use Rattle.pcm_desk.specs.declared.device.Held.{Held}
 use Rattle.pcm_desk.specs.declared.limits.TheConstants.{DESCRIPTORS}
-use Rattle.pcm_desk.specs.Device.{DeviceSeen}
+use Rattle.pcm_desk.specs.Device.{DeviceSeen, mix_settings}
 use Rattle.pcm_desk.specs.declared.turn.Turn.{Turn}
 use Rattle.pcm_desk.specs.PlayBooks.{is_play_free, play_begun, write_turn}
 use Rattle.pcm_desk.specs.RecordBooks as records
 use Rattle.pcm_desk.specs.RecordBooks.{is_record_free, record_begun}
 use Rattle.pcm_desk.specs.RecordRequests.{record_ask}
-use Rattle.pcm_desk.specs.Desk.{Desk, DeskTurn, after, asking, by_way, capturing, close_on, close_play, close_record, closing, desk_at_start, held_by, interrupt_turn, ioctl_on, least_free_play, least_free_record, mixed_by, mixing, open_play, open_record, play_at, play_rate_at, play_turn, play_unopened, read_on, record_at, record_rate_at, record_turn, record_unopened, refusing, turning, with_play, with_record, write_on}
+use Rattle.pcm_desk.specs.Desk.{Desk, DeskTurn, after, asking, by_way, capturing, close_on, close_play, close_record, closing, desk_at_start, desk_here, held_by, interrupt_turn, ioctl_on, least_free_play, least_free_record, open_play, open_record, play_at, play_passing, play_rate_at, play_turn, play_unopened, read_on, record_at, record_rate_at, record_turn, record_unopened, refusing, turning, with_play, with_record, write_on}
 use Rattle.pcm_desk.specs.Events.{after_all}
 use Rattle.pcm_desk.specs.Own.{HoldApart, MayBeHeld, is_held, slots_of}
-use Rattle.pcm_desk.proofs.PlayHolding.{held-ask, held-mixing, held-write}
+use Rattle.pcm_desk.proofs.PlayHolding.{held-ask, held-passing, held-write}
 use Rattle.pcm_desk.proofs.RecordHolding.{record-held-ask, record-held-captured, record-held-read}
 
 -- ---- books by slot
@@ -310,8 +310,8 @@ opened_or false way desk fd settings h = opened_by way desk fd settings h
 
 wrote : (device : DeviceSeen) (desk : Desk) (fd count : ℕ) → HoldApart desk → HoldApart (write_on device (held_by desk fd) desk count).desk
 wrote device desk fd count h =
-    turned (play_turn device (write_turn count) desk) (λ slot. refusing desk Inval) (held_by desk fd) desk fd refl h
-    (λ slot e. play_turned device (write_turn count) desk fd slot (held-write count) h e) (λ slot e. h)
+    turned (play_turn device (write_turn (desk_here device desk) count) desk) (λ slot. refusing desk Inval) (held_by desk fd) desk fd refl h
+    (λ slot e. play_turned device (write_turn (desk_here device desk) count) desk fd slot (held-write (desk_here device desk) count) h e) (λ slot e. h)
 
 read : (device : DeviceSeen) (desk : Desk) (fd count : ℕ) → HoldApart desk → HoldApart (read_on device (held_by desk fd) desk count).desk
 read device desk fd count h =
@@ -320,15 +320,15 @@ read device desk fd count h =
 
 asked : (device : DeviceSeen) (request : Request) (desk : Desk) (fd : ℕ) → HoldApart desk → HoldApart (ioctl_on device (held_by desk fd) desk request).desk
 asked device request desk fd h =
-    turned (play_turn device (asking device request) desk) (record_turn device (record_ask request) desk) (held_by desk fd) desk fd refl h
-    (λ slot e. play_turned device (asking device request) desk fd slot (λ book is. held-ask (play_rate_at device book) request book is) h e)
+    turned (play_turn device (asking device (desk_here device desk) request) desk) (record_turn device (record_ask request) desk) (held_by desk fd) desk fd refl h
+    (λ slot e. play_turned device (asking device (desk_here device desk) request) desk fd slot (λ book is. held-ask (play_rate_at device book) (mix_settings device).rate (desk_here device desk) request book is) h e)
     (λ slot e. record_turned device (record_ask request) desk fd slot (record-held-ask request) h e)
 
 closed : (device : DeviceSeen) (desk : Desk) (fd : ℕ) → HoldApart desk → HoldApart (close_on device (held_by desk fd) desk fd).desk
 closed device desk fd h =
     turned (close_play device desk fd) (close_record device desk fd) (held_by desk fd) desk fd refl h
     (λ slot e. shut desk (close_play device desk fd slot).desk fd (channel Play slot) e refl
-    (play_spared slot (closing device (play_at device desk slot)) (set desk.descriptors fd None) desk) h)
+    (play_spared slot (closing device (desk_here device desk) (play_at device desk slot)) (set desk.descriptors fd None) desk) h)
     (λ slot e. shut desk (close_record device desk fd slot).desk fd (channel Record slot) e refl
     (record_spared slot (records.closed (record_at device desk slot)) (set desk.descriptors fd None) desk) h)
 
@@ -337,7 +337,7 @@ passed : (device : DeviceSeen) (n : ℕ) (desk : Desk) → HoldApart desk → Ho
 passed device n desk h = moved desk (interrupt_turn device desk n).desk (λ fd. refl) moves h
   where
     moves : (way : Way) (slot : ℕ) → IsTaken desk way slot → IsTaken (interrupt_turn device desk n).desk way slot
-    moves Play slot has = (let q : ℕ = mixed_by device desk.handed n in has_map IsHeld (mixing device q) desk.play slot (held-mixing device q) has)
+    moves Play slot has = has_map IsHeld (play_passing device desk.handed n) desk.play slot (held-passing device desk.handed n) has
     moves Record slot has = has_map IsRecordHeld (capturing device n) desk.recording slot (λ book is. record-held-captured (record_rate_at device book) n book is) has
 
 -- Two descriptors hold two channels after every event.

@@ -22,11 +22,11 @@ use Rattle.pcm_desk.specs.PlayBooks.{is_play_free, play_begun, write_turn}
 use Rattle.pcm_desk.specs.RecordBooks as records
 use Rattle.pcm_desk.specs.RecordBooks.{is_record_free, record_begun}
 use Rattle.pcm_desk.specs.RecordRequests.{record_ask}
-use Rattle.pcm_desk.specs.Desk.{Desk, DeskTurn, after, asking, play_at, by_way, close_on, close_play, close_record, closing, held_by, ioctl_on, least_free_play, least_free_record, open_play, open_record, open_turn, play_turn, read_on, record_at, record_turn, record_unopened, refusing, play_unopened, write_on}
+use Rattle.pcm_desk.specs.Desk.{Desk, DeskTurn, after, asking, play_at, by_way, close_on, close_play, close_record, closing, desk_here, held_by, ioctl_on, least_free_play, least_free_record, open_play, open_record, open_turn, play_turn, read_on, record_at, record_turn, record_unopened, refusing, play_unopened, write_on}
 use Rattle.pcm_desk.specs.Own.{Channel, GoesByDescriptor, HoldApart, IsIsolated, Playing, Recording, channel_at, descriptor_of, held_after, is_held, own_turn, slots_of}
 use Rattle.pcm_desk.specs.OwnEvents.{channel_begun}
 use Rattle.pcm_desk.proofs.Apart.{free-unheld}
-use Rattle.pcm_desk.proofs.Slots.{play_at-mixing, record_at-capturing}
+use Rattle.pcm_desk.proofs.Slots.{play_at-passing, record_at-capturing}
 use Rattle.pcm_desk.proofs.Turning.{by-opening, by-turning}
 
 -- the number of a descriptor
@@ -98,7 +98,7 @@ one_refused device own held desk new same reply is = record {
 
 write_one : (device : DeviceSeen) (way : Way) (slot : ℕ) (desk : Desk) (fd at count : ℕ) (source : Source) → slot < slots_of desk way
     → TurnsOne device (own_turn device desk.handed (Write fd source at count)) (channel_named way slot) desk (write_on device (Some (channel_named way slot)) desk count)
-write_one device Play slot desk fd at count source there = one_play device (write_turn count) (own_turn device desk.handed (Write fd source at count)) desk slot (write_on device (Some (channel_named Play slot)) desk count) there refl refl (λ held. refl)
+write_one device Play slot desk fd at count source there = one_play device (write_turn (desk_here device desk) count) (own_turn device desk.handed (Write fd source at count)) desk slot (write_on device (Some (channel_named Play slot)) desk count) there refl refl (λ held. refl)
 write_one device Record slot desk fd at count source there = one_refused device (own_turn device desk.handed (Write fd source at count)) (channel_named Record slot) desk (write_on device (Some (channel_named Record slot)) desk count) refl refl refl
 
 read_one : (device : DeviceSeen) (way : Way) (slot : ℕ) (desk : Desk) (fd count : ℕ) → slot < slots_of desk way
@@ -108,13 +108,13 @@ read_one device Record slot desk fd count there = one_record device (records.rea
 
 ioctl_one : (device : DeviceSeen) (way : Way) (slot : ℕ) (desk : Desk) (fd : ℕ) (request : Request) → slot < slots_of desk way
     → TurnsOne device (own_turn device desk.handed (Ioctl fd request)) (channel_named way slot) desk (ioctl_on device (Some (channel_named way slot)) desk request)
-ioctl_one device Play slot desk fd request there = one_play device (asking device request) (own_turn device desk.handed (Ioctl fd request)) desk slot (ioctl_on device (Some (channel_named Play slot)) desk request) there refl refl (λ held. refl)
+ioctl_one device Play slot desk fd request there = one_play device (asking device (desk_here device desk) request) (own_turn device desk.handed (Ioctl fd request)) desk slot (ioctl_on device (Some (channel_named Play slot)) desk request) there refl refl (λ held. refl)
 ioctl_one device Record slot desk fd request there = one_record device (record_ask request) (own_turn device desk.handed (Ioctl fd request)) desk slot (ioctl_on device (Some (channel_named Record slot)) desk request) there refl refl (λ held. refl)
 
 close_one : (device : DeviceSeen) (way : Way) (slot : ℕ) (desk : Desk) (fd at : ℕ) → slot < slots_of desk way
     → TurnsOne device (own_turn device desk.handed (Close fd)) (channel_named way slot) desk (close_on device (Some (channel_named way slot)) desk at)
 close_one device Play slot desk fd at there =
-    one_play device (λ book. record { book = closing device book; reply = Ok Done }) (own_turn device desk.handed (Close fd)) desk slot (close_on device (Some (channel_named Play slot)) desk at) there refl refl (λ held. refl)
+    one_play device (λ book. record { book = closing device (desk_here device desk) book; reply = Ok Done }) (own_turn device desk.handed (Close fd)) desk slot (close_on device (Some (channel_named Play slot)) desk at) there refl refl (λ held. refl)
 close_one device Record slot desk fd at there =
     one_record device (λ book. record { book = records.closed book; reply = Ok Done }) (own_turn device desk.handed (Close fd)) desk slot (close_on device (Some (channel_named Record slot)) desk at) there refl refl (λ held. refl)
 
@@ -135,7 +135,7 @@ turns device (Intr frames) held desk fd n e there = cc
 
 -- an interrupt goes by each book alone
 passed : (device : DeviceSeen) (desk : Desk) (frames : ℕ) (way : Way) (slot : ℕ) → channel_at device (after device desk (Intr frames)).desk (channel_named way slot) ≡ (own_turn device desk.handed (Intr frames) (channel_at device desk (channel_named way slot))).book
-passed device desk frames Play slot = ap Playing (play_at-mixing device desk frames slot)
+passed device desk frames Play slot = ap Playing (play_at-passing device desk frames slot)
 passed device desk frames Record slot = ap Recording (record_at-capturing device desk frames slot)
 
 each_alone : (device : DeviceSeen) (event : Event) (desk : Desk) → descriptor_of event ≡ None → (held : Held) → channel_at device (after device desk event).desk held ≡ (own_turn device desk.handed event (channel_at device desk held)).book
@@ -156,11 +156,11 @@ holds_same device (Open at way settings) desk fd other n differ =
     (λ slot e. get_or-set_other desk.descriptors at other (Some (channel_named Play slot)) None apart)
     (λ slot e. get_or-set_other desk.descriptors at other (Some (channel_named Record slot)) None apart)
 holds_same device (Write at source from count) desk fd other n differ =
-    by-turning (λ (d : Desk). held_by d other ≡ held_by desk other) (play_turn device (write_turn count) desk) (λ slot. refusing desk Inval) (held_by desk at) desk refl (λ slot. refl) (λ slot. refl)
+    by-turning (λ (d : Desk). held_by d other ≡ held_by desk other) (play_turn device (write_turn (desk_here device desk) count) desk) (λ slot. refusing desk Inval) (held_by desk at) desk refl (λ slot. refl) (λ slot. refl)
 holds_same device (Read at count) desk fd other n differ =
     by-turning (λ (d : Desk). held_by d other ≡ held_by desk other) (λ slot. refusing desk Inval) (record_turn device (records.read_turn count) desk) (held_by desk at) desk refl (λ slot. refl) (λ slot. refl)
 holds_same device (Ioctl at request) desk fd other n differ =
-    by-turning (λ (d : Desk). held_by d other ≡ held_by desk other) (play_turn device (asking device request) desk) (record_turn device (record_ask request) desk) (held_by desk at) desk refl (λ slot. refl) (λ slot. refl)
+    by-turning (λ (d : Desk). held_by d other ≡ held_by desk other) (play_turn device (asking device (desk_here device desk) request) desk) (record_turn device (record_ask request) desk) (held_by desk at) desk refl (λ slot. refl) (λ slot. refl)
 holds_same device (Close at) desk fd other n differ =
     let apart : other ≢ at = λ same. differ (same ∙ named at fd n) in
     by-turning (λ (d : Desk). held_by d other ≡ held_by desk other) (close_play device desk at) (close_record device desk at) (held_by desk at) desk refl
@@ -187,11 +187,11 @@ closed_shut device desk fd held there =
 holds_until : (device : DeviceSeen) (event : Event) (desk : Desk) (fd : ℕ) (held : Held) → descriptor_of event ≡ Some fd → held_by desk fd ≡ Some held → held_by (after device desk event).desk fd ≡ held_after event held
 holds_until device (Open at way settings) desk fd held n e = rw (ap (held_by desk) (named at fd n) ∙ e) e
 holds_until device (Write at source from count) desk fd held n e =
-    by-turning (λ (d : Desk). held_by d fd ≡ Some held) (play_turn device (write_turn count) desk) (λ slot. refusing desk Inval) (held_by desk at) desk e (λ slot. e) (λ slot. e)
+    by-turning (λ (d : Desk). held_by d fd ≡ Some held) (play_turn device (write_turn (desk_here device desk) count) desk) (λ slot. refusing desk Inval) (held_by desk at) desk e (λ slot. e) (λ slot. e)
 holds_until device (Read at count) desk fd held n e =
     by-turning (λ (d : Desk). held_by d fd ≡ Some held) (λ slot. refusing desk Inval) (record_turn device (records.read_turn count) desk) (held_by desk at) desk e (λ slot. e) (λ slot. e)
 holds_until device (Ioctl at request) desk fd held n e =
-    by-turning (λ (d : Desk). held_by d fd ≡ Some held) (play_turn device (asking device request) desk) (record_turn device (record_ask request) desk) (held_by desk at) desk e (λ slot. e) (λ slot. e)
+    by-turning (λ (d : Desk). held_by d fd ≡ Some held) (play_turn device (asking device (desk_here device desk) request) desk) (record_turn device (record_ask request) desk) (held_by desk at) desk e (λ slot. e) (λ slot. e)
 holds_until device (Close at) desk fd held n e =
     subst (λ (k : ℕ). held_by (close_on device (held_by desk k) desk k).desk fd ≡ None) (sym (named at fd n))
     (subst (λ (h : Option Held). held_by (close_on device h desk fd).desk fd ≡ None) (sym e) (closed_shut device desk fd held (descriptor_there desk fd held e)))

@@ -1,8 +1,10 @@
 pub mod PlaySafe
 pub mod Openings
+pub mod Delays
 pub mod PlayAsking
 pub mod PlayStates
 pub mod PlaySafeAsking
+pub mod PlayHere
 pub mod PlayLeaves
 pub mod PlayHolding
 pub mod RecordAsking
@@ -19,3 +21,4 @@ pub mod Silent
 pub mod Props
 pub mod Ratios
 pub mod Straight
+pub mod Passing

@@ -7,12 +7,13 @@ use Rattle.pcm_oss.specs.declared.request.Request.{Request}
 use Rattle.pcm_oss.specs.declared.request.Request.TheVariants.{SetFmt, Speed, Channels, GetFmts, GetCaps, GetBlkSize, SetFragment, GetOSpace, GetISpace, GetOPtr, GetIPtr, GetODelay, GetError, SetTrigger, GetTrigger, SetPlayVol, GetPlayVol, Post, Sync, Halt}
 use Rattle.pcm_oss.specs.Volumes.{is_volume}
 use Rattle.pcm_rate.specs.declared.rate.Rate.{Rate}
+use Rattle.pcm_desk.specs.declared.here.Here.{Here}
 use Rattle.pcm_desk.specs.declared.play_book.PlayBook.{PlayBook}
 use Rattle.pcm_desk.specs.declared.opening.Opening.{Opening}
 use Rattle.pcm_desk.specs.declared.play_requests.TheConstants.{PLAY_BIT}
 use Rattle.pcm_desk.specs.PlayBooks.{drained_in, is_draining, is_play_setup, play_dropped, played_of}
 use Rattle.pcm_desk.specs.Openings as openings
-use Rattle.pcm_desk.specs.PlayRequests.{has_play_bit, play_ask, play_roused_in, play_stopped_in, play_triggered, play_with_trigger, set_volume}
+use Rattle.pcm_desk.specs.PlayRequests.{has_play_bit, play_ask, play_with_opening, play_roused_in, play_stopped_in, play_triggered, play_with_trigger, set_volume}
 use Rattle.pcm_desk.specs.BookTurns.{doing, refused}
 use Rattle.pcm_desk.proofs.Openings as settings
 use Rattle.pcm_desk.proofs.Openings.{Setting, Staying, Sets, opening-ask-does}
@@ -26,68 +27,93 @@ pub record AreNoted (book : PlayBook) (told volume : ℕ) : Type 0 where
   pub told_is : (told ≡ book.opening.told) ⊎ (told ≡ played_of book)
   pub volume_is : is_volume book.volume ≡ true → is_volume volume ≡ true
 
-pub data Does (rate : Rate) (request : Request) (old new : PlayBook) : Type 0 where
-  SettingUp : (opening : Opening) → is_play_setup old.state ≡ true → Sets old.opening opening → new ≡ record old { opening = opening } → Does rate request old new
-  Noting : (told volume underruns : ℕ) → AreNoted old told volume → new ≡ noting told volume underruns old → Does rate request old new
-  Starting : (trigger : Bool) → new ≡ play_roused_in old.state (play_with_trigger trigger old) → Does rate request old new
-  Stopping : (bits : ℕ) → request ≡ SetTrigger bits → has_play_bit bits ≡ false → new ≡ play_stopped_in old.state (play_with_trigger false old) → Does rate request old new
-  Ending : new ≡ drained_in rate old.state old → Does rate request old new
-  Dropping : request ≡ Halt → new ≡ play_dropped old → Does rate request old new
+pub data Does (rate : Rate) (here : Here) (request : Request) (old new : PlayBook) : Type 0 where
+  SettingUp : (opening : Opening) → is_play_setup old.state ≡ true → Sets old.opening opening → new ≡ record old { opening = opening } → Does rate here request old new
+  Noting : (told volume underruns : ℕ) → AreNoted old told volume → new ≡ noting told volume underruns old → Does rate here request old new
+  Starting : (trigger : Bool) → new ≡ play_roused_in here.mixed old.state (play_with_trigger trigger old) → Does rate here request old new
+  Stopping : (bits : ℕ) → request ≡ SetTrigger bits → has_play_bit bits ≡ false → new ≡ play_stopped_in old.state (play_with_trigger false old) → Does rate here request old new
+  Ending : new ≡ drained_in rate here old.state old → Does rate here request old new
+  Dropping : request ≡ Halt → new ≡ play_dropped old → Does rate here request old new
 
 -- the book stays
-untouched : (rate : Rate) (request : Request) (book : PlayBook) → Does rate request book book
-untouched rate request book = Noting book.opening.told book.volume book.underruns (record { told_is = inl refl; volume_is = λ v. v }) refl
+untouched : (rate : Rate) (here : Here) (request : Request) (book : PlayBook) → Does rate here request book book
+untouched rate here request book = Noting book.opening.told book.volume book.underruns (record { told_is = inl refl; volume_is = λ v. v }) refl
 
 -- what is asked of every opening
-common : (rate : Rate) (request : Request) (book : PlayBook) (opening : Opening) → settings.Does (is_play_setup book.state) book.opening opening → Does rate request book (record book { opening = opening })
-common rate request book opening d =
+common : (rate : Rate) (here : Here) (request : Request) (book : PlayBook) (opening : Opening) → settings.Does (is_play_setup book.state) book.opening opening → Does rate here request book (record book { opening = opening })
+common rate here request book opening d =
     elim d [
-      | Staying is ↦ rw is (untouched rate request book)
+      | Staying is ↦ rw is (untouched rate here request book)
       | Setting setup sets ↦ SettingUp opening setup sets refl
     ]
 
-common_ask : (rate : Rate) (request : Request) (book : PlayBook) → Does rate request book (record book { opening = (openings.ask (is_play_setup book.state) PLAY_BIT request book.opening).book })
-common_ask rate request book =
+common_ask : (rate : Rate) (here : Here) (request : Request) (book : PlayBook) → Does rate here request book (record book { opening = (openings.ask (is_play_setup book.state) PLAY_BIT request book.opening).book })
+common_ask rate here request book =
     let asked = (openings.ask (is_play_setup book.state) PLAY_BIT request book.opening).book in
-    common rate request book asked (opening-ask-does (is_play_setup book.state) PLAY_BIT request book.opening)
+    common rate here request book asked (opening-ask-does (is_play_setup book.state) PLAY_BIT request book.opening)
 
-volume_in : (b : Bool) (volume : ℕ) (rate : Rate) (request : Request) (book : PlayBook) → is_volume volume ≡ b → Does rate request book (set_volume volume book).book
-volume_in true volume rate request book e = rw e (Noting book.opening.told volume book.underruns (record { told_is = inl refl; volume_is = λ v. e }) refl)
-volume_in false volume rate request book e = rw e (untouched rate request book)
+volume_in : (b : Bool) (volume : ℕ) (rate : Rate) (here : Here) (request : Request) (book : PlayBook) → is_volume volume ≡ b → Does rate here request book (set_volume volume book).book
+volume_in true volume rate here request book e = rw e (Noting book.opening.told volume book.underruns (record { told_is = inl refl; volume_is = λ v. e }) refl)
+volume_in false volume rate here request book e = rw e (untouched rate here request book)
 
-post_in : (b : Bool) (rate : Rate) (request : Request) (book : PlayBook) → Does rate request book (cond b (play_roused_in book.state book) book)
-post_in true rate request book = Starting book.opening.trigger refl
-post_in false rate request book = untouched rate request book
+post_in : (b : Bool) (rate : Rate) (here : Here) (request : Request) (book : PlayBook) → Does rate here request book (cond b (play_roused_in here.mixed book.state book) book)
+post_in true rate here request book = Starting book.opening.trigger refl
+post_in false rate here request book = untouched rate here request book
 
-trigger_in : (b : Bool) (bits : ℕ) (rate : Rate) (book : PlayBook) → has_play_bit bits ≡ b → Does rate (SetTrigger bits) book (play_triggered b book)
-trigger_in true bits rate book e = Starting true refl
-trigger_in false bits rate book e = Stopping bits refl e refl
+trigger_in : (b : Bool) (bits : ℕ) (rate : Rate) (here : Here) (book : PlayBook) → has_play_bit bits ≡ b → Does rate here (SetTrigger bits) book (play_triggered here.mixed b book)
+trigger_in true bits rate here book e = Starting true refl
+trigger_in false bits rate here book e = Stopping bits refl e refl
 
-set_trigger_in : (wrong busy : Bool) (bits : ℕ) (rate : Rate) (book : PlayBook)
-    → Does rate (SetTrigger bits) book (cond wrong (refused Inval book) (cond busy (refused Busy book) (doing (play_triggered (has_play_bit bits) book)))).book
-set_trigger_in true busy bits rate book = untouched rate (SetTrigger bits) book
-set_trigger_in false true bits rate book = untouched rate (SetTrigger bits) book
-set_trigger_in false false bits rate book = trigger_in (has_play_bit bits) bits rate book refl
+set_trigger_in : (wrong busy : Bool) (bits : ℕ) (rate : Rate) (here : Here) (book : PlayBook)
+    → Does rate here (SetTrigger bits) book (cond wrong (refused Inval book) (cond busy (refused Busy book) (doing (play_triggered here.mixed (has_play_bit bits) book)))).book
+set_trigger_in true busy bits rate here book = untouched rate here (SetTrigger bits) book
+set_trigger_in false true bits rate here book = untouched rate here (SetTrigger bits) book
+set_trigger_in false false bits rate here book = trigger_in (has_play_bit bits) bits rate here book refl
 
 -- any request
-pub ask-does : (rate : Rate) (request : Request) (book : PlayBook) → Does rate request book (play_ask rate request book).book
-ask-does rate (SetFmt code) book = common_ask rate (SetFmt code) book
-ask-does rate (Speed speed) book = common_ask rate (Speed speed) book
-ask-does rate (Channels channels) book = common_ask rate (Channels channels) book
-ask-does rate GetFmts book = common_ask rate GetFmts book
-ask-does rate GetCaps book = common_ask rate GetCaps book
-ask-does rate GetBlkSize book = common_ask rate GetBlkSize book
-ask-does rate (SetFragment arg) book = common_ask rate (SetFragment arg) book
-ask-does rate GetOSpace book = untouched rate GetOSpace book
-ask-does rate GetISpace book = common_ask rate GetISpace book
-ask-does rate GetOPtr book = Noting (played_of book) book.volume book.underruns (record { told_is = inr refl; volume_is = λ v. v }) refl
-ask-does rate GetIPtr book = common_ask rate GetIPtr book
-ask-does rate GetODelay book = untouched rate GetODelay book
-ask-does rate GetError book = Noting book.opening.told book.volume 0 (record { told_is = inl refl; volume_is = λ v. v }) refl
-ask-does rate (SetTrigger bits) book = set_trigger_in (nat_lt 3 bits) (is_draining book.state) bits rate book
-ask-does rate GetTrigger book = common_ask rate GetTrigger book
-ask-does rate (SetPlayVol volume) book = volume_in (is_volume volume) volume rate (SetPlayVol volume) book refl
-ask-does rate GetPlayVol book = untouched rate GetPlayVol book
-ask-does rate Post book = post_in book.opening.trigger rate Post book
-ask-does rate Sync book = Ending refl
-ask-does rate Halt book = Dropping refl refl
+pub ask-does : (rate : Rate) (mix_rate : ℕ) (here : Here) (request : Request) (book : PlayBook) → Does rate here request book (play_ask rate mix_rate here request book).book
+ask-does rate mix_rate here (SetFmt code) book = common_ask rate here (SetFmt code) book
+ask-does rate mix_rate here (Speed speed) book = common_ask rate here (Speed speed) book
+ask-does rate mix_rate here (Channels channels) book = common_ask rate here (Channels channels) book
+ask-does rate mix_rate here GetFmts book = common_ask rate here GetFmts book
+ask-does rate mix_rate here GetCaps book = common_ask rate here GetCaps book
+ask-does rate mix_rate here GetBlkSize book = common_ask rate here GetBlkSize book
+ask-does rate mix_rate here (SetFragment arg) book = common_ask rate here (SetFragment arg) book
+ask-does rate mix_rate here GetOSpace book = untouched rate here GetOSpace book
+ask-does rate mix_rate here GetISpace book = common_ask rate here GetISpace book
+ask-does rate mix_rate here GetOPtr book = Noting (played_of book) book.volume book.underruns (record { told_is = inr refl; volume_is = λ v. v }) refl
+ask-does rate mix_rate here GetIPtr book = common_ask rate here GetIPtr book
+ask-does rate mix_rate here GetODelay book = untouched rate here GetODelay book
+ask-does rate mix_rate here GetError book = Noting book.opening.told book.volume 0 (record { told_is = inl refl; volume_is = λ v. v }) refl
+ask-does rate mix_rate here (SetTrigger bits) book = set_trigger_in (nat_lt 3 bits) (is_draining book.state) bits rate here book
+ask-does rate mix_rate here GetTrigger book = common_ask rate here GetTrigger book
+ask-does rate mix_rate here (SetPlayVol volume) book = volume_in (is_volume volume) volume rate here (SetPlayVol volume) book refl
+ask-does rate mix_rate here GetPlayVol book = untouched rate here GetPlayVol book
+ask-does rate mix_rate here Post book = post_in book.opening.trigger rate here Post book
+ask-does rate mix_rate here Sync book = Ending refl
+ask-does rate mix_rate here Halt book = Dropping refl refl
+
+-- what isn't asked of a book that plays alone is asked of its opening
+pub asks-common : (rate : Rate) (mix_rate : ℕ) (here : Here) (request : Request) (book : PlayBook) → (request ≡ GetOSpace → ⊥) → (request ≡ GetOPtr → ⊥) → (request ≡ GetODelay → ⊥) → (request ≡ GetError → ⊥)
+    → ((bits : ℕ) → request ≡ SetTrigger bits → ⊥) → ((volume : ℕ) → request ≡ SetPlayVol volume → ⊥) → (request ≡ GetPlayVol → ⊥) → (request ≡ Post → ⊥) → (request ≡ Sync → ⊥) → (request ≡ Halt → ⊥)
+    → play_with_opening book (openings.ask (is_play_setup book.state) PLAY_BIT request book.opening) ≡ play_ask rate mix_rate here request book
+asks-common rate mix_rate here (SetFmt code) book space pointer delay error trigger volume_set volume_told post sync halt = refl
+asks-common rate mix_rate here (Speed speed) book space pointer delay error trigger volume_set volume_told post sync halt = refl
+asks-common rate mix_rate here (Channels channels) book space pointer delay error trigger volume_set volume_told post sync halt = refl
+asks-common rate mix_rate here GetFmts book space pointer delay error trigger volume_set volume_told post sync halt = refl
+asks-common rate mix_rate here GetCaps book space pointer delay error trigger volume_set volume_told post sync halt = refl
+asks-common rate mix_rate here GetBlkSize book space pointer delay error trigger volume_set volume_told post sync halt = refl
+asks-common rate mix_rate here (SetFragment arg) book space pointer delay error trigger volume_set volume_told post sync halt = refl
+asks-common rate mix_rate here GetTrigger book space pointer delay error trigger volume_set volume_told post sync halt = refl
+asks-common rate mix_rate here GetISpace book space pointer delay error trigger volume_set volume_told post sync halt = refl
+asks-common rate mix_rate here GetIPtr book space pointer delay error trigger volume_set volume_told post sync halt = refl
+asks-common rate mix_rate here GetOSpace book space pointer delay error trigger volume_set volume_told post sync halt = absurd (space refl)
+asks-common rate mix_rate here GetOPtr book space pointer delay error trigger volume_set volume_told post sync halt = absurd (pointer refl)
+asks-common rate mix_rate here GetODelay book space pointer delay error trigger volume_set volume_told post sync halt = absurd (delay refl)
+asks-common rate mix_rate here GetError book space pointer delay error trigger volume_set volume_told post sync halt = absurd (error refl)
+asks-common rate mix_rate here (SetTrigger bits) book space pointer delay error trigger volume_set volume_told post sync halt = absurd (trigger bits refl)
+asks-common rate mix_rate here (SetPlayVol volume) book space pointer delay error trigger volume_set volume_told post sync halt = absurd (volume_set volume refl)
+asks-common rate mix_rate here GetPlayVol book space pointer delay error trigger volume_set volume_told post sync halt = absurd (volume_told refl)
+asks-common rate mix_rate here Post book space pointer delay error trigger volume_set volume_told post sync halt = absurd (post refl)
+asks-common rate mix_rate here Sync book space pointer delay error trigger volume_set volume_told post sync halt = absurd (sync refl)
+asks-common rate mix_rate here Halt book space pointer delay error trigger volume_set volume_told post sync halt = absurd (halt refl)

@@ -1,16 +1,16 @@
 -- What a close or a request leaves of a book: its counts, or nothing of its run.
-use Rattle.std.proofs.Common.{◌≡◌, ℕ, ◌+◌, ◌*◌, ◌<◌, ◌≤◌, Bool, true, false, cond, eqb, ◌⊎◌, inl, inr, refl, sym, subst, ap, ◌∙◌, arith}
+use Rattle.std.proofs.Common.{◌≡◌, ℕ, ℤ, ◌+◌, ◌*◌, ◌<◌, ◌≤◌, Bool, true, false, cond, ◌⊎◌, inl, inr, refl, sym, subst, ap, ◌∙◌, arith}
 use Rattle.std.specs.Prelude.{nat_lt, nat_le, ◌&&◌}
 use Rattle.std.proofs.lemmas.Bool.Decides.{nat_tests}
 use Rattle.pcm_format.specs.Frames.{frame_bytes}
 use Rattle.pcm_format.proofs.Whole.{bytes_above, frames_fit}
 use Rattle.pcm_oss.specs.declared.request.Request.{Request}
 use Rattle.pcm_rate.specs.declared.rate.Rate.{Rate}
-use Rattle.pcm_rate.specs.Rates.{len}
+use Rattle.pcm_desk.specs.declared.here.Here.{Here}
 use Rattle.pcm_desk.specs.declared.play_book.PlayBook.{PlayBook}
 use Rattle.pcm_desk.specs.declared.play_book.PlayState.{PlayState}
 use Rattle.pcm_desk.specs.declared.play_book.PlayState.TheVariants.{Free, Setup, Primed, Running, Draining}
-use Rattle.pcm_desk.specs.PlayBooks.{accepting, close_turn, closed_in, drained_in, finished, frames_written, is_draining, is_play_setup, is_started, play_dropped, play_emptied, play_fill_of, started_in}
+use Rattle.pcm_desk.specs.PlayBooks.{accepting, close_turn, closed_in, drained_in, finished, frames_written, is_draining, is_over, is_play_setup, is_started, play_dropped, play_emptied, play_fill_of, play_settled, started_at, started_in}
 use Rattle.pcm_desk.specs.Openings.{fragment_bytes}
 use Rattle.pcm_desk.specs.PlayRequests.{play_ask, play_roused_in, play_stopped_in, play_with_trigger}
 use Rattle.pcm_desk.specs.PlaySafe.{IsPlayInOrder, PlayIsSafe}
@@ -45,6 +45,12 @@ in_state : (state was : PlayState) (book : PlayBook) → (is_started was ≡ tru
 in_state state was book plays drains starts =
     record { settings = refl; fragments = refl; written = refl; eaten = refl; given = refl; done = refl; plays = plays; drains = drains; starts = starts }
 
+-- and once it has started
+started : (state was : PlayState) (mixed : ℕ) (book : PlayBook) → is_started was ≡ false → (is_draining was ≡ true → is_draining state ≡ true)
+    → ((is_started was ≡ true → 0 < book.written) → is_started state ≡ true → 0 < book.written) → Stays (record book { state = was }) (started_at mixed state book)
+started state was mixed book none drains starts =
+    record { settings = refl; fragments = refl; written = refl; eaten = refl; given = refl; done = refl; plays = λ h. cc; drains = drains; starts = starts }
+
 pub stays-same : (book : PlayBook) → Stays book book
 stays-same book = in_state book.state book.state book (λ h. h) (λ h. h) (λ h. h)
 
@@ -64,24 +70,40 @@ finished_done book = let fits = frames_fit book.opening.settings book.written (f
 
 -- ---- a drain, a close
 
-drain_primed : (b : Bool) (book : PlayBook) → nat_lt 0 (frames_written book) ≡ b → Leaves (record book { state = Primed }) (cond b (record book { state = Draining false }) (play_emptied Setup book))
-drain_primed true book e = record { counts = inl (in_state (Draining false) Primed book (λ h. cc) (λ h. cc) (λ h s. framed book e)) }
-drain_primed false book e = ended (record book { state = Primed }) (play_emptied Setup book) refl refl (omega arith)
+drain_primed : (mixed : ℕ) (b : Bool) (book : PlayBook) → nat_lt 0 (frames_written book) ≡ b → Leaves (record book { state = Primed }) (cond b (started_at mixed (Draining false) book) (play_emptied Setup book))
+drain_primed mixed true book e = record { counts = inl (started (Draining false) Primed mixed book refl (λ h. cc) (λ h s. framed book e)) }
+drain_primed mixed false book e = ended (record book { state = Primed }) (play_emptied Setup book) refl refl (omega arith)
 
 drain_running : (b : Bool) (book : PlayBook) → Leaves (record book { state = Running }) (cond b (finished Setup book) (record book { state = Draining false }))
 drain_running true book = ended (record book { state = Running }) (finished Setup book) refl refl (finished_done book)
 drain_running false book = record { counts = inl (in_state (Draining false) Running book (λ h. refl) (λ h. cc) (λ h s. h refl)) }
 
-drain_at : (state : PlayState) (rate : Rate) (book : PlayBook) → Leaves (record book { state = state }) (drained_in rate state (record book { state = state }))
-drain_at Free rate book = same (record book { state = Free })
-drain_at Setup rate book = same (record book { state = Setup })
-drain_at Primed rate book = drain_primed (nat_lt 0 (frames_written book)) book refl
-drain_at Running rate book = drain_running (eqb book.given (len rate (frames_written book))) book
-drain_at (Draining closed) rate book = same (record book { state = Draining closed })
+drain_at : (state : PlayState) (rate : Rate) (here : Here) (book : PlayBook) → Leaves (record book { state = state }) (drained_in rate here state (record book { state = state }))
+drain_at Free rate here book = same (record book { state = Free })
+drain_at Setup rate here book = same (record book { state = Setup })
+drain_at Primed rate here book = drain_primed here.mixed (nat_lt 0 (frames_written book)) book refl
+drain_at Running rate here book = drain_running (is_over rate here.passed book) book
+drain_at (Draining closed) rate here book = same (record book { state = Draining closed })
+
+settle_over : (b closed : Bool) (book : PlayBook) → Leaves (record book { state = Draining closed }) (cond b (finished (cond closed Free Setup) (record book { state = Draining closed })) (record book { state = Draining closed }))
+settle_over true true book = ended (record book { state = Draining true }) (finished Free (record book { state = Draining true })) refl refl (finished_done book)
+settle_over true false book = ended (record book { state = Draining false }) (finished Setup (record book { state = Draining false })) refl refl (finished_done book)
+settle_over false closed book = same (record book { state = Draining closed })
+
+settle_at : (state : PlayState) (rate : Rate) (passed : ℤ) (book : PlayBook) → Leaves (record book { state = state }) (play_settled rate passed (record book { state = state }))
+settle_at Free rate passed book = same (record book { state = Free })
+settle_at Setup rate passed book = same (record book { state = Setup })
+settle_at Primed rate passed book = same (record book { state = Primed })
+settle_at Running rate passed book = same (record book { state = Running })
+settle_at (Draining closed) rate passed book = settle_over (is_over rate passed (record book { state = Draining closed })) closed book
+
+-- frames are handed over
+pub settle-leaves : (rate : Rate) (passed : ℤ) (book : PlayBook) → Leaves book (play_settled rate passed book)
+settle-leaves rate passed book = settle_at book.state rate passed book
 
 -- no more comes
-pub drain-leaves : (rate : Rate) (book : PlayBook) → Leaves book (drained_in rate book.state book)
-drain-leaves rate book = drain_at book.state rate book
+pub drain-leaves : (rate : Rate) (here : Here) (book : PlayBook) → Leaves book (drained_in rate here book.state book)
+drain-leaves rate here book = drain_at book.state rate here book
 
 close_at : (state : PlayState) (book : PlayBook) → Stays (record book { state = state }) (closed_in state (record book { state = state }))
 close_at Free book = stays-same (record book { state = Free })
@@ -98,11 +120,11 @@ close_stopped Running book e = cc
 close_stopped (Draining was) book e = cc
 
 -- a close
-pub close-leaves : (rate : Rate) (book : PlayBook) → Leaves book (close_turn rate book)
-close-leaves rate book =
-    let between : PlayBook = drained_in rate book.state book in
+pub close-leaves : (rate : Rate) (here : Here) (book : PlayBook) → Leaves book (close_turn rate here book)
+close-leaves rate here book =
+    let between : PlayBook = drained_in rate here book.state book in
     let last = close_at between.state between in
-    elim (drain-leaves rate book).counts [
+    elim (drain-leaves rate here book).counts [
       | inl kept ↦ record {
         counts = inl (record {
           settings = last.settings ∙ kept.settings;
@@ -116,7 +138,7 @@ close-leaves rate book =
           starts = λ h s. last.starts (kept.starts h) s;
         });
       }
-      | inr none ↦ ended book (close_turn rate book) (last.written ∙ none.written) (close_stopped between.state between none.stopped) (let done = none.done in omega (arith, last.done))
+      | inr none ↦ ended book (close_turn rate here book) (last.written ∙ none.written) (close_stopped between.state between none.stopped) (let done = none.done in omega (arith, last.done))
     ]
 
 -- a close leaves the settings and the fragments
@@ -127,27 +149,44 @@ pub record Keeps (old new : PlayBook) : Type 0 where
 kept : (book : PlayBook) → Keeps book book
 kept book = record { settings = refl; fragments = refl }
 
-keep_drain_primed : (b : Bool) (book : PlayBook) → Keeps book (cond b (record book { state = Draining false }) (play_emptied Setup book))
-keep_drain_primed true book = record { settings = refl; fragments = refl }
-keep_drain_primed false book = record { settings = refl; fragments = refl }
+keep_drain_primed : (mixed : ℕ) (b : Bool) (book : PlayBook) → Keeps book (cond b (started_at mixed (Draining false) book) (play_emptied Setup book))
+keep_drain_primed mixed true book = record { settings = refl; fragments = refl }
+keep_drain_primed mixed false book = record { settings = refl; fragments = refl }
 
 keep_drain_running : (b : Bool) (book : PlayBook) → Keeps book (cond b (finished Setup book) (record book { state = Draining false }))
 keep_drain_running true book = record { settings = refl; fragments = refl }
 keep_drain_running false book = record { settings = refl; fragments = refl }
 
-keep_drain_at : (state : PlayState) (rate : Rate) (book : PlayBook) → Keeps (record book { state = state }) (drained_in rate state (record book { state = state }))
-keep_drain_at Free rate book = kept (record book { state = Free })
-keep_drain_at Setup rate book = kept (record book { state = Setup })
-keep_drain_at Primed rate book = let k = keep_drain_primed (nat_lt 0 (frames_written book)) book in record { settings = k.settings; fragments = k.fragments }
-keep_drain_at Running rate book = let k = keep_drain_running (eqb book.given (len rate (frames_written book))) book in record { settings = k.settings; fragments = k.fragments }
-keep_drain_at (Draining closed) rate book = kept (record book { state = Draining closed })
+keep_drain_at : (state : PlayState) (rate : Rate) (here : Here) (book : PlayBook) → Keeps (record book { state = state }) (drained_in rate here state (record book { state = state }))
+keep_drain_at Free rate here book = kept (record book { state = Free })
+keep_drain_at Setup rate here book = kept (record book { state = Setup })
+keep_drain_at Primed rate here book = let k = keep_drain_primed here.mixed (nat_lt 0 (frames_written book)) book in record { settings = k.settings; fragments = k.fragments }
+keep_drain_at Running rate here book = let k = keep_drain_running (is_over rate here.passed book) book in record { settings = k.settings; fragments = k.fragments }
+keep_drain_at (Draining closed) rate here book = kept (record book { state = Draining closed })
 
-pub close-keeps : (rate : Rate) (book : PlayBook) → Keeps book (close_turn rate book)
-close-keeps rate book =
-    let between : PlayBook = drained_in rate book.state book in
-    let first = keep_drain_at book.state rate book in
+pub close-keeps : (rate : Rate) (here : Here) (book : PlayBook) → Keeps book (close_turn rate here book)
+close-keeps rate here book =
+    let between : PlayBook = drained_in rate here book.state book in
+    let first = keep_drain_at book.state rate here book in
     let last = close_at between.state between in
     record { settings = last.settings ∙ first.settings; fragments = last.fragments ∙ first.fragments }
+
+keep_settle_over : (b closed : Bool) (book : PlayBook) → Keeps book (cond b (finished (cond closed Free Setup) book) book)
+keep_settle_over true closed book = record { settings = refl; fragments = refl }
+keep_settle_over false closed book = kept book
+
+keep_settle_at : (state : PlayState) (rate : Rate) (passed : ℤ) (book : PlayBook) → Keeps (record book { state = state }) (play_settled rate passed (record book { state = state }))
+keep_settle_at Free rate passed book = kept (record book { state = Free })
+keep_settle_at Setup rate passed book = kept (record book { state = Setup })
+keep_settle_at Primed rate passed book = kept (record book { state = Primed })
+keep_settle_at Running rate passed book = kept (record book { state = Running })
+keep_settle_at (Draining closed) rate passed book =
+    let draining : PlayBook = record book { state = Draining closed } in
+    keep_settle_over (is_over rate passed draining) closed draining
+
+-- and so do frames that are handed over
+pub settle-keeps : (rate : Rate) (passed : ℤ) (book : PlayBook) → Keeps book (play_settled rate passed book)
+settle-keeps rate passed book = keep_settle_at book.state rate passed book
 
 -- ---- requests
 
@@ -187,19 +226,19 @@ noted old new state settings fragments written eaten given done = record {
   });
 }
 
-rouse_primed : (b trigger : Bool) (book : PlayBook) → nat_lt 0 (frames_written book) ≡ b
-    → Leaves (record book { state = Primed }) (cond b (record (play_with_trigger trigger book) { state = Running }) (record (play_with_trigger trigger book) { state = Primed }))
-rouse_primed true trigger book e = record {
+rouse_primed : (mixed : ℕ) (b trigger : Bool) (book : PlayBook) → nat_lt 0 (frames_written book) ≡ b
+    → Leaves (record book { state = Primed }) (cond b (started_at mixed Running (play_with_trigger trigger book)) (record (play_with_trigger trigger book) { state = Primed }))
+rouse_primed mixed true trigger book e = record {
   counts = inl (record { settings = refl; fragments = refl; written = refl; eaten = refl; given = refl; done = refl; plays = λ h. cc; drains = λ h. cc; starts = λ h s. framed book e });
 }
-rouse_primed false trigger book e = noted (record book { state = Primed }) _ refl refl refl refl refl refl refl
+rouse_primed mixed false trigger book e = noted (record book { state = Primed }) _ refl refl refl refl refl refl refl
 
-rouse_at : (state : PlayState) (trigger : Bool) (book : PlayBook) → Leaves (record book { state = state }) (play_roused_in state (play_with_trigger trigger (record book { state = state })))
-rouse_at Free trigger book = noted _ _ refl refl refl refl refl refl refl
-rouse_at Setup trigger book = noted _ _ refl refl refl refl refl refl refl
-rouse_at Primed trigger book = rouse_primed (nat_lt 0 (frames_written book)) trigger book refl
-rouse_at Running trigger book = noted _ _ refl refl refl refl refl refl refl
-rouse_at (Draining closed) trigger book = noted _ _ refl refl refl refl refl refl refl
+rouse_at : (mixed : ℕ) (state : PlayState) (trigger : Bool) (book : PlayBook) → Leaves (record book { state = state }) (play_roused_in mixed state (play_with_trigger trigger (record book { state = state })))
+rouse_at mixed Free trigger book = noted _ _ refl refl refl refl refl refl refl
+rouse_at mixed Setup trigger book = noted _ _ refl refl refl refl refl refl refl
+rouse_at mixed Primed trigger book = rouse_primed mixed (nat_lt 0 (frames_written book)) trigger book refl
+rouse_at mixed Running trigger book = noted _ _ refl refl refl refl refl refl refl
+rouse_at mixed (Draining closed) trigger book = noted _ _ refl refl refl refl refl refl refl
 
 -- what is dropped counts nothing
 drop_in : (book : PlayBook) (trigger : Bool) → Leaves book (play_dropped (play_with_trigger trigger book))
@@ -213,14 +252,14 @@ stop_at Running book = drop_in (record book { state = Running }) false
 stop_at (Draining closed) book = noted _ _ refl refl refl refl refl refl refl
 
 -- A request leaves the counts of a book, or nothing of its run. What it takes in Setup alone leaves nothing, since there is nothing.
-pub ask-leaves : (rate : Rate) (request : Request) (book : PlayBook) → PlayIsSafe rate book → Leaves book (play_ask rate request book).book
-ask-leaves rate request book s =
-    elim (ask-does rate request book) [
+pub ask-leaves : (rate : Rate) (mix_rate : ℕ) (here : Here) (request : Request) (book : PlayBook) → PlayIsSafe rate book → Leaves book (play_ask rate mix_rate here request book).book
+ask-leaves rate mix_rate here request book s =
+    elim (ask-does rate mix_rate here request book) [
       | SettingUp opening setup sets is ↦ subst (Leaves book) (sym is) (set_up rate book (record book { opening = opening }) s setup refl refl refl)
       | Noting told volume underruns n is ↦ subst (Leaves book) (sym is) (noted book (noting told volume underruns book) refl refl refl refl refl refl refl)
-      | Starting trigger is ↦ subst (Leaves book) (sym is) (rouse_at book.state trigger book)
+      | Starting trigger is ↦ subst (Leaves book) (sym is) (rouse_at here.mixed book.state trigger book)
       | Stopping bits asks off is ↦ subst (Leaves book) (sym is) (stop_at book.state book)
-      | Ending is ↦ subst (Leaves book) (sym is) (drain-leaves rate book)
+      | Ending is ↦ subst (Leaves book) (sym is) (drain-leaves rate here book)
       | Dropping asks is ↦ subst (Leaves book) (sym is) (drop_in book book.opening.trigger)
     ]
 
@@ -231,23 +270,23 @@ pub record Adds (old new : PlayBook) : Type 0 where
   pub fragments : new.opening.fragments ≡ old.opening.fragments
   pub done : new.done ≡ old.done
 
-start_adds : (b : Bool) (more : PlayBook) → Adds more (cond b (record more { state = Running }) (record more { state = Primed }))
-start_adds true more = record { fragments = refl; done = refl }
-start_adds false more = record { fragments = refl; done = refl }
+start_adds : (mixed : ℕ) (b : Bool) (more : PlayBook) → Adds more (cond b (started_at mixed Running more) (record more { state = Primed }))
+start_adds mixed true more = record { fragments = refl; done = refl }
+start_adds mixed false more = record { fragments = refl; done = refl }
 
-prime_adds : (b : Bool) (more : PlayBook) → Adds more (let primed : PlayBook = cond b (record more { state = Primed }) (record more { state = Setup }) in started_in primed.state primed)
-prime_adds true more = let a = start_adds (more.opening.trigger && nat_le (fragment_bytes more.opening) (play_fill_of more)) more in record { fragments = a.fragments; done = a.done }
-prime_adds false more = record { fragments = refl; done = refl }
+prime_adds : (mixed : ℕ) (b : Bool) (more : PlayBook) → Adds more (let primed : PlayBook = cond b (record more { state = Primed }) (record more { state = Setup }) in started_in mixed primed.state primed)
+prime_adds mixed true more = let a = start_adds mixed (more.opening.trigger && nat_le (fragment_bytes more.opening) (play_fill_of more)) more in record { fragments = a.fragments; done = a.done }
+prime_adds mixed false more = record { fragments = refl; done = refl }
 
-accept_at : (state : PlayState) (accepted : ℕ) (book : PlayBook) → Adds (record book { state = state }) (accepting accepted (record book { state = state }))
-accept_at Free accepted book = record { fragments = refl; done = refl }
-accept_at Setup accepted book = let a = prime_adds (nat_lt 0 (book.written + accepted)) (record book { written = book.written + accepted }) in record { fragments = a.fragments; done = a.done }
-accept_at Primed accepted book =
+accept_at : (mixed : ℕ) (state : PlayState) (accepted : ℕ) (book : PlayBook) → Adds (record book { state = state }) (accepting mixed accepted (record book { state = state }))
+accept_at mixed Free accepted book = record { fragments = refl; done = refl }
+accept_at mixed Setup accepted book = let a = prime_adds mixed (nat_lt 0 (book.written + accepted)) (record book { written = book.written + accepted }) in record { fragments = a.fragments; done = a.done }
+accept_at mixed Primed accepted book =
     let more : PlayBook = record book { written = book.written + accepted } in
-    let a = start_adds (more.opening.trigger && nat_le (fragment_bytes more.opening) (play_fill_of more)) more in
+    let a = start_adds mixed (more.opening.trigger && nat_le (fragment_bytes more.opening) (play_fill_of more)) more in
     record { fragments = a.fragments; done = a.done }
-accept_at Running accepted book = record { fragments = refl; done = refl }
-accept_at (Draining closed) accepted book = record { fragments = refl; done = refl }
+accept_at mixed Running accepted book = record { fragments = refl; done = refl }
+accept_at mixed (Draining closed) accepted book = record { fragments = refl; done = refl }
 
-pub accepting-adds : (accepted : ℕ) (book : PlayBook) → Adds book (accepting accepted book)
-accepting-adds accepted book = accept_at book.state accepted book
+pub accepting-adds : (mixed accepted : ℕ) (book : PlayBook) → Adds book (accepting mixed accepted book)
+accepting-adds mixed accepted book = accept_at mixed book.state accepted book

@@ -1,5 +1,5 @@
 -- The counts of a book stay in order through every event, for every rate between the client and the mix.
-use Rattle.std.proofs.Common.{◌≡◌, ℕ, suc, zero, ◌+◌, ◌-◌, ◌*◌, ◌<◌, ◌≤◌, Bool, true, false, cond, eqb, min, max, inl, inr, refl, ap, ◌∙◌, arith}
+use Rattle.std.proofs.Common.{◌≡◌, ℕ, ℤ, suc, zero, ◌+◌, ◌-◌, ◌*◌, ◌<◌, ◌≤◌, Bool, true, false, cond, eqb, min, max, inl, inr, refl, ap, ◌∙◌, arith}
 use Rattle.std.proofs.Math.Nat.{mul-le-mul_right, zero-div, zero-mul}
 use Rattle.std.specs.Prelude.{nat_lt, nat_le, ◌&&◌}
 use Rattle.std.proofs.lemmas.Bool.{cases_lt}
@@ -12,14 +12,15 @@ use Rattle.pcm_format.proofs.Whole.{whole_frames-mono}
 use Rattle.pcm_oss.proofs.Limits.{usual-fragments}
 use Rattle.pcm_rate.specs.declared.rate.Rate.{Rate}
 use Rattle.pcm_rate.specs.Rates.{IsRatio, need, can, len}
-use Rattle.pcm_rate.proofs.Counts.{below_div_up, can-greatest, can-le-len, need_grows, len_above, need-can, need-past}
+use Rattle.pcm_rate.proofs.Counts.{below_div_up, can-greatest, can-le-len, need_grows, need-can, need-past}
+use Rattle.pcm_desk.specs.declared.here.Here.{Here}
 use Rattle.pcm_desk.specs.declared.play_book.PlayBook.{PlayBook}
 use Rattle.pcm_desk.specs.declared.play_book.PlayState.{PlayState}
 use Rattle.pcm_desk.specs.declared.play_book.PlayState.TheVariants.{Free, Setup, Primed, Running, Draining}
 use Rattle.pcm_desk.specs.declared.turn.Turn.{Turn}
 use Rattle.pcm_desk.specs.Openings.{fragment_bytes, ring_bytes}
 use Rattle.pcm_desk.specs.BookTurns.{refused, telling}
-use Rattle.pcm_desk.specs.PlayBooks.{accepting, allowed_in, close_turn, closed_in, drained_in, finished, frames_written, gives, giving, is_draining, is_started, play_begun, play_emptied, play_fill_of, play_free_of, played_of, refilled, started_in, write_turn}
+use Rattle.pcm_desk.specs.PlayBooks.{accepting, allowed_in, close_turn, closed_in, drained_in, finished, frames_written, gives, is_draining, is_over, is_started, play_begun, play_emptied, play_fill_of, play_free_of, play_settled, played_of, refilled, started_at, started_in, write_turn}
 use Rattle.pcm_desk.specs.PlaySafe.{EatsInTime, IsDraining, IsPlayInOrder, IsPlayUnstarted, IsRunning, PlayIsSafe}
 
 -- ---- counts alone
@@ -36,13 +37,13 @@ unstarted_running rate frames eaten given u =
     let needs : need rate given ≡ 0 = ap (need rate) start in
     record { eats = record { written = omega arith; early = omega arith }; needed = omega arith; allowed = omega arith }
 
--- a run without a frame of its own is over before it drains, and any other may drain from its start
-unstarted_draining : (rate : Rate) (frames eaten given : ℕ) → IsRatio rate → 0 < frames → IsPlayUnstarted eaten given → IsDraining rate frames eaten given
-unstarted_draining rate frames eaten given r some u =
+-- and may drain from its start
+unstarted_draining : (rate : Rate) (frames eaten given : ℕ) → IsPlayUnstarted eaten given → IsDraining rate frames eaten given
+unstarted_draining rate frames eaten given u =
     let none = u.eaten_none in
     let start = u.given_none in
-    let last = len_above rate frames r.src r.dst some in
-    record { eats = record { written = omega arith; early = omega arith }; needed = (let needs : need rate given ≡ 0 = ap (need rate) start in omega arith); left = omega arith }
+    let needs : need rate given ≡ 0 = ap (need rate) start in
+    record { eats = record { written = omega arith; early = omega arith }; needed = omega arith; allowed = omega arith }
 
 -- more frames were written
 running-more : (rate : Rate) (frames more eaten given : ℕ) → IsRatio rate → frames ≤ more → IsRunning rate frames eaten given → IsRunning rate more eaten given
@@ -56,19 +57,12 @@ running-more rate frames more eaten given r grew o =
     }
 
 -- no more comes
-running-drains : (rate : Rate) (frames eaten given : ℕ) → IsRatio rate → (given ≡ len rate frames → ⊥) → IsRunning rate frames eaten given → IsDraining rate frames eaten given
-running-drains rate frames eaten given r left o =
+running-drains : (rate : Rate) (frames eaten given : ℕ) → IsRatio rate → IsRunning rate frames eaten given → IsDraining rate frames eaten given
+running-drains rate frames eaten given r o =
     let allowed = o.allowed in
     let within = can-le-len rate frames r.src in
     let needed = o.needed in
-    record {
-      eats = o.eats;
-      needed = omega arith;
-      left = elim (cases_lt given (len rate frames)) [
-        | inl below ↦ below
-        | inr all ↦ absurd (left (omega arith))
-      ];
-    }
+    record { eats = o.eats; needed = omega arith; allowed = omega arith }
 
 -- what is eaten for the next n frames of the mix is eaten in time, wherever the giving stops
 early-more : (rate : Rate) (frames eaten given n m : ℕ) → IsRatio rate → EatsInTime rate frames eaten given → m ≤ n → (m ≡ n → ⊥) → frames < need rate (given + m + 1)
@@ -117,16 +111,28 @@ running-gives rate frames eaten given n r o =
           rw gave (record { eats = early-all rate frames eaten given n r o.eats; needed = omega arith; allowed = within }))
     ]
 
--- a draining book at an interrupt that doesn't end it
-draining-gives : (rate : Rate) (frames eaten given n : ℕ) → IsRatio rate → IsDraining rate frames eaten given → (given + min n (len rate frames - given) ≡ len rate frames → ⊥)
+-- a draining book at an interrupt: it gives all n frames, or as many as are left
+draining-gives : (rate : Rate) (frames eaten given n : ℕ) → IsRatio rate → IsDraining rate frames eaten given
     → IsDraining rate frames (max eaten (min frames (need rate (given + n)))) (given + min n (len rate frames - given))
-draining-gives rate frames eaten given n r o left =
-    let before = o.left in
-    elim (cases_lt (given + n) (len rate frames)) [
-      | inl below ↦ (
+draining-gives rate frames eaten given n r o =
+    let allowed = o.allowed in
+    let written = o.eats.written in
+    let needed = o.needed in
+    elim (cases_lt (len rate frames - given) n) [
+      | inl fewer ↦ (
+          let m : ℕ = len rate frames - given in
+          let gave : min n m ≡ m = omega arith in
+          let last : given + m ≡ len rate frames = omega arith in
+          let most = can-le-len rate frames r.src in
+          let grows = need_grows rate (given + m) (given + n) r.dst (omega arith) in
+          rw gave (record {
+            eats = early-more rate frames eaten given n m r o.eats (omega arith) (λ e. omega arith) (need-past rate (given + m + 1) frames r (omega arith));
+            needed = omega arith;
+            allowed = omega arith;
+          }))
+      | inr all ↦ (
           let gave : min n (len rate frames - given) ≡ n = omega arith in
-          rw gave (record { eats = early-all rate frames eaten given n r o.eats; needed = omega arith; left = below }))
-      | inr all ↦ absurd (left (omega arith))
+          rw gave (record { eats = early-all rate frames eaten given n r o.eats; needed = omega arith; allowed = omega arith }))
     ]
 
 -- a position that was reached stays so while more is eaten
@@ -161,47 +167,52 @@ grown_frames accepted state old = whole_frames-mono old.opening.settings old.wri
 grown_safe : (rate : Rate) (accepted : ℕ) (state : PlayState) (old : PlayBook) → PlayIsSafe rate old → accepted ≤ play_free_of old → IsPlayInOrder rate state (grown accepted state old) → PlayIsSafe rate (grown accepted state old)
 grown_safe rate accepted state old s room order = record { order = order; fill = grown_fill accepted state old s.fill room; fragments = s.fragments; volume = s.volume; told = s.told }
 
-safe_primed : (b : Bool) (rate : Rate) (accepted : ℕ) (old : PlayBook) → IsPlayUnstarted old.eaten old.given → 0 < old.written + accepted → PlayIsSafe rate old → accepted ≤ play_free_of old
-    → PlayIsSafe rate (cond b (grown accepted Running old) (grown accepted Primed old))
-safe_primed true rate accepted old u written s room =
-    grown_safe rate accepted Running old s room (unstarted_running rate (frames_written (grown accepted Running old)) old.eaten old.given u)
-safe_primed false rate accepted old u written s room = grown_safe rate accepted Primed old s room (written, u)
+-- a run starts
+pub safe-started : (rate : Rate) (mixed : ℕ) (state : PlayState) (book : PlayBook) → PlayIsSafe rate book → IsPlayInOrder rate state (started_at mixed state book) → PlayIsSafe rate (started_at mixed state book)
+safe-started rate mixed state book s order = record { order = order; fill = s.fill; fragments = s.fragments; volume = s.volume; told = s.told }
 
-safe_setup : (b : Bool) (rate : Rate) (accepted : ℕ) (old : PlayBook) → nat_lt 0 (old.written + accepted) ≡ b → IsPlayUnstarted old.eaten old.given → PlayIsSafe rate old → accepted ≤ play_free_of old
-    → PlayIsSafe rate (let primed : PlayBook = cond b (grown accepted Primed old) (grown accepted Setup old) in started_in primed.state primed)
-safe_setup true rate accepted old e u s room = safe_primed (full_at accepted old) rate accepted old u (grind (arith, nat_tests)) s room
-safe_setup false rate accepted old e u s room = grown_safe rate accepted Setup old s room (grind (arith, nat_tests), u)
+safe_primed : (b : Bool) (rate : Rate) (mixed accepted : ℕ) (old : PlayBook) → IsPlayUnstarted old.eaten old.given → 0 < old.written + accepted → PlayIsSafe rate old → accepted ≤ play_free_of old
+    → PlayIsSafe rate (cond b (started_at mixed Running (grown accepted Primed old)) (grown accepted Primed old))
+safe_primed true rate mixed accepted old u written s room =
+    let primed : PlayBook = grown accepted Primed old in
+    safe-started rate mixed Running primed (grown_safe rate accepted Primed old s room (written, u)) (unstarted_running rate (frames_written primed) old.eaten old.given u)
+safe_primed false rate mixed accepted old u written s room = grown_safe rate accepted Primed old s room (written, u)
 
-safe_accepting_at : (state : PlayState) (rate : Rate) (accepted : ℕ) (book : PlayBook) → IsRatio rate → is_draining state ≡ false → accepted ≤ play_free_of (record book { state = state })
-    → PlayIsSafe rate (record book { state = state }) → PlayIsSafe rate (accepting accepted (record book { state = state }))
-safe_accepting_at Free rate accepted book r more room s = grown_safe rate accepted Free (record book { state = Free }) s room s.order
-safe_accepting_at Setup rate accepted book r more room s = let o = s.order in safe_setup (nat_lt 0 (book.written + accepted)) rate accepted (record book { state = Setup }) refl o.1 s room
-safe_accepting_at Primed rate accepted book r more room s =
+safe_setup : (b : Bool) (rate : Rate) (mixed accepted : ℕ) (old : PlayBook) → nat_lt 0 (old.written + accepted) ≡ b → IsPlayUnstarted old.eaten old.given → PlayIsSafe rate old → accepted ≤ play_free_of old
+    → PlayIsSafe rate (let primed : PlayBook = cond b (grown accepted Primed old) (grown accepted Setup old) in started_in mixed primed.state primed)
+safe_setup true rate mixed accepted old e u s room = safe_primed (full_at accepted old) rate mixed accepted old u (grind (arith, nat_tests)) s room
+safe_setup false rate mixed accepted old e u s room = grown_safe rate accepted Setup old s room (grind (arith, nat_tests), u)
+
+safe_accepting_at : (state : PlayState) (rate : Rate) (mixed accepted : ℕ) (book : PlayBook) → IsRatio rate → is_draining state ≡ false → accepted ≤ play_free_of (record book { state = state })
+    → PlayIsSafe rate (record book { state = state }) → PlayIsSafe rate (accepting mixed accepted (record book { state = state }))
+safe_accepting_at Free rate mixed accepted book r more room s = grown_safe rate accepted Free (record book { state = Free }) s room s.order
+safe_accepting_at Setup rate mixed accepted book r more room s = let o = s.order in safe_setup (nat_lt 0 (book.written + accepted)) rate mixed accepted (record book { state = Setup }) refl o.1 s room
+safe_accepting_at Primed rate mixed accepted book r more room s =
     let o = s.order in
     let above = o.0 in
-    safe_primed (full_at accepted (record book { state = Primed })) rate accepted (record book { state = Primed }) o.1 (omega arith) s room
-safe_accepting_at Running rate accepted book r more room s =
+    safe_primed (full_at accepted (record book { state = Primed })) rate mixed accepted (record book { state = Primed }) o.1 (omega arith) s room
+safe_accepting_at Running rate mixed accepted book r more room s =
     let old : PlayBook = record book { state = Running } in
     grown_safe rate accepted Running old s room (running-more rate (frames_written old) (frames_written (grown accepted Running old)) book.eaten book.given r (grown_frames accepted Running old) s.order)
-safe_accepting_at (Draining closed) rate accepted book r more room s = cc
+safe_accepting_at (Draining closed) rate mixed accepted book r more room s = cc
 
 -- bytes that fit, while more may come
-pub safe-accepting : (rate : Rate) (accepted : ℕ) (book : PlayBook) → IsRatio rate → is_draining book.state ≡ false → accepted ≤ play_free_of book → PlayIsSafe rate book → PlayIsSafe rate (accepting accepted book)
-safe-accepting rate accepted book r more room s = safe_accepting_at book.state rate accepted book r more room s
+pub safe-accepting : (rate : Rate) (mixed accepted : ℕ) (book : PlayBook) → IsRatio rate → is_draining book.state ≡ false → accepted ≤ play_free_of book → PlayIsSafe rate book → PlayIsSafe rate (accepting mixed accepted book)
+safe-accepting rate mixed accepted book r more room s = safe_accepting_at book.state rate mixed accepted book r more room s
 
 -- a write
-pub safe-write : (rate : Rate) (length : ℕ) (book : PlayBook) → IsRatio rate → PlayIsSafe rate book → PlayIsSafe rate (write_turn length book).book
-safe-write rate length book r s = at (is_draining book.state) refl
+pub safe-write : (rate : Rate) (here : Here) (length : ℕ) (book : PlayBook) → IsRatio rate → PlayIsSafe rate book → PlayIsSafe rate (write_turn here length book).book
+safe-write rate here length book r s = at (is_draining book.state) refl
   where
     full : Bool
     full = nat_lt 0 length && eqb (play_free_of book) 0
 
     fitting : Bool → Turn PlayBook
-    fitting b = cond b (refused Again book) (telling (Number (min length (play_free_of book))) (accepting (min length (play_free_of book)) book))
+    fitting b = cond b (refused Again book) (telling (Number (min length (play_free_of book))) (accepting here.mixed (min length (play_free_of book)) book))
 
     fits : (b : Bool) → is_draining book.state ≡ false → PlayIsSafe rate (fitting b).book
     fits true more = s
-    fits false more = safe-accepting rate (min length (play_free_of book)) book r more (omega arith) s
+    fits false more = safe-accepting rate here.mixed (min length (play_free_of book)) book r more (omega arith) s
 
     at : (b : Bool) → is_draining book.state ≡ b → PlayIsSafe rate (cond {A = Turn PlayBook} b (refused Busy book) (fitting full)).book
     at true busy = s
@@ -225,28 +236,28 @@ safe_finished rate state book s within order =
 pub safe-state : (rate : Rate) (state : PlayState) (book : PlayBook) → PlayIsSafe rate book → IsPlayInOrder rate state (record book { state = state }) → PlayIsSafe rate (record book { state = state })
 safe-state rate state book s order = record { order = order; fill = s.fill; fragments = s.fragments; volume = s.volume; told = s.told }
 
-drain_running : (b : Bool) (rate : Rate) (book : PlayBook) → IsRatio rate → eqb book.given (len rate (frames_written book)) ≡ b → PlayIsSafe rate (record book { state = Running })
+drain_running : (b : Bool) (rate : Rate) (book : PlayBook) → IsRatio rate → PlayIsSafe rate (record book { state = Running })
     → PlayIsSafe rate (cond b (finished Setup (record book { state = Draining false })) (record book { state = Draining false }))
-drain_running true rate book r e s = let o = s.order in safe_finished rate Setup (record book { state = Running }) s o.eats.written (refl, unstarted)
-drain_running false rate book r e s =
-    safe-state rate (Draining false) (record book { state = Running }) s (running-drains rate (frames_written book) book.eaten book.given r (λ all. grind (arith, nat_tests)) s.order)
+drain_running true rate book r s = let o = s.order in safe_finished rate Setup (record book { state = Running }) s o.eats.written (refl, unstarted)
+drain_running false rate book r s = safe-state rate (Draining false) (record book { state = Running }) s (running-drains rate (frames_written book) book.eaten book.given r s.order)
 
-drain_primed : (b : Bool) (rate : Rate) (book : PlayBook) → IsRatio rate → nat_lt 0 (frames_written book) ≡ b → PlayIsSafe rate (record book { state = Primed })
-    → PlayIsSafe rate (cond b (record book { state = Draining false }) (play_emptied Setup book))
-drain_primed true rate book r e s =
-    safe-state rate (Draining false) (record book { state = Primed }) s (unstarted_draining rate (frames_written book) book.eaten book.given r (grind (arith, nat_tests)) (let o = s.order in o.1))
-drain_primed false rate book r e s = let o = s.order in let u = o.1 in safe-emptied rate Setup (record book { state = Primed }) s u.eaten_none (refl, unstarted)
+drain_primed : (b : Bool) (rate : Rate) (mixed : ℕ) (book : PlayBook) → PlayIsSafe rate (record book { state = Primed })
+    → PlayIsSafe rate (cond b (started_at mixed (Draining false) book) (play_emptied Setup book))
+drain_primed true rate mixed book s =
+    let o = s.order in
+    safe-started rate mixed (Draining false) (record book { state = Primed }) s (unstarted_draining rate (frames_written book) book.eaten book.given o.1)
+drain_primed false rate mixed book s = let o = s.order in let u = o.1 in safe-emptied rate Setup (record book { state = Primed }) s u.eaten_none (refl, unstarted)
 
-safe_drained_at : (state : PlayState) (rate : Rate) (book : PlayBook) → IsRatio rate → PlayIsSafe rate (record book { state = state }) → PlayIsSafe rate (drained_in rate state (record book { state = state }))
-safe_drained_at Free rate book r s = s
-safe_drained_at Setup rate book r s = s
-safe_drained_at Primed rate book r s = drain_primed (nat_lt 0 (frames_written (record book { state = Primed }))) rate book r refl s
-safe_drained_at Running rate book r s = drain_running (eqb book.given (len rate (frames_written book))) rate book r refl s
-safe_drained_at (Draining closed) rate book r s = s
+safe_drained_at : (state : PlayState) (rate : Rate) (here : Here) (book : PlayBook) → IsRatio rate → PlayIsSafe rate (record book { state = state }) → PlayIsSafe rate (drained_in rate here state (record book { state = state }))
+safe_drained_at Free rate here book r s = s
+safe_drained_at Setup rate here book r s = s
+safe_drained_at Primed rate here book r s = drain_primed (nat_lt 0 (frames_written (record book { state = Primed }))) rate here.mixed book s
+safe_drained_at Running rate here book r s = drain_running (is_over rate here.passed book) rate book r s
+safe_drained_at (Draining closed) rate here book r s = s
 
 -- no more comes
-pub safe-drained : (rate : Rate) (book : PlayBook) → IsRatio rate → PlayIsSafe rate book → PlayIsSafe rate (drained_in rate book.state book)
-safe-drained rate book r s = safe_drained_at book.state rate book r s
+pub safe-drained : (rate : Rate) (here : Here) (book : PlayBook) → IsRatio rate → PlayIsSafe rate book → PlayIsSafe rate (drained_in rate here book.state book)
+safe-drained rate here book r s = safe_drained_at book.state rate here book r s
 
 safe_closed_at : (state : PlayState) (rate : Rate) (book : PlayBook) → PlayIsSafe rate (record book { state = state }) → PlayIsSafe rate (closed_in state (record book { state = state }))
 safe_closed_at Free rate book s = s
@@ -256,59 +267,53 @@ safe_closed_at Running rate book s = s
 safe_closed_at (Draining closed) rate book s = safe-state rate (Draining true) (record book { state = Draining closed }) s s.order
 
 -- a close
-pub safe-close : (rate : Rate) (book : PlayBook) → IsRatio rate → PlayIsSafe rate book → PlayIsSafe rate (close_turn rate book)
-safe-close rate book r s =
-    let drained : PlayBook = drained_in rate book.state book in
-    safe_closed_at drained.state rate drained (safe-drained rate book r s)
+pub safe-close : (rate : Rate) (here : Here) (book : PlayBook) → IsRatio rate → PlayIsSafe rate book → PlayIsSafe rate (close_turn rate here book)
+safe-close rate here book r s =
+    let drained : PlayBook = drained_in rate here book.state book in
+    safe_closed_at drained.state rate drained (safe-drained rate here book r s)
 
-gives_fill : (rate : Rate) (n : ℕ) (book : PlayBook) → play_fill_of book ≤ ring_bytes book.opening → play_fill_of (gives rate n book) ≤ ring_bytes book.opening
-gives_fill rate n book fill =
+gives_fill : (rate : Rate) (mixed n : ℕ) (book : PlayBook) → play_fill_of book ≤ ring_bytes book.opening → play_fill_of (gives rate mixed n book) ≤ ring_bytes book.opening
+gives_fill rate mixed n book fill =
     let more : book.eaten * frame_bytes book.opening.settings ≤ max book.eaten (min (frames_written book) (need rate (book.given + n))) * frame_bytes book.opening.settings = mul-le-mul_right (frame_bytes book.opening.settings) (omega arith) in
     omega arith
 
 -- more is eaten
-gives_played : (rate : Rate) (n : ℕ) (book : PlayBook) → book.opening.told ≤ played_of book → book.opening.told ≤ played_of (gives rate n book)
-gives_played rate n book t = played_grows book.opening.told book.done (frame_bytes book.opening.settings) book.eaten (max book.eaten (min (frames_written book) (need rate (book.given + n)))) t (omega arith)
+gives_played : (rate : Rate) (mixed n : ℕ) (book : PlayBook) → book.opening.told ≤ played_of book → book.opening.told ≤ played_of (gives rate mixed n book)
+gives_played rate mixed n book t = played_grows book.opening.told book.done (frame_bytes book.opening.settings) book.eaten (max book.eaten (min (frames_written book) (need rate (book.given + n)))) t (omega arith)
 
-gives_safe : (rate : Rate) (n : ℕ) (book : PlayBook) → PlayIsSafe rate book → IsPlayInOrder rate book.state (gives rate n book) → PlayIsSafe rate (gives rate n book)
-gives_safe rate n book s order = record { order = order; fill = gives_fill rate n book s.fill; fragments = s.fragments; volume = s.volume; told = gives_played rate n book s.told }
+gives_safe : (rate : Rate) (mixed n : ℕ) (book : PlayBook) → PlayIsSafe rate book → IsPlayInOrder rate book.state (gives rate mixed n book) → PlayIsSafe rate (gives rate mixed n book)
+gives_safe rate mixed n book s order = record { order = order; fill = gives_fill rate mixed n book s.fill; fragments = s.fragments; volume = s.volume; told = gives_played rate mixed n book s.told }
 
--- what is eaten for the next frames was written
-gives_written : (rate : Rate) (n : ℕ) (book : PlayBook) → book.eaten ≤ frames_written book → (gives rate n book).eaten ≤ frames_written book
-gives_written rate n book h = omega arith
-
-settle_safe : (rate : Rate) (n : ℕ) (state before : PlayState) (book : PlayBook) → PlayIsSafe rate (record book { state = before }) → book.eaten ≤ frames_written book → IsPlayInOrder rate state (finished state (gives rate n book))
-    → PlayIsSafe rate (finished state (gives rate n book))
-settle_safe rate n state before book s within order =
-    let given : PlayBook = gives rate n book in
-    record {
-      order = order;
-      fill = omega arith;
-      fragments = s.fragments;
-      volume = s.volume;
-      told = played_over book.opening.told book.done (frame_bytes book.opening.settings) given.eaten (frames_written book) (gives_played rate n book s.told) (gives_written rate n book within);
-    }
-
-safe_settled : (b closed : Bool) (rate : Rate) (n : ℕ) (book : PlayBook) → IsRatio rate → eqb (book.given + giving rate n (record book { state = Draining closed })) (len rate (frames_written book)) ≡ b → PlayIsSafe rate (record book { state = Draining closed })
-    → PlayIsSafe rate (let given : PlayBook = gives rate n (record book { state = Draining closed }) in cond b (finished (cond closed Free Setup) given) given)
-safe_settled true true rate n book r e s = let o = s.order in settle_safe rate n Free (Draining true) (record book { state = Draining true }) s o.eats.written unstarted
-safe_settled true false rate n book r e s = let o = s.order in settle_safe rate n Setup (Draining false) (record book { state = Draining false }) s o.eats.written (refl, unstarted)
-safe_settled false closed rate n book r e s =
-    gives_safe rate n (record book { state = Draining closed }) s (draining-gives rate (frames_written book) book.eaten book.given n r s.order (λ all. grind (arith, nat_tests)))
-
-safe_refilled_at : (state : PlayState) (rate : Rate) (n : ℕ) (book : PlayBook) → IsRatio rate → PlayIsSafe rate (record book { state = state }) → PlayIsSafe rate (refilled rate n (record book { state = state }))
-safe_refilled_at Free rate n book r s = s
-safe_refilled_at Setup rate n book r s = s
-safe_refilled_at Primed rate n book r s = s
-safe_refilled_at Running rate n book r s =
-    let g = gives_safe rate n (record book { state = Running }) s (running-gives rate (frames_written book) book.eaten book.given n r s.order) in
+safe_refilled_at : (state : PlayState) (rate : Rate) (mixed n : ℕ) (book : PlayBook) → IsRatio rate → PlayIsSafe rate (record book { state = state }) → PlayIsSafe rate (refilled rate mixed n (record book { state = state }))
+safe_refilled_at Free rate mixed n book r s = s
+safe_refilled_at Setup rate mixed n book r s = s
+safe_refilled_at Primed rate mixed n book r s = s
+safe_refilled_at Running rate mixed n book r s =
+    let g = gives_safe rate mixed n (record book { state = Running }) s (running-gives rate (frames_written book) book.eaten book.given n r s.order) in
     record { order = g.order; fill = g.fill; fragments = g.fragments; volume = g.volume; told = g.told }
-safe_refilled_at (Draining closed) rate n book r s =
-    safe_settled (eqb (book.given + giving rate n (record book { state = Draining closed })) (len rate (frames_written book))) closed rate n book r refl s
+safe_refilled_at (Draining closed) rate mixed n book r s =
+    gives_safe rate mixed n (record book { state = Draining closed }) s (draining-gives rate (frames_written book) book.eaten book.given n r s.order)
 
--- an interrupt
-pub safe-refilled : (rate : Rate) (n : ℕ) (book : PlayBook) → IsRatio rate → PlayIsSafe rate book → PlayIsSafe rate (refilled rate n book)
-safe-refilled rate n book r s = safe_refilled_at book.state rate n book r s
+-- an interrupt that mixes
+pub safe-refilled : (rate : Rate) (mixed n : ℕ) (book : PlayBook) → IsRatio rate → PlayIsSafe rate book → PlayIsSafe rate (refilled rate mixed n book)
+safe-refilled rate mixed n book r s = safe_refilled_at book.state rate mixed n book r s
+
+safe_over : (b closed : Bool) (rate : Rate) (book : PlayBook) → PlayIsSafe rate (record book { state = Draining closed })
+    → PlayIsSafe rate (cond b (finished (cond closed Free Setup) (record book { state = Draining closed })) (record book { state = Draining closed }))
+safe_over true true rate book s = let o = s.order in safe_finished rate Free (record book { state = Draining true }) s o.eats.written unstarted
+safe_over true false rate book s = let o = s.order in safe_finished rate Setup (record book { state = Draining false }) s o.eats.written (refl, unstarted)
+safe_over false closed rate book s = s
+
+safe_settled_at : (state : PlayState) (rate : Rate) (passed : ℤ) (book : PlayBook) → PlayIsSafe rate (record book { state = state }) → PlayIsSafe rate (play_settled rate passed (record book { state = state }))
+safe_settled_at Free rate passed book s = s
+safe_settled_at Setup rate passed book s = s
+safe_settled_at Primed rate passed book s = s
+safe_settled_at Running rate passed book s = s
+safe_settled_at (Draining closed) rate passed book s = safe_over (is_over rate passed book) closed rate book s
+
+-- frames that were handed over
+pub safe-settled : (rate : Rate) (passed : ℤ) (book : PlayBook) → PlayIsSafe rate book → PlayIsSafe rate (play_settled rate passed book)
+safe-settled rate passed book s = safe_settled_at book.state rate passed book s
 
 -- ---- what a book allows
 
@@ -318,7 +323,7 @@ given-allowed Free rate book r e o = cc
 given-allowed Setup rate book r e o = cc
 given-allowed Primed rate book r e o = cc
 given-allowed Running rate book r e o = o.allowed
-given-allowed (Draining closed) rate book r e o = let left = o.left in omega arith
+given-allowed (Draining closed) rate book r e o = o.allowed
 
 -- and allows no more than lasts as long as what was written
 pub allowed-lasts : (state : PlayState) (rate : Rate) (book : PlayBook) → IsRatio rate → allowed_in rate state book ≤ len rate (frames_written book)
@@ -353,7 +358,10 @@ none-written rate book r none s = at book.state s.order
         let allowed = o.allowed in
         let within = can-le-len rate (frames_written book) r.src in
         record { eaten_none = omega (arith, frames); given_none = omega (arith, lasts) }
-    at (Draining closed) o = let left = o.left in absurd (omega (arith, lasts))
+    at (Draining closed) o =
+        let written = o.eats.written in
+        let allowed = o.allowed in
+        record { eaten_none = omega (arith, frames); given_none = omega (arith, lasts) }
 
 -- only a started book allows any
 pub allowed-started : (state : PlayState) (rate : Rate) (book : PlayBook) → 0 < allowed_in rate state book → is_started state ≡ true
@@ -365,19 +373,50 @@ allowed-started (Draining closed) rate book h = refl
 
 -- ---- the settings of a book
 
-settings_settled : (b closed : Bool) (given : PlayBook) → (cond {A = PlayBook} b (finished (cond closed Free Setup) given) given).opening.settings ≡ given.opening.settings
-settings_settled true closed given = refl
-settings_settled false closed given = refl
-
-settings_refilled_at : (state : PlayState) (rate : Rate) (n : ℕ) (book : PlayBook) → (refilled rate n (record book { state = state })).opening.settings ≡ book.opening.settings
-settings_refilled_at Free rate n book = refl
-settings_refilled_at Setup rate n book = refl
-settings_refilled_at Primed rate n book = refl
-settings_refilled_at Running rate n book = refl
-settings_refilled_at (Draining closed) rate n book =
-    let given : PlayBook = gives rate n (record book { state = Draining closed }) in
-    settings_settled (eqb given.given (len rate (frames_written book))) closed given
+settings_refilled_at : (state : PlayState) (rate : Rate) (mixed n : ℕ) (book : PlayBook) → (refilled rate mixed n (record book { state = state })).opening.settings ≡ book.opening.settings
+settings_refilled_at Free rate mixed n book = refl
+settings_refilled_at Setup rate mixed n book = refl
+settings_refilled_at Primed rate mixed n book = refl
+settings_refilled_at Running rate mixed n book = refl
+settings_refilled_at (Draining closed) rate mixed n book = refl
 
 -- an interrupt leaves them
-pub settings-refilled : (rate : Rate) (n : ℕ) (book : PlayBook) → (refilled rate n book).opening.settings ≡ book.opening.settings
-settings-refilled rate n book = settings_refilled_at book.state rate n book
+pub settings-refilled : (rate : Rate) (mixed n : ℕ) (book : PlayBook) → (refilled rate mixed n book).opening.settings ≡ book.opening.settings
+settings-refilled rate mixed n book = settings_refilled_at book.state rate mixed n book
+
+state_refilled_at : (state : PlayState) (rate : Rate) (mixed n : ℕ) (book : PlayBook) → (refilled rate mixed n (record book { state = state })).state ≡ state
+state_refilled_at Free rate mixed n book = refl
+state_refilled_at Setup rate mixed n book = refl
+state_refilled_at Primed rate mixed n book = refl
+state_refilled_at Running rate mixed n book = refl
+state_refilled_at (Draining closed) rate mixed n book = refl
+
+-- and the state
+pub state-refilled : (rate : Rate) (mixed n : ℕ) (book : PlayBook) → (refilled rate mixed n book).state ≡ book.state
+state-refilled rate mixed n book = state_refilled_at book.state rate mixed n book
+
+written_refilled_at : (state : PlayState) (rate : Rate) (mixed n : ℕ) (book : PlayBook) → (refilled rate mixed n (record book { state = state })).written ≡ book.written
+written_refilled_at Free rate mixed n book = refl
+written_refilled_at Setup rate mixed n book = refl
+written_refilled_at Primed rate mixed n book = refl
+written_refilled_at Running rate mixed n book = refl
+written_refilled_at (Draining closed) rate mixed n book = refl
+
+-- and what was written
+pub written-refilled : (rate : Rate) (mixed n : ℕ) (book : PlayBook) → (refilled rate mixed n book).written ≡ book.written
+written-refilled rate mixed n book = written_refilled_at book.state rate mixed n book
+
+settings_over : (b closed : Bool) (book : PlayBook) → (cond b (finished (cond closed Free Setup) book) book).opening.settings ≡ book.opening.settings
+settings_over true closed book = refl
+settings_over false closed book = refl
+
+settings_settled_at : (state : PlayState) (rate : Rate) (passed : ℤ) (book : PlayBook) → (play_settled rate passed (record book { state = state })).opening.settings ≡ book.opening.settings
+settings_settled_at Free rate passed book = refl
+settings_settled_at Setup rate passed book = refl
+settings_settled_at Primed rate passed book = refl
+settings_settled_at Running rate passed book = refl
+settings_settled_at (Draining closed) rate passed book = settings_over (is_over rate passed book) closed (record book { state = Draining closed })
+
+-- what is handed over leaves them too
+pub settings-settled : (rate : Rate) (passed : ℤ) (book : PlayBook) → (play_settled rate passed book).opening.settings ≡ book.opening.settings
+settings-settled rate passed book = settings_settled_at book.state rate passed book

@@ -12,6 +12,7 @@ use Rattle.pcm_oss.specs.declared.request.Request.{Request}
 use Rattle.pcm_oss.specs.declared.request.Request.TheVariants.{SetFmt, Speed, Channels, GetFmts, GetCaps, GetBlkSize, SetFragment, GetOSpace, GetISpace, GetOPtr, GetIPtr, GetODelay, GetError, SetTrigger, GetTrigger, SetPlayVol, GetPlayVol, Post, Sync, Halt}
 use Rattle.pcm_oss.specs.Volumes.{is_volume}
 use Rattle.pcm_rate.specs.declared.rate.Rate.{Rate}
+use Rattle.pcm_desk.specs.declared.here.Here.{Here}
 use Rattle.pcm_desk.specs.declared.play_book.PlayBook.{PlayBook}
 use Rattle.pcm_desk.specs.declared.opening.Opening.{Opening}
 use Rattle.pcm_desk.specs.declared.record_book.RecordBook.{RecordBook}
@@ -67,59 +68,59 @@ volume_in : (b : Bool) (volume : ℕ) (book : PlayBook) → LeavesRefused book (
 volume_in true volume book errno e = cc
 volume_in false volume book errno e = refl
 
-set_trigger_in : (wrong busy : Bool) (bits : ℕ) (book : PlayBook) → LeavesRefused book (cond wrong (refused Inval book) (cond busy (refused Busy book) (doing (play_triggered (has_play_bit bits) book))))
-set_trigger_in true busy bits book errno e = refl
-set_trigger_in false true bits book errno e = refl
-set_trigger_in false false bits book errno e = cc
+set_trigger_in : (mixed : ℕ) (wrong busy : Bool) (bits : ℕ) (book : PlayBook) → LeavesRefused book (cond wrong (refused Inval book) (cond busy (refused Busy book) (doing (play_triggered mixed (has_play_bit bits) book))))
+set_trigger_in mixed true busy bits book errno e = refl
+set_trigger_in mixed false true bits book errno e = refl
+set_trigger_in mixed false false bits book errno e = cc
 
 -- a request
-pub ask-refused : (rate : Rate) (request : Request) (book : PlayBook) → LeavesRefused book (play_ask rate request book)
-ask-refused rate (SetFmt code) book errno e = common rate (SetFmt code) book errno e
-ask-refused rate (Speed speed) book errno e = common rate (Speed speed) book errno e
-ask-refused rate (Channels channels) book errno e = common rate (Channels channels) book errno e
-ask-refused rate (SetFragment arg) book errno e = common rate (SetFragment arg) book errno e
-ask-refused rate (SetTrigger bits) book errno e = set_trigger_in (nat_lt 3 bits) (is_draining book.state) bits book errno e
-ask-refused rate (SetPlayVol volume) book errno e = volume_in (is_volume volume) volume book errno e
-ask-refused rate GetISpace book errno e = refl
-ask-refused rate GetIPtr book errno e = refl
-ask-refused rate GetFmts book errno e = cc
-ask-refused rate GetCaps book errno e = cc
-ask-refused rate GetBlkSize book errno e = cc
-ask-refused rate GetOSpace book errno e = cc
-ask-refused rate GetOPtr book errno e = cc
-ask-refused rate GetODelay book errno e = cc
-ask-refused rate GetError book errno e = cc
-ask-refused rate GetTrigger book errno e = cc
-ask-refused rate GetPlayVol book errno e = cc
-ask-refused rate Post book errno e = cc
-ask-refused rate Sync book errno e = cc
-ask-refused rate Halt book errno e = cc
+pub ask-refused : (rate : Rate) (mix_rate : ℕ) (here : Here) (request : Request) (book : PlayBook) → LeavesRefused book (play_ask rate mix_rate here request book)
+ask-refused rate mix_rate here (SetFmt code) book errno e = common rate (SetFmt code) book errno e
+ask-refused rate mix_rate here (Speed speed) book errno e = common rate (Speed speed) book errno e
+ask-refused rate mix_rate here (Channels channels) book errno e = common rate (Channels channels) book errno e
+ask-refused rate mix_rate here (SetFragment arg) book errno e = common rate (SetFragment arg) book errno e
+ask-refused rate mix_rate here (SetTrigger bits) book errno e = set_trigger_in here.mixed (nat_lt 3 bits) (is_draining book.state) bits book errno e
+ask-refused rate mix_rate here (SetPlayVol volume) book errno e = volume_in (is_volume volume) volume book errno e
+ask-refused rate mix_rate here GetISpace book errno e = refl
+ask-refused rate mix_rate here GetIPtr book errno e = refl
+ask-refused rate mix_rate here GetFmts book errno e = cc
+ask-refused rate mix_rate here GetCaps book errno e = cc
+ask-refused rate mix_rate here GetBlkSize book errno e = cc
+ask-refused rate mix_rate here GetOSpace book errno e = cc
+ask-refused rate mix_rate here GetOPtr book errno e = cc
+ask-refused rate mix_rate here GetODelay book errno e = cc
+ask-refused rate mix_rate here GetError book errno e = cc
+ask-refused rate mix_rate here GetTrigger book errno e = cc
+ask-refused rate mix_rate here GetPlayVol book errno e = cc
+ask-refused rate mix_rate here Post book errno e = cc
+ask-refused rate mix_rate here Sync book errno e = cc
+ask-refused rate mix_rate here Halt book errno e = cc
 
-written_in : (busy full : Bool) (accepted : ℕ) (book : PlayBook)
-    → LeavesRefused book (cond {A = Turn PlayBook} busy (refused Busy book) (cond {A = Turn PlayBook} full (refused Again book) (telling (Number accepted) (accepting accepted book))))
-written_in true full accepted book errno e = refl
-written_in false true accepted book errno e = refl
-written_in false false accepted book errno e = cc
+written_in : (mixed : ℕ) (busy full : Bool) (accepted : ℕ) (book : PlayBook)
+    → LeavesRefused book (cond {A = Turn PlayBook} busy (refused Busy book) (cond {A = Turn PlayBook} full (refused Again book) (telling (Number accepted) (accepting mixed accepted book))))
+written_in mixed true full accepted book errno e = refl
+written_in mixed false true accepted book errno e = refl
+written_in mixed false false accepted book errno e = cc
 
 -- a write
-pub write-refused : (length : ℕ) (book : PlayBook) → LeavesRefused book (write_turn length book)
-write-refused length book = written_in (is_draining book.state) (nat_lt 0 length && eqb (play_free_of book) 0) (min length (play_free_of book)) book
+pub write-refused : (here : Here) (length : ℕ) (book : PlayBook) → LeavesRefused book (write_turn here length book)
+write-refused here length book = written_in here.mixed (is_draining book.state) (nat_lt 0 length && eqb (play_free_of book) 0) (min length (play_free_of book)) book
 
 -- a write that isn't refused, of a book that doesn't drain, accepts what fits
-pub record IsWritten (length : ℕ) (old new : PlayBook) : Type 0 where
+pub record IsWritten (here : Here) (length : ℕ) (old new : PlayBook) : Type 0 where
   pub more : is_draining old.state ≡ false
-  pub is : new ≡ accepting (min length (play_free_of old)) old
+  pub is : new ≡ accepting here.mixed (min length (play_free_of old)) old
 
-done_in : (busy full : Bool) (accepted : ℕ) (book : PlayBook) (answer : Answer)
-    → let turn : Turn PlayBook = cond {A = Turn PlayBook} busy (refused Busy book) (cond {A = Turn PlayBook} full (refused Again book) (telling (Number accepted) (accepting accepted book))) in
-    turn.reply ≡ Ok answer → (busy ≡ false) × (turn.book ≡ accepting accepted book)
-done_in true full accepted book answer e = cc
-done_in false true accepted book answer e = cc
-done_in false false accepted book answer e = (refl, refl)
+done_in : (mixed : ℕ) (busy full : Bool) (accepted : ℕ) (book : PlayBook) (answer : Answer)
+    → let turn : Turn PlayBook = cond {A = Turn PlayBook} busy (refused Busy book) (cond {A = Turn PlayBook} full (refused Again book) (telling (Number accepted) (accepting mixed accepted book))) in
+    turn.reply ≡ Ok answer → (busy ≡ false) × (turn.book ≡ accepting mixed accepted book)
+done_in mixed true full accepted book answer e = cc
+done_in mixed false true accepted book answer e = cc
+done_in mixed false false accepted book answer e = (refl, refl)
 
-pub write-done : (length : ℕ) (book : PlayBook) (answer : Answer) → (write_turn length book).reply ≡ Ok answer → IsWritten length book (write_turn length book).book
-write-done length book answer e =
-    let done = done_in (is_draining book.state) (nat_lt 0 length && eqb (play_free_of book) 0) (min length (play_free_of book)) book answer e in
+pub write-done : (here : Here) (length : ℕ) (book : PlayBook) (answer : Answer) → (write_turn here length book).reply ≡ Ok answer → IsWritten here length book (write_turn here length book).book
+write-done here length book answer e =
+    let done = done_in here.mixed (is_draining book.state) (nat_lt 0 length && eqb (play_free_of book) 0) (min length (play_free_of book)) book answer e in
     record { more = done.0; is = done.1 }
 
 -- ---- channels that record

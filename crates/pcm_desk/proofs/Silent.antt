@@ -9,6 +9,7 @@ use Rattle.pcm_oss.specs.declared.request.Request.TheVariants.{SetFmt, Speed, Ch
 use Rattle.pcm_oss.specs.Replies.{bytes_due}
 use Rattle.pcm_oss.specs.Volumes.{is_volume}
 use Rattle.pcm_rate.specs.declared.rate.Rate.{Rate}
+use Rattle.pcm_desk.specs.declared.here.Here.{Here}
 use Rattle.pcm_desk.specs.declared.play_book.PlayBook.{PlayBook}
 use Rattle.pcm_desk.specs.declared.record_book.RecordBook.{RecordBook}
 use Rattle.pcm_desk.specs.declared.record_requests.TheConstants.{RECORD_BIT}
@@ -25,34 +26,34 @@ use Rattle.pcm_desk.proofs.Openings.{opening-ask-silent}
 
 -- ---- channels that play
 
-written : (busy full : Bool) (count : ℕ) (book : PlayBook)
-    → bytes_due (cond {A = Turn PlayBook} busy (refused Busy book) (cond {A = Turn PlayBook} full (refused Again book) (telling (Number count) (accepting count book)))).reply ≡ 0
-written true full count book = refl
-written false true count book = refl
-written false false count book = refl
+written : (mixed : ℕ) (busy full : Bool) (count : ℕ) (book : PlayBook)
+    → bytes_due (cond {A = Turn PlayBook} busy (refused Busy book) (cond {A = Turn PlayBook} full (refused Again book) (telling (Number count) (accepting mixed count book)))).reply ≡ 0
+written mixed true full count book = refl
+written mixed false true count book = refl
+written mixed false false count book = refl
 
 -- no bytes come with the reply to a write
-pub write-silent : (length : ℕ) (book : PlayBook) → bytes_due (write_turn length book).reply ≡ 0
-write-silent length book = written (is_draining book.state) (nat_lt 0 length && eqb (play_free_of book) 0) (min length (play_free_of book)) book
+pub write-silent : (here : Here) (length : ℕ) (book : PlayBook) → bytes_due (write_turn here length book).reply ≡ 0
+write-silent here length book = written here.mixed (is_draining book.state) (nat_lt 0 length && eqb (play_free_of book) 0) (min length (play_free_of book)) book
 
 volume_in : (b : Bool) (volume : ℕ) (book : PlayBook) → is_volume volume ≡ b → bytes_due (set_volume volume book).reply ≡ 0
 volume_in true volume book e = rw e refl
 volume_in false volume book e = rw e refl
 
-set_trigger_in : (wrong busy : Bool) (bits : ℕ) (book : PlayBook) → bytes_due (cond wrong (refused Inval book) (cond busy (refused Busy book) (doing (play_triggered (has_play_bit bits) book)))).reply ≡ 0
-set_trigger_in true busy bits book = refl
-set_trigger_in false true bits book = refl
-set_trigger_in false false bits book = refl
+set_trigger_in : (mixed : ℕ) (wrong busy : Bool) (bits : ℕ) (book : PlayBook) → bytes_due (cond wrong (refused Inval book) (cond busy (refused Busy book) (doing (play_triggered mixed (has_play_bit bits) book)))).reply ≡ 0
+set_trigger_in mixed true busy bits book = refl
+set_trigger_in mixed false true bits book = refl
+set_trigger_in mixed false false bits book = refl
 
 -- nor with that to a request
-pub ask-silent : (rate : Rate) (request : Request) (book : PlayBook) → bytes_due (play_ask rate request book).reply ≡ 0
-ask-silent rate (SetFmt code) book = opening-ask-silent (is_play_setup book.state) PLAY_BIT (SetFmt code) book.opening
-ask-silent rate (Speed speed) book = opening-ask-silent (is_play_setup book.state) PLAY_BIT (Speed speed) book.opening
-ask-silent rate (Channels channels) book = opening-ask-silent (is_play_setup book.state) PLAY_BIT (Channels channels) book.opening
-ask-silent rate (SetFragment arg) book = opening-ask-silent (is_play_setup book.state) PLAY_BIT (SetFragment arg) book.opening
-ask-silent rate (SetTrigger bits) book = set_trigger_in (nat_lt 3 bits) (is_draining book.state) bits book
-ask-silent rate (SetPlayVol volume) book = volume_in (is_volume volume) volume book refl
-ask-silent rate _ book = refl
+pub ask-silent : (rate : Rate) (mix_rate : ℕ) (here : Here) (request : Request) (book : PlayBook) → bytes_due (play_ask rate mix_rate here request book).reply ≡ 0
+ask-silent rate mix_rate here (SetFmt code) book = opening-ask-silent (is_play_setup book.state) PLAY_BIT (SetFmt code) book.opening
+ask-silent rate mix_rate here (Speed speed) book = opening-ask-silent (is_play_setup book.state) PLAY_BIT (Speed speed) book.opening
+ask-silent rate mix_rate here (Channels channels) book = opening-ask-silent (is_play_setup book.state) PLAY_BIT (Channels channels) book.opening
+ask-silent rate mix_rate here (SetFragment arg) book = opening-ask-silent (is_play_setup book.state) PLAY_BIT (SetFragment arg) book.opening
+ask-silent rate mix_rate here (SetTrigger bits) book = set_trigger_in here.mixed (nat_lt 3 bits) (is_draining book.state) bits book
+ask-silent rate mix_rate here (SetPlayVol volume) book = volume_in (is_volume volume) volume book refl
+ask-silent rate mix_rate here _ book = refl
 
 -- ---- channels that record
 

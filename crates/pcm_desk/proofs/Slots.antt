@@ -1,11 +1,11 @@
 -- The book of a slot after one was set, and after an interrupt.
-use Rattle.std.proofs.Common.{◌≡◌, ℕ, suc, zero, length, get_or, map, ◌⊎◌, inl, inr, refl, sym, ap, ◌∙◌, arith, get_or-set_same, get_or-set_other}
+use Rattle.std.proofs.Common.{◌≡◌, ℕ, suc, zero, ◌+◌, length, get_or, map, ◌⊎◌, inl, inr, refl, sym, ap, ◌∙◌, arith, get_or-set_same, get_or-set_other}
 use Rattle.std.proofs.lemmas.List.{get_or-map, get_or_past, length-map, set_past}
 use Rattle.std.proofs.lemmas.Bool.{cases_lt, cases_eq}
 use Rattle.pcm_desk.specs.declared.play_book.PlayBook.{PlayBook}
 use Rattle.pcm_desk.specs.declared.record_book.RecordBook.{RecordBook}
-use Rattle.pcm_desk.specs.Device.{DeviceSeen}
-use Rattle.pcm_desk.specs.Desk.{Desk, capturing, interrupt_turn, mixed_by, mixing, play_at, play_unopened, record_at, record_unopened, with_play, with_record}
+use Rattle.pcm_desk.specs.Device.{DeviceSeen, mixed_for}
+use Rattle.pcm_desk.specs.Desk.{Desk, capturing, interrupt_turn, mixed_by, mixing, play_at, play_passing, play_unopened, record_at, record_unopened, settling, with_play, with_record}
 
 -- the book of a slot after one book was set
 pub play_at-with : (device : DeviceSeen) (desk : Desk) (at slot : ℕ) (book : PlayBook)
@@ -19,19 +19,22 @@ play_at-with device desk at slot book =
       | inr past ↦ inr (ap (λ books. get_or books slot (play_unopened device)) (set_past desk.play at book past))
     ]
 
--- nothing is mixed of a book that nobody has opened
-mixing-play_unopened : (device : DeviceSeen) (n : ℕ) → mixing device n (play_unopened device) ≡ play_unopened device
-mixing-play_unopened device zero = refl
-mixing-play_unopened device (suc n) = refl
+-- nothing passes of a book that nobody has opened
+passing_in : (device : DeviceSeen) (handed mixed frames n : ℕ) → settling device (handed + n) (mixing device mixed frames (play_unopened device)) ≡ play_unopened device
+passing_in device handed mixed zero n = refl
+passing_in device handed mixed (suc frames) n = refl
+
+passing_unopened : (device : DeviceSeen) (handed n : ℕ) → play_passing device handed n (play_unopened device) ≡ play_unopened device
+passing_unopened device handed n = passing_in device handed (mixed_for device handed) (mixed_by device handed n) n
 
 -- the book of a slot after an interrupt
-pub play_at-mixing : (device : DeviceSeen) (desk : Desk) (n slot : ℕ) → play_at device (interrupt_turn device desk n).desk slot ≡ mixing device (mixed_by device desk.handed n) (play_at device desk slot)
-play_at-mixing device desk n slot =
-    let q : ℕ = mixed_by device desk.handed n in
+pub play_at-passing : (device : DeviceSeen) (desk : Desk) (n slot : ℕ) → play_at device (interrupt_turn device desk n).desk slot ≡ play_passing device desk.handed n (play_at device desk slot)
+play_at-passing device desk n slot =
+    let passing : PlayBook → PlayBook = play_passing device desk.handed n in
     elim (cases_lt slot (length desk.play)) [
-      | inl here ↦ get_or-map (mixing device q) desk.play slot (play_unopened device) (play_unopened device) here
-      | inr past ↦ get_or_past (map (mixing device q) desk.play) slot (play_unopened device) (omega (arith, length-map desk.play (mixing device q)))
-          ∙ sym (ap (mixing device q) (get_or_past desk.play slot (play_unopened device) past) ∙ mixing-play_unopened device q)
+      | inl here ↦ get_or-map passing desk.play slot (play_unopened device) (play_unopened device) here
+      | inr past ↦ get_or_past (map passing desk.play) slot (play_unopened device) (omega (arith, length-map desk.play passing))
+          ∙ sym (ap passing (get_or_past desk.play slot (play_unopened device) past) ∙ passing_unopened device desk.handed n)
     ]
 
 -- the record book of a slot after one was set

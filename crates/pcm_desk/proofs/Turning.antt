@@ -12,7 +12,7 @@ use Rattle.pcm_desk.specs.Device.{DeviceSeen}
 use Rattle.pcm_desk.specs.PlayBooks.{write_turn}
 use Rattle.pcm_desk.specs.RecordBooks as records
 use Rattle.pcm_desk.specs.RecordRequests.{record_ask}
-use Rattle.pcm_desk.specs.Desk.{Desk, DeskTurn, after, asking, by_way, close_play, close_record, held_by, least_free_play, least_free_record, open_play, open_record, open_turn, play_turn, record_turn, refusing, turning}
+use Rattle.pcm_desk.specs.Desk.{Desk, DeskTurn, after, asking, by_way, close_play, close_record, desk_here, held_by, least_free_play, least_free_record, open_play, open_record, open_turn, play_turn, record_turn, refusing, turning}
 use Rattle.pcm_desk.specs.Events.{frames_taken}
 
 -- an event of a descriptor, whatever it does to a channel of each way
@@ -59,11 +59,11 @@ by-opening D way desk fd settings same p r =
 pub handed-taken : (device : DeviceSeen) (desk : Desk) (event : Event) → (after device desk event).desk.handed ≡ desk.handed + frames_taken event
 handed-taken device desk (Open fd way settings) = by-opening (λ (w : Way) (d : Desk). d.handed ≡ desk.handed + 0) way desk fd settings (λ w. omega arith) (λ slot found. omega arith) (λ slot found. omega arith)
 handed-taken device desk (Write fd source at count) =
-    by-turning (λ (d : Desk). d.handed ≡ desk.handed + 0) (play_turn device (write_turn count) desk) (λ slot. refusing desk Inval) (held_by desk fd) desk (omega arith) (λ slot. omega arith) (λ slot. omega arith)
+    by-turning (λ (d : Desk). d.handed ≡ desk.handed + 0) (play_turn device (write_turn (desk_here device desk) count) desk) (λ slot. refusing desk Inval) (held_by desk fd) desk (omega arith) (λ slot. omega arith) (λ slot. omega arith)
 handed-taken device desk (Read fd count) =
     by-turning (λ (d : Desk). d.handed ≡ desk.handed + 0) (λ slot. refusing desk Inval) (record_turn device (records.read_turn count) desk) (held_by desk fd) desk (omega arith) (λ slot. omega arith) (λ slot. omega arith)
 handed-taken device desk (Ioctl fd request) =
-    by-turning (λ (d : Desk). d.handed ≡ desk.handed + 0) (play_turn device (asking device request) desk) (record_turn device (record_ask request) desk) (held_by desk fd) desk (omega arith) (λ slot. omega arith) (λ slot. omega arith)
+    by-turning (λ (d : Desk). d.handed ≡ desk.handed + 0) (play_turn device (asking device (desk_here device desk) request) desk) (record_turn device (record_ask request) desk) (held_by desk fd) desk (omega arith) (λ slot. omega arith) (λ slot. omega arith)
 handed-taken device desk (Close fd) =
     by-turning (λ (d : Desk). d.handed ≡ desk.handed + 0) (close_play device desk fd) (close_record device desk fd) (held_by desk fd) desk (omega arith) (λ slot. omega arith) (λ slot. omega arith)
 handed-taken device desk (Intr n) = refl

@@ -16,10 +16,11 @@ use Rattle.pcm_desk.specs.declared.play_book.PlayState.TheVariants.{Free}
 use Rattle.pcm_desk.specs.declared.record_book.RecordBook.{RecordBook}
 use Rattle.pcm_desk.specs.declared.record_book.RecordState.TheVariants as record_states
 use Rattle.pcm_desk.specs.declared.device.Held.{Held}
+use Rattle.pcm_desk.specs.declared.here.Here.{Here}
 use Rattle.pcm_desk.specs.declared.limits.TheConstants.{DESCRIPTORS}
-use Rattle.pcm_desk.specs.Device.{DeviceSeen, device_settings, mix_settings, mixed_for, play_slots, play_rate_between, record_rate_between, record_slots}
+use Rattle.pcm_desk.specs.Device.{DeviceSeen, device_settings, here_at, mix_settings, mixed_for, passed_for, play_slots, play_rate_between, record_rate_between, record_slots}
 use Rattle.pcm_desk.specs.declared.turn.Turn.{Turn}
-use Rattle.pcm_desk.specs.PlayBooks.{close_turn, is_play_free, play_begun, refilled, write_turn}
+use Rattle.pcm_desk.specs.PlayBooks.{close_turn, is_play_free, play_begun, play_settled, refilled, write_turn}
 use Rattle.pcm_desk.specs.PlayRequests.{play_ask}
 use Rattle.pcm_desk.specs.RecordBooks as records
 use Rattle.pcm_desk.specs.RecordBooks.{is_record_free, record_begun}
@@ -59,6 +60,10 @@ desk_at_start device = record {
   handed = 0;
   mixed = 0;
 }
+
+-- where the mix and the device are
+abbrev pub desk_here : DeviceSeen → Desk → Here
+desk_here device desk = here_at device desk.handed
 
 -- what a descriptor holds
 abbrev pub held_by : Desk → ℕ → Option Held
@@ -138,7 +143,7 @@ turning play recording (Some held) desk = by_way held.way (play held.slot) (reco
 
 -- a write, which no recording takes
 abbrev pub write_on : DeviceSeen → Option Held → Desk → ℕ → DeskTurn
-write_on device held desk length = turning (play_turn device (write_turn length) desk) (λ slot. refusing desk Inval) held desk
+write_on device held desk length = turning (play_turn device (write_turn (desk_here device desk) length) desk) (λ slot. refusing desk Inval) held desk
 
 -- a read, which gets nothing of a channel that plays
 abbrev pub read_on : DeviceSeen → Option Held → Desk → ℕ → DeskTurn
@@ -152,23 +157,23 @@ play_rate_at device book = play_rate_between device book.opening.settings
 abbrev pub record_rate_at : DeviceSeen → RecordBook → Rate
 record_rate_at device book = record_rate_between device book.opening.settings
 
--- the book after a request, and the reply
-abbrev pub asking : DeviceSeen → Request → PlayBook → Turn PlayBook
-asking device request book = play_ask (play_rate_at device book) request book
+-- the book after a request, and the reply, where the mix and the device are
+abbrev pub asking : DeviceSeen → Here → Request → PlayBook → Turn PlayBook
+asking device here request book = play_ask (play_rate_at device book) (mix_settings device).rate here request book
 
 -- a request
 abbrev pub ioctl_on : DeviceSeen → Option Held → Desk → Request → DeskTurn
 ioctl_on device held desk request =
-    turning (play_turn device (asking device request) desk) (record_turn device (record_ask request) desk) held desk
+    turning (play_turn device (asking device (desk_here device desk) request) desk) (record_turn device (record_ask request) desk) held desk
 
 -- the book after a close
-abbrev pub closing : DeviceSeen → PlayBook → PlayBook
-closing device book = close_turn (play_rate_at device book) book
+abbrev pub closing : DeviceSeen → Here → PlayBook → PlayBook
+closing device here book = close_turn (play_rate_at device book) here book
 
 -- a close, which opens the descriptor for others
 abbrev pub close_play : DeviceSeen → Desk → ℕ → ℕ → DeskTurn
 close_play device desk fd slot = record {
-  desk = with_descriptor (with_play desk slot (closing device (play_at device desk slot))) fd None;
+  desk = with_descriptor (with_play desk slot (closing device (desk_here device desk) (play_at device desk slot))) fd None;
   reply = Ok Done;
 }
 
@@ -185,21 +190,29 @@ close_on device held desk fd = turning (close_play device desk fd) (close_record
 abbrev pub mixed_by : DeviceSeen → ℕ → ℕ → ℕ
 mixed_by device handed n = mixed_for device (handed + n) - mixed_for device handed
 
--- a book once so many frames were mixed; where nothing is mixed it stays
-abbrev pub mixing : DeviceSeen → ℕ → PlayBook → PlayBook
-mixing device zero book = book
-mixing device (suc frames) book = refilled (play_rate_at device book) (suc frames) book
+-- a book once so many frames more were mixed; where nothing is mixed it stays
+abbrev pub mixing : DeviceSeen → ℕ → ℕ → PlayBook → PlayBook
+mixing device mixed zero book = book
+mixing device mixed (suc frames) book = refilled (play_rate_at device book) mixed (suc frames) book
+
+-- a book once so many frames were handed over: a run that is over ends
+abbrev pub settling : DeviceSeen → ℕ → PlayBook → PlayBook
+settling device handed book = play_settled (play_rate_at device book) (passed_for device handed) book
+
+-- a book after an interrupt of n frames, where so many were handed over before
+abbrev pub play_passing : DeviceSeen → ℕ → ℕ → PlayBook → PlayBook
+play_passing device handed n book = settling device (handed + n) (mixing device (mixed_for device handed) (mixed_by device handed n) book)
 
 -- a record book once so many frames were captured
 abbrev pub capturing : DeviceSeen → ℕ → RecordBook → RecordBook
 capturing device n book = records.captured (record_rate_at device book) n book
 
--- an interrupt of n frames hands them over, mixes what stands for them, and then captures as many
+-- an interrupt of n frames hands them over, mixes what stands for them, ends the runs that are over, and captures as many frames
 abbrev pub interrupt_turn : DeviceSeen → Desk → ℕ → DeskTurn
 interrupt_turn device desk n =
     let frames = mixed_by device desk.handed n in
     record {
-      desk = record desk { play = map (mixing device frames) desk.play; recording = map (capturing device n) desk.recording; handed = desk.handed + n; mixed = desk.mixed + frames };
+      desk = record desk { play = map (play_passing device desk.handed n) desk.play; recording = map (capturing device n) desk.recording; handed = desk.handed + n; mixed = desk.mixed + frames };
       reply = Ok (Number n);
     }
 

@@ -1,5 +1,6 @@
 -- What the rules read of a device. Whatever a device has beside it is read by one more word here.
-use Rattle.std.specs.Prelude.{ℕ, ◌<◌, ◌≤◌, ◌+◌, ◌*◌, ◌/◌, Bool, ◌&&◌, ◌==◌, if◌then◌else◌, map}
+use Rattle.std.specs.Prelude.{ℕ, ℤ, pos, ◌<◌, ◌≤◌, ◌+◌, ◌*◌, ◌/◌, ◌-ℤ◌, ◌*ℤ◌, Bool, ◌&&◌, ◌==◌, if◌then◌else◌, map}
+use Rattle.pcm_num.specs.Floor.{floor_div}
 use Rattle.pcm_format.specs.declared.settings.Settings.{Settings}
 use Rattle.pcm_format.specs.Formats.{bits_of}
 use Rattle.pcm_format.specs.Frames.{Frame, frame_bytes}
@@ -12,6 +13,7 @@ use Rattle.pcm_feeder.specs.Limits.{IsRate, AreFilters}
 use Rattle.pcm_plan.specs.Plans.{PlanSeen, plan_play, plan_record, rate_in_plan}
 use Rattle.pcm_desk.specs.declared.device.Device.{Device}
 use Rattle.pcm_desk.specs.declared.device.TheConstants.{QUALITY_MOST}
+use Rattle.pcm_desk.specs.declared.here.Here.{Here}
 use Rattle.pcm_desk.specs.declared.limits.TheConstants.{MIX_FRAMES, RING_FRAMES, SLOTS}
 
 pub record DeviceSeen : Type 0 where
@@ -117,6 +119,16 @@ is_straight device =
 -- how many frames are mixed once so many were handed over: as many as these need
 abbrev pub mixed_for : DeviceSeen → ℕ → ℕ
 mixed_for device handed = need (parent_rate device) handed
+
+-- How many frames of the mix have left the device's ring once so many were handed over: what lasts as long as these without the
+-- silence that the ring began with. It is below 0 until all of that has left.
+abbrev pub passed_for : DeviceSeen → ℕ → ℤ
+passed_for device handed =
+    floor_div ((pos handed -ℤ pos (ring_frames device)) *ℤ pos (mix_settings device).rate) (device_settings device).rate
+
+-- where the mix and the device are once so many frames were handed over
+abbrev pub here_at : DeviceSeen → ℕ → Here
+here_at device handed = record { mixed = mixed_for device handed; passed = passed_for device handed }
 
 -- a device with rates within the limits, as its filters are
 pub record IsDevice (device : DeviceSeen) : Type 0 where

@@ -1,3 +1,4 @@
+pub mod Here
 pub mod Device
 pub mod Usual
 pub mod BookTurns

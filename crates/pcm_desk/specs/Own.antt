@@ -13,15 +13,16 @@ use Rattle.pcm_desk.specs.declared.play_book.PlayBook.{PlayBook}
 use Rattle.pcm_desk.specs.declared.play_book.PlayState.{PlayState}
 use Rattle.pcm_desk.specs.declared.play_book.PlayState.TheVariants.{Free, Draining}
 use Rattle.pcm_desk.specs.declared.device.Held.{Held}
+use Rattle.pcm_desk.specs.declared.here.Here.{Here}
 use Rattle.pcm_desk.specs.declared.record_book.RecordBook.{RecordBook}
-use Rattle.pcm_desk.specs.Device.{DeviceSeen}
+use Rattle.pcm_desk.specs.Device.{DeviceSeen, here_at}
 use Rattle.pcm_desk.specs.declared.turn.Turn.{Turn}
 use Rattle.pcm_desk.specs.BookTurns.{doing, refused, telling}
 use Rattle.pcm_desk.specs.PlayBooks.{write_turn}
 use Rattle.pcm_desk.specs.RecordBooks as records
 use Rattle.pcm_desk.specs.RecordBooks.{is_record_free}
 use Rattle.pcm_desk.specs.RecordRequests.{record_ask}
-use Rattle.pcm_desk.specs.Desk.{Desk, asking, play_at, by_way, capturing, closing, held_by, mixed_by, mixing, record_at}
+use Rattle.pcm_desk.specs.Desk.{Desk, asking, play_at, by_way, capturing, closing, held_by, play_passing, record_at}
 
 -- the descriptor that a client's event names
 abbrev pub descriptor_of : Event → Option ℕ
@@ -48,35 +49,35 @@ played turn = record { book = Playing turn.book; reply = turn.reply }
 abbrev pub recorded : Turn RecordBook → Turn Channel
 recorded turn = record { book = Recording turn.book; reply = turn.reply }
 
-abbrev pub own_write : ℕ → Channel → Turn Channel
-own_write count (Playing book) = played (write_turn count book)
-own_write count (Recording book) = refused Inval (Recording book)
+abbrev pub own_write : Here → ℕ → Channel → Turn Channel
+own_write here count (Playing book) = played (write_turn here count book)
+own_write here count (Recording book) = refused Inval (Recording book)
 
 abbrev pub own_read : ℕ → Channel → Turn Channel
 own_read count (Playing book) = refused Inval (Playing book)
 own_read count (Recording book) = recorded (records.read_turn count book)
 
-abbrev pub own_ioctl : DeviceSeen → Request → Channel → Turn Channel
-own_ioctl device request (Playing book) = played (asking device request book)
-own_ioctl device request (Recording book) = recorded (record_ask request book)
+abbrev pub own_ioctl : DeviceSeen → Here → Request → Channel → Turn Channel
+own_ioctl device here request (Playing book) = played (asking device here request book)
+own_ioctl device here request (Recording book) = recorded (record_ask request book)
 
-abbrev pub closing_own : DeviceSeen → Channel → Channel
-closing_own device (Playing book) = Playing (closing device book)
-closing_own device (Recording book) = Recording (records.closed book)
+abbrev pub closing_own : DeviceSeen → Here → Channel → Channel
+closing_own device here (Playing book) = Playing (closing device here book)
+closing_own device here (Recording book) = Recording (records.closed book)
 
 -- what an interrupt of n leaves, where so many frames were handed over before
 abbrev pub passing : DeviceSeen → ℕ → ℕ → Channel → Channel
-passing device handed n (Playing book) = Playing (mixing device (mixed_by device handed n) book)
+passing device handed n (Playing book) = Playing (play_passing device handed n book)
 passing device handed n (Recording book) = Recording (capturing device n book)
 
 -- A book and the reply after an event of its own, or after an interrupt, where so many frames were handed over before. A descriptor
 -- that is open can't be opened.
 abbrev pub own_turn : DeviceSeen → ℕ → Event → Channel → Turn Channel
 own_turn device handed (Open fd way settings) channel = refused Exist channel
-own_turn device handed (Write fd source at count) channel = own_write count channel
+own_turn device handed (Write fd source at count) channel = own_write (here_at device handed) count channel
 own_turn device handed (Read fd count) channel = own_read count channel
-own_turn device handed (Ioctl fd request) channel = own_ioctl device request channel
-own_turn device handed (Close fd) channel = doing (closing_own device channel)
+own_turn device handed (Ioctl fd request) channel = own_ioctl device (here_at device handed) request channel
+own_turn device handed (Close fd) channel = doing (closing_own device (here_at device handed) channel)
 own_turn device handed (Intr n) channel = telling (Number n) (passing device handed n channel)
 
 -- a channel that a descriptor may hold: it isn't free, and doesn't drain behind a close

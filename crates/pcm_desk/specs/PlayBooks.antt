@@ -1,5 +1,5 @@
 -- The book of one play opening: what is counted, and what each event does to it. No book looks at another.
-use Rattle.std.specs.Prelude.{ℕ, ◌+◌, ◌-◌, ◌*◌, ◌^◌, min, max, Bool, true, false, ◌&&◌, nat_lt, nat_le, ◌==◌, if◌then◌else◌}
+use Rattle.std.specs.Prelude.{ℕ, ℤ, pos, int_le, ◌+◌, ◌-◌, ◌*◌, ◌^◌, min, max, Bool, true, false, ◌&&◌, nat_lt, nat_le, ◌==◌, if◌then◌else◌}
 use Rattle.pcm_format.specs.declared.settings.Settings.{Settings}
 use Rattle.pcm_oss.specs.declared.reply.Answer.TheVariants.{Number}
 use Rattle.pcm_oss.specs.declared.reply.Errno.TheVariants.{Again, Busy}
@@ -7,6 +7,7 @@ use Rattle.pcm_oss.specs.declared.volume.TheConstants.{VOLUME}
 use Rattle.pcm_format.specs.Frames.{frame_bytes, whole_frames}
 use Rattle.pcm_rate.specs.declared.rate.Rate.{Rate}
 use Rattle.pcm_rate.specs.Rates.{need, can, len}
+use Rattle.pcm_desk.specs.declared.here.Here.{Here}
 use Rattle.pcm_desk.specs.declared.play_book.PlayBook.{PlayBook}
 use Rattle.pcm_desk.specs.declared.play_book.PlayState.{PlayState}
 use Rattle.pcm_desk.specs.declared.play_book.PlayState.TheVariants.{Free, Setup, Primed, Running, Draining}
@@ -71,6 +72,7 @@ play_begun settings = record {
   given = 0;
   done = 0;
   underruns = 0;
+  last = 0;
 }
 
 -- nothing of a run is left
@@ -94,37 +96,51 @@ primed_in state book = book
 abbrev pub may_start : PlayBook → Bool
 may_start book = book.opening.trigger && nat_le (fragment_bytes book.opening) (play_fill_of book)
 
--- a primed book that may start does so
-abbrev pub started_in : PlayState → PlayBook → PlayBook
-started_in Primed book = if may_start book then record book { state = Running } else book
-started_in state book = book
+-- a run starts where so many frames were mixed
+abbrev pub started_at : ℕ → PlayState → PlayBook → PlayBook
+started_at mixed state book = record book { state = state; last = mixed }
 
--- `accepted` more bytes were written
-abbrev pub accepting : ℕ → PlayBook → PlayBook
-accepting accepted book =
+-- a primed book that may start does so
+abbrev pub started_in : ℕ → PlayState → PlayBook → PlayBook
+started_in mixed Primed book = if may_start book then started_at mixed Running book else book
+started_in mixed state book = book
+
+-- `accepted` more bytes were written, where so many frames were mixed
+abbrev pub accepting : ℕ → ℕ → PlayBook → PlayBook
+accepting mixed accepted book =
     let more : PlayBook = record book { written = book.written + accepted } in
     let primed : PlayBook = primed_in more.state more in
-    started_in primed.state primed
+    started_in mixed primed.state primed
 
 -- A write of `length` bytes. A draining book is busy; then a full ring has no room; else what fits is accepted.
-abbrev pub write_turn : ℕ → PlayBook → Turn PlayBook
-write_turn length book =
+abbrev pub write_turn : Here → ℕ → PlayBook → Turn PlayBook
+write_turn here length book =
     if is_draining book.state then refused Busy book
     else if nat_lt 0 length && play_free_of book == 0 then refused Again book
-    else telling (Number (min length (play_free_of book))) (accepting (min length (play_free_of book)) book)
+    else telling (Number (min length (play_free_of book))) (accepting here.mixed (min length (play_free_of book)) book)
 
--- a draining book that has given its last frame is over
-abbrev pub settled_in : Rate → PlayState → PlayBook → PlayBook
-settled_in rate (Draining closed) book =
-    if book.given == len rate (frames_written book) then finished (if closed then Free else Setup) book else book
-settled_in rate state book = book
+-- all that a run lasts for was given
+abbrev pub has_given_all : Rate → PlayBook → Bool
+has_given_all rate book = book.given == len rate (frames_written book)
+
+-- and its last frame has left the device's ring, of which so many frames of the mix have
+abbrev pub is_over : Rate → ℤ → PlayBook → Bool
+is_over rate passed book = has_given_all rate book && int_le (pos book.last) passed
+
+-- a draining book that is over ends
+abbrev pub play_settled_in : Rate → ℤ → PlayState → PlayBook → PlayBook
+play_settled_in rate passed (Draining closed) book = if is_over rate passed book then finished (if closed then Free else Setup) book else book
+play_settled_in rate passed state book = book
+
+abbrev pub play_settled : Rate → ℤ → PlayBook → PlayBook
+play_settled rate passed book = play_settled_in rate passed book.state book
 
 -- No more comes: what was written plays to its end, and a part of a frame alone is dropped.
-abbrev pub drained_in : Rate → PlayState → PlayBook → PlayBook
-drained_in rate Primed book =
-    if nat_lt 0 (frames_written book) then record book { state = Draining false } else play_emptied Setup book
-drained_in rate Running book = settled_in rate (Draining false) (record book { state = Draining false })
-drained_in rate state book = book
+abbrev pub drained_in : Rate → Here → PlayState → PlayBook → PlayBook
+drained_in rate here Primed book =
+    if nat_lt 0 (frames_written book) then started_at here.mixed (Draining false) book else play_emptied Setup book
+drained_in rate here Running book = play_settled_in rate here.passed (Draining false) (record book { state = Draining false })
+drained_in rate here state book = book
 
 -- no descriptor has the book any more
 abbrev pub closed_in : PlayState → PlayBook → PlayBook
@@ -133,25 +149,34 @@ closed_in (Draining closed) book = record book { state = Draining true }
 closed_in state book = book
 
 -- a close: a drain, and then no descriptor
-abbrev pub close_turn : Rate → PlayBook → PlayBook
-close_turn rate book = let drained : PlayBook = drained_in rate book.state book in closed_in drained.state drained
+abbrev pub close_turn : Rate → Here → PlayBook → PlayBook
+close_turn rate here book = let drained : PlayBook = drained_in rate here book.state book in closed_in drained.state drained
 
--- what the next n frames of the mix need leaves the ring, and what is allowed of them goes into the mix
-abbrev pub gives : Rate → ℕ → PlayBook → PlayBook
-gives rate n book = record book {
-  eaten = max book.eaten (min (frames_written book) (need rate (book.given + n)));
+-- behind the last frame that a run gives, of which the next n of the mix get `count`
+abbrev pub last_after : ℕ → ℕ → PlayBook → ℕ
+last_after mixed count book = if nat_lt 0 count then mixed + count else book.last
+
+-- how many frames of the run have left the ring with those that the next n frames of the mix need
+abbrev pub eaten_after : Rate → ℕ → PlayBook → ℕ
+eaten_after rate n book = max book.eaten (min (frames_written book) (need rate (book.given + n)))
+
+-- What the next n frames of the mix need leaves the ring, and what is allowed of them goes into the mix, where so many were mixed.
+abbrev pub gives : Rate → ℕ → ℕ → PlayBook → PlayBook
+gives rate mixed n book = record book {
+  eaten = eaten_after rate n book;
   given = book.given + giving rate n book;
+  last = last_after mixed (giving rate n book) book;
 }
 
 -- a running book that gave fewer than n frames was short; the count stands still at its end
 abbrev pub underruns_after : Rate → ℕ → PlayBook → ℕ
 underruns_after rate n book = if nat_lt (giving rate n book) n then min (book.underruns + 1) (2 ^ 32 - 1) else book.underruns
 
--- an interrupt that mixes n frames
-abbrev pub refilled_in : Rate → PlayState → ℕ → PlayBook → PlayBook
-refilled_in rate Running n book = record (gives rate n book) { underruns = underruns_after rate n book }
-refilled_in rate (Draining closed) n book = settled_in rate (Draining closed) (gives rate n book)
-refilled_in rate state n book = book
+-- an interrupt that mixes n frames, where so many were mixed
+abbrev pub refilled_in : Rate → ℕ → PlayState → ℕ → PlayBook → PlayBook
+refilled_in rate mixed Running n book = record (gives rate mixed n book) { underruns = underruns_after rate n book }
+refilled_in rate mixed (Draining closed) n book = gives rate mixed n book
+refilled_in rate mixed state n book = book
 
-abbrev pub refilled : Rate → ℕ → PlayBook → PlayBook
-refilled rate n book = refilled_in rate book.state n book
+abbrev pub refilled : Rate → ℕ → ℕ → PlayBook → PlayBook
+refilled rate mixed n book = refilled_in rate mixed book.state n book

@@ -1,11 +1,13 @@
 -- What a client asks of a channel that plays: for each request, what it is refused for, or the book after it and the answer.
-use Rattle.std.specs.Prelude.{ℕ, Bool, true, false, nat_lt, nat_le, if◌then◌else◌}
+use Rattle.std.specs.Prelude.{ℕ, ℤ, pos, ◌+◌, ◌*◌, ◌/◌, ◌-ℤ◌, nat_abs, Bool, ◌&&◌, true, false, nat_lt, nat_le, if◌then◌else◌}
+use Rattle.pcm_format.specs.Frames.{frame_bytes}
 use Rattle.pcm_oss.specs.declared.reply.Answer.TheVariants.{Number, Errors}
 use Rattle.pcm_oss.specs.declared.reply.Errno.TheVariants.{Busy, Inval}
 use Rattle.pcm_oss.specs.declared.request.Request.{Request}
 use Rattle.pcm_oss.specs.declared.request.Request.TheVariants.{GetOSpace, GetOPtr, GetODelay, GetError, SetTrigger, SetPlayVol, GetPlayVol, Post, Sync, Halt}
 use Rattle.pcm_oss.specs.Volumes.{is_volume}
 use Rattle.pcm_rate.specs.declared.rate.Rate.{Rate}
+use Rattle.pcm_desk.specs.declared.here.Here.{Here}
 use Rattle.pcm_desk.specs.declared.play_book.PlayBook.{PlayBook}
 use Rattle.pcm_desk.specs.declared.play_book.PlayState.{PlayState}
 use Rattle.pcm_desk.specs.declared.play_book.PlayState.TheVariants.{Primed, Running}
@@ -14,7 +16,7 @@ use Rattle.pcm_desk.specs.declared.play_requests.TheConstants.{PLAY_BIT}
 use Rattle.pcm_desk.specs.declared.turn.Turn.{Turn}
 use Rattle.pcm_desk.specs.Openings as openings
 use Rattle.pcm_desk.specs.Openings.{space_of, tell_pointer}
-use Rattle.pcm_desk.specs.PlayBooks.{drained_in, frames_written, is_draining, is_play_setup, play_dropped, play_fill_of, play_free_of, played_of}
+use Rattle.pcm_desk.specs.PlayBooks.{drained_in, frames_written, has_given_all, is_draining, is_play_setup, is_started, play_dropped, play_fill_of, play_free_of, played_of, started_at}
 use Rattle.pcm_desk.specs.BookTurns.{doing, refused, telling}
 
 -- what was done to the opening of a book
@@ -29,6 +31,30 @@ set_volume volume book = if is_volume volume then telling (Number volume) (recor
 abbrev pub play_tell_errors : PlayBook → Turn PlayBook
 play_tell_errors book = telling (Errors book.underruns 0) (record book { underruns = 0 })
 
+-- ---- the delay
+
+-- behind the frames of the mix that a run may sound in so far: its own last one, once no more comes and all was given, else all that
+-- are mixed
+abbrev pub mark_of : Rate → ℕ → PlayBook → ℕ
+mark_of rate mixed book = if is_draining book.state && has_given_all rate book then book.last else mixed
+
+-- how many frames of the mix before a position are still to leave the device's ring
+abbrev pub still_to_pass : ℤ → ℕ → ℕ
+still_to_pass passed mark = nat_abs (pos mark -ℤ passed)
+
+-- the bytes at a client's rate that last as long as frames of the mix, at its rate: of whole frames
+abbrev pub lasting_bytes : ℕ → ℕ → PlayBook → ℕ
+lasting_bytes mix_rate frames book = frames * book.opening.settings.rate / mix_rate * frame_bytes book.opening.settings
+
+-- the bytes of a run that the device's ring still holds
+abbrev pub device_holds : Rate → ℕ → Here → PlayBook → ℕ
+device_holds rate mix_rate here book =
+    if is_started book.state then lasting_bytes mix_rate (still_to_pass here.passed (mark_of rate here.mixed book)) book else 0
+
+-- the bytes that wait in the ring and those that the device's still holds
+abbrev pub delay_of : Rate → ℕ → Here → PlayBook → ℕ
+delay_of rate mix_rate here book = play_fill_of book + device_holds rate mix_rate here book
+
 -- ---- starts and ends
 
 -- the book with its trigger on or off
@@ -36,13 +62,13 @@ abbrev pub play_with_trigger : Bool → PlayBook → PlayBook
 play_with_trigger trigger book = record book { opening = record book.opening { trigger = trigger } }
 
 -- a primed book with a whole frame starts
-abbrev pub play_roused_in : PlayState → PlayBook → PlayBook
-play_roused_in Primed book = if nat_lt 0 (frames_written book) then record book { state = Running } else book
-play_roused_in state book = book
+abbrev pub play_roused_in : ℕ → PlayState → PlayBook → PlayBook
+play_roused_in mixed Primed book = if nat_lt 0 (frames_written book) then started_at mixed Running book else book
+play_roused_in mixed state book = book
 
 -- a post starts a book that may start
-abbrev pub play_posted : PlayBook → PlayBook
-play_posted book = if book.opening.trigger then play_roused_in book.state book else book
+abbrev pub play_posted : ℕ → PlayBook → PlayBook
+play_posted mixed book = if book.opening.trigger then play_roused_in mixed book.state book else book
 
 -- a primed or running book drops its bytes
 abbrev pub play_stopped_in : PlayState → PlayBook → PlayBook
@@ -51,33 +77,34 @@ play_stopped_in Running book = play_dropped book
 play_stopped_in state book = book
 
 -- the book once its trigger was set: on, it starts if it can; off, it stops
-abbrev pub play_triggered : Bool → PlayBook → PlayBook
-play_triggered true book = play_roused_in book.state (play_with_trigger true book)
-play_triggered false book = play_stopped_in book.state (play_with_trigger false book)
+abbrev pub play_triggered : ℕ → Bool → PlayBook → PlayBook
+play_triggered mixed true book = play_roused_in mixed book.state (play_with_trigger true book)
+play_triggered mixed false book = play_stopped_in book.state (play_with_trigger false book)
 
 -- the bit of a channel that plays, of the two bits that a number may have
 abbrev pub has_play_bit : ℕ → Bool
 has_play_bit bits = nat_le PLAY_BIT bits
 
 -- More than two bits are refused first, and then a draining book. The bit of the other way says nothing.
-abbrev pub play_set_trigger : ℕ → PlayBook → Turn PlayBook
-play_set_trigger bits book =
+abbrev pub play_set_trigger : ℕ → ℕ → PlayBook → Turn PlayBook
+play_set_trigger mixed bits book =
     if nat_lt 3 bits then refused Inval book
     else if is_draining book.state then refused Busy book
-    else doing (play_triggered (has_play_bit bits) book)
+    else doing (play_triggered mixed (has_play_bit bits) book)
 
 -- ---- the table
 
--- what a request asks of a book that plays, with the rate between it and the mix: its own lines, and then those of every opening
-abbrev pub play_ask : Rate → Request → PlayBook → Turn PlayBook
-play_ask rate GetOSpace book = telling (space_of (play_free_of book) book.opening) book
-play_ask rate GetOPtr book = play_with_opening book (tell_pointer (played_of book) book.opening)
-play_ask rate GetODelay book = telling (Number (play_fill_of book)) book
-play_ask rate GetError book = play_tell_errors book
-play_ask rate (SetTrigger bits) book = play_set_trigger bits book
-play_ask rate (SetPlayVol volume) book = set_volume volume book
-play_ask rate GetPlayVol book = telling (Number book.volume) book
-play_ask rate Post book = doing (play_posted book)
-play_ask rate Sync book = doing (drained_in rate book.state book)
-play_ask rate Halt book = doing (play_dropped book)
-play_ask rate request book = play_with_opening book (openings.ask (is_play_setup book.state) PLAY_BIT request book.opening)
+-- What a request asks of a book that plays, with the rate between it and the mix, the rate of the mix, and where the mix and the device
+-- are: its own lines, and then those of every opening.
+abbrev pub play_ask : Rate → ℕ → Here → Request → PlayBook → Turn PlayBook
+play_ask rate mix_rate here GetOSpace book = telling (space_of (play_free_of book) book.opening) book
+play_ask rate mix_rate here GetOPtr book = play_with_opening book (tell_pointer (played_of book) book.opening)
+play_ask rate mix_rate here GetODelay book = telling (Number (delay_of rate mix_rate here book)) book
+play_ask rate mix_rate here GetError book = play_tell_errors book
+play_ask rate mix_rate here (SetTrigger bits) book = play_set_trigger here.mixed bits book
+play_ask rate mix_rate here (SetPlayVol volume) book = set_volume volume book
+play_ask rate mix_rate here GetPlayVol book = telling (Number book.volume) book
+play_ask rate mix_rate here Post book = doing (play_posted here.mixed book)
+play_ask rate mix_rate here Sync book = doing (drained_in rate here book.state book)
+play_ask rate mix_rate here Halt book = doing (play_dropped book)
+play_ask rate mix_rate here request book = play_with_opening book (openings.ask (is_play_setup book.state) PLAY_BIT request book.opening)

@@ -1,13 +1,14 @@
 -- What holds of the counts of a book at every moment.
-use Rattle.std.specs.Prelude.{◌≡◌, ℕ, ◌+◌, ◌-◌, ◌<◌, ◌≤◌, true, min, max}
+use Rattle.std.specs.Prelude.{◌≡◌, ℕ, ◌+◌, ◌-◌, ◌<◌, ◌≤◌, true, false, min, max}
 use Rattle.pcm_oss.specs.Fragments.{AreFragments}
 use Rattle.pcm_oss.specs.Volumes.{is_volume}
 use Rattle.pcm_rate.specs.declared.rate.Rate.{Rate}
 use Rattle.pcm_rate.specs.Rates.{need, can, len}
+use Rattle.pcm_desk.specs.declared.here.Here.{Here}
 use Rattle.pcm_desk.specs.declared.play_book.PlayBook.{PlayBook}
 use Rattle.pcm_desk.specs.declared.play_book.PlayState.{PlayState}
 use Rattle.pcm_desk.specs.declared.play_book.PlayState.TheVariants.{Free, Setup, Primed, Running, Draining}
-use Rattle.pcm_desk.specs.PlayBooks.{frames_written, play_fill_of, played_of}
+use Rattle.pcm_desk.specs.PlayBooks.{frames_written, is_draining, is_over, is_started, play_fill_of, played_of}
 use Rattle.pcm_desk.specs.Openings.{ring_bytes}
 
 -- Of the frames written in a run, how many were eaten, and how many frames of the mix were given for them.
@@ -23,11 +24,11 @@ pub record IsRunning (rate : Rate) (frames eaten given : ℕ) : Type 0 where
   pub needed : need rate given ≤ eaten
   pub allowed : given ≤ can rate frames
 
--- once no more comes, silence stands in for what is needed past the last frame, and some is still to be given
+-- once no more comes, silence stands in for what is needed past the last frame, and no more is given than lasts as long
 pub record IsDraining (rate : Rate) (frames eaten given : ℕ) : Type 0 where
   pub eats : EatsInTime rate frames eaten given
   pub needed : min frames (need rate given) ≤ eaten
-  pub left : given < len rate frames
+  pub allowed : given ≤ len rate frames
 
 -- nothing was eaten or given
 pub record IsPlayUnstarted (eaten given : ℕ) : Type 0 where
@@ -50,3 +51,8 @@ pub record PlayIsSafe (rate : Rate) (book : PlayBook) : Type 0 where
   pub volume : is_volume book.volume ≡ true
   -- no position was told that wasn't reached
   pub told : book.opening.told ≤ played_of book
+
+-- A book where the mix and the device are: no run gave a frame past what is mixed, and none that drains is over.
+pub record PlayIsHere (rate : Rate) (here : Here) (book : PlayBook) : Type 0 where
+  pub last : is_started book.state ≡ true → book.last ≤ here.mixed
+  pub left : is_draining book.state ≡ true → is_over rate here.passed book ≡ false

@@ -1,6 +1,6 @@
 //! The device that all channels share, and who holds which channel.
 
-ghost use Rattle.std.specs.Prelude.{◌≡◌};
+ghost use Rattle.std.specs.Prelude.{◌≡◌, ◌<◌, ◌^◌};
 
 use pcm_format::{Format, Layout, Settings};
 use pcm_oss::Way;
@@ -36,7 +36,7 @@ pub struct Device {
 }
 
 impl Device {
-    ghost use Rattle.pcm_desk.specs.Device.{HasRates, IsInLimits, is_straight, mix_frames, unfiltered};
+    ghost use Rattle.pcm_desk.specs.Device.{HasRates, IsInLimits, is_straight, mix_frames, passed_for, unfiltered};
     ghost use Rattle.pcm_desk.specs.Usual.{usual_device};
 
     /// The device of a run without a configuration: 16 bits, stereo, 48 kHz, a ring of four blocks of 256 frames,
@@ -83,6 +83,18 @@ impl Device {
         } else {
             ring * mix / rate + 33
         }
+    }
+
+    /// How many frames of the mix have left the ring once `handed` of the device were handed over. It is below 0 until the silence that
+    /// the ring began with has left it.
+    pub fn passed(&self, handed: u64) -> i64
+        requires rates { HasRates self.now }
+        requires count { handed < 2 ^ 56 }
+        ensures { result ≡ passed_for (unfiltered self.now) handed }
+    {
+        let frames = i128::from(handed) - i128::from(self.ring_frames);
+        let (mix, rate) = (i128::from(self.mix.rate), i128::from(self.settings.rate));
+        (frames * mix).div_euclid(rate) as i64
     }
 }
 

@@ -1,22 +1,24 @@
 //! What holds of all books and desks: the functions here have no work, and their contracts are the laws.
 
-ghost use Rattle.std.specs.Prelude.{◌≡◌, ℕ, false, All, List, Some};
+ghost use Rattle.std.specs.Prelude.{◌≡◌, ◌<◌, ◌≤◌, ◌+◌, ◌^◌, ℕ, ℤ, false, true, All, List, Some};
 ghost use Rattle.pcm_format.specs.declared.settings.Settings.{Settings};
 ghost use Rattle.pcm_oss.specs.declared.event.Event.{Event};
 ghost use Rattle.pcm_oss.specs.declared.event.Way.{Way};
 ghost use Rattle.pcm_oss.specs.declared.request.Request.{Request};
 ghost use Rattle.pcm_rate.specs.declared.rate.Rate.{Rate};
 ghost use Rattle.pcm_rate.specs.Rates.{IsRatio};
+ghost use Rattle.pcm_desk.specs.declared.here.Here.{Here};
+ghost use Rattle.pcm_desk.specs.Here.{IsHere};
 ghost use Rattle.pcm_desk.specs.declared.play_book.PlayBook.{PlayBook};
-ghost use Rattle.pcm_desk.specs.PlayBooks.{close_turn, is_play_setup, play_begun, refilled, write_turn};
+ghost use Rattle.pcm_desk.specs.PlayBooks.{close_turn, is_play_setup, is_started, play_begun, play_settled, refilled, write_turn};
 ghost use Rattle.pcm_desk.specs.PlayRequests.{play_ask};
-ghost use Rattle.pcm_desk.specs.PlaySafe.{PlayIsSafe};
+ghost use Rattle.pcm_desk.specs.PlaySafe.{PlayIsHere, PlayIsSafe};
 ghost use Rattle.pcm_desk.specs.declared.record_book.RecordBook.{RecordBook};
 ghost use Rattle.pcm_desk.specs.RecordBooks as records;
 ghost use Rattle.pcm_desk.specs.RecordBooks.{is_record_setup, record_begun};
 ghost use Rattle.pcm_desk.specs.RecordRequests.{record_ask};
 ghost use Rattle.pcm_desk.specs.RecordSafe.{RecordIsSafe};
-ghost use Rattle.pcm_desk.specs.Device.{DeviceSeen};
+ghost use Rattle.pcm_desk.specs.Device.{DeviceSeen, IsInLimits, here_at, mixed_for};
 ghost use Rattle.pcm_desk.specs.declared.device.Held.{Held};
 ghost use Rattle.pcm_desk.specs.Desk.{Desk, after, desk_at_start, held_by};
 ghost use Rattle.pcm_desk.specs.Events.{after_all};
@@ -26,16 +28,42 @@ ghost use Rattle.pcm_desk.specs.OwnEvents.{Opens, channel_begun, closes, own_aft
 /// The counts of a book stay in order through every event, for every rate between its client and the mix.
 pub fn books_stay_in_order()
     ensures begun { (rate : Rate) (settings : Settings) → PlayIsSafe rate (play_begun settings) }
-    ensures written { (rate : Rate) (length : ℕ) (book : PlayBook) → IsRatio rate
-        → PlayIsSafe rate book → PlayIsSafe rate (write_turn length book).book }
+    ensures written { (rate : Rate) (here : Here) (length : ℕ) (book : PlayBook) → IsRatio rate
+        → PlayIsSafe rate book → PlayIsSafe rate (write_turn here length book).book }
     // A request may change the rate, of a book that has nothing written.
-    ensures asked { (rate now : Rate) (request : Request) (book : PlayBook) → IsRatio rate
+    ensures asked { (rate now : Rate) (mix_rate : ℕ) (here : Here) (request : Request) (book : PlayBook) → IsRatio rate
         → (is_play_setup book.state ≡ false → now ≡ rate)
-        → PlayIsSafe rate book → PlayIsSafe now (play_ask rate request book).book }
-    ensures closed { (rate : Rate) (book : PlayBook) → IsRatio rate
-        → PlayIsSafe rate book → PlayIsSafe rate (close_turn rate book) }
-    ensures refilled { (rate : Rate) (n : ℕ) (book : PlayBook) → IsRatio rate
-        → PlayIsSafe rate book → PlayIsSafe rate (refilled rate n book) }
+        → PlayIsSafe rate book → PlayIsSafe now (play_ask rate mix_rate here request book).book }
+    ensures closed { (rate : Rate) (here : Here) (book : PlayBook) → IsRatio rate
+        → PlayIsSafe rate book → PlayIsSafe rate (close_turn rate here book) }
+    ensures refilled { (rate : Rate) (mixed n : ℕ) (book : PlayBook) → IsRatio rate
+        → PlayIsSafe rate book → PlayIsSafe rate (refilled rate mixed n book) }
+    ensures settled { (rate : Rate) (passed : ℤ) (book : PlayBook)
+        → PlayIsSafe rate book → PlayIsSafe rate (play_settled rate passed book) }
+{}
+
+/// No run gives a frame past what is mixed, and none that drains is over, through every event and wherever the device comes to be.
+pub fn books_stay_here()
+    ensures begun { (rate : Rate) (here : Here) (settings : Settings) → PlayIsHere rate here (play_begun settings) }
+    ensures written { (rate : Rate) (here : Here) (length : ℕ) (book : PlayBook)
+        → PlayIsHere rate here book → PlayIsHere rate here (write_turn here length book).book }
+    // A request may change the rate, of a book that has nothing written.
+    ensures asked { (rate now : Rate) (mix_rate : ℕ) (here : Here) (request : Request) (book : PlayBook) → IsRatio rate
+        → (is_play_setup book.state ≡ false → now ≡ rate)
+        → PlayIsSafe rate book → PlayIsHere rate here book → PlayIsHere now here (play_ask rate mix_rate here request book).book }
+    ensures closed { (rate : Rate) (here : Here) (book : PlayBook) → IsRatio rate
+        → PlayIsSafe rate book → PlayIsHere rate here book → PlayIsHere rate here (close_turn rate here book) }
+    // What was given before is given of what was mixed before.
+    ensures refilled { (rate : Rate) (mixed n : ℕ) (book : PlayBook) → (is_started book.state ≡ true → book.last ≤ mixed)
+        → is_started (refilled rate mixed n book).state ≡ true → (refilled rate mixed n book).last ≤ mixed + n }
+    ensures settled { (rate : Rate) (here : Here) (book : PlayBook) → (is_started book.state ≡ true → book.last ≤ here.mixed)
+        → PlayIsHere rate here (play_settled rate here.passed book) }
+{}
+
+/// However many frames were handed over, as many were mixed, and no more are in the device's ring than it and a filter hold.
+pub fn devices_hold_what_is_mixed()
+    ensures { (device : DeviceSeen) (handed : ℕ) → IsInLimits device → mixed_for device handed < 2 ^ 56
+        → IsHere (here_at device handed) }
 {}
 
 /// The counts of a record book stay in order through every event, for every rate between the device and its client.

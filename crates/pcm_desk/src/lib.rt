@@ -3,6 +3,7 @@
 #![tactic(auto)]
 
 mod device;
+mod here;
 mod laws;
 mod limits;
 mod opening;
@@ -15,8 +16,10 @@ mod record_requests;
 mod turn;
 
 pub use device::{Device, Held, OPENING, QUALITY_MOST};
+pub use here::Here;
 pub use laws::{
-    books_stay_in_order, descriptors_hold_apart, openings_stand_alone, record_books_stay_in_order,
+    books_stay_here, books_stay_in_order, descriptors_hold_apart, devices_hold_what_is_mixed,
+    openings_stand_alone, record_books_stay_in_order,
 };
 pub use limits::{
     DESCRIPTORS, DEVICE_BYTES, EVENTS, MIX_FRAMES, READ_BYTES, RING_FRAMES, SLOTS, WRITE_BYTES,

@@ -34,4 +34,6 @@ pub struct PlayBook {
     pub done: u64,
     /// Interrupts that found too few frames, since they were told last.
     pub underruns: u32,
+    /// How many frames were mixed with the last frame that the run gave, or where it started.
+    pub last: u64,
 }

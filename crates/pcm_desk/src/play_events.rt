@@ -5,9 +5,9 @@ ghost use Rattle.pcm_format.specs.Frames.{frame_bytes};
 ghost use Rattle.pcm_oss.specs.Fragments.{AreFragments};
 ghost use Rattle.pcm_rate.specs.Rates.{IsRatio};
 ghost use Rattle.pcm_desk.specs.Openings.{ring_bytes};
-ghost use Rattle.pcm_desk.specs.PlayBooks.{accepting, close_turn, drained_in, finished, frames_written, gives, giving, is_draining, is_play_free, is_started, may_start, play_begun, play_dropped, play_emptied, play_fill_of, play_free_of, primed_in, refilled, settled_in, started_in, underruns_after, write_turn};
+ghost use Rattle.pcm_desk.specs.PlayBooks.{accepting, close_turn, drained_in, finished, frames_written, gives, giving, has_given_all, is_draining, is_over, is_play_free, is_started, last_after, may_start, play_begun, play_dropped, play_emptied, play_fill_of, play_free_of, play_settled, primed_in, refilled, started_at, started_in, underruns_after, write_turn};
 
-use crate::{Opening, PlayBook, PlayState, Turn};
+use crate::{Here, Opening, PlayBook, PlayState, Turn};
 use pcm_format::Settings;
 use pcm_oss::{Answer, Errno, VOLUME};
 use pcm_rate::Rate;
@@ -26,6 +26,7 @@ impl PlayBook {
             given: 0,
             done: 0,
             underruns: 0,
+            last: 0,
         }
     }
 
@@ -75,13 +76,13 @@ impl PlayBook {
         self.opening.fragments.size() - self.fill() as u32
     }
 
-    /// The book after a write of `length` bytes, and how many of them are accepted: as many as fit.
-    pub fn write(self, length: u64) -> Turn<PlayBook>
+    /// The book after a write of `length` bytes, and how many of them are accepted: as many as fit. A run may start by it.
+    pub fn write(self, here: Here, length: u64) -> Turn<PlayBook>
         requires count { self.written + length < 2 ^ 64 }
         requires eaten { self.eaten * frame_bytes self.opening.settings ≤ self.written }
         requires fill { play_fill_of self ≤ ring_bytes self.opening }
         requires fragments { AreFragments self.opening.fragments }
-        ensures { result ≡ write_turn length self }
+        ensures { result ≡ write_turn here length self }
     {
         if self.is_draining() {
             return Turn::refused(self, Errno::Busy);
@@ -91,21 +92,24 @@ impl PlayBook {
             return Turn::refused(self, Errno::Again);
         }
         let accepted = length.min(u64::from(free));
-        Turn::telling(self.accepting(accepted), Answer::Number(accepted as u32))
+        Turn::telling(
+            self.accepting(here.mixed, accepted),
+            Answer::Number(accepted as u32),
+        )
     }
 
-    // The book after `accepted` more bytes.
-    fn accepting(self, accepted: u64) -> PlayBook
+    // The book after `accepted` more bytes, where so many frames were mixed.
+    fn accepting(self, mixed: u64, accepted: u64) -> PlayBook
         requires count { self.written + accepted < 2 ^ 64 }
         requires eaten { self.eaten * frame_bytes self.opening.settings ≤ self.written }
         requires fragments { AreFragments self.opening.fragments }
-        ensures { result ≡ accepting accepted self }
+        ensures { result ≡ accepting mixed accepted self }
     {
         let more = PlayBook {
             written: self.written + accepted,
             ..self
         };
-        more.primed().started()
+        more.primed().started(mixed)
     }
 
     // With bytes in it the book isn't in Setup.
@@ -122,17 +126,25 @@ impl PlayBook {
     }
 
     // A primed book that may start does so at a full fragment.
-    fn started(self) -> PlayBook
+    fn started(self, mixed: u64) -> PlayBook
         requires eaten { self.eaten * frame_bytes self.opening.settings ≤ self.written }
         requires fragments { AreFragments self.opening.fragments }
-        ensures { result ≡ started_in self.state self }
+        ensures { result ≡ started_in mixed self.state self }
     {
         match self.state {
-            PlayState::Primed if self.may_start() => PlayBook {
-                state: PlayState::Running,
-                ..self
-            },
+            PlayState::Primed if self.may_start() => self.started_at(mixed, PlayState::Running),
             _ => self,
+        }
+    }
+
+    // A run starts where so many frames were mixed.
+    pub(crate) fn started_at(self, mixed: u64, state: PlayState) -> PlayBook
+        ensures { result ≡ started_at mixed state self }
+    {
+        PlayBook {
+            state,
+            last: mixed,
+            ..self
         }
     }
 
@@ -146,12 +158,12 @@ impl PlayBook {
     }
 
     /// The book after a close.
-    pub fn closed(self, rate: Rate) -> PlayBook
+    pub fn closed(self, rate: Rate, here: Here) -> PlayBook
         requires rate { IsRatio rate }
         requires count { self.done + self.written < 2 ^ 64 }
-        ensures { result ≡ close_turn rate self }
+        ensures { result ≡ close_turn rate here self }
     {
-        let drained = self.drained(rate);
+        let drained = self.drained(rate, here);
         match drained.state {
             PlayState::Setup => PlayBook {
                 state: PlayState::Free,
@@ -166,19 +178,20 @@ impl PlayBook {
     }
 
     // No more comes. A part of a frame alone is dropped.
-    pub(crate) fn drained(self, rate: Rate) -> PlayBook
+    pub(crate) fn drained(self, rate: Rate, here: Here) -> PlayBook
         requires rate { IsRatio rate }
         requires count { self.done + self.written < 2 ^ 64 }
-        ensures { result ≡ drained_in rate self.state self }
+        ensures { result ≡ drained_in rate here self.state self }
     {
-        let draining = PlayBook {
-            state: PlayState::Draining { closed: false },
-            ..self
-        };
+        let draining = PlayState::Draining { closed: false };
         match self.state {
-            PlayState::Primed if self.frames_written() > 0 => draining,
+            PlayState::Primed if self.frames_written() > 0 => self.started_at(here.mixed, draining),
             PlayState::Primed => self.emptied(PlayState::Setup),
-            PlayState::Running => draining.settled(rate),
+            PlayState::Running => PlayBook {
+                state: draining,
+                ..self
+            }
+            .settled(rate, here),
             _ => self,
         }
     }
@@ -222,15 +235,14 @@ impl PlayBook {
         }
     }
 
-    // A draining book that has given its last frame is over.
-    fn settled(self, rate: Rate) -> PlayBook
+    /// The book where the mix and the device are: a draining one whose last frame has left the device ends.
+    pub fn settled(self, rate: Rate, here: Here) -> PlayBook
         requires rate { IsRatio rate }
         requires count { self.done + self.written < 2 ^ 64 }
-        ensures { result ≡ settled_in rate self.state self }
+        ensures { result ≡ play_settled rate here.passed self }
     {
         match self.state {
-            PlayState::Draining { closed }
-                if u128::from(self.given) == rate.len(self.frames_written()) => {
+            PlayState::Draining { closed } if self.is_over(rate, here.passed) => {
                 self.finished(if closed {
                     PlayState::Free
                 } else {
@@ -239,6 +251,22 @@ impl PlayBook {
             }
             _ => self,
         }
+    }
+
+    // Whether all that the run lasts for was given, and its last frame has left the device's ring.
+    fn is_over(&self, rate: Rate, passed: i64) -> bool
+        requires { IsRatio rate }
+        ensures { result ≡ is_over rate passed self.now }
+    {
+        self.has_given_all(rate) && i128::from(self.last) <= i128::from(passed)
+    }
+
+    // Whether all that the run lasts for was given.
+    pub(crate) fn has_given_all(&self, rate: Rate) -> bool
+        requires { IsRatio rate }
+        ensures { result ≡ has_given_all rate self.now }
+    {
+        u128::from(self.given) == rate.len(self.frames_written())
     }
 
     /// How many of `n` frames the book gives to the mix.
@@ -255,37 +283,48 @@ impl PlayBook {
         u128::from(n).min(allowed.saturating_sub(u128::from(self.given))) as u64
     }
 
-    /// The book after an interrupt that mixes `n` frames.
-    pub fn refilled(self, rate: Rate, n: u64) -> PlayBook
+    /// The book after an interrupt that mixes `n` frames, where so many were mixed before.
+    pub fn refilled(self, rate: Rate, mixed: u64, n: u64) -> PlayBook
         requires rate { IsRatio rate }
         requires count { self.given + n < 2 ^ 64 }
-        requires played { self.done + self.written < 2 ^ 64 }
-        ensures { result ≡ refilled rate n self }
+        requires mixed { mixed + n < 2 ^ 64 }
+        ensures { result ≡ refilled rate mixed n self }
     {
         match self.state {
             PlayState::Running => PlayBook {
                 underruns: self.underruns_after(rate, n),
-                ..self.gives(rate, n)
+                ..self.gives(rate, mixed, n)
             },
-            PlayState::Draining { .. } => self.gives(rate, n).settled(rate),
+            PlayState::Draining { .. } => self.gives(rate, mixed, n),
             _ => self,
         }
     }
 
     // The frames of an interrupt leave the ring and go into the mix.
-    fn gives(self, rate: Rate, n: u64) -> PlayBook
+    fn gives(self, rate: Rate, mixed: u64, n: u64) -> PlayBook
         requires rate { IsRatio rate }
         requires count { self.given + n < 2 ^ 64 }
-        ensures { result ≡ gives rate n self }
+        requires mixed { mixed + n < 2 ^ 64 }
+        ensures { result ≡ gives rate mixed n self }
     {
         let needed = rate
             .need(self.given + n)
             .min(u128::from(self.frames_written()));
+        let count = self.giving(rate, n);
         PlayBook {
             eaten: self.eaten.max(needed as u64),
-            given: self.given + self.giving(rate, n),
+            given: self.given + count,
+            last: self.last_after(mixed, count),
             ..self
         }
+    }
+
+    // Behind the last frame that the run gives, of which the mix gets `count` more.
+    fn last_after(&self, mixed: u64, count: u64) -> u64
+        requires { mixed + count < 2 ^ 64 }
+        ensures { result ≡ last_after mixed count self.now }
+    {
+        if count > 0 { mixed + count } else { self.last }
     }
 
     // Fewer than `n` frames are a shortage. The count stands still at its end.

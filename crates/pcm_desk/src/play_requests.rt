@@ -1,14 +1,17 @@
 //! What a client asks of a channel that plays, as changes of its book and answers.
 
-ghost use Rattle.std.specs.Prelude.{◌≡◌, ◌+◌, ◌*◌, ◌^◌, ◌<◌, ◌≤◌};
+ghost use Rattle.std.specs.Prelude.{◌≡◌, pos, ◌+◌, ◌*◌, ◌^◌, ◌<◌, ◌≤◌, ◌+ℤ◌, ◌≤ℤ◌};
 ghost use Rattle.pcm_format.specs.Frames.{frame_bytes};
 ghost use Rattle.pcm_oss.specs.Fragments.{AreFragments};
 ghost use Rattle.pcm_rate.specs.Rates.{IsRatio};
 ghost use Rattle.pcm_desk.specs.PlayBooks.{is_play_setup, play_fill_of, played_of};
 ghost use Rattle.pcm_desk.specs.Openings.{ring_bytes};
-ghost use Rattle.pcm_desk.specs.PlayRequests.{play_ask, play_posted, play_roused_in, play_set_trigger, play_stopped_in, play_tell_errors, play_triggered, play_with_opening, play_with_trigger, set_volume};
+ghost use Rattle.pcm_desk.specs.Here.{IsHere, held_most};
+ghost use Rattle.pcm_desk.specs.PlaySafe.{PlayIsHere};
+ghost use Rattle.pcm_feeder.specs.Limits.{IsRate};
+ghost use Rattle.pcm_desk.specs.PlayRequests.{delay_of, device_holds, mark_of, still_to_pass, play_ask, play_posted, play_roused_in, play_set_trigger, play_stopped_in, play_tell_errors, play_triggered, play_with_opening, play_with_trigger, set_volume};
 
-use crate::{Opening, PlayBook, PlayState, Turn};
+use crate::{Here, Opening, PlayBook, PlayState, Turn};
 use pcm_oss::{Answer, Errno, Request, is_volume};
 use pcm_rate::Rate;
 
@@ -16,25 +19,30 @@ use pcm_rate::Rate;
 pub const PLAY_BIT: u32 = 2;
 
 impl PlayBook {
-    /// The book after a request of a channel that plays, and the reply. What is asked of recordings alone is refused.
-    pub fn asked(self, rate: Rate, request: Request) -> Turn<PlayBook>
+    /// The book after a request of a channel that plays, and the reply, by the rate of the mix, and where it and the device are. What is
+    /// asked of recordings alone is refused.
+    pub fn asked(self, rate: Rate, mix_rate: u32, here: Here, request: Request) -> Turn<PlayBook>
         requires rate { IsRatio rate }
+        requires client { IsRate self.opening.settings.rate }
+        requires mix { IsRate mix_rate }
+        requires here { IsHere here }
+        requires at { PlayIsHere rate here self }
         requires count { self.done + self.written < 2 ^ 64 }
         requires eaten { self.eaten * frame_bytes self.opening.settings ≤ self.written }
         requires fill { play_fill_of self ≤ ring_bytes self.opening }
         requires fragments { AreFragments self.opening.fragments }
-        ensures { result ≡ play_ask rate request self }
+        ensures { result ≡ play_ask rate mix_rate here request self }
     {
         match request {
             Request::GetOSpace => Turn::telling(self, self.opening.space(self.free())),
             Request::GetOPtr => self.with_opening(self.opening.tell_pointer(self.played())),
-            Request::GetODelay => self.telling(self.fill() as u32),
+            Request::GetODelay => self.telling(self.delay(rate, mix_rate, here)),
             Request::GetError => self.tell_errors(),
-            Request::SetTrigger(bits) => self.set_trigger(bits),
+            Request::SetTrigger(bits) => self.set_trigger(here.mixed, bits),
             Request::SetPlayVol(volume) => self.set_volume(volume),
             Request::GetPlayVol => self.telling(self.volume),
-            Request::Post => Turn::telling(self.posted(), Answer::Done),
-            Request::Sync => Turn::telling(self.drained(rate), Answer::Done),
+            Request::Post => Turn::telling(self.posted(here.mixed), Answer::Done),
+            Request::Sync => Turn::telling(self.drained(rate, here), Answer::Done),
             Request::Halt => Turn::telling(self.dropped(), Answer::Done),
             _ => self.with_opening(self.opening.asked(self.is_setup(), PLAY_BIT, request)),
         }
@@ -63,6 +71,52 @@ impl PlayBook {
         ensures { result ≡ is_play_setup self.now.state }
     {
         matches!(self.state, PlayState::Setup)
+    }
+
+    // The bytes that wait in the ring, and those that the device's still holds.
+    fn delay(&self, rate: Rate, mix_rate: u32, here: Here) -> u32
+        requires rate { IsRatio rate }
+        requires client { IsRate self.now.opening.settings.rate }
+        requires mix { IsRate mix_rate }
+        requires here { IsHere here }
+        requires at { PlayIsHere rate here self.now }
+        requires eaten { self.now.eaten * frame_bytes self.now.opening.settings ≤ self.now.written }
+        requires fill { play_fill_of self.now ≤ ring_bytes self.now.opening }
+        requires fragments { AreFragments self.now.opening.fragments }
+        ensures { result ≡ delay_of rate mix_rate here self.now }
+    {
+        self.fill() as u32 + self.device_holds(rate, mix_rate, here)
+    }
+
+    // The bytes of the run that the device's ring still holds.
+    fn device_holds(&self, rate: Rate, mix_rate: u32, here: Here) -> u32
+        requires rate { IsRatio rate }
+        requires client { IsRate self.now.opening.settings.rate }
+        requires mix { IsRate mix_rate }
+        requires here { IsHere here }
+        requires at { PlayIsHere rate here self.now }
+        ensures value { result ≡ device_holds rate mix_rate here self.now }
+        ensures within { result < 2 ^ 30 }
+    {
+        if !self.is_started() {
+            return 0;
+        }
+        let frames = still_to_pass(here.passed, self.mark(rate, here.mixed));
+        let settings = self.opening.settings;
+        let lasting = frames * u64::from(settings.rate) / u64::from(mix_rate);
+        lasting as u32 * settings.frame_bytes() as u32
+    }
+
+    // Behind the frames of the mix that the run may sound in so far.
+    fn mark(&self, rate: Rate, mixed: u64) -> u64
+        requires { IsRatio rate }
+        ensures { result ≡ mark_of rate mixed self.now }
+    {
+        if self.is_draining() && self.has_given_all(rate) {
+            self.last
+        } else {
+            mixed
+        }
     }
 
     // The bytes that the device has taken since the opening or its last halt.
@@ -100,24 +154,23 @@ impl PlayBook {
     }
 
     // A primed book with a whole frame starts.
-    fn roused(self) -> PlayBook
-        ensures { result ≡ play_roused_in self.state self }
+    fn roused(self, mixed: u64) -> PlayBook
+        ensures { result ≡ play_roused_in mixed self.state self }
     {
         match self.state {
-            PlayState::Primed if self.frames_written() > 0 => PlayBook {
-                state: PlayState::Running,
-                ..self
-            },
+            PlayState::Primed if self.frames_written() > 0 => {
+                self.started_at(mixed, PlayState::Running)
+            }
             _ => self,
         }
     }
 
     // A post starts a book that may start.
-    fn posted(self) -> PlayBook
-        ensures { result ≡ play_posted self }
+    fn posted(self, mixed: u64) -> PlayBook
+        ensures { result ≡ play_posted mixed self }
     {
         if self.opening.trigger {
-            self.roused()
+            self.roused(mixed)
         } else {
             self
         }
@@ -144,19 +197,19 @@ impl PlayBook {
     }
 
     // The book once its trigger was set: on, it starts if it can; off, it stops.
-    fn triggered(self, trigger: bool) -> PlayBook
-        ensures { result ≡ play_triggered trigger self }
+    fn triggered(self, mixed: u64, trigger: bool) -> PlayBook
+        ensures { result ≡ play_triggered mixed trigger self }
     {
         let book = self.with_trigger(trigger);
         if trigger {
-            book.roused()
+            book.roused(mixed)
         } else {
             book.stopped()
         }
     }
 
-    fn set_trigger(self, bits: u32) -> Turn<PlayBook>
-        ensures { result ≡ play_set_trigger bits self }
+    fn set_trigger(self, mixed: u64, bits: u32) -> Turn<PlayBook>
+        ensures { result ≡ play_set_trigger mixed bits self }
     {
         if bits > 3 {
             return Turn::refused(self, Errno::Inval);
@@ -164,6 +217,17 @@ impl PlayBook {
         if self.is_draining() {
             return Turn::refused(self, Errno::Busy);
         }
-        Turn::telling(self.triggered(bits >= PLAY_BIT), Answer::Done)
+        Turn::telling(self.triggered(mixed, bits >= PLAY_BIT), Answer::Done)
     }
+}
+
+// How many frames of the mix before a position are still to leave the device's ring.
+fn still_to_pass(passed: i64, mark: u64) -> u64
+    requires mark { mark < 2 ^ 56 }
+    requires past { passed ≤ℤ pos mark }
+    requires held { pos mark ≤ℤ (passed +ℤ pos held_most) }
+    ensures value { result ≡ still_to_pass passed mark }
+    ensures within { result ≤ held_most }
+{
+    (mark as i64 - passed) as u64
 }

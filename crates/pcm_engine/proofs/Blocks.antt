@@ -12,14 +12,13 @@ use Rattle.pcm_format.specs.Layouts.{channels_of}
 use Rattle.pcm_format.specs.Frames.{Frame}
 use Rattle.pcm_format.proofs.Ranges.{flat_map-range-same, flat_map-range-shift, range-add}
 use Rattle.pcm_rate.specs.declared.rate.Rate.{Rate}
-use Rattle.pcm_rate.specs.Rates.{len}
 use Rattle.pcm_desk.specs.declared.play_book.PlayBook.{PlayBook}
 use Rattle.pcm_desk.specs.declared.play_book.PlayState.{PlayState}
 use Rattle.pcm_desk.specs.declared.play_book.PlayState.TheVariants.{Free, Setup, Primed, Running, Draining}
-use Rattle.pcm_desk.specs.PlayBooks.{finished, frames_written, gives, is_play_free, refilled}
-use Rattle.pcm_desk.specs.Device.{DeviceSeen, mix_settings, play_slots}
-use Rattle.pcm_desk.specs.Desk.{mixed_by, mixing, play_at, play_rate_at}
-use Rattle.pcm_desk.proofs.Slots.{play_at-mixing}
+use Rattle.pcm_desk.specs.PlayBooks.{finished, is_over, is_play_free, play_settled, refilled}
+use Rattle.pcm_desk.specs.Device.{DeviceSeen, mix_settings, mixed_for, passed_for, play_slots}
+use Rattle.pcm_desk.specs.Desk.{mixed_by, mixing, play_at, play_passing, play_rate_at}
+use Rattle.pcm_desk.proofs.Slots.{play_at-passing}
 use Rattle.pcm_sound.specs.Gains.{GainSet, book_gain, last_gain}
 use Rattle.pcm_sound.specs.Runs.{Run, marking, playing, sounding}
 use Rattle.pcm_sound.specs.Story.{Story, told}
@@ -92,23 +91,36 @@ record Quiet (old new : PlayBook) : Type 0 where
   free : is_play_free old.state ≡ true → is_play_free new.state ≡ true
   volume : new.volume ≡ old.volume
 
-quiet_settled : (b closed : Bool) (given : PlayBook) → is_play_free given.state ≡ false → Quiet given (cond {A = PlayBook} b (finished (cond closed Free Setup) given) given)
-quiet_settled true closed given h = record { free = λ e. absurd (let not_so : true ≡ false = sym e ∙ h in cc); volume = refl }
-quiet_settled false closed given h = record { free = λ e. e; volume = refl }
+quiet_over : (b closed : Bool) (book : PlayBook) → is_play_free book.state ≡ false → Quiet book (cond {A = PlayBook} b (finished (cond closed Free Setup) book) book)
+quiet_over true closed book h = record { free = λ e. cc; volume = refl }
+quiet_over false closed book h = record { free = λ e. e; volume = refl }
 
-quiet_refilled : (state : PlayState) (rate : Rate) (n : ℕ) (book : PlayBook) → Quiet (record book { state = state }) (refilled rate n (record book { state = state }))
-quiet_refilled Free rate n book = record { free = λ e. e; volume = refl }
-quiet_refilled Setup rate n book = record { free = λ e. e; volume = refl }
-quiet_refilled Primed rate n book = record { free = λ e. e; volume = refl }
-quiet_refilled Running rate n book = record { free = λ e. e; volume = refl }
-quiet_refilled (Draining closed) rate n book =
-    let given : PlayBook = gives rate n (record book { state = Draining closed }) in
-    let q = quiet_settled (eqb given.given (len rate (frames_written given))) closed given refl in
-    record { free = λ e. cc; volume = q.volume }
+quiet_settled : (state : PlayState) (rate : Rate) (passed : ℤ) (book : PlayBook) → Quiet (record book { state = state }) (play_settled rate passed (record book { state = state }))
+quiet_settled Free rate passed book = record { free = λ e. e; volume = refl }
+quiet_settled Setup rate passed book = record { free = λ e. e; volume = refl }
+quiet_settled Primed rate passed book = record { free = λ e. e; volume = refl }
+quiet_settled Running rate passed book = record { free = λ e. e; volume = refl }
+quiet_settled (Draining closed) rate passed book =
+    let draining : PlayBook = record book { state = Draining closed } in
+    quiet_over (is_over rate passed draining) closed draining refl
 
-quiet_mixing : (device : DeviceSeen) (n : ℕ) (book : PlayBook) → Quiet book (mixing device n book)
-quiet_mixing device zero book = record { free = λ e. e; volume = refl }
-quiet_mixing device (suc n) book = quiet_refilled book.state (play_rate_at device book) (suc n) book
+quiet_refilled : (state : PlayState) (rate : Rate) (mixed n : ℕ) (book : PlayBook) → Quiet (record book { state = state }) (refilled rate mixed n (record book { state = state }))
+quiet_refilled Free rate mixed n book = record { free = λ e. e; volume = refl }
+quiet_refilled Setup rate mixed n book = record { free = λ e. e; volume = refl }
+quiet_refilled Primed rate mixed n book = record { free = λ e. e; volume = refl }
+quiet_refilled Running rate mixed n book = record { free = λ e. e; volume = refl }
+quiet_refilled (Draining closed) rate mixed n book = record { free = λ e. e; volume = refl }
+
+quiet_mixing : (device : DeviceSeen) (mixed n : ℕ) (book : PlayBook) → Quiet book (mixing device mixed n book)
+quiet_mixing device mixed zero book = record { free = λ e. e; volume = refl }
+quiet_mixing device mixed (suc n) book = quiet_refilled book.state (play_rate_at device book) mixed (suc n) book
+
+quiet_passing : (device : DeviceSeen) (handed n : ℕ) (book : PlayBook) → Quiet book (play_passing device handed n book)
+quiet_passing device handed n book =
+    let between : PlayBook = mixing device (mixed_for device handed) (mixed_by device handed n) book in
+    let first = quiet_mixing device (mixed_for device handed) (mixed_by device handed n) book in
+    let last = quiet_settled between.state (play_rate_at device between) (passed_for device (handed + n)) between in
+    record { free = λ e. last.free (first.free e); volume = last.volume ∙ first.volume }
 
 -- an interrupt sets no gain
 gains-kept : (device : DeviceSeen) (pool : Pool) (story : Story) (n slot : ℕ)
@@ -116,8 +128,7 @@ gains-kept : (device : DeviceSeen) (pool : Pool) (story : Story) (n slot : ℕ)
 gains-kept device pool story n slot =
     let old : PlayBook = play_at device story.desk slot in
     let new : PlayBook = play_at device (told device pool story (Intr n)).desk slot in
-    let q : Quiet old new = subst (Quiet old) (sym (play_at-mixing device story.desk n slot))
-    (quiet_mixing device (mixed_by device story.desk.handed n) old) in
+    let q : Quiet old new = subst (Quiet old) (sym (play_at-passing device story.desk n slot)) (quiet_passing device story.desk.handed n old) in
     ap (λ (b : Bool). cond b (record { position = story.desk.mixed; gain = book_gain new } ∷ story.gains slot)
     (story.gains slot))
     (quiet (is_play_free old.state) (is_play_free new.state) old.volume new.volume q.free q.volume)

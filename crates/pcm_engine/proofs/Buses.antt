@@ -1,10 +1,10 @@
 -- The bus of an engine: what an interrupt mixes, and what an event leaves of it that hands nothing over.
-use Rattle.std.proofs.Common.{◌≡◌, ◌≤◌, ℕ, ap, subst, sym, arith}
+use Rattle.std.proofs.Common.{◌≡◌, ◌≤◌, ℕ, ap, subst, sym, ◌∙◌, arith}
 use Rattle.pcm_feeder.specs.Filters.{Filters}
 use Rattle.pcm_feeder.specs.Kept.{Kept}
 use Rattle.pcm_desk.specs.declared.device.Device.{Device}
 use Rattle.pcm_desk.specs.declared.limits.TheConstants.{MIX_FRAMES}
-use Rattle.pcm_desk.specs.Device.{DeviceSeen, IsDevice, mix_frames, seen, unfiltered}
+use Rattle.pcm_desk.specs.Device.{DeviceSeen, IsDevice, mix_frames, mixed_for, seen, unfiltered}
 use Rattle.pcm_desk.proofs.Ratios.{mix-within}
 use Rattle.pcm_vchan.specs.declared.bus.BusOf.{BusOf}
 use Rattle.pcm_vchan.specs.declared.parent.ParentOf.{ParentOf}
@@ -24,6 +24,7 @@ pub bus-stays : {B : Type 0} (kept : B → Kept) (device : DeviceSeen) (old new 
 bus-stays {B} kept device old new output has = record {
   planned = subst (λ (bus : BusOf B). IsPlannedBy device bus.chain) (sym output.bus_same) has.planned;
   made = subst (λ (bus : BusOf B). HasMadeSome kept device bus.chain new.handed) (sym output.bus_same) (subst (HasMadeSome kept device old.bus.chain) (sym output.handed_same) has.made);
+  level = output.mixed_same ∙ has.level ∙ ap (mixed_for device) (sym output.handed_same);
 }
 
 -- and its chain and the ring as they were

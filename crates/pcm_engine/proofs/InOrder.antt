@@ -1,5 +1,5 @@
 -- The books of a ready engine are in order, and no ring passes its size: its channels and its parent carry it.
-use Rattle.std.proofs.Common.{◌≡◌, List, length, get_or, inl, inr, refl, sym, subst, arith}
+use Rattle.std.proofs.Common.{◌≡◌, ℕ, ◌<◌, List, length, get_or, inl, inr, refl, sym, ap, subst, arith}
 use Rattle.std.specs.Prelude.{All}
 use Rattle.std.proofs.lemmas.Bool.{cases_lt}
 use Rattle.std.proofs.lemmas.List.{get_or-map, get_or_past, length-map}
@@ -7,26 +7,32 @@ use Rattle.pcm_oss.proofs.Limits.{usual-fragments}
 use Rattle.pcm_feeder.specs.declared.kind.Kind.{Kind}
 use Rattle.pcm_feeder.specs.Filters.{Filters}
 use Rattle.pcm_feeder.specs.Kept.{Kept}
+use Rattle.pcm_feeder.specs.Limits.{IsRate}
 use Rattle.pcm_desk.specs.declared.play_book.PlayBook.{PlayBook}
 use Rattle.pcm_desk.specs.declared.device.Device.{Device}
 use Rattle.pcm_desk.specs.declared.record_book.RecordBook.{RecordBook}
-use Rattle.pcm_desk.specs.Device.{DeviceSeen, seen}
-use Rattle.pcm_desk.specs.Desk.{Desk, play_rate_at, record_rate_at, record_unopened, play_unopened}
-use Rattle.pcm_desk.specs.PlaySafe.{PlayIsSafe}
+use Rattle.pcm_desk.specs.declared.here.Here.{Here}
+use Rattle.pcm_desk.specs.Here.{IsHere}
+use Rattle.pcm_desk.specs.Device.{DeviceSeen, IsDevice, IsInLimits, passed_for, seen}
+use Rattle.pcm_desk.specs.Desk.{Desk, desk_here, play_at, play_rate_at, record_rate_at, record_unopened, play_unopened}
+use Rattle.pcm_desk.specs.PlaySafe.{PlayIsHere, PlayIsSafe}
 use Rattle.pcm_desk.specs.RecordSafe.{RecordIsSafe}
+use Rattle.pcm_desk.proofs.Passing.{here-is}
 use Rattle.pcm_desk.proofs.PlaySafe.{unstarted}
 use Rattle.pcm_desk.proofs.RecordSafe.{safe-unstarted}
 use Rattle.pcm_play.specs.declared.channel.PlayChannelOf.{PlayChannelOf}
-use Rattle.pcm_play.specs.Channels.{IsPlayReady}
+use Rattle.pcm_sound.proofs.Stories.{HaveRates}
+use Rattle.pcm_play.specs.Channels.{IsPlayHere, IsPlayReady}
 use Rattle.pcm_play.proofs.Moving.{safe-at}
 use Rattle.pcm_record.specs.declared.channel.RecordChannelOf.{RecordChannelOf}
 use Rattle.pcm_record.specs.Channels.{IsRecordReady}
 use Rattle.pcm_record.proofs.Moving as recorders
 use Rattle.pcm_vchan.specs.Slots.{PlayAreOf, RecordAreOf, play_books_of, record_books_of}
 use Rattle.pcm_vchan.proofs.Channels.{some_channel}
-use Rattle.pcm_vchan.specs.Parents.{AreClosable, AreServed, HasBus, play_channels, record_channels}
+use Rattle.pcm_vchan.specs.Parents.{AreClosable, AreServed, HasBus, here_of, play_channels, record_channels}
 use Rattle.pcm_engine.specs.declared.engine.EngineOf.{EngineOf}
-use Rattle.pcm_engine.specs.Engines.{AreReady, BooksAreSafe, RecordsAreSafe, RingsHold, desk_of, device_of}
+use Rattle.pcm_engine.specs.declared.limits.TheConstants.{STEPS}
+use Rattle.pcm_engine.specs.Engines.{AreReady, BooksAreHere, RecordsAreSafe, RingsHold, desk_of, device_of}
 
 -- ---- channels that play
 
@@ -43,19 +49,60 @@ own_safe kind kept filters device channel own ready =
 unopened_safe : (device : DeviceSeen) → IsSafe device (play_unopened device)
 unopened_safe device = record { order = unstarted; fill = omega arith; fragments = usual-fragments; volume = refl; told = omega arith }
 
--- the book of each slot
-books_safe : {B : Type 0} (kind : B → Kind) (kept : B → Kept) (filters : Filters) (device : Device) (desk : Desk) (channels : List (PlayChannelOf B)) → desk.play ≡ play_books_of channels → PlayAreOf device channels → All (IsPlayReady kind kept filters) channels
-    → BooksAreSafe (seen filters device) desk
-books_safe {B} kind kept filters device desk channels are own ready slot =
-    let none : PlayBook = play_unopened (seen filters device) in
-    subst (λ (books : List PlayBook). IsSafe (seen filters device) (get_or books slot none)) (sym are)
-    (elim (cases_lt slot (length channels)) [
+-- what holds of the book of each channel, and of one that nobody has opened, holds of each slot
+each_book : {B : Type 0} (holds : PlayBook → Type 0) (device : DeviceSeen) (channels : List (PlayChannelOf B)) (slot : ℕ) → All (λ (channel : PlayChannelOf B). holds channel.book) channels → holds (play_unopened device)
+    → holds (get_or (play_books_of channels) slot (play_unopened device))
+each_book {B} holds device channels slot each none =
+    elim (cases_lt slot (length channels)) [
       | inl there ↦ (let some : PlayChannelOf B = some_channel channels slot there in
-          subst (IsSafe (seen filters device)) (sym (get_or-map (λ (c : PlayChannelOf B). c.book) channels slot some none there))
-          (own_safe kind kept filters device (get_or channels slot some) (own slot some there) (ready slot some there)))
-      | inr past ↦ subst (IsSafe (seen filters device)) (sym (get_or_past (play_books_of channels) slot none (omega (arith, length-map channels (λ (c : PlayChannelOf B). c.book)))))
-          (unopened_safe (seen filters device))
-    ])
+          subst holds (sym (get_or-map (λ (c : PlayChannelOf B). c.book) channels slot some (play_unopened device) there)) (each slot some there))
+      | inr past ↦ subst holds (sym (get_or_past (play_books_of channels) slot (play_unopened device) (omega (arith, length-map channels (λ (c : PlayChannelOf B). c.book))))) none
+    ]
+
+-- the book of each slot
+books_safe : {B : Type 0} (kind : B → Kind) (kept : B → Kept) (filters : Filters) (device : Device) (channels : List (PlayChannelOf B)) (slot : ℕ) → PlayAreOf device channels → All (IsPlayReady kind kept filters) channels
+    → IsSafe (seen filters device) (get_or (play_books_of channels) slot (play_unopened (seen filters device)))
+books_safe {B} kind kept filters device channels slot own ready =
+    each_book (IsSafe (seen filters device)) (seen filters device) channels slot
+    (λ at other there. own_safe kind kept filters device (get_or channels at other) (own at other there) (ready at other there)) (unopened_safe (seen filters device))
+
+-- and its rate
+pub books-rates : {B : Type 0} (engine : EngineOf B) → IsDevice (device_of engine) → HaveRates (device_of engine) (desk_of engine)
+books-rates {B} engine d slot =
+    each_book (λ book. IsRate book.opening.settings.rate) (device_of engine) (play_channels engine.parent) slot
+    (λ at other there. (let channel : PlayChannelOf B = get_or (play_channels engine.parent) at other in channel.serves.rate)) d.mix_rate
+
+-- where the mix and the device are
+pub here-seen : {B : Type 0} (kept : B → Kept) (engine : EngineOf B) → HasBus kept (device_of engine) engine.parent → here_of engine.parent ≡ desk_here (device_of engine) (desk_of engine)
+here-seen kept engine has = ap (λ (mixed : ℕ). record { mixed = mixed; passed = passed_for (device_of engine) engine.parent.handed }) has.level
+
+-- is within the limits, since few steps were taken
+pub here-within : {B : Type 0} (kept : B → Kept) (engine : EngineOf B) → IsInLimits (device_of engine) → HasBus kept (device_of engine) engine.parent → engine.steps < STEPS → IsHere (here_of engine.parent)
+here-within kept engine limits has few =
+    let level = has.level in
+    let most = engine.mixed_within in
+    subst IsHere (sym (here-seen kept engine has)) (here-is (device_of engine) engine.parent.handed limits (omega (arith, level, most, few)))
+
+-- and each channel is there
+pub channels-here : {B : Type 0} (kept : B → Kept) (engine : EngineOf B) → HasBus kept (device_of engine) engine.parent → BooksAreHere (device_of engine) (desk_of engine)
+    → All (IsPlayHere engine.tables (here_of engine.parent)) (play_channels engine.parent)
+channels-here {B} kept engine has places slot other there =
+    let device : DeviceSeen = device_of engine in
+    let channel : PlayChannelOf B = get_or (play_channels engine.parent) slot other in
+    let At : PlayBook → Type 0 = λ book. PlayIsHere (play_rate_at device book) (here_of engine.parent) book in
+    let book : At channel.book =
+    subst At (get_or-map (λ (c : PlayChannelOf B). c.book) (play_channels engine.parent) slot other (play_unopened device) there)
+    (subst (λ (here : Here). PlayIsHere (play_rate_at device (play_at device (desk_of engine) slot)) here (play_at device (desk_of engine) slot)) (sym (here-seen kept engine has)) (places slot)) in
+    subst (λ (d : Device). PlayIsHere (play_rate_at (seen engine.tables d) channel.book) (here_of engine.parent) channel.book) (sym (engine.own slot other there)) book
+
+-- books that nobody has opened are anywhere
+pub books-start : {B : Type 0} (filters : Filters) (device : Device) (channels : List (PlayChannelOf B)) (slot : ℕ) (here : Here) → let none : PlayBook = play_unopened (seen filters device) in
+    All (λ (channel : PlayChannelOf B). channel.book ≡ none) channels
+    → let book : PlayBook = get_or (play_books_of channels) slot none in PlayIsHere (play_rate_at (seen filters device) book) here book
+books-start {B} filters device channels slot here each =
+    let Here_is : PlayBook → Type 0 = λ book. PlayIsHere (play_rate_at (seen filters device) book) here book in
+    let none : Here_is (play_unopened (seen filters device)) = record { last = λ e. cc; left = λ e. cc } in
+    each_book Here_is (seen filters device) channels slot (λ at other there. subst Here_is (sym (each at other there)) none) none
 
 -- ---- channels that record
 
@@ -97,12 +144,14 @@ rings-hold engine = record {
 -- ---- an engine whose channels are ready
 
 pub ready-all : {B : Type 0} (kind : B → Kind) (kept : B → Kept) (engine : EngineOf B) → All (IsPlayReady kind kept engine.tables) (play_channels engine.parent) → All (IsRecordReady kind kept engine.tables) (record_channels engine.parent)
-    → HasBus kept (device_of engine) engine.parent → AreReady kind kept engine
-ready-all kind kept engine playing recording bus = record {
+    → HasBus kept (device_of engine) engine.parent → IsInLimits (device_of engine) → BooksAreHere (device_of engine) (desk_of engine) → AreReady kind kept engine
+ready-all kind kept engine playing recording bus limits places = record {
+  limits = limits;
+  places = places;
   playing = playing;
   recording = recording;
   bus = bus;
-  books = books_safe kind kept engine.tables engine.parent.device (desk_of engine) (play_channels engine.parent) refl engine.own playing;
+  books = λ slot. books_safe kind kept engine.tables engine.parent.device (play_channels engine.parent) slot engine.own playing;
   records = records_safe kind kept engine.tables engine.parent.device (desk_of engine) (record_channels engine.parent) refl engine.recorders_own recording;
   rings = rings-hold engine;
 }

@@ -13,7 +13,7 @@ use Rattle.pcm_desk.specs.declared.record_book.RecordBook.{RecordBook}
 use Rattle.pcm_desk.specs.Device.{DeviceSeen}
 use Rattle.pcm_desk.specs.declared.turn.Turn.{Turn}
 use Rattle.pcm_desk.specs.RecordBooks.{closed, record_fill_of}
-use Rattle.pcm_desk.specs.Desk.{Desk, DeskTurn, play_at, by_way, close_on, close_play, close_record, closing, held_by, play_turn, record_at, record_turn, record_unopened, refusing, turning, play_unopened, with_play, with_descriptor, with_record}
+use Rattle.pcm_desk.specs.Desk.{Desk, DeskTurn, play_at, by_way, close_on, close_play, close_record, closing, desk_here, held_by, play_turn, record_at, record_turn, record_unopened, refusing, turning, play_unopened, with_play, with_descriptor, with_record}
 use Rattle.pcm_desk.specs.Own.{HoldApart, Playing, Recording, slots_of}
 use Rattle.pcm_play.specs.declared.channel.PlayChannelOf.{PlayChannelOf}
 use Rattle.pcm_record.specs.declared.channel.RecordChannelOf.{RecordChannelOf}
@@ -169,12 +169,12 @@ either-way Record play recording = recording refl
 
 -- a close of a channel of either way, which shuts its descriptor
 pub closes-held : (device : DeviceSeen) (desk : Desk) (fd : ℕ) (found : Option Held) (held : Held) → found ≡ Some held
-    → with_descriptor (by_way held.way (with_play desk held.slot (closing device (play_at device desk held.slot))) (with_record desk held.slot (closed (record_at device desk held.slot)))) fd None
+    → with_descriptor (by_way held.way (with_play desk held.slot (closing device (desk_here device desk) (play_at device desk held.slot))) (with_record desk held.slot (closed (record_at device desk held.slot)))) fd None
     ≡ (close_on device found desk fd).desk
 closes-held device desk fd found held e = at held.way ∙ sym (ap (λ (h : Option Held). (close_on device h desk fd).desk) e)
   where
     at : (way : Way)
-        → with_descriptor (by_way way (with_play desk held.slot (closing device (play_at device desk held.slot))) (with_record desk held.slot (closed (record_at device desk held.slot)))) fd None
+        → with_descriptor (by_way way (with_play desk held.slot (closing device (desk_here device desk) (play_at device desk held.slot))) (with_record desk held.slot (closed (record_at device desk held.slot)))) fd None
         ≡ (by_way way (close_play device desk fd held.slot) (close_record device desk fd held.slot)).desk
     at Play = refl
     at Record = refl

@@ -9,8 +9,9 @@ use Rattle.pcm_oss.specs.declared.reply.Errno.{Errno}
 use Rattle.pcm_oss.specs.declared.request.Request.{Request}
 use Rattle.pcm_oss.specs.Replies.{bytes_due}
 use Rattle.pcm_desk.specs.declared.device.Held.{Held}
-use Rattle.pcm_desk.specs.Device.{DeviceSeen, seen}
-use Rattle.pcm_desk.specs.Desk.{Desk, DeskTurn, by_way, close_on, closing, held_by, ioctl_on, play_at, read_on, record_at, with_play, with_record, write_on}
+use Rattle.pcm_desk.specs.declared.here.Here.{Here}
+use Rattle.pcm_desk.specs.Device.{DeviceSeen, here_at, seen}
+use Rattle.pcm_desk.specs.Desk.{Desk, DeskTurn, by_way, close_on, closing, desk_here, held_by, ioctl_on, play_at, read_on, record_at, with_play, with_record, write_on}
 use Rattle.pcm_desk.specs.RecordBooks.{closed}
 use Rattle.pcm_play.specs.Channels.{IsPlayReady}
 use Rattle.pcm_vchan.specs.declared.parent.ParentOf.{ParentOf}
@@ -50,7 +51,7 @@ close_call fd device desk = close_on device (held_by desk fd) desk fd
 -- the desk once a channel of either way was closed, whose descriptor is open still
 abbrev pub closed_held : DeviceSeen → Desk → Held → Desk
 closed_held device desk held = by_way held.way
-    (with_play desk held.slot (closing device (play_at device desk held.slot)))
+    (with_play desk held.slot (closing device (desk_here device desk) (play_at device desk held.slot)))
     (with_record desk held.slot (closed (record_at device desk held.slot)))
 
 -- ---- what a call makes of parent and descriptors
@@ -70,19 +71,28 @@ Turns turn old new descriptors = (filters : Filters) → TurnsBy filters turn ol
 abbrev pub Replies : {B : Type 0} → (DeviceSeen → Desk → DeskTurn) → ParentOf B → Descriptors → Result Answer Errno → Type 0
 Replies turn parent descriptors result = (filters : Filters) → RepliesBy filters turn parent descriptors result
 
+-- by these filters the mix and the device of a parent are here
+abbrev pub IsAt : {B : Type 0} → Filters → Here → ParentOf B → Type 0
+IsAt filters here parent = here ≡ here_at (seen filters parent.device) parent.handed
+
+-- a call where the mix and the device are takes a turn by their filters
+pub record TakesTurnAt {B : Type 0} (here : Here) (turn : DeviceSeen → Desk → DeskTurn) (old new : ParentOf B) (descriptors : Descriptors) (result : Result Answer Errno) : Type 0 where
+  pub desk : (filters : Filters) → IsAt filters here old → TurnsBy filters turn old new descriptors
+  pub reply : (filters : Filters) → IsAt filters here old → RepliesBy filters turn old descriptors result
+
 -- a call takes a turn: the desk becomes that of the turn, and so is the reply
 pub record TakesTurn {B : Type 0} (turn : DeviceSeen → Desk → DeskTurn) (old new : ParentOf B) (descriptors : Descriptors) (result : Result Answer Errno) : Type 0 where
   pub desk : Turns turn old new descriptors
   pub reply : Replies turn old descriptors result
 
--- a close shuts a descriptor, by whichever filters the channels are ready
-abbrev pub Closes : {B : Type 0} → (B → Kind) → (B → Kept) → ℕ → ParentOf B → Descriptors → ParentOf B → Descriptors → Type 0
-Closes kind kept fd old descriptors new shut = (filters : Filters) → All (IsPlayReady kind kept filters) (play_channels old)
+-- a close shuts a descriptor, by whichever filters the channels are ready, and the mix and the device are here
+abbrev pub Closes : {B : Type 0} → (B → Kind) → (B → Kept) → Here → ℕ → ParentOf B → Descriptors → ParentOf B → Descriptors → Type 0
+Closes kind kept here fd old descriptors new shut = (filters : Filters) → All (IsPlayReady kind kept filters) (play_channels old) → IsAt filters here old
     → desk_with new shut.held ≡ (close_call fd (seen filters old.device) (desk_with old descriptors.held)).desk
 
 -- so it is of the channel alone, whatever the descriptors are
-abbrev pub ClosesHeld : {B : Type 0} → (B → Kind) → (B → Kept) → Held → ParentOf B → ParentOf B → Type 0
-ClosesHeld kind kept held old new = (filters : Filters) (descriptors : List (Option Held)) → All (IsPlayReady kind kept filters) (play_channels old)
+abbrev pub ClosesHeld : {B : Type 0} → (B → Kind) → (B → Kept) → Here → Held → ParentOf B → ParentOf B → Type 0
+ClosesHeld kind kept here held old new = (filters : Filters) (descriptors : List (Option Held)) → All (IsPlayReady kind kept filters) (play_channels old) → IsAt filters here old
     → desk_with new descriptors ≡ closed_held (seen filters old.device) (desk_with old descriptors) held
 
 -- the bytes that come with an answer

@@ -7,11 +7,11 @@ use Rattle.pcm_format.specs.Frames.{Frame}
 use Rattle.pcm_wave.specs.declared.pool.Pool.{Pool}
 use Rattle.pcm_feeder.specs.declared.kind.Kind.{Kind}
 use Rattle.pcm_feeder.specs.Kept.{Kept}
-use Rattle.pcm_desk.specs.Device.{DeviceSeen, device_frame_bytes, ring_frames, seen}
+use Rattle.pcm_desk.specs.Device.{DeviceSeen, IsInLimits, device_frame_bytes, ring_frames, seen}
 use Rattle.pcm_desk.specs.Openings.{ring_bytes}
-use Rattle.pcm_desk.specs.PlaySafe.{PlayIsSafe}
+use Rattle.pcm_desk.specs.PlaySafe.{PlayIsHere, PlayIsSafe}
 use Rattle.pcm_desk.specs.RecordSafe.{RecordIsSafe}
-use Rattle.pcm_desk.specs.Desk.{Desk, held_by, play_at, play_rate_at, record_at, record_rate_at}
+use Rattle.pcm_desk.specs.Desk.{Desk, desk_here, held_by, play_at, play_rate_at, record_at, record_rate_at}
 use Rattle.pcm_desk.specs.Events.{Fits}
 use Rattle.pcm_sound.specs.DeviceList.{device_text}
 use Rattle.pcm_sound.specs.Plain.{HasNoShortage, plain_text}
@@ -108,6 +108,10 @@ StepTurns kept event old new =
 abbrev pub BooksAreSafe : DeviceSeen → Desk → Type 0
 BooksAreSafe device desk = (slot : ℕ) → PlayIsSafe (play_rate_at device (play_at device desk slot)) (play_at device desk slot)
 
+-- and where the mix and the device are, no run gave a frame past what is mixed, and none that drains is over
+abbrev pub BooksAreHere : DeviceSeen → Desk → Type 0
+BooksAreHere device desk = (slot : ℕ) → PlayIsHere (play_rate_at device (play_at device desk slot)) (desk_here device desk) (play_at device desk slot)
+
 -- the book of each slot that records is in order
 abbrev pub RecordsAreSafe : DeviceSeen → Desk → Type 0
 RecordsAreSafe device desk = (slot : ℕ) → RecordIsSafe (record_rate_at device (record_at device desk slot)) (record_at device desk slot)
@@ -118,13 +122,15 @@ pub record RingsHold {B : Type 0} (engine : EngineOf B) : Type 0 where
   pub recording : All (λ channel. length channel.path.ring.bytes ≤ ring_bytes channel.book.opening) (record_channels engine.parent)
   pub device : length engine.parent.ring.bytes ≡ ring_frames (device_of engine) * device_frame_bytes (device_of engine)
 
--- Each box of the engine is of its place's kind, each channel stands for its book, the bus has made what was handed over, all books are in
--- order, and no ring passes its size. Every engine is so, from its first moment on, with whatever pools it is stepped; no type can say it of boxes.
+-- The device is within its limits, each box of the engine is of its place's kind, each channel stands for its book, the bus has made what was
+-- handed over, all books are in order, and no ring passes its size. Every engine is so, from its first moment on, with whatever pools it is stepped; no type can say it of boxes.
 pub record AreReady {B : Type 0} (kind : B → Kind) (kept : B → Kept) (engine : EngineOf B) : Type 0 where
+  pub limits : IsInLimits (device_of engine)
   pub playing : All (IsPlayReady kind kept engine.tables) (play_channels engine.parent)
   pub recording : All (IsRecordReady kind kept engine.tables) (record_channels engine.parent)
   pub bus : HasBus kept (device_of engine) engine.parent
   pub books : BooksAreSafe (device_of engine) (desk_of engine)
+  pub places : BooksAreHere (device_of engine) (desk_of engine)
   pub records : RecordsAreSafe (device_of engine) (desk_of engine)
   pub rings : RingsHold engine
 

@@ -9,12 +9,14 @@ ghost use Rattle.pcm_oss.specs.Replies.{bytes_due};
 ghost use Rattle.pcm_desk.specs.declared.limits.TheConstants.{DESCRIPTORS, READ_BYTES};
 ghost use Rattle.pcm_desk.specs.Desk.{open_turn};
 ghost use Rattle.pcm_desk.specs.Own.{HoldApart};
+ghost use Rattle.pcm_desk.specs.Here.{IsHere};
+ghost use Rattle.pcm_play.specs.Channels.{IsPlayHere};
 ghost use Rattle.pcm_vchan.specs.Slots.{PlayAreOf, RecordAreOf};
 ghost use Rattle.pcm_vchan.specs.Parents.{play_channels, record_channels, AreClosable, AreServed, EachPlayMoves, EachRecordMoves, KeepsOutput, TotalsFit};
-ghost use Rattle.pcm_engine.specs.Desks.{front_due, close_call, desk_with, ioctl_call, read_call, write_call, Closes, ClosesHeld, ReadsKept, Replies, RepliesBy, TakesTurn, TurnsBy};
+ghost use Rattle.pcm_engine.specs.Desks.{front_due, close_call, desk_with, ioctl_call, read_call, write_call, Closes, ClosesHeld, IsAt, ReadsKept, Replies, RepliesBy, TakesTurn, TakesTurnAt, TurnsBy};
 
 use crate::descriptors::Descriptors;
-use pcm_desk::Held;
+use pcm_desk::{Held, Here};
 use pcm_feeder::{Feeder, Tables};
 use pcm_format::Settings;
 use pcm_oss::{Answer, Errno, REPLY_BYTES, ReplyBuf, Request, Way};
@@ -50,12 +52,13 @@ pub fn open<B: Feeder>(
     Ok(Answer::Number(slot as u32))
 }
 
-/// Writes to the channel that a descriptor holds. One that records takes no bytes.
+/// Writes to the channel that a descriptor holds, where the mix and the device are. One that records takes no bytes.
 pub fn write<B: Feeder>(
     parent: &mut ParentOf<B>,
     descriptors: &Descriptors,
     fd: u8,
     bytes: &[u8],
+    here: Here,
 ) -> Result<Answer, Errno>
     requires fd { fd < DESCRIPTORS }
     requires apart { HoldApart (desk_with parent.old descriptors.now.held) }
@@ -66,11 +69,11 @@ pub fn write<B: Feeder>(
     ensures recorders { parent.new.recorders ≡ parent.old.recorders }
     ensures output { KeepsOutput parent.old parent.new }
     ensures refused { OnErr result (parent.new ≡ parent.old) }
-    ensures turn { TakesTurn (write_call fd (length bytes.now)) parent.old parent.new descriptors.now result }
+    ensures turn { TakesTurnAt here (write_call fd (length bytes.now)) parent.old parent.new descriptors.now result }
     ensures channels { (filters : Filters) → EachPlayMoves B.kind B.kept filters bytes.now 0 parent.old parent.new }
 {
     let slot = descriptors.playing(fd)?;
-    parent.play(slot).write(bytes)
+    parent.play(slot).write(bytes, here)
 }
 
 // Reads from the channel that a descriptor holds, into the front of `out`. One that plays has nothing to read.
@@ -129,10 +132,14 @@ pub fn ioctl<B: Feeder>(
     descriptors: &Descriptors,
     fd: u8,
     request: Request,
+    here: Here,
 ) -> Result<Answer, Errno>
     requires fd { fd < DESCRIPTORS }
     requires apart { HoldApart (desk_with parent.old descriptors.now.held) }
     requires served { AreServed B.kind B.kept tables.now parent.old }
+    requires here { IsHere here }
+    requires at { IsAt tables.now here parent.old }
+    requires places { All (IsPlayHere tables.now here) (play_channels parent.old) }
     requires count { TotalsFit parent.old }
     ensures silent { bytes_due result ≡ 0 }
     ensures own { PlayAreOf parent.new.device (play_channels parent.new) }
@@ -146,7 +153,7 @@ pub fn ioctl<B: Feeder>(
 {
     let held = descriptors.holding(fd)?;
     match held.way {
-        Way::Play => parent.play(held.slot).ioctl(tables, request),
+        Way::Play => parent.play(held.slot).ioctl(tables, request, here),
         Way::Record => parent.recorder(held.slot).ioctl(tables, request),
     }
 }
@@ -156,6 +163,7 @@ pub fn close<B: Feeder>(
     parent: &mut ParentOf<B>,
     descriptors: &mut Descriptors,
     fd: u8,
+    here: Here,
 ) -> Result<Answer, Errno>
     requires fd { fd < DESCRIPTORS }
     requires apart { HoldApart (desk_with parent.old descriptors.old.held) }
@@ -166,19 +174,19 @@ pub fn close<B: Feeder>(
     ensures recorders_own { RecordAreOf parent.new.device (record_channels parent.new) }
     ensures output { KeepsOutput parent.old parent.new }
     ensures refused { OnErr result ((parent.new ≡ parent.old) × (descriptors.new ≡ descriptors.old)) }
-    ensures desk { Closes B.kind B.kept fd parent.old descriptors.old parent.new descriptors.new }
+    ensures desk { Closes B.kind B.kept here fd parent.old descriptors.old parent.new descriptors.new }
     ensures reply { Replies (close_call fd) parent.old descriptors.old result }
     ensures channels { (filters : Filters) → EachPlayMoves B.kind B.kept filters [] 0 parent.old parent.new }
     ensures recorders { (filters : Filters) → EachRecordMoves B.kind B.kept filters [] 0 parent.old parent.new }
 {
     let held = descriptors.holding(fd)?;
-    let answer = close_channel(parent, held);
+    let answer = close_channel(parent, held, here);
     descriptors.set(fd, None);
     Ok(answer)
 }
 
 // Closes a channel of either way.
-fn close_channel<B: Feeder>(parent: &mut ParentOf<B>, held: Held) -> Answer
+fn close_channel<B: Feeder>(parent: &mut ParentOf<B>, held: Held, here: Here) -> Answer
     requires play { held.way ≡ Play → held.slot < fixed_len parent.old.channels }
     requires recording { held.way ≡ Record → held.slot < fixed_len parent.old.recorders }
     requires closable { AreClosable B.kind parent.old }
@@ -187,13 +195,13 @@ fn close_channel<B: Feeder>(parent: &mut ParentOf<B>, held: Held) -> Answer
     ensures own { PlayAreOf parent.new.device (play_channels parent.new) }
     ensures recorders_own { RecordAreOf parent.new.device (record_channels parent.new) }
     ensures output { KeepsOutput parent.old parent.new }
-    ensures desk { ClosesHeld B.kind B.kept held parent.old parent.new }
+    ensures desk { ClosesHeld B.kind B.kept here held parent.old parent.new }
     ensures channels { (filters : Filters) → EachPlayMoves B.kind B.kept filters [] 0 parent.old parent.new }
     ensures recorders { (filters : Filters) → EachRecordMoves B.kind B.kept filters [] 0 parent.old parent.new }
 {
     match held.way {
         Way::Play => {
-            parent.play(held.slot).close();
+            parent.play(held.slot).close(here);
             Answer::Done
         }
         Way::Record => {

@@ -53,7 +53,7 @@ impl<B: Feeder> EngineOf<B> {
     ghost use Rattle.pcm_desk.specs.Desk.{after};
     ghost use Rattle.pcm_desk.specs.Own.{IsIsolated};
     ghost use Rattle.pcm_feeder.specs.Racks.{AreRacks, list_of};
-    ghost use Rattle.pcm_engine.specs.Engines.{device_of, desk_of, AnswersKept, AreReady, BooksAreSafe, HandsOver, HandsOverPlain, IsUnchanged, RecordsAreSafe, RepliesAsTold, RingsHold, Stands, StandsForNext, StepCaptures, StepMoves, StepTurns, TakesFront};
+    ghost use Rattle.pcm_engine.specs.Engines.{device_of, desk_of, AnswersKept, AreReady, BooksAreHere, BooksAreSafe, HandsOver, HandsOverPlain, IsUnchanged, RecordsAreSafe, RepliesAsTold, RingsHold, Stands, StandsForNext, StepCaptures, StepMoves, StepTurns, TakesFront};
 
     /// The engine of a device with its filters, before its first event. Its channels pick their stages from the racks, one rack a slot; after
     /// a refusal the racks are dropped. All memory of the engine is taken here.
@@ -101,13 +101,15 @@ impl<B: Feeder> EngineOf<B> {
         ensures steps { self.new.steps ≡ self.old.steps + 1 }
         ensures ready { AreReady B.kind B.kept self.new }
 
-        // The desk and the answer are those of the rules, the counts of every book are in order, and no ring passes its size.
+        // The desk and the answer are those of the rules, the counts of every book are in order, no run gave a frame past what is mixed
+        // or is over and goes on, and no ring passes its size.
         ensures desk { desk_of self.new
             ≡ (after (device_of self.old) (desk_of self.old) event.now).desk }
         ensures result { reply.new.result
             ≡ (after (device_of self.old) (desk_of self.old) event.now).reply }
         ensures safe { BooksAreSafe (device_of self.new) (desk_of self.new) }
         ensures records_safe { RecordsAreSafe (device_of self.new) (desk_of self.new) }
+        ensures places { BooksAreHere (device_of self.new) (desk_of self.new) }
         ensures rings { RingsHold self.new }
 
         // Whatever it stood for with this pool, it stands for that with the event appended.
@@ -169,6 +171,7 @@ impl<B: Feeder> EngineOf<B> {
         ensures rest { drop result out.new ≡ drop result out.old }
     {
         self.steps += 1;
+        let here = self.parent.here();
         let parent = &mut self.parent;
         let tables = &self.tables;
         match *event {
@@ -184,7 +187,7 @@ impl<B: Feeder> EngineOf<B> {
                 len,
             } => {
                 let bytes = pool.bytes_at(source, at, len);
-                reply.keep(write(parent, &self.descriptors, fd, bytes), &[]);
+                reply.keep(write(parent, &self.descriptors, fd, bytes, here), &[]);
                 0
             }
             Event::Read { fd, len } => {
@@ -192,11 +195,12 @@ impl<B: Feeder> EngineOf<B> {
                 0
             }
             Event::Ioctl { fd, request } => {
-                reply.keep(ioctl(parent, tables, &self.descriptors, fd, request), &[]);
+                let answer = ioctl(parent, tables, &self.descriptors, fd, request, here);
+                reply.keep(answer, &[]);
                 0
             }
             Event::Close { fd } => {
-                reply.keep(close(parent, &mut self.descriptors, fd), &[]);
+                reply.keep(close(parent, &mut self.descriptors, fd, here), &[]);
                 0
             }
             Event::Intr { frames } => {

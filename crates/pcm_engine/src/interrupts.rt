@@ -5,7 +5,7 @@ ghost use Rattle.pcm_format.specs.Frames.{frame_bytes};
 ghost use Rattle.pcm_format.specs.Layouts.{channels_of};
 ghost use Rattle.pcm_wave.specs.Pools.{IsCaptureIn};
 ghost use Rattle.pcm_desk.specs.Device.{seen};
-ghost use Rattle.pcm_vchan.specs.Parents.{mixed_in, play_channels, record_channels, AreDue, BusTurns, EachMixes, EachPlayMoves, HasBus};
+ghost use Rattle.pcm_vchan.specs.Parents.{mixed_in, play_channels, record_channels, AreDue, BusTurns, EachPasses, EachPlayMoves, HasBus};
 ghost use Rattle.pcm_vchan.specs.Slots.{PlayAreOf, RecordAreOf};
 ghost use Rattle.pcm_engine.specs.Steps.{CapturesPool};
 
@@ -29,7 +29,7 @@ pub fn interrupt<B: Feeder>(
     requires within { frames ≤ parent.old.device.ring_frames }
     requires out { frames * frame_bytes parent.old.device.settings ≤ length out.old }
     requires due { AreDue B.kind B.kept tables.now frames parent.old }
-    requires handed { parent.old.handed + frames < 2 ^ 64 }
+    requires handed { parent.old.handed + frames < 2 ^ 56 }
     requires mixed { parent.old.mixed + mixed_in tables.now frames parent.old < 2 ^ 64 }
     ensures device { parent.new.device ≡ parent.old.device }
     ensures own { PlayAreOf parent.new.device (play_channels parent.new) }
@@ -38,7 +38,7 @@ pub fn interrupt<B: Feeder>(
     ensures recorders_slots { length (record_channels parent.new) ≡ length (record_channels parent.old) }
     ensures channels { EachPlayMoves B.kind B.kept tables.now []
         (mixed_in tables.now frames parent.old) parent.old parent.new }
-    ensures books { EachMixes tables.now (mixed_in tables.now frames parent.old) parent.old parent.new }
+    ensures books { EachPasses tables.now frames parent.old parent.new }
     ensures recorders { CapturesPool B.kind B.kept tables.now pool.now frames parent.old parent.new }
     ensures handed { parent.new.handed ≡ parent.old.handed + frames }
     ensures mixed { parent.new.mixed ≡ parent.old.mixed + mixed_in tables.now frames parent.old }

@@ -1,5 +1,5 @@
 -- What the calls on a channel move, from what they leave of its book, its ring and its chain.
-use Rattle.std.proofs.Common.{◌≡◌, ℕ, ◌+◌, ◌-◌, ◌*◌, ◌≤◌, min, false, Ok, List, [], ◌++◌, length, take, length-take, sym, ap, ◌∙◌, subst, inl, inr, arith}
+use Rattle.std.proofs.Common.{◌≡◌, ℕ, ℤ, ◌+◌, ◌-◌, ◌*◌, ◌≤◌, min, false, Ok, List, [], ◌++◌, length, take, length-take, sym, ap, ◌∙◌, subst, inl, inr, arith}
 use Rattle.std.proofs.Math.Seq.{take-append-add}
 use Rattle.std.proofs.lemmas.List.{take_at}
 use Rattle.pcm_format.specs.Frames.{frame_bytes, whole_frames}
@@ -17,27 +17,28 @@ use Rattle.pcm_chain.specs.Chains.{boxes_in, plan_in}
 use Rattle.pcm_path.specs.Paths.{IsEmpty}
 use Rattle.pcm_oss.specs.declared.event.Way.TheVariants.{Play}
 use Rattle.pcm_path.proofs.Paths.{device-served, planned-as}
+use Rattle.pcm_desk.specs.declared.here.Here.{Here}
 use Rattle.pcm_desk.specs.declared.play_book.PlayBook.{PlayBook}
 use Rattle.pcm_desk.specs.Device.{DeviceSeen, IsDevice, seen}
 use Rattle.pcm_desk.specs.Desk.{asking, play_rate_at}
 use Rattle.pcm_desk.proofs.Ratios.{ratio-between}
 use Rattle.pcm_desk.specs.Openings.{ring_bytes}
-use Rattle.pcm_desk.specs.PlayBooks.{accepting, close_turn, is_draining, play_fill_of, play_free_of, write_turn}
+use Rattle.pcm_desk.specs.PlayBooks.{accepting, close_turn, is_draining, play_fill_of, play_free_of, play_settled, write_turn}
 use Rattle.pcm_desk.proofs.Refused.{write-done}
 use Rattle.pcm_ring.specs.Ring.{free_bytes}
 use Rattle.pcm_oss.specs.declared.reply.Answer.{Answer}
 use Rattle.pcm_desk.specs.declared.turn.Turn.{Turn}
 use Rattle.pcm_desk.specs.PlayRequests.{play_ask}
-use Rattle.pcm_desk.specs.PlaySafe.{PlayIsSafe}
-use Rattle.pcm_desk.proofs.PlaySafe.{none-written, safe-close}
-use Rattle.pcm_desk.proofs.PlayLeaves.{Keeps, Leaves, Stays, accepting-adds, ask-leaves, close-keeps, close-leaves}
+use Rattle.pcm_desk.specs.PlaySafe.{PlayIsHere, PlayIsSafe}
+use Rattle.pcm_desk.proofs.PlaySafe.{none-written, safe-close, safe-settled}
+use Rattle.pcm_desk.proofs.PlayLeaves.{Keeps, Leaves, Stays, accepting-adds, ask-leaves, close-keeps, close-leaves, settle-keeps, settle-leaves}
 use Rattle.pcm_sound.proofs.Slots.{accepts}
 use Rattle.pcm_sound.proofs.Rates.{ask-rate}
 use Rattle.pcm_sound.proofs.Stories.{IsSafeAt, safe-asking}
 use Rattle.pcm_feeder.specs.Limits.{IsRate}
 use Rattle.pcm_format.specs.declared.settings.Settings.{Settings}
 use Rattle.pcm_play.specs.declared.channel.PlayChannelOf.{PlayChannelOf}
-use Rattle.pcm_play.specs.Channels.{PlayStands, IsPlayPlanned, PlayMoves}
+use Rattle.pcm_play.specs.Channels.{IsPlayHere, PlayStands, IsPlayPlanned, PlayMoves}
 use Rattle.pcm_play.proofs.Frames.{frames-front}
 use Rattle.pcm_play.proofs.Stands.{stands-taking, stands-empty, stands-state, nothing-more}
 
@@ -106,20 +107,33 @@ leaves_left now old new ratio rate safe leaves = record {
   goes = λ some. elim leaves.counts [ inl kept ↦ kept | inr over ↦ absurd (some over.written) ];
 }
 
--- a close, which leaves settings and fragments besides
+-- a close, or frames that are handed over, which leave settings and fragments besides
 pub record Closed (now : Rate) (old new : PlayBook) : Type 0 where
   pub left : Left now old new
   pub keeps : Keeps old new
 
-pub book-closed : {B : Type 0} (old : PlayChannelOf B) (new : PlayBook) (between : Rate) (plan : PlanSeen)
-    → new ≡ close_turn between old.book → between ≡ rate_in_plan plan → plan ≡ plan_in old.path.chain → Closed (rate_in_plan (plan_in old.path.chain)) old.book new
-book-closed old new between plan turned rate_is plan_is =
+pub book-closed : {B : Type 0} (old : PlayChannelOf B) (here : Here) (new : PlayBook) (between : Rate) (plan : PlanSeen)
+    → new ≡ close_turn between here old.book → between ≡ rate_in_plan plan → plan ≡ plan_in old.path.chain → Closed (rate_in_plan (plan_in old.path.chain)) old.book new
+book-closed old here new between plan turned rate_is plan_is =
     let now : Rate = rate_in_plan (plan_in old.path.chain) in
-    let is : new ≡ close_turn now old.book = turned ∙ ap (λ (r : Rate). close_turn r old.book) (rate_is ∙ ap (λ (p : PlanSeen). rate_in_plan p) plan_is) in
-    let keeps : Keeps old.book new = subst (Keeps old.book) (sym is) (close-keeps now old.book) in
+    let is : new ≡ close_turn now here old.book = turned ∙ ap (λ (r : Rate). close_turn r here old.book) (rate_is ∙ ap (λ (p : PlanSeen). rate_in_plan p) plan_is) in
+    let keeps : Keeps old.book new = subst (Keeps old.book) (sym is) (close-keeps now here old.book) in
     record {
       left = leaves_left now old.book new old.serves.ratio (subst (λ (s : Settings). IsRate s.rate) (sym keeps.settings) old.serves.rate)
-          (subst (PlayIsSafe now) (sym is) (safe-close now old.book old.serves.ratio old.safe)) (subst (Leaves old.book) (sym is) (close-leaves now old.book));
+          (subst (PlayIsSafe now) (sym is) (safe-close now here old.book old.serves.ratio old.safe)) (subst (Leaves old.book) (sym is) (close-leaves now here old.book));
+      keeps = keeps;
+    }
+
+-- frames that are handed over leave them too
+pub book-settled : {B : Type 0} (old : PlayChannelOf B) (passed : ℤ) (new : PlayBook) (between : Rate) (plan : PlanSeen)
+    → new ≡ play_settled between passed old.book → between ≡ rate_in_plan plan → plan ≡ plan_in old.path.chain → Closed (rate_in_plan (plan_in old.path.chain)) old.book new
+book-settled old passed new between plan turned rate_is plan_is =
+    let now : Rate = rate_in_plan (plan_in old.path.chain) in
+    let is : new ≡ play_settled now passed old.book = turned ∙ ap (λ (r : Rate). play_settled r passed old.book) (rate_is ∙ ap (λ (p : PlanSeen). rate_in_plan p) plan_is) in
+    let keeps : Keeps old.book new = subst (Keeps old.book) (sym is) (settle-keeps now passed old.book) in
+    record {
+      left = leaves_left now old.book new old.serves.ratio (subst (λ (s : Settings). IsRate s.rate) (sym keeps.settings) old.serves.rate)
+          (subst (PlayIsSafe now) (sym is) (safe-settled now passed old.book old.safe)) (subst (Leaves old.book) (sym is) (settle-leaves now passed old.book));
       keeps = keeps;
     }
 
@@ -131,61 +145,69 @@ pub safe-at : {B : Type 0} (filters : Filters) (channel : PlayChannelOf B) → I
 safe-at filters channel p = subst (λ (plan : PlanSeen). PlayIsSafe (rate_in_plan plan) channel.book) p.plan_is channel.safe
 
 -- a request, by the rate of the chain's plan
-pub asked-is : {B : Type 0} (filters : Filters) (request : Request) (old : PlayChannelOf B) (turn : Turn PlayBook) (between : Rate) (plan : PlanSeen) → IsPlayPlanned filters old
-    → turn ≡ play_ask between request old.book → between ≡ rate_in_plan plan → plan ≡ plan_in old.path.chain → turn ≡ asking (seen filters old.path.device) request old.book
-asked-is filters request old turn between plan p turned rate_is plan_is =
-    turned ∙ ap (λ (r : Rate). play_ask r request old.book) (rate_is ∙ ap (λ (q : PlanSeen). rate_in_plan q) (plan_is ∙ p.plan_is))
+pub asked-is : {B : Type 0} (filters : Filters) (here : Here) (request : Request) (old : PlayChannelOf B) (turn : Turn PlayBook) (between : Rate) (plan : PlanSeen) → IsPlayPlanned filters old
+    → turn ≡ play_ask between old.path.device.mix.rate here request old.book → between ≡ rate_in_plan plan → plan ≡ plan_in old.path.chain → turn ≡ asking (seen filters old.path.device) here request old.book
+asked-is filters here request old turn between plan p turned rate_is plan_is =
+    turned ∙ ap (λ (r : Rate). play_ask r old.path.device.mix.rate here request old.book) (rate_is ∙ ap (λ (q : PlanSeen). rate_in_plan q) (plan_is ∙ p.plan_is))
+
+-- and where it stands by that rate
+pub asked-here : {B : Type 0} (filters : Filters) (here : Here) (old : PlayChannelOf B) (between : Rate) (plan : PlanSeen) → IsPlayPlanned filters old → between ≡ rate_in_plan plan → plan ≡ plan_in old.path.chain → IsPlayHere filters here old
+    → PlayIsHere between here old.book
+asked-here filters here old between plan p rate_is plan_is at =
+    subst (λ (rate : Rate). PlayIsHere rate here old.book) (sym (rate_is ∙ ap (λ (q : PlanSeen). rate_in_plan q) (plan_is ∙ p.plan_is))) at
 
 -- what it leaves, at the rate that the book has after it
-pub book-asked : {B : Type 0} (filters : Filters) (request : Request) (old : PlayChannelOf B) (turn : Turn PlayBook) → IsPlayPlanned filters old → turn ≡ asking (seen filters old.path.device) request old.book
+pub book-asked : {B : Type 0} (filters : Filters) (here : Here) (request : Request) (old : PlayChannelOf B) (turn : Turn PlayBook) → IsPlayPlanned filters old → turn ≡ asking (seen filters old.path.device) here request old.book
     → Left (play_rate_at (seen filters old.path.device) turn.book) old.book turn.book
-book-asked filters request old turn p asked =
+book-asked filters here request old turn p asked =
     let device : DeviceSeen = seen filters old.path.device in
     let book : PlayBook = old.book in
+    let before : Rate = play_rate_at device book in
+    let mix_rate : ℕ = old.path.device.mix.rate in
     let d = device-is filters old p in
-    let is : turn.book ≡ (asking device request book).book = ap (λ (t : Turn PlayBook). t.book) asked in
-    let rate : IsRate turn.book.opening.settings.rate = subst (λ (b : PlayBook). IsRate b.opening.settings.rate) (sym is) (ask-rate (play_rate_at device book) request book old.serves.rate) in
+    let is : turn.book ≡ (asking device here request book).book = ap (λ (t : Turn PlayBook). t.book) asked in
+    let rate : IsRate turn.book.opening.settings.rate = subst (λ (b : PlayBook). IsRate b.opening.settings.rate) (sym is) (ask-rate before mix_rate here request book old.serves.rate) in
     leaves_left (play_rate_at device turn.book) book turn.book (ratio-between device turn.book.opening.settings d rate) rate
-    (subst (IsSafeAt device) (sym is) (safe-asking device request book d old.serves.rate (safe-at filters old p)))
-    (subst (Leaves book) (sym is) (ask-leaves (play_rate_at device book) request book (safe-at filters old p)))
+    (subst (IsSafeAt device) (sym is) (safe-asking device here request book d old.serves.rate (safe-at filters old p)))
+    (subst (Leaves book) (sym is) (ask-leaves before mix_rate here request book (safe-at filters old p)))
 
 -- ---- writes
 
 -- the bytes that wait after a write
-pub fill_of-accepting : (accepted : ℕ) (book : PlayBook) → book.eaten * frame_bytes book.opening.settings ≤ book.written → play_fill_of (accepting accepted book) ≡ play_fill_of book + accepted
-fill_of-accepting accepted book h =
-    let g = accepts accepted book in
-    let size : frame_bytes (accepting accepted book).opening.settings ≡ frame_bytes book.opening.settings = ap frame_bytes g.settings in
+pub fill_of-accepting : (mixed accepted : ℕ) (book : PlayBook) → book.eaten * frame_bytes book.opening.settings ≤ book.written → play_fill_of (accepting mixed accepted book) ≡ play_fill_of book + accepted
+fill_of-accepting mixed accepted book h =
+    let g = accepts mixed accepted book in
+    let size : frame_bytes (accepting mixed accepted book).opening.settings ≡ frame_bytes book.opening.settings = ap frame_bytes g.settings in
     rw (g.written, g.eaten, size) (omega arith)
 
-pub within-accepting : (accepted : ℕ) (book : PlayBook) → book.eaten * frame_bytes book.opening.settings ≤ book.written → (accepting accepted book).eaten * frame_bytes (accepting accepted book).opening.settings ≤ (accepting accepted book).written
-within-accepting accepted book h =
-    let g = accepts accepted book in
-    let size : frame_bytes (accepting accepted book).opening.settings ≡ frame_bytes book.opening.settings = ap frame_bytes g.settings in
+pub within-accepting : (mixed accepted : ℕ) (book : PlayBook) → book.eaten * frame_bytes book.opening.settings ≤ book.written → (accepting mixed accepted book).eaten * frame_bytes (accepting mixed accepted book).opening.settings ≤ (accepting mixed accepted book).written
+within-accepting mixed accepted book h =
+    let g = accepts mixed accepted book in
+    let size : frame_bytes (accepting mixed accepted book).opening.settings ≡ frame_bytes book.opening.settings = ap frame_bytes g.settings in
     rw (g.written, g.eaten, size) (omega arith)
 
 -- a write that isn't refused: the book accepts as many bytes as the ring takes
-pub record IsTaken (accepted : ℕ) (old new : PlayBook) : Type 0 where
+pub record IsTaken (mixed accepted : ℕ) (old new : PlayBook) : Type 0 where
   pub more : is_draining old.state ≡ false
-  pub is : new ≡ accepting accepted old
+  pub is : new ≡ accepting mixed accepted old
 
-pub takes-written : {B : Type 0} (old : PlayChannelOf B) (count accepted : ℕ) (turn : Turn PlayBook) (answer : Answer) → turn ≡ write_turn count old.book → turn.reply ≡ Ok answer → accepted ≡ min count (free_bytes old.path.ring)
-    → IsTaken accepted old.book turn.book
-takes-written old count accepted turn answer is ok taken =
-    let done = write-done count old.book answer (ap (λ (t : Turn PlayBook). t.reply) (sym is) ∙ ok) in
+pub takes-written : {B : Type 0} (old : PlayChannelOf B) (here : Here) (count accepted : ℕ) (turn : Turn PlayBook) (answer : Answer) → turn ≡ write_turn here count old.book → turn.reply ≡ Ok answer → accepted ≡ min count (free_bytes old.path.ring)
+    → IsTaken here.mixed accepted old.book turn.book
+takes-written old here count accepted turn answer is ok taken =
+    let done = write-done here count old.book answer (ap (λ (t : Turn PlayBook). t.reply) (sym is) ∙ ok) in
     let free : free_bytes old.path.ring ≡ play_free_of old.book = ap (λ k. k - length old.path.ring.bytes) old.serves.size ∙ ap (λ k. ring_bytes old.book.opening - k) old.fill in
     record {
       more = done.more;
-      is = ap (λ (t : Turn PlayBook). t.book) is ∙ done.is ∙ ap (λ n. accepting n old.book) (sym (taken ∙ ap (min count) free));
+      is = ap (λ (t : Turn PlayBook). t.book) is ∙ done.is ∙ ap (λ n. accepting here.mixed n old.book) (sym (taken ∙ ap (min count) free));
     }
 
 -- a channel that took so many bytes from the front of `more`
-pub moves-taking : {B : Type 0} (kind : B → Kind) (kept : B → Kept) (filters : Filters) (more : List ℕ) (accepted : ℕ) (old new : PlayChannelOf B) → new.path.device ≡ old.path.device → new.path.chain ≡ old.path.chain → new.path.ring.bytes ≡ old.path.ring.bytes ++ take accepted more → new.book ≡ accepting accepted old.book
+pub moves-taking : {B : Type 0} (kind : B → Kind) (kept : B → Kept) (filters : Filters) (more : List ℕ) (mixed accepted : ℕ) (old new : PlayChannelOf B) → new.path.device ≡ old.path.device → new.path.chain ≡ old.path.chain → new.path.ring.bytes ≡ old.path.ring.bytes ++ take accepted more → new.book ≡ accepting mixed accepted old.book
     → accepted ≤ length more → accepted ≤ RING_BYTES → is_draining old.book.state ≡ false → old.book.eaten * frame_bytes old.book.opening.settings ≤ old.book.written → PlayMoves kind kept filters more 0 old new
-moves-taking {B = B} kind kept filters more accepted old new device chain ring is within room busy there =
-    let a = accepts accepted old.book in
+moves-taking {B = B} kind kept filters more mixed accepted old new device chain ring is within room busy there =
+    let a = accepts mixed accepted old.book in
     let written : new.book.written ≡ old.book.written + accepted = ap (λ (b : PlayBook). b.written) is ∙ a.written in
-    let given : new.book.given ≡ old.book.given = ap (λ (b : PlayBook). b.given) is ∙ (let e : (accepting accepted old.book).given ≡ old.book.given = omega (arith, a.given, a.given_same) in e) in
+    let given : new.book.given ≡ old.book.given = ap (λ (b : PlayBook). b.given) is ∙ (let e : (accepting mixed accepted old.book).given ≡ old.book.given = omega (arith, a.given, a.given_same) in e) in
     let settings : new.book.opening.settings ≡ old.book.opening.settings = ap (λ (b : PlayBook). b.opening.settings) is ∙ a.settings in
     let eaten : new.book.eaten ≡ old.book.eaten = ap (λ (b : PlayBook). b.eaten) is ∙ a.eaten in
     let long : length (take accepted more) ≡ accepted = omega (arith, length-take accepted more) in
@@ -200,7 +222,7 @@ moves-taking {B = B} kind kept filters more accepted old new device chain ring i
           (stands-taking kept filters old new bytes (take accepted more) chain settings eaten given (omega (arith, written, long)) busy there ring
           (frames-front old.book.opening.settings bytes (take accepted more) old.book.eaten frames_within) s);
       written = omega arith;
-      counted = omega (arith, (accepting-adds accepted old.book).done, ap (λ (b : PlayBook). b.done) is);
-      grown = omega (arith, (accepting-adds accepted old.book).done, ap (λ (b : PlayBook). b.done) is);
+      counted = omega (arith, (accepting-adds mixed accepted old.book).done, ap (λ (b : PlayBook). b.done) is);
+      grown = omega (arith, (accepting-adds mixed accepted old.book).done, ap (λ (b : PlayBook). b.done) is);
       given = omega arith;
     }

@@ -1,5 +1,5 @@
 -- What a refill leaves of a channel, from what a pull of its chain means.
-use Rattle.std.proofs.Common.{◌≡◌, ℕ, ◌+◌, ◌-◌, ◌*◌, ◌<◌, ◌≤◌, Bool, true, false, inl, inr, List, [], ◌++◌, length, take, drop, ℤ, sym, ap, ◌∙◌, subst, arith}
+use Rattle.std.proofs.Common.{◌≡◌, ℕ, ◌+◌, ◌-◌, ◌*◌, ◌<◌, ◌≤◌, Bool, true, false, List, [], ◌++◌, length, take, drop, ℤ, sym, ap, ◌∙◌, subst, arith}
 use Rattle.std.proofs.lemmas.List.{take-append-drop, drop_all}
 use Rattle.pcm_format.specs.declared.settings.Settings.{Settings}
 use Rattle.pcm_format.specs.Formats.{bits_of}
@@ -27,8 +27,7 @@ use Rattle.pcm_desk.specs.declared.play_book.PlayBook.{PlayBook}
 use Rattle.pcm_desk.specs.Device.{DeviceSeen, IsDevice, filters_of, mix_settings, play_plan_between, seen}
 use Rattle.pcm_desk.specs.PlayBooks.{frames_written, giving, is_draining, is_started, play_fill_of, refilled}
 use Rattle.pcm_desk.specs.Desk.{mixing, play_rate_at}
-use Rattle.pcm_desk.proofs.PlaySafe.{settings-refilled}
-use Rattle.pcm_desk.proofs.Ratios.{plan-between-fits, ratio-between}
+use Rattle.pcm_desk.proofs.Ratios.{plan-between-fits}
 use Rattle.pcm_sound.specs.Gains.{book_gain}
 use Rattle.pcm_sound.specs.Given.{given_samples}
 use Rattle.pcm_sound.specs.Added.{turned}
@@ -39,9 +38,9 @@ use Rattle.pcm_play.specs.Channels.{PlayStands, IsPlayPlanned, PlayMoves}
 use Rattle.pcm_chain.proofs.Waiting.{frames-waiting}
 use Rattle.pcm_oss.specs.declared.event.Way.TheVariants.{Play}
 use Rattle.pcm_path.proofs.Paths.{planned-as}
-use Rattle.pcm_play.proofs.Moving.{ended, safe-at}
+use Rattle.pcm_play.proofs.Moving.{safe-at}
 use Rattle.pcm_play.proofs.Stands.{nothing-more, stands-pulled}
-use Rattle.pcm_play.proofs.Refills.{Goes, GoesOrEnds, PullsAsCounted, giving-none, refilled-goes, mixing-some, eaten-written, length-eaten, length-waiting, pulls-counted, front-written}
+use Rattle.pcm_play.proofs.Refills.{Goes, PullsAsCounted, giving-none, refilled-goes, mixing-some, eaten-written, length-eaten, length-waiting, pulls-counted, front-written}
 
 -- what a pull of a channel's chain says of its frames, once the run's bytes are known
 pub record PullsRun {B : Type 0} (kept : B → Kept) (device : DeviceSeen) (gain : Gain) (n : ℕ) (book : PlayBook) (bytes : List ℕ) (new : ChainOf B) (pulled : Pulled) (out_old out_new : List ℤ) : Type 0 where
@@ -90,36 +89,21 @@ pulls-run {B = B} kept filters old new gain no_more n pulled out_old out_new byt
 
 -- what an interrupt leaves of a started book
 pub record BookRefilled (device : DeviceSeen) (n : ℕ) (old new : PlayBook) : Type 0 where
-  pub settings : new.opening.settings ≡ old.opening.settings
-  pub fragments : new.opening.fragments ≡ old.opening.fragments
+  pub goes : Goes (play_rate_at device old) n old new
   pub safe : IsSafeAt device new
-  -- where no bytes are counted, nothing is
-  pub ended : new.written ≡ 0 → (new.eaten ≡ 0) × (new.given ≡ 0) × (new.eaten * frame_bytes new.opening.settings ≤ new.written) × (0 ≡ play_fill_of new)
-  pub done : new.written ≡ 0 → new.done ≤ old.done + old.written
-  -- where some are, the run goes on
-  pub goes : (new.written ≡ 0 → ⊥) → Goes (play_rate_at device old) n old new
 
 -- the book of a refill is that of an interrupt
-pub book-mixed : (device : DeviceSeen) (n : ℕ) (old new : PlayBook) (between : Rate) (plan : PlanSeen) → 0 < n
-    → new ≡ refilled between n old → between ≡ rate_in_plan plan → plan ≡ play_plan_between device old.opening.settings → new ≡ mixing device n old
-book-mixed device n old new between plan some made rate_is plan_is =
-    made ∙ ap (λ (r : Rate). refilled r n old) (rate_is ∙ ap (λ (p : PlanSeen). rate_in_plan p) plan_is) ∙ sym (mixing-some device n old some)
+pub book-mixed : (device : DeviceSeen) (position n : ℕ) (old new : PlayBook) (between : Rate) (plan : PlanSeen) → 0 < n
+    → new ≡ refilled between position n old → between ≡ rate_in_plan plan → plan ≡ play_plan_between device old.opening.settings → new ≡ mixing device position n old
+book-mixed device position n old new between plan some made rate_is plan_is =
+    made ∙ ap (λ (r : Rate). refilled r position n old) (rate_is ∙ ap (λ (p : PlanSeen). rate_in_plan p) plan_is) ∙ sym (mixing-some device position n old some)
 
-pub book-refilled : (device : DeviceSeen) (n : ℕ) (old new : PlayBook) (between : Rate) (plan : PlanSeen) → 0 < n → IsDevice device → IsRate old.opening.settings.rate → IsSafeAt device old → is_started old.state ≡ true
-    → new ≡ refilled between n old → between ≡ rate_in_plan plan → plan ≡ play_plan_between device old.opening.settings → BookRefilled device n old new
-book-refilled device n old new between plan some d rate safe started made rate_is plan_is =
-    let is : new ≡ refilled (play_rate_at device old) n old = made ∙ ap (λ (r : Rate). refilled r n old) (rate_is ∙ ap (λ (p : PlanSeen). rate_in_plan p) plan_is) in
-    let settings : new.opening.settings ≡ old.opening.settings = ap (λ (b : PlayBook). b.opening.settings) is ∙ settings-refilled (play_rate_at device old) n old in
-    let safe_now : IsSafeAt device new = subst (IsSafeAt device) (mixing-some device n old some ∙ sym is) (safe-mixing device n old d rate safe) in
-    let goes : GoesOrEnds (play_rate_at device old) n old new = subst (GoesOrEnds (play_rate_at device old) n old) (sym is) (refilled-goes (play_rate_at device old) n old started) in
-    record {
-      settings = settings;
-      fragments = elim goes.counts [ inl on ↦ on.fragments | inr over ↦ over.fragments ];
-      safe = safe_now;
-      done = λ none. elim goes.counts [ inl on ↦ omega (arith, on.done) | inr over ↦ over.done ];
-      ended = ended (play_rate_at device new) new (ratio-between device new.opening.settings d (subst (λ (s : Settings). IsRate s.rate) (sym settings) rate)) safe_now;
-      goes = λ more. elim goes.counts [ inl on ↦ on | inr over ↦ absurd (more over.written) ];
-    }
+pub book-refilled : (device : DeviceSeen) (position n : ℕ) (old new : PlayBook) → 0 < n → IsDevice device → IsRate old.opening.settings.rate → IsSafeAt device old → is_started old.state ≡ true
+    → new ≡ mixing device position n old → BookRefilled device n old new
+book-refilled device position n old new some d rate safe started is = record {
+  goes = subst (Goes (play_rate_at device old) n old) (sym (is ∙ mixing-some device position n old some)) (refilled-goes (play_rate_at device old) position n old started);
+  safe = subst (IsSafeAt device) (sym is) (safe-mixing device position n old d rate safe);
+}
 
 -- what the book of a run that goes on says of the ring, once as many frames were pulled as it counts
 pub record RingRefilled (old new : PlayBook) (eaten : ℕ) : Type 0 where

@@ -1,10 +1,9 @@
 -- What an interrupt leaves of a channel: how far a pull of its chain goes is what its book counts.
-use Rattle.std.proofs.Common.{◌≡◌, ℕ, zero, suc, ◌+◌, ◌-◌, ◌*◌, ◌<◌, ◌≤◌, Bool, true, false, cond, eqb, min, List, length, take, drop, ℤ, ◌⊎◌, inl, inr, refl, sym, ap, ◌∙◌, arith, length-take, length-drop}
+use Rattle.std.proofs.Common.{◌≡◌, ℕ, zero, suc, ◌+◌, ◌-◌, ◌*◌, ◌<◌, ◌≤◌, true, false, cond, min, List, length, take, drop, ℤ, refl, sym, ap, ◌∙◌, arith, length-take, length-drop}
 use Rattle.std.proofs.lemmas.List.{take_at}
 use Rattle.pcm_format.specs.declared.settings.Settings.{Settings}
-use Rattle.pcm_format.specs.Frames.{Frame, frame_bytes, frames, whole_frames}
+use Rattle.pcm_format.specs.Frames.{Frame, frames, whole_frames}
 use Rattle.pcm_format.proofs.Streams.{length-frames}
-use Rattle.pcm_format.proofs.Whole.{frames_fit}
 use Rattle.pcm_rate.specs.declared.rate.Rate.{Rate}
 use Rattle.pcm_rate.specs.Rates.{can, len}
 use Rattle.pcm_feeder.specs.Streams.{interleaved, written, HaveChannels}
@@ -15,16 +14,16 @@ use Rattle.pcm_desk.specs.declared.play_book.PlayBook.{PlayBook}
 use Rattle.pcm_desk.specs.declared.play_book.PlayState.{PlayState}
 use Rattle.pcm_desk.specs.declared.play_book.PlayState.TheVariants.{Free, Setup, Primed, Running, Draining}
 use Rattle.pcm_desk.specs.Device.{DeviceSeen}
-use Rattle.pcm_desk.specs.PlayBooks.{allowed_in, finished, frames_written, gives, giving, is_draining, is_started, refilled}
+use Rattle.pcm_desk.specs.PlayBooks.{allowed_in, eaten_after, frames_written, giving, is_draining, is_started, refilled}
 use Rattle.pcm_desk.specs.PlaySafe.{IsPlayInOrder, PlayIsSafe}
 use Rattle.pcm_desk.specs.Desk.{mixing, play_rate_at}
 
 -- ---- books
 
 -- an interrupt that mixes some frames is a refill
-pub mixing-some : (device : DeviceSeen) (n : ℕ) (book : PlayBook) → 0 < n → mixing device n book ≡ refilled (play_rate_at device book) n book
-mixing-some device zero book some = absurd (omega arith)
-mixing-some device (suc n) book some = refl
+pub mixing-some : (device : DeviceSeen) (mixed n : ℕ) (book : PlayBook) → 0 < n → mixing device mixed n book ≡ refilled (play_rate_at device book) mixed n book
+mixing-some device mixed zero book some = absurd (omega arith)
+mixing-some device mixed (suc n) book some = refl
 
 -- what is allowed of a started book, by whether it drains
 pub allowed-is : (rate : Rate) (book : PlayBook) → is_started book.state ≡ true
@@ -60,47 +59,25 @@ eaten-written rate book safe = at book.state safe.order
     at Running o = o.eats.written
     at (Draining closed) o = o.eats.written
 
--- the counts of a started book after an interrupt that doesn't end its run
+-- the counts of a started book after an interrupt that mixes n frames
 pub record Goes (rate : Rate) (n : ℕ) (old new : PlayBook) : Type 0 where
   pub settings : new.opening.settings ≡ old.opening.settings
   pub fragments : new.opening.fragments ≡ old.opening.fragments
   pub done : new.done ≡ old.done
   pub written : new.written ≡ old.written
-  pub eaten : new.eaten ≡ (gives rate n old).eaten
+  pub eaten : new.eaten ≡ eaten_after rate n old
   pub given : new.given ≡ old.given + giving rate n old
   pub draining : is_draining new.state ≡ is_draining old.state
 
--- a run is over, of which all whole frames were played
-pub record IsOver (old new : PlayBook) : Type 0 where
-  pub settings : new.opening.settings ≡ old.opening.settings
-  pub fragments : new.opening.fragments ≡ old.opening.fragments
-  pub done : new.done ≤ old.done + old.written
-  pub written : new.written ≡ 0
-
--- an interrupt leaves the counts that it moved on, or none
-pub record GoesOrEnds (rate : Rate) (n : ℕ) (old new : PlayBook) : Type 0 where
-  pub counts : Goes rate n old new ⊎ IsOver old new
-
--- what is played to its end counts all whole frames
-finished_done : (book : PlayBook) → book.done + frames_written book * frame_bytes book.opening.settings ≤ book.done + book.written
-finished_done book = let fits = frames_fit book.opening.settings book.written (frames_written book) (omega arith) in omega arith
-
-settles : (b closed : Bool) (rate : Rate) (n : ℕ) (book : PlayBook)
-    → GoesOrEnds rate n (record book { state = Draining closed }) (let given : PlayBook = gives rate n (record book { state = Draining closed }) in cond b (finished (cond closed Free Setup) given) given)
-settles true closed rate n book = record { counts = inr (record { settings = refl; fragments = refl; done = finished_done book; written = refl }) }
-settles false closed rate n book = record { counts = inl (record { settings = refl; fragments = refl; done = refl; written = refl; eaten = refl; given = refl; draining = refl }) }
-
-pub refilled-goes : (rate : Rate) (n : ℕ) (book : PlayBook) → is_started book.state ≡ true → GoesOrEnds rate n book (refilled rate n book)
-refilled-goes rate n book started = at book.state started
+pub refilled-goes : (rate : Rate) (mixed n : ℕ) (book : PlayBook) → is_started book.state ≡ true → Goes rate n book (refilled rate mixed n book)
+refilled-goes rate mixed n book started = at book.state started
   where
-    at : (state : PlayState) → is_started state ≡ true → GoesOrEnds rate n (record book { state = state }) (refilled rate n (record book { state = state }))
+    at : (state : PlayState) → is_started state ≡ true → Goes rate n (record book { state = state }) (refilled rate mixed n (record book { state = state }))
     at Free e = cc
     at Setup e = cc
     at Primed e = cc
-    at Running e = record { counts = inl (record { settings = refl; fragments = refl; done = refl; written = refl; eaten = refl; given = refl; draining = refl }) }
-    at (Draining closed) e =
-        let given : PlayBook = gives rate n (record book { state = Draining closed }) in
-        settles (eqb given.given (len rate (frames_written given))) closed rate n book
+    at Running e = record { settings = refl; fragments = refl; done = refl; written = refl; eaten = refl; given = refl; draining = refl }
+    at (Draining closed) e = record { settings = refl; fragments = refl; done = refl; written = refl; eaten = refl; given = refl; draining = refl }
 
 -- ---- pulls
 
@@ -114,7 +91,7 @@ length-waiting settings bytes n = omega (arith, length-drop n (frames settings b
 -- a pull gives and eats what the book counts
 pub record PullsAsCounted (rate : Rate) (n : ℕ) (book : PlayBook) (pulled : Pulled) : Type 0 where
   pub given : pulled.given ≡ giving rate n book
-  pub eaten : book.eaten + pulled.eaten ≡ (gives rate n book).eaten
+  pub eaten : book.eaten + pulled.eaten ≡ eaten_after rate n book
 
 pub pulls-counted : (rate : Rate) (n : ℕ) (book : PlayBook) (pulled : Pulled) (eaten waiting : ℕ) → is_started book.state ≡ true → book.eaten ≤ frames_written book
     → eaten ≡ book.eaten → waiting ≡ frames_written book - book.eaten

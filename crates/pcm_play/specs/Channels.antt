@@ -12,8 +12,10 @@ use Rattle.pcm_chain.specs.Chains.{boxes_in, ChainStands}
 use Rattle.pcm_desk.specs.declared.play_book.PlayBook.{PlayBook}
 use Rattle.pcm_desk.specs.Device.{seen}
 use Rattle.pcm_desk.specs.declared.device.Device.{Device}
-use Rattle.pcm_desk.specs.PlayBooks.{frames_written, is_draining}
-use Rattle.pcm_desk.specs.Desk.{closing, play_unopened}
+use Rattle.pcm_desk.specs.declared.here.Here.{Here}
+use Rattle.pcm_desk.specs.PlayBooks.{frames_written, is_draining, play_settled}
+use Rattle.pcm_desk.specs.PlaySafe.{PlayIsHere}
+use Rattle.pcm_desk.specs.Desk.{closing, play_rate_at, play_unopened}
 use Rattle.pcm_sound.specs.Added.{turned}
 use Rattle.pcm_oss.specs.declared.fragments.TheConstants.{RING_BYTES}
 use Rattle.pcm_oss.specs.declared.event.Way.TheVariants.{Play}
@@ -59,9 +61,17 @@ pub record HoldBlock (device : Device) (n : ℕ) (frames sum : List ℤ) : Type 
 abbrev pub AddsTo : {B : Type 0} → (B → Kept) → Filters → Device → ℕ → List ℤ → List ℤ → PlayChannelOf B → Type 0
 AddsTo kept filters device n old new channel = (bytes : List ℕ) → PlayStands kept filters channel channel.book bytes → new ≡ turned (seen filters device) n channel.book bytes old
 
+-- where the mix and the device are, the channel's run gave no frame past what is mixed, and isn't over
+abbrev pub IsPlayHere : {B : Type 0} → Filters → Here → PlayChannelOf B → Type 0
+IsPlayHere filters here channel = PlayIsHere (play_rate_at (seen filters channel.path.device) channel.book) here channel.book
+
 -- a close leaves the book that the rules say, by whichever filters the chain's plan is of
-abbrev pub ClosesBook : {B : Type 0} → PlayChannelOf B → PlayChannelOf B → Type 0
-ClosesBook old new = (filters : Filters) → IsPlayPlanned filters old → new.book ≡ closing (seen filters old.path.device) old.book
+abbrev pub ClosesBook : {B : Type 0} → Here → PlayChannelOf B → PlayChannelOf B → Type 0
+ClosesBook here old new = (filters : Filters) → IsPlayPlanned filters old → new.book ≡ closing (seen filters old.path.device) here old.book
+
+-- and so do frames that are handed over
+abbrev pub SettlesBook : {B : Type 0} → Here → PlayChannelOf B → PlayChannelOf B → Type 0
+SettlesBook here old new = (filters : Filters) → IsPlayPlanned filters old → new.book ≡ play_settled (play_rate_at (seen filters old.path.device) old.book) here.passed old.book
 
 -- nobody has opened the channel yet: it stands for no bytes, its boxes are of the right kinds, and its chain goes by its plan
 pub record IsPlayUnopened {B : Type 0} (kind : B → Kind) (kept : B → Kept) (filters : Filters) (device : Device) (channel : PlayChannelOf B) : Type 0 where

@@ -15,8 +15,9 @@ ghost use Rattle.pcm_desk.proofs.Props.{book_props};
 ghost use Rattle.pcm_path.specs.Paths.{Serves};
 ghost use Rattle.std.proofs.Props.{props};
 ghost use Rattle.pcm_desk.specs.Desk.{asking, mixing, play_unopened};
+ghost use Rattle.pcm_desk.specs.Here.{IsHere};
 
-use pcm_desk::{Device, PlayBook, PlayState};
+use pcm_desk::{Device, Here, PlayBook, PlayState};
 use pcm_feeder::{Feeder, RackOf, Tables};
 use pcm_format::Settings;
 use pcm_mix::mix_into;
@@ -37,7 +38,7 @@ pub struct PlayChannelOf<B> {
 
 impl<B: Feeder> PlayChannelOf<B> {
     ghost use Rattle.pcm_feeder.specs.Filters.{Filters};
-    ghost use Rattle.pcm_play.specs.Channels.{AddsTo, ClosesBook, HoldBlock, IsPlayPlanned, IsPlayReady, PlayMoves, PlayStands};
+    ghost use Rattle.pcm_play.specs.Channels.{AddsTo, ClosesBook, HoldBlock, IsPlayHere, IsPlayPlanned, IsPlayReady, PlayMoves, PlayStands, SettlesBook};
 
     /// A channel of a device that nobody has opened.
     pub fn new(
@@ -82,16 +83,16 @@ impl<B: Feeder> PlayChannelOf<B> {
         self.path.begin(Way::Play, tables, &self.book.opening);
     }
 
-    /// Takes the front of `bytes`, as much as fits.
-    pub fn write(&mut self, bytes: &[u8]) -> Result<Answer, Errno>
+    /// Takes the front of `bytes`, as much as fits. A run that starts by it starts where the mix is.
+    pub fn write(&mut self, bytes: &[u8], here: Here) -> Result<Answer, Errno>
         requires count { self.old.book.written + length bytes.now < 2 ^ 64 }
-        ensures book { self.new.book ≡ (write_turn (length bytes.now) self.old.book).book }
-        ensures reply { result ≡ (write_turn (length bytes.now) self.old.book).reply }
+        ensures book { self.new.book ≡ (write_turn here (length bytes.now) self.old.book).book }
+        ensures reply { result ≡ (write_turn here (length bytes.now) self.old.book).reply }
         ensures device { self.new.path.device ≡ self.old.path.device }
         ensures refused { OnErr result (self.new ≡ self.old) }
         ensures moves { (filters : Filters) → PlayMoves B.kind B.kept filters bytes.now 0 self.old self.new }
     {
-        let turn = self.book.write(bytes.len() as u64);
+        let turn = self.book.write(here, bytes.len() as u64);
         let answer = turn.reply?;
         // The ring has room for as many as the book accepts.
         self.path.ring.put(bytes);
@@ -99,20 +100,26 @@ impl<B: Feeder> PlayChannelOf<B> {
         Ok(answer)
     }
 
-    /// Does what a request asks. Where nothing of a run is left, the ring and the chain begin anew, as the book says.
-    pub fn ioctl(&mut self, tables: &Tables, request: Request) -> Result<Answer, Errno>
+    /// Does what a request asks, where the mix and the device are. Where nothing of a run is left, the ring and the chain begin anew, as
+    /// the book says.
+    pub fn ioctl(&mut self, tables: &Tables, request: Request, here: Here) -> Result<Answer, Errno>
         requires kinds { HaveKinds B.kind (boxes_in self.old.path.chain) }
         requires planned { IsPlayPlanned tables.now self.old }
+        requires here { IsHere here }
+        requires at { IsPlayHere tables.now here self.old }
         requires count { self.old.book.done + self.old.book.written < 2 ^ 64 }
         ensures book { self.new.book
-            ≡ (asking (seen tables.now self.old.path.device) request self.old.book).book }
+            ≡ (asking (seen tables.now self.old.path.device) here request self.old.book).book }
         ensures reply { result
-            ≡ (asking (seen tables.now self.old.path.device) request self.old.book).reply }
+            ≡ (asking (seen tables.now self.old.path.device) here request self.old.book).reply }
         ensures device { self.new.path.device ≡ self.old.path.device }
         ensures refused { OnErr result (self.new ≡ self.old) }
         ensures moves { PlayMoves B.kind B.kept tables.now [] 0 self.old self.new }
     {
-        let turn = self.book.asked(self.path.chain.plan().rate(), request);
+        let rate = self.path.chain.plan().rate();
+        let turn = self
+            .book
+            .asked(rate, self.path.device.mix.rate, here, request);
         let answer = turn.reply?;
         self.book = turn.book;
         if self.book.written == 0 {
@@ -122,29 +129,51 @@ impl<B: Feeder> PlayChannelOf<B> {
     }
 
     /// No descriptor has the channel any more: what was written plays to its end.
-    pub fn close(&mut self)
+    pub fn close(&mut self, here: Here)
         requires kinds { HaveKinds B.kind (boxes_in self.old.path.chain) }
         requires count { self.old.book.done + self.old.book.written < 2 ^ 64 }
-        ensures book { ClosesBook self.old self.new }
+        ensures book { ClosesBook here self.old self.new }
         ensures device { self.new.path.device ≡ self.old.path.device }
         ensures moves { (filters : Filters) → PlayMoves B.kind B.kept filters [] 0 self.old self.new }
     {
         let rate = self.path.chain.plan().rate();
-        self.book = self.book.closed(rate);
+        self.book = self.book.closed(rate, here);
         if self.book.written == 0 {
             self.path.restart();
         }
     }
 
-    /// Adds the channel's frames to the front of a block of the mix, as many as an interrupt that mixes `n` frames gets.
-    /// `frames` holds them meanwhile.
-    pub fn refill(&mut self, tables: &Tables, n: usize, frames: &mut [i32], sum: &mut [i32])
+    /// Frames were handed over: a draining run of which nothing is left to pass ends.
+    pub fn settle(&mut self, here: Here)
+        requires kinds { HaveKinds B.kind (boxes_in self.old.path.chain) }
+        requires count { self.old.book.done + self.old.book.written < 2 ^ 64 }
+        ensures book { SettlesBook here self.old self.new }
+        ensures device { self.new.path.device ≡ self.old.path.device }
+        ensures moves { (filters : Filters) → PlayMoves B.kind B.kept filters [] 0 self.old self.new }
+    {
+        let rate = self.path.chain.plan().rate();
+        self.book = self.book.settled(rate, here);
+        if self.book.written == 0 {
+            self.path.restart();
+        }
+    }
+
+    /// Adds the channel's frames to the front of a block of the mix, as many as an interrupt that mixes `n` frames gets, where the mix was
+    /// before it. `frames` holds them meanwhile.
+    pub fn refill(
+        &mut self,
+        tables: &Tables,
+        n: usize,
+        here: Here,
+        frames: &mut [i32],
+        sum: &mut [i32],
+    )
         requires some { 0 < n }
         requires ready { IsPlayReady B.kind B.kept tables.now self.old }
         requires block { HoldBlock self.old.path.device n frames.old sum.old }
         requires count { self.old.book.given + n < 2 ^ 64 }
-        requires counted { self.old.book.done + self.old.book.written < 2 ^ 64 }
-        ensures book { self.new.book ≡ mixing (seen tables.now self.old.path.device) n self.old.book }
+        requires mixed { here.mixed + n < 2 ^ 64 }
+        ensures book { self.new.book ≡ mixing (seen tables.now self.old.path.device) here.mixed n self.old.book }
         ensures device { self.new.path.device ≡ self.old.path.device }
         ensures moves { PlayMoves B.kind B.kept tables.now [] n self.old self.new }
         ensures sum { AddsTo B.kept tables.now self.old.path.device n sum.old sum.new self.old }
@@ -165,10 +194,9 @@ impl<B: Feeder> PlayChannelOf<B> {
             &frames[..samples],
             settings.format.bits(),
         );
-        self.book = self.book.refilled(self.path.chain.plan().rate(), n as u64);
-        if self.book.written == 0 {
-            self.path.restart();
-        }
+        self.book = self
+            .book
+            .refilled(self.path.chain.plan().rate(), here.mixed, n as u64);
     }
 }
 

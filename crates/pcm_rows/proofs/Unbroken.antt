@@ -34,7 +34,7 @@ IsFull piece = piece.short ≡ 0
 
 pub whole-unbroken : HasNoShortage whole
 whole-unbroken = by_four (λ slot. All IsUnbroken (whole.runs slot))
-    (All-from_recursion IsUnbroken (whole.runs 0) (All-from_recursion IsFull (piece 0 0 4 0 ∷ []) (refl, tt), tt))
+    (All-from_recursion IsUnbroken (whole.runs 0) (All-from_recursion IsFull (piece 4 4 0 0 ∷ piece 0 0 4 0 ∷ []) (refl, (refl, tt)), tt))
     (All-nil IsUnbroken) (All-nil IsUnbroken) (All-nil IsUnbroken) (λ slot. All-nil IsUnbroken)
 
 pub brief-unbroken : HasNoShortage brief

@@ -144,6 +144,7 @@ book_in settings state written eaten given = record {
   given = given;
   done = 0;
   underruns = 0;
+  last = 0;
 }
 
 -- the same in the settings of the device
@@ -157,6 +158,10 @@ cut_in log count book = record book { opening = record book.opening { fragments 
 -- a book that was told this position
 abbrev pub told_at : ℕ → PlayBook → PlayBook
 told_at position book = record book { opening = record book.opening { told = position } }
+
+-- a book whose run gave its last frame before this position
+abbrev pub last_at : ℕ → PlayBook → PlayBook
+last_at last book = record book { last = last }
 
 -- a book with other settings
 abbrev pub set_to : Settings → PlayBook → PlayBook

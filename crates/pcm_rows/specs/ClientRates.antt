@@ -16,7 +16,7 @@ use Rattle.pcm_desk.specs.Usual.{usual_device}
 use Rattle.pcm_plan.specs.Plans.{PlanSeen}
 use Rattle.pcm_sound.specs.Runs.{Run}
 use Rattle.pcm_script.specs.declared.script.Script.{Script}
-use Rattle.pcm_rows.specs.Calls.{book_in, cut_in, device_in, joined, piece, small_device, stereo_bytes}
+use Rattle.pcm_rows.specs.Calls.{book_in, cut_in, device_in, joined, last_at, piece, small_device, stereo_bytes}
 use Rattle.pcm_rows.specs.ClientFormats.{client_script}
 use Rattle.pcm_rows.specs.FilterRows.{sixty_four_taps}
 use Rattle.pcm_rows.specs.Stages.{two_taps}
@@ -75,13 +75,13 @@ tail_lines = joined (
 
 -- its book while the last frame fades to silence: both frames are eaten, and one output is left
 abbrev pub tail_book : PlayBook
-tail_book = book_in half_settings (Draining true) 8 2 3
+tail_book = last_at 3 (book_in half_settings (Draining true) 8 2 3)
 
--- and after that: its two frames were played
+-- and once that has left the device's ring: its two frames were played
 abbrev pub tail_over_book : PlayBook
-tail_over_book = record (book_in half_settings Free 0 0 0) { done = 8 }
+tail_over_book = record (book_in half_settings Free 0 0 0) { done = 8; last = 4 }
 
--- its run: pieces count frames of the mix
+-- its run: pieces count frames of the mix, and the last interrupt got nothing more
 abbrev pub tail_run : Run
 tail_run = record {
   settings = half_settings;
@@ -89,7 +89,7 @@ tail_run = record {
   start = Some 0;
   drained = true;
   dropped = None;
-  pieces = piece 3 3 1 0 ∷ piece 0 0 3 0 ∷ [];
+  pieces = piece 4 4 0 0 ∷ piece 3 3 1 0 ∷ piece 0 0 3 0 ∷ [];
 }
 
 -- a device of one channel of 32 bits, over a ring of four frames
@@ -124,8 +124,8 @@ abbrev pub wide_events : List Event
 wide_events = Open 0 Play wide_settings ∷ Write 0 Inline 0 4096 ∷ Intr 254 ∷ Intr 2 ∷ Write 0 Inline 4096 32 ∷ Intr 2 ∷ []
 
 -- its book while it runs
-abbrev pub wide_book : ℕ → ℕ → ℕ → ℕ → PlayBook
-wide_book written eaten given underruns = record (book_in wide_settings Running written eaten given) { underruns = underruns }
+abbrev pub wide_book : ℕ → ℕ → ℕ → ℕ → ℕ → PlayBook
+wide_book written eaten given last underruns = record (book_in wide_settings Running written eaten given) { last = last; underruns = underruns }
 
 -- a device of one channel of 32 bits, whose filter doubles rates with two taps
 abbrev pub filtered_device : DeviceSeen
@@ -166,7 +166,7 @@ filtered_bytes =
 
 -- its book once both frames were played
 abbrev pub filtered_book : PlayBook
-filtered_book = record (book_in filtered_settings Setup 0 0 0) { done = 8 }
+filtered_book = record (book_in filtered_settings Setup 0 0 0) { done = 8; last = 4 }
 
 -- a device of eight channels over a ring of four frames, whose filter has 64 taps
 abbrev pub ahead_device : DeviceSeen
@@ -192,5 +192,5 @@ ahead_script = record {
 }
 
 -- its book while it runs
-abbrev pub ahead_book : ℕ → ℕ → ℕ → PlayBook
-ahead_book written eaten given = cut_in 4 2 (wide_book written eaten given 32)
+abbrev pub ahead_book : ℕ → ℕ → ℕ → ℕ → PlayBook
+ahead_book written eaten given last = cut_in 4 2 (wide_book written eaten given last 32)

@@ -46,7 +46,7 @@ starved_lines = joined (
 
 -- four interrupts were short
 abbrev pub starved_book : PlayBook
-starved_book = record (usual_book Running 4100 1025 1025) { underruns = 4 }
+starved_book = record (usual_book Running 4100 1025 1025) { underruns = 4; last = 1029 }
 
 -- what the interrupts took of the stream, the newest first: frame 1024 is mixed at 1028
 abbrev pub starved_pieces : List Piece

@@ -10,6 +10,7 @@ pub mod ClientFormats
 pub mod ClientRates
 pub mod Samples
 pub mod Requests
+pub mod DelayRows
 pub mod RequestTable
 pub mod Stages
 pub mod PlanRows

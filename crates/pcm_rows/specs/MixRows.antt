@@ -124,7 +124,7 @@ starving_lines = joined (
 
 -- its book: both frames were taken by the first interrupt
 abbrev pub starving_book : ℕ → PlayBook
-starving_book underruns = record (book_in half_settings Running 8 2 2) { underruns = underruns }
+starving_book underruns = record (book_in half_settings Running 8 2 2) { underruns = underruns; last = 2 }
 
 -- its run: pieces count frames of the mix, and an interrupt that mixes none takes none
 abbrev pub starving_run : Run

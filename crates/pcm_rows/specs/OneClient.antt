@@ -92,7 +92,7 @@ abbrev pub short_drain_lines : List ℕ
 short_drain_lines = joined (
     codes "1: ok 0" ∷ codes "2: ok 8" ∷ codes "3: ok" ∷ codes "4: ok 4" ∷ codes "5: ok 2" ∷ codes "6: ok 2" ∷ [])
 
--- its run, which started at the close and is drained
+-- its run, which started at the close and is drained: the second interrupt got nothing more, and then it was over
 abbrev pub short_drain_run : Run
 short_drain_run = record {
   settings = usual_settings;
@@ -100,12 +100,12 @@ short_drain_run = record {
   start = Some 0;
   drained = true;
   dropped = None;
-  pieces = piece 0 0 2 0 ∷ [];
+  pieces = piece 4 2 0 0 ∷ piece 0 0 2 0 ∷ [];
 }
 
 -- a slot whose run is over, of which two frames were played
 abbrev pub over_book : PlayBook
-over_book = record (usual_book Free 0 0 0) { done = 8 }
+over_book = record (usual_book Free 0 0 0) { done = 8; last = 2 }
 
 -- three bytes of a frame of four
 abbrev pub part_text : List ℕ
@@ -128,12 +128,12 @@ abbrev pub part_lines : List ℕ
 part_lines = joined (
     codes "1: ok 0" ∷ codes "2: ok 3" ∷ codes "3: ok" ∷ codes "4: ok 0" ∷ codes "5: ok 4" ∷ codes "6: ok 1" ∷ [])
 
--- three frames are mixed before a write and its close, and the slot is opened again after five
+-- three frames are mixed before a write and its close, and the slot is opened again after eight, when its frame has left the ring
 abbrev pub late_script : Script
 late_script = record {
-  events = opens 0 ∷ Intr 3 ∷ Write 0 Inline 0 4 ∷ Close 0 ∷ Intr 2 ∷ opens 0 ∷ [];
+  events = opens 0 ∷ Intr 3 ∷ Write 0 Inline 0 4 ∷ Close 0 ∷ Intr 5 ∷ opens 0 ∷ [];
   inline_bytes = 1 ∷ 0 ∷ 2 ∷ 0 ∷ [];
-  device_frames = 5;
+  device_frames = 8;
 }
 
 abbrev pub late_run : Run

@@ -11,7 +11,7 @@ use Rattle.pcm_desk.specs.Desk.{Desk, after, desk_at_start}
 use Rattle.pcm_desk.specs.Usual.{usual_device}
 use Rattle.pcm_rows.specs.Calls.{opens}
 
--- two frames are written, one is played and one waits; what comes behind the close is another's
+-- two frames are written, one is mixed and one waits, behind a whole ring of the device; what comes behind the close is another's
 abbrev pub among_others : List Event
 among_others = opens 1 ∷ Write 0 Inline 0 8 ∷ Write 1 Inline 8 4 ∷ Ioctl 0 Post ∷ Close 1 ∷ Intr 1 ∷ Ioctl 0 GetODelay ∷ Close 0 ∷ opens 0 ∷ Intr 4 ∷ []
 
@@ -23,7 +23,7 @@ abbrev pub its_events : List Event
 its_events = Write 0 Inline 0 8 ∷ Ioctl 0 Post ∷ Intr 1 ∷ Ioctl 0 GetODelay ∷ Close 0 ∷ []
 
 abbrev pub its_replies : List (Result Answer Errno)
-its_replies = Ok (Number 8) ∷ Ok Done ∷ Ok (Number 1) ∷ Ok (Number 4) ∷ Ok Done ∷ []
+its_replies = Ok (Number 8) ∷ Ok Done ∷ Ok (Number 1) ∷ Ok (Number 4100) ∷ Ok Done ∷ []
 
 -- a desk with one open descriptor
 abbrev pub desk_of_one : ℕ → Desk

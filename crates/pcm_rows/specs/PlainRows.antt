@@ -153,16 +153,16 @@ unlimited_trio = trio_script negative_frame loud_frame soft_frame
 abbrev pub three_runs_script : Script
 three_runs_script = record {
   events =
-      Open 0 Play half_settings ∷ Write 0 Inline 0 4 ∷ asks Sync ∷ Intr 2 ∷ Intr 1 ∷
+      Open 0 Play half_settings ∷ Write 0 Inline 0 4 ∷ asks Sync ∷ Intr 2 ∷ Intr 4 ∷
       Write 0 Inline 4 16 ∷ asks Post ∷ Intr 2 ∷ asks Halt ∷
       Write 0 Inline 20 12 ∷ asks Post ∷ Intr 3 ∷ [];
   inline_bytes = 100 ∷ 0 ∷ 100 ∷ 0 ∷ drain_bytes ++ 9 ∷ 0 ∷ 10 ∷ 0 ∷ 11 ∷ 0 ∷ 12 ∷ 0 ∷ 13 ∷ 0 ∷ 14 ∷ 0 ∷ [];
-  device_frames = 8;
+  device_frames = 11;
 }
 
--- the frame and its half, silence, and the first of the next run
+-- the frame and its half, the silence until both have left the ring, and the first of the next run
 abbrev pub three_runs_bytes : List ℕ
-three_runs_bytes = replicate 16 0 ++ 100 ∷ 0 ∷ 100 ∷ 0 ∷ 50 ∷ 0 ∷ 50 ∷ 0 ∷ 0 ∷ 0 ∷ 0 ∷ 0 ∷ 1 ∷ 0 ∷ 2 ∷ 0 ∷ []
+three_runs_bytes = replicate 16 0 ++ 100 ∷ 0 ∷ 100 ∷ 0 ∷ 50 ∷ 0 ∷ 50 ∷ 0 ∷ replicate 16 0 ++ 1 ∷ 0 ∷ 2 ∷ 0 ∷ []
 
 -- the frame that drains
 abbrev pub drained_frames : List Frame

@@ -1,5 +1,5 @@
 -- Every request in every state: a book for each state, and what comes of each request.
-use Rattle.std.specs.Prelude.{◌≡◌, ℕ, ◌^◌, List, [], ◌∷◌, map, true, false, Ok, Err}
+use Rattle.std.specs.Prelude.{◌≡◌, ℕ, pos, ◌^◌, List, [], ◌∷◌, map, true, false, Ok, Err}
 use Rattle.pcm_format.specs.declared.format.Format.TheVariants.{S8}
 use Rattle.pcm_format.specs.declared.layout.Layout.TheVariants.{Six}
 use Rattle.pcm_format.specs.Formats.{code_of}
@@ -13,6 +13,8 @@ use Rattle.pcm_oss.specs.declared.reply.Errno.TheVariants.{Busy, Inval}
 use Rattle.pcm_oss.specs.declared.request.Request.{Request}
 use Rattle.pcm_oss.specs.declared.request.Request.TheVariants.{SetFmt, Speed, Channels, GetFmts, GetCaps, GetBlkSize, SetFragment, GetOSpace, GetISpace, GetOPtr, GetIPtr, GetODelay, GetError, SetTrigger, GetTrigger, SetPlayVol, GetPlayVol, Post, Sync, Halt}
 use Rattle.pcm_rate.specs.declared.rate.Rate.{Rate}
+use Rattle.pcm_rate.specs.Rates.{unchanged}
+use Rattle.pcm_desk.specs.declared.here.Here.{Here}
 use Rattle.pcm_desk.specs.declared.play_book.PlayBook.{PlayBook}
 use Rattle.pcm_desk.specs.declared.play_book.PlayState.{PlayState}
 use Rattle.pcm_desk.specs.declared.play_book.PlayState.TheVariants.{Setup, Primed, Running, Draining}
@@ -21,7 +23,7 @@ use Rattle.pcm_desk.specs.Desk.{Desk, desk_at_start}
 use Rattle.pcm_desk.specs.Events.{after_all}
 use Rattle.pcm_desk.specs.PlayRequests.{play_ask, play_with_trigger}
 use Rattle.pcm_desk.specs.Usual.{usual_settings}
-use Rattle.pcm_rows.specs.Calls.{cut_in, opens, set_to, small_device, told_at, usual_book}
+use Rattle.pcm_rows.specs.Calls.{cut_in, last_at, opens, set_to, small_device, told_at, usual_book}
 
 -- ---- tables
 
@@ -49,13 +51,25 @@ outcome_turn book (Refuses errno) = record { book = book; reply = Err errno }
 abbrev pub turns_in : PlayBook → List AskedRow → List (Turn PlayBook)
 turns_in book rows = map (λ row. outcome_turn book row.outcome) rows
 
--- what the rules say of the same requests
-abbrev pub turns_asked : Rate → PlayBook → List AskedRow → List (Turn PlayBook)
-turns_asked rate book rows = map (λ row. play_ask rate row.request book) rows
+-- what the rules say of the same requests, with the rate of the mix and where it and the device are
+abbrev pub turns_asked : Rate → ℕ → Here → PlayBook → List AskedRow → List (Turn PlayBook)
+turns_asked rate mix_rate here book rows = map (λ row. play_ask rate mix_rate here row.request book) rows
 
 -- a book answers the requests of a table as its rows tell
-abbrev pub AnswersAs : Rate → PlayBook → List AskedRow → Type 0
-AnswersAs rate book rows = turns_asked rate book rows ≡ turns_in book rows
+abbrev pub AnswersAs : Rate → ℕ → Here → PlayBook → List AskedRow → Type 0
+AnswersAs rate mix_rate here book rows = turns_asked rate mix_rate here book rows ≡ turns_in book rows
+
+-- twelve frames were mixed at 48000, of which eight have left the device's ring
+abbrev pub twelve_mixed : Here
+twelve_mixed = record { mixed = 12; passed = pos 8 }
+
+-- there a book in the settings of the device answers so
+abbrev pub AnswersThere : PlayBook → List AskedRow → Type 0
+AnswersThere book rows = AnswersAs unchanged 48000 twelve_mixed book rows
+
+-- and so to one request
+abbrev pub asked_there : Request → PlayBook → Turn PlayBook
+asked_there request book = play_ask unchanged 48000 twelve_mixed request book
 
 -- ---- outcomes
 
@@ -162,11 +176,11 @@ primed_rows =
     ∷ row GetODelay (number 10)
     ∷ row (SetTrigger 0) (becomes (play_with_trigger false (halted primed_book)))
     ∷ row (SetTrigger 1) (becomes (play_with_trigger false (halted primed_book)))
-    ∷ row (SetTrigger 2) (becomes (record primed_book { state = Running }))
-    ∷ row (SetTrigger 3) (becomes (record primed_book { state = Running }))
+    ∷ row (SetTrigger 2) (becomes (last_at 12 (record primed_book { state = Running })))
+    ∷ row (SetTrigger 3) (becomes (last_at 12 (record primed_book { state = Running })))
     ∷ row GetTrigger (number 2)
-    ∷ row Post (becomes (record primed_book { state = Running }))
-    ∷ row Sync (becomes (record primed_book { state = Draining false }))
+    ∷ row Post (becomes (last_at 12 (record primed_book { state = Running })))
+    ∷ row Sync (becomes (last_at 12 (record primed_book { state = Draining false })))
     ∷ []
 
 -- The ends of five fragments were passed, and the end of one was told.
@@ -178,7 +192,7 @@ running_rows =
     ∷ row (SetFragment 0x00080005) busy
     ∷ row GetOSpace (Tells (Space 2 4 16 42))
     ∷ row GetOPtr (Makes (told_at 88 running_book) (Pointer 88 4 24))
-    ∷ row GetODelay (number 22)
+    ∷ row GetODelay (number 38)
     ∷ row (SetTrigger 0) (becomes (play_with_trigger false (halted running_book)))
     ∷ row (SetTrigger 1) (becomes (play_with_trigger false (halted running_book)))
     ∷ row (SetTrigger 2) ok
@@ -197,7 +211,7 @@ draining_rows =
     ∷ row (SetFragment 0x00080005) busy
     ∷ row GetOSpace (Tells (Space 2 4 16 42))
     ∷ row GetOPtr (Makes (told_at 88 draining_book) (Pointer 88 4 24))
-    ∷ row GetODelay (number 22)
+    ∷ row GetODelay (number 38)
     ∷ row (SetTrigger 0) busy
     ∷ row (SetTrigger 1) busy
     ∷ row (SetTrigger 2) busy
@@ -219,11 +233,11 @@ full_rows =
     ∷ row GetODelay (number 64)
     ∷ row (SetTrigger 0) (becomes (halted full_book))
     ∷ row (SetTrigger 1) (becomes (halted full_book))
-    ∷ row (SetTrigger 2) (becomes (record (play_with_trigger true full_book) { state = Running }))
-    ∷ row (SetTrigger 3) (becomes (record (play_with_trigger true full_book) { state = Running }))
+    ∷ row (SetTrigger 2) (becomes (last_at 12 (record (play_with_trigger true full_book) { state = Running })))
+    ∷ row (SetTrigger 3) (becomes (last_at 12 (record (play_with_trigger true full_book) { state = Running })))
     ∷ row GetTrigger (number 0)
     ∷ row Post ok
-    ∷ row Sync (becomes (record full_book { state = Draining false }))
+    ∷ row Sync (becomes (last_at 12 (record full_book { state = Draining false })))
     ∷ []
 
 -- a full ring that runs: 18 frames were written, and two are played
@@ -233,7 +247,7 @@ full_running_book = cut_book Running 72 2
 abbrev pub full_running_rows : List AskedRow
 full_running_rows =
     row GetOSpace (Tells (Space 0 4 16 0))
-    ∷ row GetODelay (number 64)
+    ∷ row GetODelay (number 80)
     ∷ row (SetTrigger 2) ok
     ∷ row Post ok
     ∷ row Sync (becomes (cut_book (Draining false) 72 2))
@@ -253,9 +267,9 @@ part_rows =
     ∷ row Halt (becomes (halted part_book))
     ∷ []
 
--- seven frames were written and played, and half a frame waits
-abbrev pub played_book : PlayBook
-played_book = cut_book Running 30 7
+-- seven frames were written and given, the last one before some position, and half a frame waits
+abbrev pub played_book : PlayState → ℕ → PlayBook
+played_book state last = last_at last (cut_book state 30 7)
 
 -- two frames were written and given at half the rate of the mix, where they last for four
 abbrev pub half_rate : Rate
@@ -265,8 +279,8 @@ abbrev pub half_given : PlayState → PlayBook
 half_given state = cut_book state 8 2
 
 -- a book whose seven frames count among the bytes that were played
-abbrev pub ended_book : PlayState → PlayBook
-ended_book state = record (cut_book state 0 0) { done = 108 }
+abbrev pub ended_book : PlayState → ℕ → PlayBook
+ended_book state last = last_at last (record (cut_book state 0 0) { done = 108 })
 
 -- ---- writes and closes
 

@@ -56,7 +56,7 @@ posted_lines = joined (
 
 -- two interrupts were short since the count was told
 abbrev pub posted_book : PlayBook
-posted_book = record (usual_book Running 16 4 4) { underruns = 2 }
+posted_book = record (usual_book Running 16 4 4) { underruns = 2; last = 6 }
 
 -- frame 2 is mixed at 4, right behind the silence of the two that were missing
 abbrev pub posted_run : Run
@@ -96,7 +96,7 @@ synced_lines = joined (
 
 -- its run is over, and eight bytes were played and told
 abbrev pub synced_book : PlayBook
-synced_book = record (told_at 8 (usual_book Setup 0 0 0)) { done = 8 }
+synced_book = record (told_at 8 (usual_book Setup 0 0 0)) { done = 8; last = 2 }
 
 -- two frames at half the rate of the device, which last for four
 abbrev pub synced_tail_text : List ℕ
@@ -145,13 +145,14 @@ cut_post_lines = joined (
 
 -- ---- settings
 
--- one frame drains, and one of a single byte is written behind it
+-- one frame drains until it has left the device's ring of four, and one of a single byte is written behind it
 abbrev pub changed_text : List ℕ
 changed_text = joined (
     codes "open 0 play s16le 2 48000" ∷
     codes "write 0 01000200" ∷
     codes "ioctl 0 sync" ∷
     codes "intr 4" ∷
+    codes "intr 1" ∷
     codes "ioctl 0 setfmt u8" ∷
     codes "ioctl 0 channels 1" ∷
     codes "write 0 81" ∷
@@ -163,20 +164,20 @@ changed_text = joined (
 abbrev pub changed_script : Script
 changed_script = record {
   events =
-      opens 0 ∷ Write 0 Inline 0 4 ∷ asks Sync ∷ Intr 4 ∷ asks (SetFmt 8) ∷ asks (Channels 1) ∷
+      opens 0 ∷ Write 0 Inline 0 4 ∷ asks Sync ∷ Intr 4 ∷ Intr 1 ∷ asks (SetFmt 8) ∷ asks (Channels 1) ∷
       Write 0 Inline 4 1 ∷ asks Post ∷ Intr 4 ∷ asks GetOPtr ∷ Intr 4 ∷ [];
   inline_bytes = 1 ∷ 0 ∷ 2 ∷ 0 ∷ 0x81 ∷ [];
-  device_frames = 12;
+  device_frames = 13;
 }
 
 -- one step of 8 bits is 256 of 16, on both sides
 abbrev pub changed_bytes : List ℕ
-changed_bytes = replicate 16 0 ++ 1 ∷ 0 ∷ 2 ∷ 0 ∷ replicate 12 0 ++ 0 ∷ 1 ∷ 0 ∷ 1 ∷ replicate 12 0
+changed_bytes = replicate 16 0 ++ 1 ∷ 0 ∷ 2 ∷ 0 ∷ replicate 16 0 ++ 0 ∷ 1 ∷ 0 ∷ 1 ∷ replicate 12 0
 
 abbrev pub changed_lines : List ℕ
 changed_lines = joined (
-    codes "1: ok 0" ∷ codes "2: ok 4" ∷ codes "3: ok" ∷ codes "4: ok 4" ∷ codes "5: ok 8" ∷ codes "6: ok 1" ∷
-    codes "7: ok 1" ∷ codes "8: ok" ∷ codes "9: ok 4" ∷ codes "10: ok bytes=5 blocks=0 ptr=5" ∷ codes "11: ok 4" ∷ [])
+    codes "1: ok 0" ∷ codes "2: ok 4" ∷ codes "3: ok" ∷ codes "4: ok 4" ∷ codes "5: ok 1" ∷ codes "6: ok 8" ∷ codes "7: ok 1" ∷
+    codes "8: ok 1" ∷ codes "9: ok" ∷ codes "10: ok 4" ∷ codes "11: ok bytes=5 blocks=0 ptr=5" ∷ codes "12: ok 4" ∷ [])
 
 -- a volume, the trigger off and other fragments, a close, and the next opening of the slot
 abbrev pub anew_events : List Event
@@ -358,10 +359,10 @@ halted_lines = joined (
 
 -- its book behind the halt, and at the end
 abbrev pub halted_book : PlayBook
-halted_book = record (book_in half_settings Setup 0 0 0) { underruns = 1 }
+halted_book = record (book_in half_settings Setup 0 0 0) { underruns = 1; last = 2 }
 
 abbrev pub halted_over_book : PlayBook
-halted_over_book = record (book_in half_settings Setup 0 0 0) { done = 4 }
+halted_over_book = record (book_in half_settings Setup 0 0 0) { done = 4; last = 6 }
 
 -- the stream that was halted: it started, and isn't drained
 abbrev pub dropped_run : Run
@@ -382,7 +383,7 @@ second_run = record {
   start = Some 4;
   drained = true;
   dropped = None;
-  pieces = piece 4 0 2 0 ∷ [];
+  pieces = piece 8 2 0 0 ∷ piece 4 0 2 0 ∷ [];
 }
 
 -- ---- what a run is marked with
@@ -402,6 +403,10 @@ run_of_two start drained dropped pieces = record {
   dropped = dropped;
   pieces = pieces;
 }
+
+-- the run of `synced_script`, of which the second interrupt got nothing more
+abbrev pub synced_run : Run
+synced_run = run_of_two (Some 0) true None (piece 4 2 0 0 ∷ piece 0 0 2 0 ∷ [])
 
 -- a run that started with the mix and gave so many frames at once: whether no more came, and where it was dropped
 abbrev pub run_begun : ℕ → Bool → Option ℕ → Run

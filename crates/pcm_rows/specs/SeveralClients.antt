@@ -86,11 +86,11 @@ opens_lines = joined (
 abbrev pub single_device : DeviceSeen
 single_device = record usual_device { slots = 1 }
 
--- an open while the slot's client plays, one while its drain lasts, and one after it
+-- an open while the slot's client plays, one while it drains, one once its frame was mixed, and one once that was handed over
 abbrev pub queue_events : List Event
-queue_events = opens 0 ∷ opens 1 ∷ Write 0 Inline 0 4 ∷ Close 0 ∷ opens 1 ∷ Intr 1 ∷ opens 1 ∷ []
+queue_events = opens 0 ∷ opens 1 ∷ Write 0 Inline 0 4 ∷ Close 0 ∷ opens 1 ∷ Intr 1 ∷ opens 1 ∷ Intr 1024 ∷ opens 1 ∷ []
 
 abbrev pub queue_lines : List ℕ
 queue_lines = joined (
     codes "1: ok 0" ∷ codes "2: refused busy" ∷ codes "3: ok 4" ∷ codes "4: ok" ∷ codes "5: refused busy" ∷
-    codes "6: ok 1" ∷ codes "7: ok 0" ∷ [])
+    codes "6: ok 1" ∷ codes "7: refused busy" ∷ codes "8: ok 1024" ∷ codes "9: ok 0" ∷ [])

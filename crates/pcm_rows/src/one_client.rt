@@ -62,5 +62,5 @@ pub fn part_of_a_frame_is_dropped()
 /// A run starts at its close, behind the frames mixed before, and each opening of a slot sets its gain.
 pub fn late_close_starts_late()
     ensures runs { runs_in late_script ≡ late_run ∷ [] }
-    ensures gains { gains_in late_script ≡ unity_from 5 ∷ unity_from 0 ∷ [] }
+    ensures gains { gains_in late_script ≡ unity_from 8 ∷ unity_from 0 ∷ [] }
 {}

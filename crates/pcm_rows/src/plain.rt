@@ -98,7 +98,7 @@ pub fn other_starts_sound_otherwise()
 pub fn spans_of_three_runs()
     ensures device { played small_device three_runs_script ≡ three_runs_bytes }
     ensures plain { plainly_played small_device three_runs_script ≡ three_runs_bytes }
-    ensures all { spans_in three_runs_script 8 ≡ drawn closing_frames 5 8 ∷ drawn four_frames 3 5 ∷ drawn drained_frames 0 2 ∷ [] }
-    ensures earlier { spans_in three_runs_script 4 ≡ drawn four_frames 3 4 ∷ drawn drained_frames 0 2 ∷ [] }
+    ensures all { spans_in three_runs_script 11 ≡ drawn closing_frames 8 11 ∷ drawn four_frames 6 8 ∷ drawn drained_frames 0 2 ∷ [] }
+    ensures earlier { spans_in three_runs_script 7 ≡ drawn four_frames 6 7 ∷ drawn drained_frames 0 2 ∷ [] }
     ensures first { spans_in three_runs_script 1 ≡ drawn drained_frames 0 1 ∷ [] }
 {}

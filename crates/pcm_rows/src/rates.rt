@@ -37,9 +37,9 @@ pub fn downmix_at_half_the_rate()
 /// The last frame of a stream waits for the one after it: 128 frames give 254 of the 256 that they
 /// last for. The shortage is counted once, and what was missed is given when the next frame comes.
 pub fn shortage_at_half_the_rate()
-    ensures all { book_after usual_device (take 3 wide_events) ≡ wide_book 4096 128 254 0 }
-    ensures short { book_after usual_device (take 4 wide_events) ≡ wide_book 4096 128 254 1 }
-    ensures late { book_after usual_device wide_events ≡ wide_book 4128 129 256 1 }
+    ensures all { book_after usual_device (take 3 wide_events) ≡ wide_book 4096 128 254 254 0 }
+    ensures short { book_after usual_device (take 4 wide_events) ≡ wide_book 4096 128 254 254 1 }
+    ensures late { book_after usual_device wide_events ≡ wide_book 4128 129 256 258 1 }
 {}
 
 /// A filter of two taps: each frame as it is, and then its mean with the next one. -3 and 4 give
@@ -48,13 +48,13 @@ pub fn two_taps_at_half_the_rate()
     ensures verdict { judged filtered_device filtered_text ≡ accepted filtered_script }
     ensures device { played filtered_device filtered_script ≡ ring_of_silence ++ filtered_bytes }
     ensures lines { printed filtered_device filtered_script ≡ filtered_lines }
-    ensures over { book_after filtered_device (take 4 filtered_script.events) ≡ filtered_book }
+    ensures over { book_after filtered_device filtered_script.events ≡ filtered_book }
 {}
 
 /// A filter of 64 taps eats 32 frames before it gives the first one, so that a ring of one frame is
 /// enough: it is short 32 times, and then the first frame is heard.
 pub fn sixty_four_taps_eat_ahead()
-    ensures before { book_after ahead_device (take 66 ahead_script.events) ≡ ahead_book 1024 32 0 }
-    ensures first { book_after ahead_device (take 68 ahead_script.events) ≡ ahead_book 1056 33 1 }
+    ensures before { book_after ahead_device (take 66 ahead_script.events) ≡ ahead_book 1024 32 0 0 }
+    ensures first { book_after ahead_device (take 68 ahead_script.events) ≡ ahead_book 1056 33 1 33 }
     ensures device { played ahead_device ahead_script ≡ replicate 1152 0 ++ ahead_frame }
 {}

@@ -9,7 +9,7 @@ ghost use Rattle.pcm_desk.specs.declared.play_book.PlayState.TheVariants.{Setup,
 ghost use Rattle.pcm_rows.specs.Calls.{small_device, accepted, judged, played, printed, book_after, gains_in, runs_in, softer_from, unity_from, usual_book};
 ghost use Rattle.pcm_rows.specs.ClientRates.{step_doubled};
 ghost use Rattle.pcm_rows.specs.OneClient.{four_frames_heard, two_frames_heard};
-ghost use Rattle.pcm_rows.specs.Requests.{asks, runs_of_two, run_of_two, run_begun, posted_text, posted_script, posted_bytes, posted_lines, posted_book, posted_run, synced_text, synced_script, synced_lines, synced_book, synced_tail_text, synced_tail_script, synced_tail_lines, cut_post_text, cut_post_script, cut_post_lines, refused_text, refused_script, refused_lines, wrong_way_text, wrong_way_script, wrong_way_lines, busy_text, busy_script, busy_lines, both_ends_text, both_ends_script, both_ends_lines, small_ring_text, small_ring_script, small_ring_lines, small_ring_book, half_frame_events, half_frame_book, no_bytes_events, halted_text, halted_script, halted_bytes, halted_lines, halted_book, halted_over_book, dropped_run, second_run, softer_text, softer_script, softer_bytes, softer_lines, changed_text, changed_script, changed_bytes, changed_lines, anew_events, anew_gains};
+ghost use Rattle.pcm_rows.specs.Requests.{asks, runs_of_two, run_of_two, run_begun, posted_text, posted_script, posted_bytes, posted_lines, posted_book, posted_run, synced_text, synced_script, synced_lines, synced_book, synced_run, synced_tail_text, synced_tail_script, synced_tail_lines, cut_post_text, cut_post_script, cut_post_lines, refused_text, refused_script, refused_lines, wrong_way_text, wrong_way_script, wrong_way_lines, busy_text, busy_script, busy_lines, both_ends_text, both_ends_script, both_ends_lines, small_ring_text, small_ring_script, small_ring_lines, small_ring_book, half_frame_events, half_frame_book, no_bytes_events, halted_text, halted_script, halted_bytes, halted_lines, halted_book, halted_over_book, dropped_run, second_run, softer_text, softer_script, softer_bytes, softer_lines, changed_text, changed_script, changed_bytes, changed_lines, anew_events, anew_gains};
 
 /// A post starts less than a fragment. The shortage that follows is told once, and what comes late
 /// is heard late.
@@ -29,7 +29,7 @@ pub fn sync_plays_what_is_there()
     ensures lines { printed small_device synced_script ≡ synced_lines }
     ensures draining { book_after small_device (take 3 synced_script.events) ≡ usual_book (Draining false) 8 0 0 }
     ensures over { book_after small_device synced_script.events ≡ synced_book }
-    ensures runs { runs_in synced_script ≡ run_begun 2 true None ∷ [] }
+    ensures runs { runs_in synced_script ≡ synced_run ∷ [] }
 {}
 
 /// A sync goes on to the last output, as a close does: the last frame fades to silence.
@@ -126,12 +126,11 @@ pub fn opening_begins_anew()
 {}
 
 /// A run is marked with its start, its drain and its drop: a halt drops what runs or drains, and so
-/// does a trigger that is turned off; a sync drains, at once where all was given. What never started
-/// has no mark.
+/// does a trigger that is turned off; a sync drains. What never started has no mark.
 pub fn marks_of_a_run()
     ensures halted { runs_of_two (asks Post ∷ Intr 1 ∷ asks Halt ∷ []) ≡ run_begun 1 false (Some 1) ∷ [] }
     ensures stopped { runs_of_two (asks Post ∷ Intr 1 ∷ asks (SetTrigger 1) ∷ []) ≡ run_begun 1 false (Some 1) ∷ [] }
     ensures cut { runs_of_two (asks Sync ∷ Intr 1 ∷ asks Halt ∷ []) ≡ run_begun 1 true (Some 1) ∷ [] }
-    ensures over { runs_of_two (asks Post ∷ Intr 2 ∷ asks Sync ∷ []) ≡ run_begun 2 true None ∷ [] }
+    ensures drained { runs_of_two (asks Post ∷ Intr 2 ∷ asks Sync ∷ []) ≡ run_begun 2 true None ∷ [] }
     ensures waiting { runs_of_two (asks Halt ∷ []) ≡ run_of_two None false None [] ∷ [] }
 {}

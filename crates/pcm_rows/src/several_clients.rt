@@ -29,7 +29,7 @@ pub fn fifth_open_busy()
     ensures lines { printed usual_device opens_script ≡ opens_lines }
 {}
 
-/// A slot is free once its drain is over, and not before.
-pub fn one_slot_free_after_drain()
+/// A slot is free once the last frame of its drain was handed over, and not once it was mixed.
+pub fn one_slot_free_after_handover()
     ensures lines { (pool : Pool) → transcript single_device pool queue_events ≡ queue_lines }
 {}

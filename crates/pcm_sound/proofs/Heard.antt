@@ -17,37 +17,49 @@ use Rattle.pcm_desk.specs.Desk.{play_rate_at}
 use Rattle.pcm_desk.proofs.Ratios.{ratio-between}
 use Rattle.pcm_sound.specs.Given.{given_frame}
 use Rattle.pcm_sound.specs.Runs.{Piece, Run, covers, first_of, piece_frame, run_frames, sounding}
-use Rattle.pcm_sound.specs.Plain.{IsInPlace, IsUnbroken, Span, drop_end, is_within, place_of, run_end, span_at, span_frame, span_of, spans_of}
+use Rattle.pcm_sound.specs.Plain.{IsInPlace, IsUnbroken, Span, drop_end, is_within, lasting, place_of, run_end, span_at, span_frame, span_of, spans_of}
 use Rattle.pcm_sound.specs.Places.{FollowFrom, IsCounted, IsOver, IsOverFrom, SlotIsPlaced}
 use Rattle.pcm_sound.specs.Valid.{IsNewest, SlotIsValid}
-use Rattle.pcm_sound.proofs.Places.{given-lasts, lasting, lasts-newest}
+use Rattle.pcm_sound.proofs.Places.{given-lasts, lasts-newest}
 
 -- ---- pieces that follow each other
+
+-- a piece that covers any position stands where its frames are in the stream
+piece_place : (start p : ℕ) (piece : Piece) → covers p piece ≡ true → (0 < piece.count → piece.position ≡ start + piece.index) → piece.position ≡ start + piece.index
+piece_place start p piece e at = at (grind (arith, nat_tests))
+
+-- and covers none before its first frame and behind its last
+piece_outside : (start p : ℕ) (piece : Piece) → (p < start + piece.index) ⊎ (start + (piece.index + piece.count) ≤ p) → (0 < piece.count → piece.position ≡ start + piece.index) → covers p piece ≡ false
+piece_outside start p piece out at =
+    elim (cases_lt 0 piece.count) [
+      | inl some ↦ (let place = at some in elim out [ inl before ↦ grind (arith, nat_tests) | inr behind ↦ grind (arith, nat_tests) ])
+      | inr none ↦ grind (arith, nat_tests)
+    ]
 
 -- they cover nothing before their first frame and behind their last
 follow_outside : (start count p : ℕ) (pieces : List Piece) → (p < start) ⊎ (start + count ≤ p) → FollowFrom start count pieces → find (covers p) pieces ≡ None
 follow_outside start count p [] out f = refl
 follow_outside start count p (piece ∷ pieces) (inl before) f =
-    let at = f.0 in
-    let here : covers p piece ≡ false = grind (arith, nat_tests) in
+    let here = piece_outside start p piece (inl (omega arith)) f.0 in
     rw here (follow_outside start piece.index p pieces (inl before) f.2)
 follow_outside start count p (piece ∷ pieces) (inr behind) f =
-    let at = f.0 in
     let sum = f.1 in
-    let here : covers p piece ≡ false = grind (arith, nat_tests) in
+    let here = piece_outside start p piece (inr (omega arith)) f.0 in
     rw here (follow_outside start piece.index p pieces (inr (omega arith)) f.2)
 
 follow_within_at : (b : Bool) (start count p : ℕ) (piece : Piece) (pieces : List Piece) → covers p piece ≡ b → start ≤ p → p < start + count → FollowFrom start count (piece ∷ pieces)
     → (p < start + piece.index → option_map (place_of p) (find (covers p) pieces) ≡ Some (p - start))
     → option_map (place_of p) (cond b (Some piece) (find (covers p) pieces)) ≡ Some (p - start)
 follow_within_at true start count p piece pieces e h g f earlier =
-    let at = f.0 in
+    let at = piece_place start p piece e f.0 in
     let here : piece.position ≤ p = grind (arith, nat_tests) in
     ap (λ k. Some k) (omega arith)
 follow_within_at false start count p piece pieces e h g f earlier =
-    let at = f.0 in
     let sum = f.1 in
-    earlier (grind (arith, nat_tests))
+    elim (cases_lt p (start + piece.index)) [
+      | inl before ↦ earlier before
+      | inr behind ↦ (let at = f.0 (omega arith) in absurd (let here : covers p piece ≡ true = grind (arith, nat_tests) in let not_so : true ≡ false = sym here ∙ e in cc))
+    ]
 
 -- at each place between they give the frame that is as far into the stream
 follow_within : (start count p : ℕ) (pieces : List Piece) → start ≤ p → p < start + count → FollowFrom start count pieces → option_map (place_of p) (find (covers p) pieces) ≡ Some (p - start)
@@ -59,15 +71,14 @@ follow_within start count p (piece ∷ pieces) h g f =
 follow_none : (start count p : ℕ) (pieces : List Piece) → start + count ≤ p → FollowFrom start count pieces → length (filter (covers p) pieces) ≡ 0
 follow_none start count p [] h f = refl
 follow_none start count p (piece ∷ pieces) h f =
-    let at = f.0 in
     let sum = f.1 in
-    let here : covers p piece ≡ false = grind (arith, nat_tests) in
+    let here = piece_outside start p piece (inr (omega arith)) f.0 in
     rw here (follow_none start piece.index p pieces (omega arith) f.2)
 
 follow_once_at : (b : Bool) (start count p : ℕ) (piece : Piece) (pieces : List Piece) → covers p piece ≡ b → FollowFrom start count (piece ∷ pieces)
     → length (filter (covers p) pieces) ≤ 1 → length (cond b (piece ∷ filter (covers p) pieces) (filter (covers p) pieces)) ≤ 1
 follow_once_at true start count p piece pieces e f earlier =
-    let at = f.0 in
+    let at = piece_place start p piece e f.0 in
     let here : piece.position ≤ p = grind (arith, nat_tests) in
     let none = follow_none start piece.index p pieces (omega arith) f.2 in
     omega arith
@@ -106,29 +117,32 @@ over_from_heard device mixed run (Some start) over unbroken =
 over_heard : (device : DeviceSeen) (mixed : ℕ) (run : Run) → IsOver device mixed run → RunIsHeard device mixed run
 over_heard device mixed run over = λ unbroken. over_from_heard device mixed run run.start over unbroken
 
--- the end of a run that goes on is what is mixed next
-going_end : (drained : Bool) (dropped : Option ℕ) (start lasts mixed : ℕ) → dropped ≡ None → mixed ≤ start + lasts → min (cond drained (start + lasts) mixed) (min (drop_end mixed dropped) mixed) ≡ mixed
-going_end true None start lasts mixed d h = omega arith
-going_end false None start lasts mixed d h = omega arith
-going_end drained (Some position) start lasts mixed d h = cc
+-- a run that goes on ends behind all that was given, whether more is to come or it has given all
+going_end : (drained : Bool) (dropped : Option ℕ) (start lasts given mixed : ℕ) → dropped ≡ None → given ≤ lasts → start + given ≤ mixed → ((drained ≡ true → given < lasts) → start + given ≡ mixed)
+    → min (cond drained (start + lasts) mixed) (min (drop_end mixed dropped) mixed) ≡ start + given
+going_end true None start lasts given mixed d most past next =
+    elim (cases_lt given lasts) [
+      | inl less ↦ (let reached = next (λ e. less) in omega arith)
+      | inr all ↦ omega arith
+    ]
+going_end false None start lasts given mixed d most past next = let reached = next (λ e. cc) in omega arith
+going_end drained (Some position) start lasts given mixed d most past next = cc
 
 -- a run that its book counts
 counted_heard : (b : Bool) (device : DeviceSeen) (mixed : ℕ) (book : PlayBook) (run : Run) (runs : List Run) → is_started book.state ≡ b → IsDevice device → PlayIsSafe (play_rate_at device book) book → SlotIsValid device mixed book (run ∷ runs)
-    → IsNewest book (run ∷ runs) → IsCounted mixed book run → RunIsHeard device mixed run
+    → IsNewest book (run ∷ runs) → IsCounted device mixed book run → RunIsHeard device mixed run
 counted_heard false device mixed book run runs e d safe v newest c = λ unbroken.
     let w = c.waits e in
     subst (λ (start : Option ℕ). HeardFrom device mixed run start) (sym w.start) w.pieces
 counted_heard true device mixed book run runs e d safe v newest c = λ unbroken.
     let g = c.goes e in
-    let f = g.follow unbroken in
-    let sum = f.1 in
     let most = given-lasts (play_rate_at device book) book (ratio-between device book.opening.settings d v.settings) e safe in
     let lasts = lasts-newest device book run runs newest in
     subst (λ (start : Option ℕ). HeardFrom device mixed run start) (sym g.started) (record {
       count = book.given;
-      follow = f.0;
-      past = omega arith;
-      end = going_end run.drained run.dropped g.start (lasting device run) mixed c.dropped (omega arith) ∙ sym f.1;
+      follow = g.follow unbroken;
+      past = g.past;
+      end = going_end run.drained run.dropped g.start (lasting device run) book.given mixed c.dropped (omega arith) g.past (g.next unbroken);
     })
 
 -- the newest run, which its book counts or which is over

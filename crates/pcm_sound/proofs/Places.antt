@@ -1,7 +1,8 @@
 -- The pieces of a slot stay in their places through every event that takes no frames.
-use Rattle.std.proofs.Common.{◌≡◌, ℕ, suc, zero, ◌+◌, ◌<◌, ◌≤◌, Bool, true, false, cond, eqb, List, [], ◌∷◌, ◌++◌, length, min, Option, Some, None, refl, sym, ap, ◌∙◌, subst, arith, All}
+use Rattle.std.proofs.Common.{◌≡◌, ℕ, suc, zero, ◌+◌, ◌<◌, ◌≤◌, Bool, true, false, cond, eqb, List, [], ◌∷◌, ◌++◌, length, min, Option, Some, None, inl, inr, refl, sym, ap, ◌∙◌, subst, arith, All}
 use Rattle.std.specs.Prelude.{◌&&◌, ◌||◌, not}
 use Rattle.std.proofs.lemmas.List.Elements.{All-cons, All-nil, All-weaker}
+use Rattle.std.proofs.lemmas.Bool.{cases_lt}
 use Rattle.std.proofs.lemmas.Bool.Decides.{nat_tests}
 use Rattle.pcm_oss.specs.declared.event.Event.{Event}
 use Rattle.pcm_format.specs.declared.settings.Settings.{Settings}
@@ -20,11 +21,11 @@ use Rattle.pcm_desk.specs.Desk.{play_rate_at}
 use Rattle.pcm_desk.proofs.PlaySafe.{allowed-lasts, given-allowed}
 use Rattle.pcm_desk.proofs.Ratios.{ratio-between}
 use Rattle.pcm_sound.specs.Runs.{Piece, Run, begun_run, taking, drops, marked, marking, run_frames}
-use Rattle.pcm_sound.specs.Plain.{drop_end, run_end}
+use Rattle.pcm_sound.specs.Plain.{IsUnbroken, drop_end, lasting, run_end}
 use Rattle.pcm_sound.specs.Places.{FollowFrom, IsOver, IsOverFrom, IsWaiting, IsGoing, IsCounted, ArePlaced, SlotIsPlaced}
 use Rattle.pcm_sound.specs.Valid.{IsNewest, SlotIsValid}
 use Rattle.pcm_sound.proofs.Endings.{EndsWhole, KeepsGiven}
-use Rattle.pcm_sound.proofs.Slots.{Accepts, IsUntold, none_above}
+use Rattle.pcm_sound.proofs.Slots.{Accepts, IsUntold, none_above, still_drained}
 
 -- ---- at later positions
 
@@ -67,10 +68,17 @@ lasts-newest device book run runs newest =
     ∙ ap (λ (settings : Settings). len (play_rate_between device settings) (whole_frames settings (length run.bytes))) newest.0
     ∙ ap (λ bytes. len (play_rate_at device book) (whole_frames book.opening.settings bytes)) newest.1
 
--- a run that was dropped where its pieces ended, before more than it lasts for
-dropped_end : (drained : Bool) (lasts start mixed until : ℕ) → mixed ≤ start + lasts → mixed ≤ until → min (cond drained (start + lasts) until) (min mixed until) ≡ mixed
-dropped_end true lasts start mixed until l h = omega arith
-dropped_end false lasts start mixed until l h = omega arith
+-- a run that was dropped, behind all that was given
+dropped_end : (was drained : Bool) (lasts start given mixed until : ℕ) → (was ≡ true → drained ≡ true) → given ≤ lasts → start + given ≤ mixed → ((was ≡ true → given < lasts) → start + given ≡ mixed) → mixed ≤ until
+    → min (cond drained (start + lasts) until) (min mixed until) ≡ start + given
+dropped_end true true lasts start given mixed until keeps most past next h =
+    elim (cases_lt given lasts) [
+      | inl less ↦ (let reached = next (λ e. less) in omega arith)
+      | inr all ↦ omega arith
+    ]
+dropped_end true false lasts start given mixed until keeps most past next h = absurd (let not_so : false ≡ true = keeps refl in cc)
+dropped_end false true lasts start given mixed until keeps most past next h = let reached = next (λ e. cc) in omega arith
+dropped_end false false lasts start given mixed until keeps most past next h = let reached = next (λ e. cc) in omega arith
 
 -- a run that was drained, behind all that it lasts for
 pub lasted_end : (drained : Bool) (dropped : Option ℕ) (start lasts until : ℕ) → drained ≡ true → dropped ≡ None → start + lasts ≤ until
@@ -80,10 +88,6 @@ lasted_end true (Some position) start lasts until d e l = cc
 lasted_end false dropped start lasts until d e l = cc
 
 -- ---- what an event tells of the newest run
-
--- how many frames of the mix a run lasts for
-abbrev pub lasting : DeviceSeen → Run → ℕ
-lasting device run = len (play_rate_between device run.settings) (length (run_frames run))
 
 -- a run with the marks of an event, from whether its book was started before and after it, drains, and is dropped
 abbrev pub told_run : Bool → Bool → Bool → Bool → ℕ → Run → Run
@@ -117,61 +121,74 @@ waiting_over : (device : DeviceSeen) (mixed : ℕ) (run : Run) → IsWaiting run
 waiting_over device mixed run w = subst (λ (start : Option ℕ). IsOverFrom device mixed run start) (sym w.start) w.pieces
 
 -- a run that was going, once it is over
-going_over : (device : DeviceSeen) (mixed : ℕ) (book : PlayBook) (was run : Run) → run.start ≡ was.start → run.pieces ≡ was.pieces → IsGoing mixed book was
-    → ((start : ℕ) → start + book.given ≡ mixed → (until : ℕ) → mixed ≤ until → run_end device until start run ≡ mixed) → IsOver device mixed run
+going_over : (device : DeviceSeen) (mixed : ℕ) (book : PlayBook) (was run : Run) → run.start ≡ was.start → run.pieces ≡ was.pieces → IsGoing device mixed book was
+    → ((start : ℕ) → start + book.given ≤ mixed → ((was.drained ≡ true → book.given < lasting device was) → start + book.given ≡ mixed) → (until : ℕ) → mixed ≤ until → run_end device until start run ≡ start + book.given)
+    → IsOver device mixed run
 going_over device mixed book was run start pieces g end =
     subst (λ (s : Option ℕ). IsOverFrom device mixed run s) (sym (start ∙ g.started)) (λ unbroken.
-    let follow = g.follow (subst (λ (list : List Piece). All (λ (piece : Piece). piece.short ≡ 0) list) pieces unbroken) in
-    let sum = follow.1 in
+    let whole : IsUnbroken was = subst (λ (list : List Piece). All (λ (piece : Piece). piece.short ≡ 0) list) pieces unbroken in
     record {
       count = book.given;
-      follow = subst (λ (list : List Piece). FollowFrom g.start book.given list) (sym pieces) follow.0;
-      past = omega arith;
-      end = λ until l. end g.start follow.1 until l ∙ sym follow.1;
+      follow = subst (λ (list : List Piece). FollowFrom g.start book.given list) (sym pieces) (g.follow whole);
+      past = g.past;
+      end = λ until l. end g.start g.past (g.next whole) until l;
     })
 
 -- a run that its book counted, once nothing of it is left
 over_counted : (before after draining dropping : Bool) (device : DeviceSeen) (mixed : ℕ) (old : PlayBook) (run : Run) → is_started old.state ≡ before → after ≡ false
-    → (before ≡ true → old.given ≤ lasting device run) → (before ≡ true → dropping ≡ false → old.given ≡ lasting device run) → IsCounted mixed old run
+    → (before ≡ true → old.given ≤ lasting device run) → (before ≡ true → dropping ≡ false → old.given ≡ lasting device run) → IsCounted device mixed old run
     → IsOver device mixed (told_run before after draining dropping mixed run)
 over_counted before true draining dropping device mixed old run b a most whole c = cc
 over_counted false false draining dropping device mixed old run b a most whole c =
     let w = c.waits b in
     waiting_over device mixed (told_run false false draining dropping mixed run) (record { start = w.start; pieces = w.pieces })
 over_counted true false draining true device mixed old run b a most whole c =
-    let lasts = most refl in
     let now : Run = told_run true false draining true mixed run in
-    going_over device mixed old run now refl refl (c.goes b) (λ start sum until l. dropped_end now.drained (lasting device run) start mixed until (omega arith) l)
+    going_over device mixed old run now refl refl (c.goes b)
+    (λ start past next until l. dropped_end run.drained now.drained (lasting device run) start old.given mixed until (still_drained run.drained draining ((true && not false) && not true)) (most refl) past next l)
 over_counted true false draining false device mixed old run b a most whole c =
     let all = whole refl refl in
     let now : Run = told_run true false draining false mixed run in
-    going_over device mixed old run now refl refl (c.goes b) (λ start sum until l.
-    lasted_end now.drained run.dropped start (lasting device run) until (drained_now run.drained draining) c.dropped (omega arith) ∙ ap (λ lasted. start + lasted) (sym all) ∙ sum)
+    going_over device mixed old run now refl refl (c.goes b) (λ start past next until l.
+    lasted_end now.drained run.dropped start (lasting device run) until (drained_now run.drained draining) c.dropped (omega arith) ∙ ap (λ lasted. start + lasted) (sym all))
 
 -- a run that its book goes on to count
-counted_told : (before after draining dropping : Bool) (mixed : ℕ) (old new : PlayBook) (run : Run) → is_started old.state ≡ before → is_started new.state ≡ after → (before ≡ true → after ≡ true)
-    → (before ≡ false → old.given ≡ 0) → new.given ≡ old.given → IsCounted mixed old run → IsCounted mixed new (told_run before after draining dropping mixed run)
-counted_told false false draining dropping mixed old new run b a plays none given c = record {
+counted_told : (before after draining dropping : Bool) (device : DeviceSeen) (mixed : ℕ) (old new : PlayBook) (run : Run) → is_started old.state ≡ before → is_started new.state ≡ after → (before ≡ true → after ≡ true)
+    → (before ≡ false → old.given ≡ 0) → new.given ≡ old.given → IsCounted device mixed old run → IsCounted device mixed new (told_run before after draining dropping mixed run)
+counted_told false false draining dropping device mixed old new run b a plays none given c = record {
   dropped = c.dropped;
   waits = λ e. let w = c.waits b in record { start = w.start; pieces = w.pieces };
   goes = λ e. absurd (let not_so : true ≡ false = sym e ∙ a in cc);
 }
-counted_told false true draining dropping mixed old new run b a plays none given c = record {
-  dropped = c.dropped;
-  waits = λ e. absurd (let not_so : true ≡ false = sym a ∙ e in cc);
-  goes = λ e. record {
-    start = mixed;
-    started = refl;
-    follow = λ unbroken. (subst (λ (list : List Piece). FollowFrom mixed new.given list) (sym (c.waits b).pieces) (given ∙ none refl), omega (arith, given, none refl));
-  };
-}
-counted_told true false draining dropping mixed old new run b a plays none given c = absurd (let not_so : false ≡ true = plays refl in cc)
-counted_told true true draining dropping mixed old new run b a plays none given c = record {
+counted_told false true draining dropping device mixed old new run b a plays none given c =
+    let nothing = none refl in
+    record {
+      dropped = c.dropped;
+      waits = λ e. absurd (let not_so : true ≡ false = sym a ∙ e in cc);
+      goes = λ e. record {
+        start = mixed;
+        started = refl;
+        past = omega arith;
+        follow = λ unbroken. subst (λ (list : List Piece). FollowFrom mixed new.given list) (sym (c.waits b).pieces) (given ∙ nothing);
+        next = λ unbroken more. omega arith;
+      };
+    }
+counted_told true false draining dropping device mixed old new run b a plays none given c = absurd (let not_so : false ≡ true = plays refl in cc)
+counted_told true true draining dropping device mixed old new run b a plays none given c = record {
   dropped = c.dropped;
   waits = λ e. absurd (let not_so : true ≡ false = sym a ∙ e in cc);
   goes = λ e.
       let g = c.goes b in
-      record { start = g.start; started = g.started; follow = λ unbroken. subst (λ (count : ℕ). FollowFrom g.start count run.pieces × (g.start + count ≡ mixed)) (sym given) (g.follow unbroken) };
+      let past = g.past in
+      record {
+        start = g.start;
+        started = g.started;
+        past = omega arith;
+        follow = λ unbroken. subst (λ (count : ℕ). FollowFrom g.start count run.pieces) (sym given) (g.follow unbroken);
+        next = λ unbroken more.
+            let reached = g.next unbroken (λ was. let less = more (still_drained run.drained draining ((true && not true) && not dropping) was) in omega arith) in
+            omega arith;
+      };
 }
 
 -- What an event that takes no frames does to a book, which counts so many bytes before its newest run is told of it: the book goes on
@@ -227,7 +244,7 @@ placed-marking device mixed event old new written [] d s safe m p = tt
 placed-marking device mixed event old new written (run ∷ runs) d s safe m p = (
   p.0,
   λ none. over_marked device mixed event old new written run runs d s safe m p none,
-  λ some. counted_told (is_started old.state) (is_started new.state) (is_draining new.state) (drops event) mixed old new run refl refl (m.plays some)
+  λ some. counted_told (is_started old.state) (is_started new.state) (is_draining new.state) (drops event) device mixed old new run refl refl (m.plays some)
       (λ e. idle_given old.state (play_rate_at device old) old e safe.order) (m.given some) (p.2 (m.written some)),
 )
 
@@ -247,48 +264,50 @@ placed-left device mixed event old new runs d safe v k u p =
 
 -- ---- a write
 
--- a run that its book counts with more bytes
-counted_more : (mixed : ℕ) (book : PlayBook) (run : Run) (more : List ℕ) → IsCounted mixed book run → IsCounted mixed book (record run { bytes = run.bytes ++ more })
-counted_more mixed book run more c = record {
+-- a run that its book counts with more bytes, which none gets once no more was to come
+counted_more : (device : DeviceSeen) (mixed : ℕ) (book : PlayBook) (run : Run) (more : List ℕ) → run.drained ≡ false → IsCounted device mixed book run → IsCounted device mixed book (record run { bytes = run.bytes ++ more })
+counted_more device mixed book run more undrained c = record {
   dropped = c.dropped;
   waits = λ e. let w = c.waits e in record { start = w.start; pieces = w.pieces };
-  goes = λ e. let g = c.goes e in record { start = g.start; started = g.started; follow = g.follow };
+  goes = λ e.
+      let g = c.goes e in
+      record { start = g.start; started = g.started; past = g.past; follow = g.follow; next = λ unbroken l. g.next unbroken (λ was. absurd (let not_so : true ≡ false = sym was ∙ undrained in cc)) };
 }
 
 -- a run that begins
-counted_begun : (mixed : ℕ) (book : PlayBook) (bytes : List ℕ) → is_started book.state ≡ false → IsCounted mixed book (begun_run book bytes)
-counted_begun mixed book bytes idle = record {
+counted_begun : (device : DeviceSeen) (mixed : ℕ) (book : PlayBook) (bytes : List ℕ) → is_started book.state ≡ false → IsCounted device mixed book (begun_run book bytes)
+counted_begun device mixed book bytes idle = record {
   dropped = refl;
   waits = λ e. record { start = refl; pieces = refl };
   goes = λ e. absurd (let not_so : true ≡ false = sym e ∙ idle in cc);
 }
 
 placed_taking_at : (b : Bool) (device : DeviceSeen) (mixed byte : ℕ) (bytes : List ℕ) (old : PlayBook) (written : ℕ) (run : Run) (runs : List Run) → eqb old.written 0 ≡ b → 0 < written → (old.written ≡ 0 → is_started old.state ≡ false)
-    → SlotIsPlaced device mixed old (run ∷ runs)
+    → is_draining old.state ≡ false → (0 < old.written → IsNewest old (run ∷ runs)) → SlotIsPlaced device mixed old (run ∷ runs)
     → ArePlaced device mixed old written (cond b (begun_run old (byte ∷ bytes) ∷ run ∷ runs) (record run { bytes = run.bytes ++ byte ∷ bytes } ∷ runs))
-placed_taking_at true device mixed byte bytes old written run runs e some idle p =
+placed_taking_at true device mixed byte bytes old written run runs e some idle undrained newest p =
     let none : old.written ≡ 0 = grind (arith, nat_tests) in
-    (All-cons (IsOver device mixed) run runs (p.1 none) p.0, λ h. absurd (omega arith), λ h. counted_begun mixed old (byte ∷ bytes) (idle none))
-placed_taking_at false device mixed byte bytes old written run runs e some idle p =
+    (All-cons (IsOver device mixed) run runs (p.1 none) p.0, λ h. absurd (omega arith), λ h. counted_begun device mixed old (byte ∷ bytes) (idle none))
+placed_taking_at false device mixed byte bytes old written run runs e some idle undrained newest p =
     let above : 0 < old.written = grind (arith, nat_tests) in
-    (p.0, λ h. absurd (omega arith), λ h. counted_more mixed old run (byte ∷ bytes) (p.2 above))
+    (p.0, λ h. absurd (omega arith), λ h. counted_more device mixed old run (byte ∷ bytes) ((newest above).2 ∙ undrained) (p.2 above))
 
 -- the pieces of a slot stand where they did once more bytes came
-placed_taking : (device : DeviceSeen) (mixed : ℕ) (bytes : List ℕ) (old new : PlayBook) (runs : List Run) → Accepts (length bytes) old new → (old.written ≡ 0 → is_started old.state ≡ false) → (0 < old.written → IsNewest old runs)
-    → SlotIsPlaced device mixed old runs → ArePlaced device mixed old new.written (taking bytes old runs)
-placed_taking device mixed [] old new [] a idle newest p = p
-placed_taking device mixed [] old new (run ∷ runs) a idle newest p = let w = a.written in (p.0, λ h. p.1 (omega arith), λ h. p.2 (omega arith))
-placed_taking device mixed (byte ∷ bytes) old new [] a idle newest p =
+placed_taking : (device : DeviceSeen) (mixed : ℕ) (bytes : List ℕ) (old new : PlayBook) (runs : List Run) → Accepts (length bytes) old new → (0 < length bytes → is_draining old.state ≡ false)
+    → (old.written ≡ 0 → is_started old.state ≡ false) → (0 < old.written → IsNewest old runs) → SlotIsPlaced device mixed old runs → ArePlaced device mixed old new.written (taking bytes old runs)
+placed_taking device mixed [] old new [] a undrained idle newest p = p
+placed_taking device mixed [] old new (run ∷ runs) a undrained idle newest p = let w = a.written in (p.0, λ h. p.1 (omega arith), λ h. p.2 (omega arith))
+placed_taking device mixed (byte ∷ bytes) old new [] a undrained idle newest p =
     let w = a.written in
-    (All-nil (IsOver device mixed), λ h. absurd (omega arith), λ h. counted_begun mixed old (byte ∷ bytes) (idle (none_above old.written newest)))
-placed_taking device mixed (byte ∷ bytes) old new (run ∷ runs) a idle newest p =
+    (All-nil (IsOver device mixed), λ h. absurd (omega arith), λ h. counted_begun device mixed old (byte ∷ bytes) (idle (none_above old.written newest)))
+placed_taking device mixed (byte ∷ bytes) old new (run ∷ runs) a undrained idle newest p =
     let w = a.written in
-    placed_taking_at (eqb old.written 0) device mixed byte bytes old new.written run runs refl (omega arith) idle p
+    placed_taking_at (eqb old.written 0) device mixed byte bytes old new.written run runs refl (omega arith) idle (undrained (omega arith)) newest p
 
 -- through a write
 pub placed-taken : (device : DeviceSeen) (mixed : ℕ) (event : Event) (bytes : List ℕ) (old new : PlayBook) (runs : List Run) → IsDevice device → PlayIsSafe (play_rate_at device old) old → SlotIsValid device mixed old runs
-    → Accepts (length bytes) old new → SlotIsPlaced device mixed old runs → SlotIsPlaced device mixed new (marking mixed event old new (taking bytes old runs))
-placed-taken device mixed event bytes old new runs d safe v a p =
+    → Accepts (length bytes) old new → (0 < length bytes → is_draining old.state ≡ false) → SlotIsPlaced device mixed old runs → SlotIsPlaced device mixed new (marking mixed event old new (taking bytes old runs))
+placed-taken device mixed event bytes old new runs d safe v a undrained p =
     let idle : old.written ≡ 0 → is_started old.state ≡ false = λ none. not_true (is_started old.state) (λ e. let some = v.started e in omega arith) in
     let w = a.written in
     placed-marking device mixed event old new new.written (taking bytes old runs) d v.settings safe (record {
@@ -299,4 +318,4 @@ placed-taken device mixed event bytes old new runs d safe v a p =
       given = λ some. (let most = a.given in let least = a.given_same in omega arith);
       newest = λ none some. absurd (omega arith);
       whole = λ e stopped keeps. absurd (let not_so : true ≡ false = sym (a.goes_on.plays e) ∙ stopped in cc);
-    }) (placed_taking device mixed bytes old new runs a idle v.newest p)
+    }) (placed_taking device mixed bytes old new runs a undrained idle v.newest p)

@@ -27,7 +27,7 @@ use Rattle.pcm_desk.specs.RecordBooks as records
 use Rattle.pcm_desk.specs.RecordBooks.{captures, is_running, read_turn, record_begun, record_fill_of}
 use Rattle.pcm_desk.specs.RecordRequests.{record_ask}
 use Rattle.pcm_desk.specs.RecordSafe.{IsRecordInOrder, IsRecordUnstarted, RecordIsSafe}
-use Rattle.pcm_desk.specs.Desk.{Desk, DeskTurn, after, asking, by_way, close_on, close_play, close_record, held_by, interrupt_turn, ioctl_on, least_free_play, least_free_record, open_play, open_record, open_turn, play_turn, read_on, record_at, record_rate_at, record_turn, record_unopened, refusing, turning, with_record, write_on}
+use Rattle.pcm_desk.specs.Desk.{Desk, DeskTurn, after, asking, by_way, close_on, close_play, close_record, desk_here, held_by, interrupt_turn, ioctl_on, least_free_play, least_free_record, open_play, open_record, open_turn, play_turn, read_on, record_at, record_rate_at, record_turn, record_unopened, refusing, turning, with_record, write_on}
 use Rattle.pcm_desk.specs.Events.{Fits, frames_taken}
 use Rattle.pcm_desk.proofs.RecordAsking.{record-ask-rate, record-ask-settings}
 use Rattle.pcm_desk.proofs.RecordLeaves.{Ends, Stays, record-ask-leaves}
@@ -208,13 +208,13 @@ all-turning device desk play recording (Some held) p r =
 
 pub all-write : (device : DeviceSeen) (held : Option Held) (desk : Desk) (count : ℕ) → AllTurned device desk (write_on device held desk count).desk
 all-write device held desk count =
-    all-turning device desk (play_turn device (write_turn count) desk) (λ slot. refusing desk Inval) held
-    (λ slot. all-same device desk (play_turn device (write_turn count) desk slot).desk refl) (λ slot. all-same device desk desk refl)
+    all-turning device desk (play_turn device (write_turn (desk_here device desk) count) desk) (λ slot. refusing desk Inval) held
+    (λ slot. all-same device desk (play_turn device (write_turn (desk_here device desk) count) desk slot).desk refl) (λ slot. all-same device desk desk refl)
 
 pub all-ioctl : (device : DeviceSeen) (held : Option Held) (desk : Desk) (request : Request) → AllTurned device desk (ioctl_on device held desk request).desk
 all-ioctl device held desk request =
-    all-turning device desk (play_turn device (asking device request) desk) (record_turn device (record_ask request) desk) held
-    (λ slot. all-same device desk (play_turn device (asking device request) desk slot).desk refl)
+    all-turning device desk (play_turn device (asking device (desk_here device desk) request) desk) (record_turn device (record_ask request) desk) held
+    (λ slot. all-same device desk (play_turn device (asking device (desk_here device desk) request) desk slot).desk refl)
     (λ slot. all-with device desk slot (record_ask request (record_at device desk slot)).book (turned-asked device request (record_at device desk slot)))
 
 pub all-close : (device : DeviceSeen) (held : Option Held) (desk : Desk) (fd : ℕ) → AllTurned device desk (close_on device held desk fd).desk

@@ -1,5 +1,5 @@
 -- A slot's book and runs stay valid through every event.
-use Rattle.std.proofs.Common.{◌≡◌, ℕ, suc, zero, ◌+◌, ◌-◌, ◌<◌, ◌≤◌, Bool, true, false, cond, eqb, List, [], ◌∷◌, ◌++◌, length, min, inl, inr, Ok, Err, refl, sym, ap, ◌∙◌, subst, arith, All, length-append}
+use Rattle.std.proofs.Common.{◌≡◌, ℕ, suc, zero, ◌+◌, ◌-◌, ◌<◌, ◌≤◌, Bool, true, false, cond, eqb, List, [], ◌∷◌, ◌++◌, length, min, inl, inr, refl, sym, ap, ◌∙◌, subst, arith, All, length-append}
 use Rattle.std.specs.Prelude.{nat_lt, nat_le, ◌&&◌, ◌||◌, not}
 use Rattle.std.proofs.lemmas.List.Elements.{All-head, All-tail, All-cons, All-nil, All-weaker}
 use Rattle.std.proofs.lemmas.Bool.{and_parts}
@@ -12,20 +12,22 @@ use Rattle.pcm_oss.specs.declared.reply.Errno.TheVariants.{Again, Busy}
 use Rattle.pcm_format.specs.Frames.{whole_frames}
 use Rattle.pcm_format.proofs.Whole.{whole_frames-mono}
 use Rattle.pcm_rate.specs.declared.rate.Rate.{Rate}
-use Rattle.pcm_rate.specs.Rates.{IsRatio, can, len}
+use Rattle.pcm_rate.specs.Rates.{IsRatio, can}
 use Rattle.pcm_rate.proofs.Counts.{can-le-len, len_grows}
 use Rattle.pcm_feeder.specs.Limits.{IsRate}
 use Rattle.pcm_desk.specs.declared.turn.Turn.{Turn}
 use Rattle.pcm_desk.specs.declared.play_book.PlayBook.{PlayBook}
 use Rattle.pcm_desk.specs.declared.play_book.PlayState.{PlayState}
 use Rattle.pcm_desk.specs.declared.play_book.PlayState.TheVariants.{Free, Setup, Primed, Running, Draining}
-use Rattle.pcm_desk.specs.Device.{DeviceSeen, IsDevice, play_rate_between}
+use Rattle.pcm_desk.specs.declared.here.Here.{Here}
+use Rattle.pcm_desk.specs.BookTurns.{refused, telling}
+use Rattle.pcm_desk.specs.Device.{DeviceSeen, IsDevice, passed_for, play_rate_between}
 use Rattle.pcm_desk.specs.Openings.{fragment_bytes}
-use Rattle.pcm_desk.specs.PlayBooks.{accepting, allowed_in, finished, frames_written, gives, giving, is_draining, is_started, play_fill_of, play_free_of, refilled, started_in, write_turn}
+use Rattle.pcm_desk.specs.PlayBooks.{accepting, allowed_in, frames_written, giving, is_draining, is_started, play_fill_of, play_free_of, started_at, started_in, write_turn}
 use Rattle.pcm_desk.specs.PlaySafe.{PlayIsSafe}
-use Rattle.pcm_desk.specs.Desk.{mixing, play_rate_at}
-use Rattle.pcm_desk.proofs.PlaySafe.{full_at, grown, given-allowed}
-use Rattle.pcm_desk.proofs.PlayLeaves.{Leaves, Stays, stays-same}
+use Rattle.pcm_desk.specs.Desk.{mixing, play_rate_at, settling}
+use Rattle.pcm_desk.proofs.PlaySafe.{full_at, grown, given-allowed, settings-refilled, settings-settled, state-refilled, written-refilled}
+use Rattle.pcm_desk.proofs.PlayLeaves.{Leaves, Stays, settle-leaves, stays-same}
 use Rattle.pcm_desk.proofs.Ratios.{ratio-between}
 use Rattle.pcm_sound.specs.Runs.{Piece, Run, begun_run, piece_of, taking, playing, drops, ends, marked, marking, newest_bytes}
 use Rattle.pcm_sound.specs.Valid.{PieceIsValid, RunIsValid, HasRate, IsNewest, SlotIsValid, frames_given, given_in}
@@ -71,33 +73,44 @@ accepts_grown accepted state old h on = record { settings = refl; eaten = refl; 
 filled : (book : PlayBook) → nat_le (fragment_bytes book.opening) (play_fill_of book) ≡ true → 0 < book.written
 filled book e = let some = pow_pos book.opening.fragments.log in grind (arith, nat_tests)
 
-accepts_primed : (b : Bool) (accepted : ℕ) (old : PlayBook) → is_started old.state ≡ false → full_at accepted old ≡ b
-    → Accepts accepted old (cond b (grown accepted Running old) (grown accepted Primed old))
-accepts_primed true accepted old stopped e =
+accepts_started : (mixed accepted : ℕ) (old : PlayBook) → is_started old.state ≡ false → 0 < old.written + accepted → Accepts accepted old (started_at mixed Running (grown accepted Primed old))
+accepts_started mixed accepted old stopped some = record {
+  settings = refl;
+  eaten = refl;
+  given = omega arith;
+  given_same = omega arith;
+  written = refl;
+  started = λ h s. some;
+  goes_on = goes_on_unstarted old (started_at mixed Running (grown accepted Primed old)) stopped;
+}
+
+accepts_primed : (b : Bool) (mixed accepted : ℕ) (old : PlayBook) → is_started old.state ≡ false → full_at accepted old ≡ b
+    → Accepts accepted old (cond b (started_at mixed Running (grown accepted Primed old)) (grown accepted Primed old))
+accepts_primed true mixed accepted old stopped e =
     let more : PlayBook = grown accepted Primed old in
     let full = and_parts old.opening.trigger (nat_le (fragment_bytes more.opening) (play_fill_of more)) e in
-    accepts_grown accepted Running old (λ h s. filled more full.1) (goes_on_unstarted old (grown accepted Running old) stopped)
-accepts_primed false accepted old stopped e = accepts_grown accepted Primed old (λ h s. cc) (goes_on_unstarted old (grown accepted Primed old) stopped)
+    accepts_started mixed accepted old stopped (filled more full.1)
+accepts_primed false mixed accepted old stopped e = accepts_grown accepted Primed old (λ h s. cc) (goes_on_unstarted old (grown accepted Primed old) stopped)
 
-accepts_setup : (b : Bool) (accepted : ℕ) (old : PlayBook) → is_started old.state ≡ false
-    → Accepts accepted old (let primed : PlayBook = cond b (grown accepted Primed old) (grown accepted Setup old) in started_in primed.state primed)
-accepts_setup true accepted old stopped = accepts_primed (full_at accepted old) accepted old stopped refl
-accepts_setup false accepted old stopped = accepts_grown accepted Setup old (λ h s. cc) (goes_on_unstarted old (grown accepted Setup old) stopped)
+accepts_setup : (b : Bool) (mixed accepted : ℕ) (old : PlayBook) → is_started old.state ≡ false
+    → Accepts accepted old (let primed : PlayBook = cond b (grown accepted Primed old) (grown accepted Setup old) in started_in mixed primed.state primed)
+accepts_setup true mixed accepted old stopped = accepts_primed (full_at accepted old) mixed accepted old stopped refl
+accepts_setup false mixed accepted old stopped = accepts_grown accepted Setup old (λ h s. cc) (goes_on_unstarted old (grown accepted Setup old) stopped)
 
-accepts_at : (accepted : ℕ) (state : PlayState) (book : PlayBook) → Accepts accepted (record book { state = state }) (accepting accepted (record book { state = state }))
-accepts_at accepted Free book = let old : PlayBook = record book { state = Free } in accepts_grown accepted Free old (λ h s. cc) (goes_on_same old (grown accepted Free old) refl)
-accepts_at accepted Setup book = accepts_setup (nat_lt 0 (book.written + accepted)) accepted (record book { state = Setup }) refl
-accepts_at accepted Primed book = accepts_primed (full_at accepted (record book { state = Primed })) accepted (record book { state = Primed }) refl refl
-accepts_at accepted Running book =
+accepts_at : (mixed accepted : ℕ) (state : PlayState) (book : PlayBook) → Accepts accepted (record book { state = state }) (accepting mixed accepted (record book { state = state }))
+accepts_at mixed accepted Free book = let old : PlayBook = record book { state = Free } in accepts_grown accepted Free old (λ h s. cc) (goes_on_same old (grown accepted Free old) refl)
+accepts_at mixed accepted Setup book = accepts_setup (nat_lt 0 (book.written + accepted)) mixed accepted (record book { state = Setup }) refl
+accepts_at mixed accepted Primed book = accepts_primed (full_at accepted (record book { state = Primed })) mixed accepted (record book { state = Primed }) refl refl
+accepts_at mixed accepted Running book =
     let old : PlayBook = record book { state = Running } in
     accepts_grown accepted Running old (λ h s. let p = h refl in omega arith) (goes_on_same old (grown accepted Running old) refl)
-accepts_at accepted (Draining closed) book =
+accepts_at mixed accepted (Draining closed) book =
     let old : PlayBook = record book { state = Draining closed } in
     accepts_grown accepted (Draining closed) old (λ h s. let p = h refl in omega arith) (goes_on_same old (grown accepted (Draining closed) old) refl)
 
 -- an accepted write adds its bytes
-pub accepts : (accepted : ℕ) (book : PlayBook) → Accepts accepted book (accepting accepted book)
-accepts accepted book = accepts_at accepted book.state book
+pub accepts : (mixed accepted : ℕ) (book : PlayBook) → Accepts accepted book (accepting mixed accepted book)
+accepts mixed accepted book = accepts_at mixed accepted book.state book
 
 -- nothing accepted leaves the book
 pub accepts_none : (book : PlayBook) → Accepts 0 book book
@@ -114,18 +127,19 @@ pub writes-nothing : (length : ℕ) (book : PlayBook) → WritesSome length book
 writes-nothing length book = record { accepted = 0; within = omega arith; undrained = λ h. absurd (omega arith); accepts = accepts_none book }
 
 -- a write to a book that doesn't drain
-write_undrained : (full : Bool) (length : ℕ) (book : PlayBook) → is_draining book.state ≡ false
-    → WritesSome length book (cond {A = Turn PlayBook} full (record { book = book; reply = Err Again }) (record { book = accepting (min length (play_free_of book)) book; reply = Ok (Number (min length (play_free_of book))) })).book
-write_undrained true length book more = writes-nothing length book
-write_undrained false length book more = record { accepted = min length (play_free_of book); within = omega arith; undrained = λ h. more; accepts = accepts (min length (play_free_of book)) book }
+write_undrained : (full : Bool) (mixed length : ℕ) (book : PlayBook) → is_draining book.state ≡ false
+    → WritesSome length book (cond {A = Turn PlayBook} full (refused Again book) (telling (Number (min length (play_free_of book))) (accepting mixed (min length (play_free_of book)) book))).book
+write_undrained true mixed length book more = writes-nothing length book
+write_undrained false mixed length book more =
+    record { accepted = min length (play_free_of book); within = omega arith; undrained = λ h. more; accepts = accepts mixed (min length (play_free_of book)) book }
 
-write_turn-writes_at : (busy : Bool) (length : ℕ) (book : PlayBook) → is_draining book.state ≡ busy
-    → WritesSome length book (cond {A = Turn PlayBook} busy (record { book = book; reply = Err Busy }) (cond {A = Turn PlayBook} (nat_lt 0 length && eqb (play_free_of book) 0) (record { book = book; reply = Err Again }) (record { book = accepting (min length (play_free_of book)) book; reply = Ok (Number (min length (play_free_of book))) }))).book
-write_turn-writes_at true length book e = writes-nothing length book
-write_turn-writes_at false length book e = write_undrained (nat_lt 0 length && eqb (play_free_of book) 0) length book e
+write_turn-writes_at : (busy : Bool) (mixed length : ℕ) (book : PlayBook) → is_draining book.state ≡ busy
+    → WritesSome length book (cond {A = Turn PlayBook} busy (refused Busy book) (cond {A = Turn PlayBook} (nat_lt 0 length && eqb (play_free_of book) 0) (refused Again book) (telling (Number (min length (play_free_of book))) (accepting mixed (min length (play_free_of book)) book)))).book
+write_turn-writes_at true mixed length book e = writes-nothing length book
+write_turn-writes_at false mixed length book e = write_undrained (nat_lt 0 length && eqb (play_free_of book) 0) mixed length book e
 
-pub write_turn-writes : (length : ℕ) (book : PlayBook) → WritesSome length book (write_turn length book).book
-write_turn-writes length book = write_turn-writes_at (is_draining book.state) length book refl
+pub write_turn-writes : (here : Here) (length : ℕ) (book : PlayBook) → WritesSome length book (write_turn here length book).book
+write_turn-writes here length book = write_turn-writes_at (is_draining book.state) here.mixed length book refl
 
 -- ---- how many frames a run gives
 
@@ -220,7 +234,8 @@ marked_drained false false true true keeps drains plays = refl
 marked_drained false false true false keeps drains plays = absurd (let not_so : false ≡ true = plays refl in cc)
 marked_drained false false false after keeps drains plays = refl
 
-still_drained : (drained a b : Bool) → drained ≡ true → (drained || a || b) ≡ true
+-- a run that is marked so stays so
+pub still_drained : (drained a b : Bool) → drained ≡ true → (drained || a || b) ≡ true
 still_drained true a b e = refl
 still_drained false a b e = cc
 
@@ -395,70 +410,64 @@ playing-own device mixed n book (run ∷ runs) v =
     ]
 
 -- the newest run keeps its bytes and marks through an interrupt
-pub playing-newest : (device : DeviceSeen) (mixed n : ℕ) (old new : PlayBook) (runs : List Run) → new.opening.settings ≡ old.opening.settings → new.written ≡ old.written → IsNewest old runs
-    → IsCarried (is_draining old.state) new (playing device mixed n old runs)
-playing-newest device mixed n old new [] s w h = h
-playing-newest device mixed n old new (run ∷ runs) s w h =
-    elim (is_started old.state && nat_lt 0 n) as (λ (b : Bool). IsCarried (is_draining old.state) new (cond b (record run { pieces = piece_of device mixed n old ∷ run.pieces } ∷ runs) (run ∷ runs))) [
-      | true ↦ (h.0 ∙ sym s, h.1 ∙ sym w, h.2)
-      | false ↦ (h.0 ∙ sym s, h.1 ∙ sym w, h.2)
+pub playing-newest : (device : DeviceSeen) (mixed n : ℕ) (old new : PlayBook) (runs : List Run) → new.opening.settings ≡ old.opening.settings → new.written ≡ old.written → new.state ≡ old.state → IsNewest old runs
+    → IsNewest new (playing device mixed n old runs)
+playing-newest device mixed n old new [] s w e h = h
+playing-newest device mixed n old new (run ∷ runs) s w e h =
+    elim (is_started old.state && nat_lt 0 n) as (λ (b : Bool). IsNewest new (cond b (record run { pieces = piece_of device mixed n old ∷ run.pieces } ∷ runs) (run ∷ runs))) [
+      | true ↦ (h.0 ∙ sym s, h.1 ∙ sym w, h.2 ∙ sym (ap is_draining e))
+      | false ↦ (h.0 ∙ sym s, h.1 ∙ sym w, h.2 ∙ sym (ap is_draining e))
     ]
 
 -- a book with other counts is valid over the runs of an interrupt
-untold_played : (device : DeviceSeen) (mixed n : ℕ) (old new : PlayBook) (runs : List Run) → IsDevice device → PlayIsSafe (play_rate_at device old) old → SlotIsValid device mixed old runs
-    → new.opening.settings ≡ old.opening.settings → new.written ≡ old.written → (is_started new.state ≡ true → 0 < new.written) → GoesOn old new → IsUntold device (mixed + n) old new (playing device mixed n old runs)
-untold_played device mixed n old new runs d safe v settings written started on = record {
+valid_played : (device : DeviceSeen) (mixed n : ℕ) (old new : PlayBook) (runs : List Run) → IsDevice device → PlayIsSafe (play_rate_at device old) old → SlotIsValid device mixed old runs
+    → new.opening.settings ≡ old.opening.settings → new.written ≡ old.written → new.state ≡ old.state → SlotIsValid device (mixed + n) new (playing device mixed n old runs)
+valid_played device mixed n old new runs d safe v settings written state = record {
   settings = subst (λ (s : Settings). IsRate s.rate) (sym settings) v.settings;
-  started = started;
-  goes_on = λ h. on;
-  newest = λ h. playing-newest device mixed n old new runs settings written (v.newest (omega arith));
+  started = λ e. let some = v.started (sym (ap is_started state) ∙ e) in omega arith;
+  newest = λ h. playing-newest device mixed n old new runs settings written state (v.newest (omega arith));
   pieces = playing-pieces device mixed n old runs d safe v;
   own = playing-own device mixed n old runs v.own;
 }
 
--- with nothing written
-untold_ended : (device : DeviceSeen) (mixed n : ℕ) (old new : PlayBook) (runs : List Run) → IsDevice device → PlayIsSafe (play_rate_at device old) old → SlotIsValid device mixed old runs
-    → new.opening.settings ≡ old.opening.settings → new.written ≡ 0 → is_started new.state ≡ false → IsUntold device (mixed + n) old new (playing device mixed n old runs)
-untold_ended device mixed n old new runs d safe v settings none stopped =
-    untold-empty device (mixed + n) old new (playing device mixed n old runs) none stopped (subst (λ (s : Settings). IsRate s.rate) (sym settings) v.settings)
-    (playing-pieces device mixed n old runs d safe v) (playing-own device mixed n old runs v.own)
+-- a slot stays valid through an interrupt that mixes n frames
+pub valid-mixing : (device : DeviceSeen) (mixed n : ℕ) (book : PlayBook) (runs : List Run) → IsDevice device → PlayIsSafe (play_rate_at device book) book → SlotIsValid device mixed book runs
+    → SlotIsValid device (mixed + n) (mixing device mixed n book) (playing device mixed n book runs)
+valid-mixing device mixed zero book runs d safe v = valid_played device mixed 0 book book runs d safe v refl refl refl
+valid-mixing device mixed (suc n) book runs d safe v =
+    let rate : Rate = play_rate_at device book in
+    valid_played device mixed (suc n) book (mixing device mixed (suc n) book) runs d safe v (settings-refilled rate mixed (suc n) book) (written-refilled rate mixed (suc n) book) (state-refilled rate mixed (suc n) book)
 
-untold_refilled_draining : (b closed : Bool) (device : DeviceSeen) (mixed n : ℕ) (book : PlayBook) (runs : List Run) → IsDevice device → PlayIsSafe (play_rate_at device book) (record book { state = Draining closed })
-    → SlotIsValid device mixed (record book { state = Draining closed }) runs
-    → (let old : PlayBook = record book { state = Draining closed } in let given : PlayBook = gives (play_rate_at device book) n old in
-    IsUntold device (mixed + n) old (cond b (finished (cond closed Free Setup) given) given) (playing device mixed n old runs))
-untold_refilled_draining true true device mixed n book runs d safe v =
-    let old : PlayBook = record book { state = Draining true } in
-    untold_ended device mixed n old (finished Free (gives (play_rate_at device book) n old)) runs d safe v refl refl refl
-untold_refilled_draining true false device mixed n book runs d safe v =
-    let old : PlayBook = record book { state = Draining false } in
-    untold_ended device mixed n old (finished Setup (gives (play_rate_at device book) n old)) runs d safe v refl refl refl
-untold_refilled_draining false closed device mixed n book runs d safe v =
-    let old : PlayBook = record book { state = Draining closed } in
-    let given : PlayBook = gives (play_rate_at device book) n old in
-    untold_played device mixed n old given runs d safe v refl refl (λ e. v.started refl) (goes_on_same old given refl)
+-- what is left of a book is left of any in its state
+untold_state : (device : DeviceSeen) (mixed : ℕ) (old between new : PlayBook) (runs : List Run) → between.state ≡ old.state → IsUntold device mixed between new runs → IsUntold device mixed old new runs
+untold_state device mixed old between new runs same u = record {
+  settings = u.settings;
+  started = u.started;
+  goes_on = λ h. let on = u.goes_on h in record { plays = λ e. on.plays (ap is_started same ∙ e); drains = λ e. on.drains (ap is_draining same ∙ e) };
+  newest = λ h. subst (λ (state : PlayState). IsCarried (is_draining state) new runs) same (u.newest h);
+  pieces = u.pieces;
+  own = u.own;
+}
 
-untold_refilled_at : (state : PlayState) (device : DeviceSeen) (mixed n : ℕ) (book : PlayBook) (runs : List Run) → IsDevice device → PlayIsSafe (play_rate_at device book) (record book { state = state }) → SlotIsValid device mixed (record book { state = state }) runs
-    → IsUntold device (mixed + n) (record book { state = state }) (refilled (play_rate_at device book) n (record book { state = state })) (playing device mixed n (record book { state = state }) runs)
-untold_refilled_at Free device mixed n book runs d safe v =
-    let old : PlayBook = record book { state = Free } in untold_played device mixed n old old runs d safe v refl refl (λ e. cc) (goes_on_same old old refl)
-untold_refilled_at Setup device mixed n book runs d safe v =
-    let old : PlayBook = record book { state = Setup } in untold_played device mixed n old old runs d safe v refl refl (λ e. cc) (goes_on_same old old refl)
-untold_refilled_at Primed device mixed n book runs d safe v =
-    let old : PlayBook = record book { state = Primed } in untold_played device mixed n old old runs d safe v refl refl (λ e. cc) (goes_on_same old old refl)
-untold_refilled_at Running device mixed n book runs d safe v =
-    let old : PlayBook = record book { state = Running } in
-    let new : PlayBook = refilled (play_rate_at device book) n old in
-    untold_played device mixed n old new runs d safe v refl refl (λ e. v.started refl) (goes_on_same old new refl)
-untold_refilled_at (Draining closed) device mixed n book runs d safe v =
-    let given : PlayBook = gives (play_rate_at device book) n (record book { state = Draining closed }) in
-    untold_refilled_draining (eqb given.given (len (play_rate_at device book) (frames_written given))) closed device mixed n book runs d safe v
+-- an interrupt leaves the state of a book as long as its run isn't over
+pub state-mixing : (device : DeviceSeen) (mixed n : ℕ) (book : PlayBook) → (mixing device mixed n book).state ≡ book.state
+state-mixing device mixed zero book = refl
+state-mixing device mixed (suc n) book = state-refilled (play_rate_at device book) mixed (suc n) book
 
--- a slot stays valid through an interrupt
-pub untold-mixing : (device : DeviceSeen) (mixed n : ℕ) (book : PlayBook) (runs : List Run) → IsDevice device → PlayIsSafe (play_rate_at device book) book → SlotIsValid device mixed book runs
-    → IsUntold device (mixed + n) book (mixing device n book) (playing device mixed n book runs)
-untold-mixing device mixed zero book runs d safe v = untold_played device mixed 0 book book runs d safe v refl refl v.started (goes_on_same book book refl)
-untold-mixing device mixed (suc n) book runs d safe v = untold_refilled_at book.state device mixed (suc n) book runs d safe v
+-- what frames that are handed over leave of a slot, before its newest run is told of them
+pub untold-settling : (device : DeviceSeen) (mixed handed : ℕ) (book : PlayBook) (runs : List Run) → SlotIsValid device mixed book runs → IsUntold device mixed book (settling device handed book) runs
+untold-settling device mixed handed book runs v =
+    let rate : Rate = play_rate_at device book in
+    untold-leaves device mixed book (settling device handed book) runs (settle-leaves rate (passed_for device handed) book)
+    (subst (λ (settings : Settings). IsRate settings.rate) (sym (settings-settled rate (passed_for device handed) book)) v.settings) v
+
+-- what an interrupt that mixes n frames leaves of it once so many were handed over
+pub untold-passing : (device : DeviceSeen) (mixed n handed : ℕ) (book : PlayBook) (runs : List Run) → SlotIsValid device (mixed + n) (mixing device mixed n book) (playing device mixed n book runs)
+    → IsUntold device (mixed + n) book (settling device handed (mixing device mixed n book)) (playing device mixed n book runs)
+untold-passing device mixed n handed book runs v =
+    let between : PlayBook = mixing device mixed n book in
+    untold_state device (mixed + n) book between (settling device handed between) (playing device mixed n book runs) (state-mixing device mixed n book)
+    (untold-settling device (mixed + n) handed between (playing device mixed n book runs) v)
 
 -- ---- the bytes of the newest run
 

@@ -19,6 +19,7 @@ use Rattle.pcm_oss.proofs.Limits.{usual-fragments}
 use Rattle.pcm_wave.specs.declared.pool.Source.{Source}
 use Rattle.pcm_wave.specs.Pools.{bytes_at, source_bytes}
 use Rattle.pcm_feeder.specs.declared.stage.Gain.{Gain}
+use Rattle.pcm_rate.specs.declared.rate.Rate.{Rate}
 use Rattle.pcm_feeder.specs.Limits.{IsRate}
 use Rattle.pcm_desk.specs.declared.play_book.PlayBook.{PlayBook}
 use Rattle.pcm_desk.specs.declared.device.Held.{Held}
@@ -26,16 +27,18 @@ use Rattle.pcm_desk.specs.declared.record_book.RecordBook.{RecordBook}
 use Rattle.pcm_desk.specs.RecordBooks as records
 use Rattle.pcm_desk.specs.RecordBooks.{record_begun}
 use Rattle.pcm_desk.specs.RecordRequests.{record_ask}
-use Rattle.pcm_desk.specs.Device.{DeviceSeen, IsDevice, mixed_for, play_rate_between, play_slots}
-use Rattle.pcm_desk.specs.PlayBooks.{is_draining, is_play_free, play_begun, write_turn}
-use Rattle.pcm_desk.specs.PlaySafe.{PlayIsSafe}
-use Rattle.pcm_desk.specs.Desk.{Desk, DeskTurn, after, asking, by_way, close_on, close_play, close_record, closing, held_by, ioctl_on, least_free_play, least_free_record, mixed_by, mixing, open_play, open_record, open_turn, play_at, play_rate_at, play_turn, play_unopened, read_on, record_at, record_turn, refusing, turning, with_descriptor, with_play, with_record, write_on}
+use Rattle.pcm_desk.specs.declared.here.Here.{Here}
+use Rattle.pcm_desk.specs.Device.{DeviceSeen, IsDevice, here_at, mix_settings, mixed_for, play_rate_between, play_slots}
+use Rattle.pcm_desk.specs.PlayBooks.{is_draining, is_play_free, is_started, play_begun, write_turn}
+use Rattle.pcm_desk.specs.PlaySafe.{PlayIsHere, PlayIsSafe}
+use Rattle.pcm_desk.specs.Desk.{Desk, DeskTurn, after, asking, by_way, close_on, close_play, close_record, closing, desk_here, held_by, ioctl_on, least_free_play, least_free_record, mixed_by, mixing, open_play, open_record, open_turn, play_at, play_passing, play_rate_at, play_turn, play_unopened, read_on, record_at, record_turn, refusing, settling, turning, with_descriptor, with_play, with_record, write_on}
 use Rattle.pcm_desk.specs.Events.{Fits, frames_taken}
-use Rattle.pcm_desk.proofs.PlaySafe.{unstarted, safe-begun, safe-write, safe-close, safe-refilled, settings-refilled}
+use Rattle.pcm_desk.proofs.PlayHere.{here-ask, here-begun, here-close, here-settled, here-write, last-refilled}
+use Rattle.pcm_desk.proofs.PlaySafe.{unstarted, safe-begun, safe-write, safe-close, safe-refilled, safe-settled, settings-refilled, settings-settled}
 use Rattle.pcm_desk.proofs.PlaySafeAsking.{safe-ask}
 use Rattle.pcm_desk.proofs.PlayLeaves.{ask-leaves, close-leaves, close-keeps}
 use Rattle.pcm_desk.proofs.Ratios.{mixed-behind, ratio-between}
-use Rattle.pcm_desk.proofs.Slots.{play_at-mixing, play_at-with}
+use Rattle.pcm_desk.proofs.Slots.{play_at-passing, play_at-with}
 use Rattle.pcm_sound.specs.Gains.{GainSet, begins, book_gain, last_gain, sets_volume}
 use Rattle.pcm_sound.specs.Runs.{Run, asks_drop, drops, taking, playing, carrying, marking, sounding}
 use Rattle.pcm_sound.specs.Story.{Story, story_at_start, story_of, told, told_all}
@@ -45,9 +48,9 @@ use Rattle.pcm_sound.specs.Valid.{RunIsValid, HasRate, SlotIsValid, StoryIsValid
 use Rattle.pcm_sound.proofs.Rates.{ask-rate, ask-settings}
 use Rattle.pcm_sound.proofs.Endings.{KeepsGiven, given-ask, given-begun, given-close, given-same}
 use Rattle.pcm_sound.proofs.Sounding.{sounding-taking, sounding-playing, sounding-marking, last_gain-later}
-use Rattle.pcm_sound.proofs.Slots.{Accepts, WritesSome, IsUntold, writes-nothing, write_turn-writes, untold-same, untold-empty, untold-taking, untold-leaves, untold-mixing, valid-marking}
+use Rattle.pcm_sound.proofs.Slots.{Accepts, WritesSome, IsUntold, writes-nothing, write_turn-writes, untold-same, untold-empty, untold-taking, untold-leaves, untold-passing, valid-marking, valid-mixing}
 use Rattle.pcm_sound.proofs.Places.{placed-left, placed-taken}
-use Rattle.pcm_sound.proofs.Interrupts.{placed-mixing}
+use Rattle.pcm_sound.proofs.Interrupts.{placed-passing}
 
 -- ---- the counts of a book
 
@@ -58,30 +61,81 @@ IsSafeAt device book = PlayIsSafe (play_rate_at device book) book
 safe_settings : (device : DeviceSeen) (old new : PlayBook) → new.opening.settings ≡ old.opening.settings → PlayIsSafe (play_rate_at device old) new → IsSafeAt device new
 safe_settings device old new same safe = subst (λ (settings : Settings). PlayIsSafe (play_rate_between device settings) new) (sym same) safe
 
--- a book stays safe through a write
-pub safe-written : (device : DeviceSeen) (length : ℕ) (book : PlayBook) → IsDevice device → IsRate book.opening.settings.rate → IsSafeAt device book → IsSafeAt device (write_turn length book).book
-safe-written device length book d s safe =
-    safe_settings device book (write_turn length book).book (write_turn-writes length book).accepts.settings
-    (safe-write (play_rate_at device book) length book (ratio-between device book.opening.settings d s) safe)
+-- where the mix and the device are no run has given more than is mixed, and none that drains is over
+abbrev pub IsHereAt : DeviceSeen → Here → PlayBook → Type 0
+IsHereAt device here book = PlayIsHere (play_rate_at device book) here book
 
--- through a request, which may change the rate in Setup alone
-pub safe-asking : (device : DeviceSeen) (request : Request) (book : PlayBook) → IsDevice device → IsRate book.opening.settings.rate → IsSafeAt device book → IsSafeAt device (asking device request book).book
-safe-asking device request book d s safe =
-    safe-ask (play_rate_at device book) (play_rate_at device (asking device request book).book) request book (ratio-between device book.opening.settings d s) safe
-    (λ e. ap (play_rate_between device) (ask-settings (play_rate_at device book) request book s e))
+here_settings : (device : DeviceSeen) (here : Here) (old new : PlayBook) → new.opening.settings ≡ old.opening.settings → PlayIsHere (play_rate_at device old) here new → IsHereAt device here new
+here_settings device here old new same at = subst (λ (settings : Settings). PlayIsHere (play_rate_between device settings) here new) (sym same) at
+
+-- both
+pub record IsInOrder (device : DeviceSeen) (here : Here) (book : PlayBook) : Type 0 where
+  pub counts : IsSafeAt device book
+  pub place : IsHereAt device here book
+
+-- a book stays in order through a write
+pub order-written : (device : DeviceSeen) (here : Here) (length : ℕ) (book : PlayBook) → IsDevice device → IsRate book.opening.settings.rate → IsInOrder device here book → IsInOrder device here (write_turn here length book).book
+order-written device here length book d s o =
+    let rate : Rate = play_rate_at device book in
+    let new : PlayBook = (write_turn here length book).book in
+    let same = (write_turn-writes here length book).accepts.settings in
+    record {
+      counts = safe_settings device book new same (safe-write rate here length book (ratio-between device book.opening.settings d s) o.counts);
+      place = here_settings device here book new same (here-write rate here length book o.place);
+    }
+
+-- the counts of a book stay in order through a request, which may change the rate in Setup alone
+pub safe-asking : (device : DeviceSeen) (here : Here) (request : Request) (book : PlayBook) → IsDevice device → IsRate book.opening.settings.rate → IsSafeAt device book → IsSafeAt device (asking device here request book).book
+safe-asking device here request book d s safe =
+    let rate : Rate = play_rate_at device book in
+    let mix_rate : ℕ = (mix_settings device).rate in
+    safe-ask rate (play_rate_at device (asking device here request book).book) mix_rate here request book (ratio-between device book.opening.settings d s) safe
+    (λ e. ap (play_rate_between device) (ask-settings rate mix_rate here request book s e))
+
+-- and so does its place
+pub order-asking : (device : DeviceSeen) (here : Here) (request : Request) (book : PlayBook) → IsDevice device → IsRate book.opening.settings.rate → IsInOrder device here book → IsInOrder device here (asking device here request book).book
+order-asking device here request book d s o =
+    let rate : Rate = play_rate_at device book in
+    let mix_rate : ℕ = (mix_settings device).rate in
+    record {
+      counts = safe-asking device here request book d s o.counts;
+      place = here-ask rate (play_rate_at device (asking device here request book).book) mix_rate here request book (ratio-between device book.opening.settings d s)
+          (λ e. ap (play_rate_between device) (ask-settings rate mix_rate here request book s e)) o.counts o.place;
+    }
 
 -- through a close
-pub safe-closing : (device : DeviceSeen) (book : PlayBook) → IsDevice device → IsRate book.opening.settings.rate → IsSafeAt device book → IsSafeAt device (closing device book)
-safe-closing device book d s safe =
-    safe_settings device book (closing device book) (close-keeps (play_rate_at device book) book).settings
-    (safe-close (play_rate_at device book) book (ratio-between device book.opening.settings d s) safe)
+pub order-closing : (device : DeviceSeen) (here : Here) (book : PlayBook) → IsDevice device → IsRate book.opening.settings.rate → IsInOrder device here book → IsInOrder device here (closing device here book)
+order-closing device here book d s o =
+    let rate : Rate = play_rate_at device book in
+    let ratio = ratio-between device book.opening.settings d s in
+    let same = (close-keeps rate here book).settings in
+    record {
+      counts = safe_settings device book (closing device here book) same (safe-close rate here book ratio o.counts);
+      place = here_settings device here book (closing device here book) same (here-close rate here book ratio o.counts o.place);
+    }
 
--- and through an interrupt
-pub safe-mixing : (device : DeviceSeen) (n : ℕ) (book : PlayBook) → IsDevice device → IsRate book.opening.settings.rate → IsSafeAt device book → IsSafeAt device (mixing device n book)
-safe-mixing device zero book d s safe = safe
-safe-mixing device (suc n) book d s safe =
-    safe_settings device book (mixing device (suc n) book) (settings-refilled (play_rate_at device book) (suc n) book)
-    (safe-refilled (play_rate_at device book) (suc n) book (ratio-between device book.opening.settings d s) safe)
+-- where n frames are mixed
+pub safe-mixing : (device : DeviceSeen) (mixed n : ℕ) (book : PlayBook) → IsDevice device → IsRate book.opening.settings.rate → IsSafeAt device book → IsSafeAt device (mixing device mixed n book)
+safe-mixing device mixed zero book d s safe = safe
+safe-mixing device mixed (suc n) book d s safe =
+    safe_settings device book (mixing device mixed (suc n) book) (settings-refilled (play_rate_at device book) mixed (suc n) book)
+    (safe-refilled (play_rate_at device book) mixed (suc n) book (ratio-between device book.opening.settings d s) safe)
+
+-- where no run has given more than was mixed before, none gives more than is mixed then
+last-mixing : (device : DeviceSeen) (mixed n : ℕ) (book : PlayBook) → (is_started book.state ≡ true → book.last ≤ mixed) → is_started (mixing device mixed n book).state ≡ true → (mixing device mixed n book).last ≤ mixed + n
+last-mixing device mixed zero book h e = let past = h e in omega arith
+last-mixing device mixed (suc n) book h e = last-refilled (play_rate_at device book) mixed (suc n) book h e
+
+-- and where frames are handed over
+pub order-settling : (device : DeviceSeen) (mixed handed : ℕ) (book : PlayBook) → mixed_for device handed ≡ mixed → (is_started book.state ≡ true → book.last ≤ mixed) → IsSafeAt device book → IsInOrder device (here_at device handed) (settling device handed book)
+order-settling device mixed handed book level past safe =
+    let rate : Rate = play_rate_at device book in
+    let here : Here = here_at device handed in
+    let same = settings-settled rate here.passed book in
+    record {
+      counts = safe_settings device book (settling device handed book) same (safe-settled rate here.passed book safe);
+      place = here_settings device here book (settling device handed book) same (here-settled rate here book (λ e. let l = past e in omega arith));
+    }
 
 -- ---- the desk
 
@@ -89,12 +143,13 @@ safe-mixing device (suc n) book d s safe =
 abbrev pub HaveRates : DeviceSeen → Desk → Type 0
 HaveRates device desk = (slot : ℕ) → IsRate (play_at device desk slot).opening.settings.rate
 
--- a safe book after a book was set at some slot: the new book where it is that one, else the old
-safe-with : (device : DeviceSeen) (desk : Desk) (at slot : ℕ) (book : PlayBook) → IsSafeAt device (play_at device desk slot) → (slot ≡ at → IsSafeAt device book) → IsSafeAt device (play_at device (with_play desk at book) slot)
-safe-with device desk at slot book old new =
+-- a book in order after a book was set at some slot: the new book where it is that one, else the old
+order-with : (device : DeviceSeen) (now : Here) (desk : Desk) (at slot : ℕ) (book : PlayBook) → IsInOrder device now (play_at device desk slot) → (slot ≡ at → IsInOrder device now book)
+    → IsInOrder device now (play_at device (with_play desk at book) slot)
+order-with device now desk at slot book old new =
     elim (play_at-with device desk at slot book) [
-      | inl here ↦ subst (IsSafeAt device) (sym here.1) (new here.0)
-      | inr same ↦ subst (IsSafeAt device) (sym same) old
+      | inl here ↦ subst (IsInOrder device now) (sym here.1) (new here.0)
+      | inr same ↦ subst (IsInOrder device now) (sym same) old
     ]
 
 -- what an event at a desk leaves of a slot, before its newest run is told of it
@@ -127,7 +182,7 @@ given_with device dropping desk at slot book new =
 
 -- an event that brings no bytes and takes no frames leaves the slots valid, and the counts of the device
 pub record LeavesSlots (device : DeviceSeen) (mixed : ℕ) (dropping : Bool) (old new : Desk) : Type 0 where
-  pub safe : (slot : ℕ) → IsSafeAt device (play_at device old slot) → IsSafeAt device (play_at device new slot)
+  pub order : (slot : ℕ) → IsInOrder device (desk_here device old) (play_at device old slot) → IsInOrder device (desk_here device old) (play_at device new slot)
   pub slots : (slot : ℕ) (runs : List Run) → IsSafeAt device (play_at device old slot) → SlotIsValid device mixed (play_at device old slot) runs → SlotIsUntold device mixed old new slot runs
   pub given : (slot : ℕ) → IsSafeAt device (play_at device old slot) → KeepsGivenAt device dropping (play_at device old slot) (play_at device new slot)
   pub handed_same : new.handed ≡ old.handed
@@ -135,7 +190,7 @@ pub record LeavesSlots (device : DeviceSeen) (mixed : ℕ) (dropping : Bool) (ol
 
 stays : (device : DeviceSeen) (mixed : ℕ) (dropping : Bool) (desk : Desk) → LeavesSlots device mixed dropping desk desk
 stays device mixed dropping desk = record {
-  safe = λ slot s. s;
+  order = λ slot o. o;
   slots = λ slot runs s v. untold-same device mixed (play_at device desk slot) runs v;
   given = λ slot s. given-same (play_rate_at device (play_at device desk slot)) dropping (play_at device desk slot);
   handed_same = refl;
@@ -143,12 +198,12 @@ stays device mixed dropping desk = record {
 }
 
 -- one book is set
-leaves-with : (device : DeviceSeen) (mixed : ℕ) (dropping : Bool) (desk : Desk) (at : ℕ) (book : PlayBook) → (IsSafeAt device (play_at device desk at) → IsSafeAt device book)
+leaves-with : (device : DeviceSeen) (mixed : ℕ) (dropping : Bool) (desk : Desk) (at : ℕ) (book : PlayBook) → (IsInOrder device (desk_here device desk) (play_at device desk at) → IsInOrder device (desk_here device desk) book)
     → ((runs : List Run) → IsSafeAt device (play_at device desk at) → SlotIsValid device mixed (play_at device desk at) runs → IsUntold device mixed (play_at device desk at) book runs)
     → (IsSafeAt device (play_at device desk at) → KeepsGivenAt device dropping (play_at device desk at) book)
     → LeavesSlots device mixed dropping desk (with_play desk at book)
-leaves-with device mixed dropping desk at book safe valid given = record {
-  safe = λ slot s. safe-with device desk at slot book s (λ e. safe (subst (λ (k : ℕ). IsSafeAt device (play_at device desk k)) e s));
+leaves-with device mixed dropping desk at book order valid given = record {
+  order = λ slot o. order-with device (desk_here device desk) desk at slot book o (λ e. order (subst (λ (k : ℕ). IsInOrder device (desk_here device desk) (play_at device desk k)) e o));
   slots = λ slot runs s v. untold_with device mixed desk at slot book runs v
       (λ e. subst (λ (k : ℕ). IsUntold device mixed (play_at device desk k) book runs) (sym e)
       (valid runs (subst (λ (k : ℕ). IsSafeAt device (play_at device desk k)) e s) (subst (λ (k : ℕ). SlotIsValid device mixed (play_at device desk k) runs) e v)));
@@ -160,11 +215,11 @@ leaves-with device mixed dropping desk at book safe valid given = record {
 
 -- a descriptor is set besides
 leaves-descriptor : (device : DeviceSeen) (mixed : ℕ) (dropping : Bool) (old new : Desk) (fd : ℕ) (held : Option Held) → LeavesSlots device mixed dropping old new → LeavesSlots device mixed dropping old (with_descriptor new fd held)
-leaves-descriptor device mixed dropping old new fd held l = record { safe = l.safe; slots = l.slots; given = l.given; handed_same = l.handed_same; mixed_same = l.mixed_same }
+leaves-descriptor device mixed dropping old new fd held l = record { order = l.order; slots = l.slots; given = l.given; handed_same = l.handed_same; mixed_same = l.mixed_same }
 
 -- a record book is set
 leaves-record : (device : DeviceSeen) (mixed : ℕ) (dropping : Bool) (desk : Desk) (at : ℕ) (book : RecordBook) → LeavesSlots device mixed dropping desk (with_record desk at book)
-leaves-record device mixed dropping desk at book = let l = stays device mixed dropping desk in record { safe = l.safe; slots = l.slots; given = l.given; handed_same = refl; mixed_same = refl }
+leaves-record device mixed dropping desk at book = let l = stays device mixed dropping desk in record { order = l.order; slots = l.slots; given = l.given; handed_same = refl; mixed_same = refl }
 
 -- an open sets the book of the least free slot of its way
 leaves-open_play : (device : DeviceSeen) (mixed : ℕ) (found : Option ℕ) (desk : Desk) (fd : ℕ) (settings : Settings) → IsRate settings.rate → least_free_play desk.play ≡ found → LeavesSlots device mixed false desk (open_play found desk fd settings).desk
@@ -172,7 +227,7 @@ leaves-open_play device mixed None desk fd settings rate e = stays device mixed 
 leaves-open_play device mixed (Some at) desk fd settings rate e =
     let old : PlayBook = play_at device desk at in
     leaves-descriptor device mixed false desk (with_play desk at (play_begun settings)) fd (Some (record { way = Play; slot = at }))
-    (leaves-with device mixed false desk at (play_begun settings) (λ s. safe-begun (play_rate_between device settings) settings)
+    (leaves-with device mixed false desk at (play_begun settings) (λ o. record { counts = safe-begun (play_rate_between device settings) settings; place = here-begun (play_rate_between device settings) (desk_here device desk) settings })
     (λ runs s v. untold-empty device mixed old (play_begun settings) runs refl refl rate v.pieces v.own)
     (λ s. given-begun (play_rate_at device old) old settings (position-Some (λ (book : PlayBook). is_play_free book.state) desk.play at (play_unopened device) e).1))
 
@@ -214,27 +269,32 @@ leaves-read_on device mixed held desk count =
 -- a request leaves the counts of its book, or nothing of its run
 pub leaves-ioctl_on : (device : DeviceSeen) (mixed : ℕ) (held : Option Held) (desk : Desk) (request : Request) → IsDevice device → HaveRates device desk → LeavesSlots device mixed (asks_drop request) desk (ioctl_on device held desk request).desk
 leaves-ioctl_on device mixed held desk request d rates =
-    leaves-turning device mixed (asks_drop request) desk (play_turn device (asking device request) desk) (record_turn device (record_ask request) desk) held
+    let here : Here = desk_here device desk in
+    let mix_rate : ℕ = (mix_settings device).rate in
+    leaves-turning device mixed (asks_drop request) desk (play_turn device (asking device here request) desk) (record_turn device (record_ask request) desk) held
     (λ slot.
     let book : PlayBook = play_at device desk slot in
-    let asked : PlayBook = (asking device request book).book in
-    leaves-with device mixed (asks_drop request) desk slot asked (safe-asking device request book d (rates slot))
-    (λ runs s v. untold-leaves device mixed book asked runs (ask-leaves (play_rate_at device book) request book s) (ask-rate (play_rate_at device book) request book v.settings) v)
-    (λ s. given-ask (play_rate_at device book) request book s))
+    let rate : Rate = play_rate_at device book in
+    let asked : PlayBook = (asking device here request book).book in
+    leaves-with device mixed (asks_drop request) desk slot asked (order-asking device here request book d (rates slot))
+    (λ runs s v. untold-leaves device mixed book asked runs (ask-leaves rate mix_rate here request book s) (ask-rate rate mix_rate here request book v.settings) v)
+    (λ s. given-ask rate mix_rate here request book s))
     (λ slot. leaves-record device mixed (asks_drop request) desk slot (record_ask request (record_at device desk slot)).book)
 
 -- and so does a close
 pub leaves-close_on : (device : DeviceSeen) (mixed : ℕ) (held : Option Held) (desk : Desk) (fd : ℕ) → IsDevice device → HaveRates device desk → LeavesSlots device mixed false desk (close_on device held desk fd).desk
 leaves-close_on device mixed held desk fd d rates =
+    let here : Here = desk_here device desk in
     leaves-turning device mixed false desk (close_play device desk fd) (close_record device desk fd) held
     (λ slot.
     let book : PlayBook = play_at device desk slot in
-    let closed : PlayBook = closing device book in
+    let rate : Rate = play_rate_at device book in
+    let closed : PlayBook = closing device here book in
     leaves-descriptor device mixed false desk (with_play desk slot closed) fd None
-    (leaves-with device mixed false desk slot closed (safe-closing device book d (rates slot))
-    (λ runs s v. untold-leaves device mixed book closed runs (close-leaves (play_rate_at device book) book)
-    (subst (λ (settings : Settings). IsRate settings.rate) (sym (close-keeps (play_rate_at device book) book).settings) v.settings) v)
-    (λ s. given-close (play_rate_at device book) book)))
+    (leaves-with device mixed false desk slot closed (order-closing device here book d (rates slot))
+    (λ runs s v. untold-leaves device mixed book closed runs (close-leaves rate here book)
+    (subst (λ (settings : Settings). IsRate settings.rate) (sym (close-keeps rate here book).settings) v.settings) v)
+    (λ s. given-close rate here book)))
     (λ slot.
     let closed : RecordBook = records.closed (record_at device desk slot) in
     leaves-descriptor device mixed false desk (with_record desk slot closed) fd None (leaves-record device mixed false desk slot closed))
@@ -248,14 +308,14 @@ pub record Writes (device : DeviceSeen) (length : ℕ) (old new : Desk) : Type 0
 writes_none : (device : DeviceSeen) (desk : Desk) (length : ℕ) → Writes device length desk desk
 writes_none device desk length = record { slots = λ slot. writes-nothing length (play_at device desk slot); handed_same = refl; mixed_same = refl }
 
-writes_at : (device : DeviceSeen) (desk : Desk) (length at : ℕ) → Writes device length desk (play_turn device (write_turn length) desk at).desk
+writes_at : (device : DeviceSeen) (desk : Desk) (length at : ℕ) → Writes device length desk (play_turn device (write_turn (desk_here device desk) length) desk at).desk
 writes_at device desk length at =
     let before : PlayBook = play_at device desk at in
-    let book : PlayBook = (write_turn length before).book in
+    let book : PlayBook = (write_turn (desk_here device desk) length before).book in
     record {
       slots = λ slot. elim (play_at-with device desk at slot book) [
         | inl here ↦ subst (λ (b : PlayBook). WritesSome length (play_at device desk slot) b) (sym here.1)
-            (subst (λ (s : ℕ). WritesSome length (play_at device desk s) book) (sym here.0) (write_turn-writes length before))
+            (subst (λ (s : ℕ). WritesSome length (play_at device desk s) book) (sym here.0) (write_turn-writes (desk_here device desk) length before))
         | inr same ↦ subst (λ (b : PlayBook). WritesSome length (play_at device desk slot) b) (sym same) (writes-nothing length (play_at device desk slot))
       ];
       handed_same = refl;
@@ -265,26 +325,28 @@ writes_at device desk length at =
 pub writes-write_on : (device : DeviceSeen) (held : Option Held) (desk : Desk) (length : ℕ) → Writes device length desk (write_on device held desk length).desk
 writes-write_on device None desk length = writes_none device desk length
 writes-write_on device (Some held) desk length =
-    elim held.way as (λ (way : Way). Writes device length desk (by_way way (play_turn device (write_turn length) desk held.slot) (refusing desk Inval)).desk) [
+    elim held.way as (λ (way : Way). Writes device length desk (by_way way (play_turn device (write_turn (desk_here device desk) length) desk held.slot) (refusing desk Inval)).desk) [
       | Play ↦ writes_at device desk length held.slot
       | Record ↦ writes_none device desk length
     ]
 
--- and safe books
-safe_written_at : (device : DeviceSeen) (desk : Desk) (count at slot : ℕ) → IsDevice device → HaveRates device desk → IsSafeAt device (play_at device desk slot)
-    → IsSafeAt device (play_at device (play_turn device (write_turn count) desk at).desk slot)
-safe_written_at device desk count at slot d rates s =
+-- and books in order
+order_written_at : (device : DeviceSeen) (desk : Desk) (count at slot : ℕ) → IsDevice device → HaveRates device desk → let here : Here = desk_here device desk in IsInOrder device here (play_at device desk slot)
+    → IsInOrder device here (play_at device (play_turn device (write_turn here count) desk at).desk slot)
+order_written_at device desk count at slot d rates o =
+    let here : Here = desk_here device desk in
     let book : PlayBook = play_at device desk at in
-    safe-with device desk at slot (write_turn count book).book s
-    (λ e. safe-written device count book d (rates at) (subst (λ (k : ℕ). IsSafeAt device (play_at device desk k)) e s))
+    order-with device here desk at slot (write_turn here count book).book o
+    (λ e. order-written device here count book d (rates at) (subst (λ (k : ℕ). IsInOrder device here (play_at device desk k)) e o))
 
-pub safe-write_on : (device : DeviceSeen) (held : Option Held) (desk : Desk) (count slot : ℕ) → IsDevice device → HaveRates device desk → IsSafeAt device (play_at device desk slot)
-    → IsSafeAt device (play_at device (write_on device held desk count).desk slot)
-safe-write_on device None desk count slot d rates s = s
-safe-write_on device (Some held) desk count slot d rates s =
-    elim held.way as (λ (way : Way). IsSafeAt device (play_at device (by_way way (play_turn device (write_turn count) desk held.slot) (refusing desk Inval)).desk slot)) [
-      | Play ↦ safe_written_at device desk count held.slot slot d rates s
-      | Record ↦ s
+pub order-write_on : (device : DeviceSeen) (held : Option Held) (desk : Desk) (count slot : ℕ) → IsDevice device → HaveRates device desk → IsInOrder device (desk_here device desk) (play_at device desk slot)
+    → IsInOrder device (desk_here device desk) (play_at device (write_on device held desk count).desk slot)
+order-write_on device None desk count slot d rates o = o
+order-write_on device (Some held) desk count slot d rates o =
+    let here : Here = desk_here device desk in
+    elim held.way as (λ (way : Way). IsInOrder device here (play_at device (by_way way (play_turn device (write_turn here count) desk held.slot) (refusing desk Inval)).desk slot)) [
+      | Play ↦ order_written_at device desk count held.slot slot d rates o
+      | Record ↦ o
     ]
 
 -- as many bytes as are asked for are there
@@ -325,7 +387,7 @@ IsPlacedAt device pool story event slot = SlotIsPlaced device story.desk.mixed (
 
 -- what an event that takes no frames leaves of a story: the device's counts, safe books, and valid slots whose pieces are in their places
 pub record Keeps (device : DeviceSeen) (pool : Pool) (story : Story) (event : Event) : Type 0 where
-  pub safe : (slot : ℕ) → IsSafeAt device (play_at device (after device story.desk event).desk slot)
+  pub order : (slot : ℕ) → IsInOrder device (desk_here device story.desk) (play_at device (after device story.desk event).desk slot)
   pub slots : (slot : ℕ) → SlotIsUntold device story.desk.mixed story.desk (after device story.desk event).desk slot (carried_at device pool story event slot)
   pub placed : (slot : ℕ) → IsPlacedAt device pool story event slot
   pub handed_same : (after device story.desk event).desk.handed ≡ story.desk.handed
@@ -334,11 +396,14 @@ pub record Keeps (device : DeviceSeen) (pool : Pool) (story : Story) (event : Ev
 rates_of : (device : DeviceSeen) (story : Story) → StoryIsValid device story → HaveRates device story.desk
 rates_of device story v slot = (v.slots slot).settings
 
+order_of : (device : DeviceSeen) (story : Story) (slot : ℕ) → StoryIsValid device story → IsInOrder device (desk_here device story.desk) (play_at device story.desk slot)
+order_of device story slot v = record { counts = v.safe slot; place = v.here slot }
+
 -- an event that leaves the slots valid, and their runs as they are
 keeps-left : (device : DeviceSeen) (pool : Pool) (story : Story) (event : Event) → LeavesSlots device story.desk.mixed (drops event) story.desk (after device story.desk event).desk
     → ((slot : ℕ) → story.runs slot ≡ carried_at device pool story event slot) → StoryIsValid device story → Keeps device pool story event
 keeps-left device pool story event l same v = record {
-  safe = λ slot. l.safe slot (v.safe slot);
+  order = λ slot. l.order slot (order_of device story slot v);
   slots = λ slot. subst (SlotIsUntold device story.desk.mixed story.desk (after device story.desk event).desk slot) (same slot) (l.slots slot (story.runs slot) (v.safe slot) (v.slots slot));
   placed = λ slot.
       let old : PlayBook = play_at device story.desk slot in
@@ -358,13 +423,13 @@ keeps-write device pool story fd source at count h v =
     let w = writes-write_on device (held_by story.desk fd) story.desk count in
     let new : Desk = (write_on device (held_by story.desk fd) story.desk count).desk in
     record {
-      safe = λ slot. safe-write_on device (held_by story.desk fd) story.desk count slot v.limits (rates_of device story v) (v.safe slot);
+      order = λ slot. order-write_on device (held_by story.desk fd) story.desk count slot v.limits (rates_of device story v) (order_of device story slot v);
       slots = λ slot. untold_written device story.desk.mixed pool source at count (play_at device story.desk slot) (play_at device new slot) (story.runs slot) v.limits h (w.slots slot) (v.slots slot);
       placed = λ slot.
           let old : PlayBook = play_at device story.desk slot in
           let now : PlayBook = play_at device new slot in
           placed-taken device story.desk.mixed (Write fd source at count) (bytes_at pool source at (now.written - old.written)) old now (story.runs slot) v.limits (v.safe slot) (v.slots slot)
-          (written_accepts pool source at count old now h (w.slots slot)) (v.placed slot);
+          (written_accepts pool source at count old now h (w.slots slot)) (written_undrained pool source at count old now (w.slots slot)) (v.placed slot);
       handed_same = w.handed_same;
       mixed_same = w.mixed_same;
     }
@@ -424,31 +489,75 @@ valid-kept : (device : DeviceSeen) (pool : Pool) (story : Story) (event : Event)
 valid-kept device pool story event k v = record {
   limits = v.limits;
   slots = λ slot. valid-at device pool story event story.desk.mixed slot v.limits k.mixed_same (k.slots slot);
-  safe = k.safe;
+  safe = λ slot. (k.order slot).counts;
+  here = λ slot. subst (λ (handed : ℕ). IsHereAt device (here_at device handed) (play_at device (after device story.desk event).desk slot)) (sym k.handed_same) (k.order slot).place;
   placed = λ slot. subst (λ (mixed : ℕ). SlotIsPlaced device mixed (play_at device (after device story.desk event).desk slot) ((told device pool story event).runs slot)) (sym k.mixed_same) (k.placed slot);
   gains = gains-told device pool story event (let same = k.mixed_same in omega arith) v;
   mixed = k.mixed_same ∙ v.mixed ∙ ap (mixed_for device) (sym k.handed_same);
 }
 
+-- a book after an interrupt of n frames is in order, where the mix and the device are then
+order-passing : (device : DeviceSeen) (handed n : ℕ) (book : PlayBook) → IsDevice device → IsRate book.opening.settings.rate → IsInOrder device (here_at device handed) book → IsInOrder device (here_at device (handed + n)) (play_passing device handed n book)
+order-passing device handed n book d s o =
+    let mixed : ℕ = mixed_for device handed in
+    let q : ℕ = mixed_by device handed n in
+    order-settling device (mixed + q) (handed + n) (mixing device mixed q book) (sym (mixed-behind device handed n d)) (last-mixing device mixed q book o.place.last)
+    (safe-mixing device mixed q book d s o.counts)
+
+-- and so is that of each slot
+order_passed : (device : DeviceSeen) (desk : Desk) (n slot : ℕ) → IsDevice device → HaveRates device desk → IsInOrder device (desk_here device desk) (play_at device desk slot)
+    → IsInOrder device (here_at device (desk.handed + n)) (play_at device (after device desk (Intr n)).desk slot)
+order_passed device desk n slot d rates o =
+    subst (IsInOrder device (here_at device (desk.handed + n))) (sym (play_at-passing device desk n slot)) (order-passing device desk.handed n (play_at device desk slot) d (rates slot) o)
+
+order_left : (device : DeviceSeen) (dropping : Bool) (old new : Desk) (slot : ℕ) → LeavesSlots device 0 dropping old new → IsInOrder device (desk_here device old) (play_at device old slot) → IsInOrder device (desk_here device new) (play_at device new slot)
+order_left device dropping old new slot l o = subst (λ (handed : ℕ). IsInOrder device (here_at device handed) (play_at device new slot)) (sym l.handed_same) (l.order slot o)
+
+-- books stay in order through every event that fits
+pub order-after : (device : DeviceSeen) (pool : Pool) (desk : Desk) (event : Event) (slot : ℕ) → IsDevice device → Fits device pool event → HaveRates device desk → IsInOrder device (desk_here device desk) (play_at device desk slot)
+    → IsInOrder device (desk_here device (after device desk event).desk) (play_at device (after device desk event).desk slot)
+order-after device pool desk (Open fd way settings) slot d fits rates o = order_left device false desk (open_turn desk fd way settings).desk slot (leaves-open_turn device 0 desk fd way settings fits.1) o
+order-after device pool desk (Write fd source at count) slot d fits rates o =
+    let new : Desk = (write_on device (held_by desk fd) desk count).desk in
+    subst (λ (handed : ℕ). IsInOrder device (here_at device handed) (play_at device new slot)) (sym (writes-write_on device (held_by desk fd) desk count).handed_same)
+    (order-write_on device (held_by desk fd) desk count slot d rates o)
+order-after device pool desk (Read fd count) slot d fits rates o = order_left device false desk (read_on device (held_by desk fd) desk count).desk slot (leaves-read_on device 0 (held_by desk fd) desk count) o
+order-after device pool desk (Ioctl fd request) slot d fits rates o =
+    order_left device (asks_drop request) desk (ioctl_on device (held_by desk fd) desk request).desk slot (leaves-ioctl_on device 0 (held_by desk fd) desk request d rates) o
+order-after device pool desk (Close fd) slot d fits rates o = order_left device false desk (close_on device (held_by desk fd) desk fd).desk slot (leaves-close_on device 0 (held_by desk fd) desk fd d rates) o
+order-after device pool desk (Intr n) slot d fits rates o = order_passed device desk n slot d rates o
+
+-- a story stays valid through an interrupt
 valid-interrupted : (device : DeviceSeen) (pool : Pool) (story : Story) (n : ℕ) → StoryIsValid device story → StoryIsValid device (told device pool story (Intr n))
 valid-interrupted device pool story n v = record {
   limits = v.limits;
-  slots = λ slot.
-      let old : PlayBook = play_at device story.desk slot in
-      valid-at device pool story (Intr n) (story.desk.mixed + q) slot v.limits refl
-      (subst (λ (b : PlayBook). IsUntold device (story.desk.mixed + q) old b (playing device story.desk.mixed q old (story.runs slot))) (sym (play_at-mixing device story.desk n slot))
-      (untold-mixing device story.desk.mixed q old (story.runs slot) v.limits (v.safe slot) (v.slots slot)));
-  safe = λ slot. subst (IsSafeAt device) (sym (play_at-mixing device story.desk n slot)) (safe-mixing device q (play_at device story.desk slot) v.limits (v.slots slot).settings (v.safe slot));
-  placed = λ slot.
-      let old : PlayBook = play_at device story.desk slot in
-      subst (λ (b : PlayBook). SlotIsPlaced device (story.desk.mixed + q) b (marking story.desk.mixed (Intr n) old b (playing device story.desk.mixed q old (story.runs slot)))) (sym (play_at-mixing device story.desk n slot))
-      (placed-mixing device story.desk.mixed q old (story.runs slot) v.limits (v.safe slot) (v.slots slot) (v.placed slot));
+  slots = λ slot. valid-at device pool story (Intr n) (story.desk.mixed + q) slot v.limits refl
+      (subst (λ (b : PlayBook). IsUntold device (story.desk.mixed + q) (old slot) b (played slot)) (sym (is slot)) (untold-passing device story.desk.mixed q (story.desk.handed + n) (old slot) (story.runs slot) (valid slot)));
+  safe = λ slot. (order_passed device story.desk n slot v.limits (rates_of device story v) (order_of device story slot v)).counts;
+  here = λ slot. (order_passed device story.desk n slot v.limits (rates_of device story v) (order_of device story slot v)).place;
+  placed = λ slot. subst (λ (b : PlayBook). SlotIsPlaced device (story.desk.mixed + q) b (marking story.desk.mixed (Intr n) (old slot) b (played slot))) (sym (is slot))
+      (placed-passing device story.desk.mixed q (story.desk.handed + n) n (old slot) (story.runs slot) v.limits (v.slots slot) (v.placed slot)
+      (safe-mixing device story.desk.mixed q (old slot) v.limits (v.slots slot).settings (v.safe slot)) (valid slot));
   gains = gains-told device pool story (Intr n) (omega arith) v;
   mixed = ap (λ frames. frames + q) v.mixed ∙ mixed-behind device story.desk.handed n v.limits;
 }
   where
     q : ℕ
     q = mixed_by device story.desk.handed n
+
+    old : ℕ → PlayBook
+    old slot = play_at device story.desk slot
+
+    played : ℕ → List Run
+    played slot = playing device story.desk.mixed q (old slot) (story.runs slot)
+
+    valid : (slot : ℕ) → SlotIsValid device (story.desk.mixed + q) (mixing device story.desk.mixed q (old slot)) (played slot)
+    valid slot = valid-mixing device story.desk.mixed q (old slot) (story.runs slot) v.limits (v.safe slot) (v.slots slot)
+
+    is : (slot : ℕ) → play_at device (after device story.desk (Intr n)).desk slot ≡ settling device (story.desk.handed + n) (mixing device story.desk.mixed q (old slot))
+    is slot =
+        play_at-passing device story.desk n slot
+        ∙ sym (ap (λ (mixed : ℕ). settling device (story.desk.handed + n) (mixing device mixed q (old slot))) v.mixed)
 
 -- a story stays valid through an event that fits
 pub valid-told : (device : DeviceSeen) (pool : Pool) (story : Story) (event : Event) → Fits device pool event → StoryIsValid device story → StoryIsValid device (told device pool story event)
@@ -478,6 +587,7 @@ valid-start device d = record {
     pieces = All-nil (RunIsValid device 0);
     own = All-nil HasRate;
   });
+  here = λ slot. subst (IsHereAt device (here_at device 0)) (sym (get_or-same (play_slots device) slot (play_unopened device))) (record { last = λ e. cc; left = λ e. cc });
   safe = λ slot. subst (IsSafeAt device) (sym (get_or-same (play_slots device) slot (play_unopened device))) (record { order = unstarted; fill = omega arith; fragments = usual-fragments; volume = refl; told = omega arith });
   placed = λ slot. tt;
   gains = λ slot position l. ap book_gain (sym (get_or-same (play_slots device) slot (play_unopened device)));

@@ -4,14 +4,14 @@ use Rattle.pcm_desk.specs.declared.play_book.PlayBook.{PlayBook}
 use Rattle.pcm_desk.specs.Device.{DeviceSeen}
 use Rattle.pcm_desk.specs.PlayBooks.{is_started}
 use Rattle.pcm_sound.specs.Runs.{Piece, Run}
-use Rattle.pcm_sound.specs.Plain.{IsUnbroken, run_end}
+use Rattle.pcm_sound.specs.Plain.{IsUnbroken, lasting, run_end}
 
 -- pieces, the newest first, that follow each other from a position on without a gap: `count` frames, each as far into its stream
--- as its position is past the first
+-- as its position is past the first; pieces of no frame, which a run may get once it has given all, can be anywhere
 abbrev pub FollowFrom : ℕ → ℕ → List Piece → Type 0
 FollowFrom start count [] = count ≡ 0
 FollowFrom start count (piece ∷ pieces) =
-    (piece.position ≡ start + piece.index) × (count ≡ piece.index + piece.count) × FollowFrom start piece.index pieces
+    (0 < piece.count → piece.position ≡ start + piece.index) × (count ≡ piece.index + piece.count) × FollowFrom start piece.index pieces
 
 -- a run that is heard from its start on, as far as its pieces go, and no further at any later position
 pub record IsPlayed (device : DeviceSeen) (mixed start : ℕ) (run : Run) : Type 0 where
@@ -34,23 +34,26 @@ pub record IsWaiting (run : Run) : Type 0 where
   pub start : run.start ≡ None
   pub pieces : run.pieces ≡ []
 
--- a run whose book has: its pieces have all that the book gave, and reach to what is mixed next
-pub record IsGoing (mixed : ℕ) (book : PlayBook) (run : Run) : Type 0 where
+-- A run whose book has: its pieces have all that the book gave. They reach to what is mixed next, unless no more was to come and all
+-- was given that the run lasts for.
+pub record IsGoing (device : DeviceSeen) (mixed : ℕ) (book : PlayBook) (run : Run) : Type 0 where
   pub start : ℕ
   pub started : run.start ≡ Some start
-  pub follow : IsUnbroken run → FollowFrom start book.given run.pieces × (start + book.given ≡ mixed)
+  pub past : start + book.given ≤ mixed
+  pub follow : IsUnbroken run → FollowFrom start book.given run.pieces
+  pub next : IsUnbroken run → (run.drained ≡ true → book.given < lasting device run) → start + book.given ≡ mixed
 
 -- a run that its book counts
-pub record IsCounted (mixed : ℕ) (book : PlayBook) (run : Run) : Type 0 where
+pub record IsCounted (device : DeviceSeen) (mixed : ℕ) (book : PlayBook) (run : Run) : Type 0 where
   pub dropped : run.dropped ≡ None
   pub waits : is_started book.state ≡ false → IsWaiting run
-  pub goes : is_started book.state ≡ true → IsGoing mixed book run
+  pub goes : is_started book.state ≡ true → IsGoing device mixed book run
 
 -- the runs of a slot, of which the book counts the newest if so many bytes were written; the others are over
 abbrev pub ArePlaced : DeviceSeen → ℕ → PlayBook → ℕ → List Run → Type 0
 ArePlaced device mixed book written [] = Unit {0}
 ArePlaced device mixed book written (run ∷ runs) =
-    All (IsOver device mixed) runs × (written ≡ 0 → IsOver device mixed run) × (0 < written → IsCounted mixed book run)
+    All (IsOver device mixed) runs × (written ≡ 0 → IsOver device mixed run) × (0 < written → IsCounted device mixed book run)
 
 -- where the runs of a slot stand, before a position
 abbrev pub SlotIsPlaced : DeviceSeen → ℕ → PlayBook → List Run → Type 0

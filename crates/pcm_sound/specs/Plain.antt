@@ -22,9 +22,13 @@ pub record Span : Type 0 where
   pub start : ℕ
   pub end : ℕ
 
+-- how many frames of the mix a run lasts for
+abbrev pub lasting : DeviceSeen → Run → ℕ
+lasting device run = len (play_rate_between device run.settings) (length (run_frames run))
+
 -- behind all that a run lasts for, once no more was to come
 abbrev pub drain_end : DeviceSeen → ℕ → ℕ → Run → ℕ
-drain_end device until start run = if run.drained then start + len (play_rate_between device run.settings) (length (run_frames run)) else until
+drain_end device until start run = if run.drained then start + lasting device run else until
 
 -- where a run was dropped
 abbrev pub drop_end : ℕ → Option ℕ → ℕ

@@ -8,11 +8,11 @@ use Rattle.pcm_feeder.specs.Limits.{IsRate}
 use Rattle.pcm_desk.specs.declared.play_book.PlayBook.{PlayBook}
 use Rattle.pcm_desk.specs.Device.{DeviceSeen, IsDevice, mixed_for, play_rate_between}
 use Rattle.pcm_desk.specs.PlayBooks.{is_draining, is_started}
-use Rattle.pcm_desk.specs.PlaySafe.{PlayIsSafe}
+use Rattle.pcm_desk.specs.PlaySafe.{PlayIsHere, PlayIsSafe}
 use Rattle.pcm_desk.specs.declared.record_book.RecordBook.{RecordBook}
 use Rattle.pcm_desk.specs.RecordBooks.{is_running}
 use Rattle.pcm_desk.specs.RecordSafe.{RecordIsSafe}
-use Rattle.pcm_desk.specs.Desk.{play_at, play_rate_at, record_at, record_rate_at}
+use Rattle.pcm_desk.specs.Desk.{desk_here, play_at, play_rate_at, record_at, record_rate_at}
 use Rattle.pcm_wave.specs.declared.pool.Pool.{Pool}
 use Rattle.pcm_sound.specs.Gains.{book_gain, last_gain}
 use Rattle.pcm_sound.specs.Runs.{Piece, Run}
@@ -60,6 +60,7 @@ pub record StoryIsValid (device : DeviceSeen) (story : Story) : Type 0 where
   pub limits : IsDevice device
   pub slots : (slot : ℕ) → SlotIsValid device story.desk.mixed (play_at device story.desk slot) (story.runs slot)
   pub safe : (slot : ℕ) → PlayIsSafe (play_rate_at device (play_at device story.desk slot)) (play_at device story.desk slot)
+  pub here : (slot : ℕ) → PlayIsHere (play_rate_at device (play_at device story.desk slot)) (desk_here device story.desk) (play_at device story.desk slot)
   -- the pieces of each run stand in their place
   pub placed : (slot : ℕ) → SlotIsPlaced device story.desk.mixed (play_at device story.desk slot) (story.runs slot)
   -- from now on each slot has the gain of its book's volume

@@ -68,7 +68,7 @@ pub fn what_sounds_alike_has_equal_bytes()
 /// An interrupt leaves a run short exactly where it counts an underrun, as long as the count can rise: so answers tell of every shortage.
 pub fn shortages_are_counted()
     ensures { (device : DeviceSeen) (position n : ℕ) (book : PlayBook) → 0 < n → book.underruns < 2 ^ 32 - 1
-        → ((piece_of device position n book).short ≡ 0) ↔ ((mixing device n book).underruns ≡ book.underruns) }
+        → ((piece_of device position n book).short ≡ 0) ↔ ((mixing device position n book).underruns ≡ book.underruns) }
 {}
 
 /// A story knows a pool by the bytes of its events and the frames that are recorded: pools that are alike tell one story, and one that has

@@ -1,5 +1,5 @@
 -- The channels of a device, one of them changed or all refilled.
-use Rattle.std.proofs.Common.{◌≡◌, ℕ, ◌*◌, ◌+◌, ◌<◌, ◌≤◌, Bool, cond, List, [], ◌∷◌, ◌++◌, length, map, set, get_or, take, Some, None, All, refl, sym, ap, ◌∙◌, subst, inl, inr, arith, get_or-set_same, get_or-set_other}
+use Rattle.std.proofs.Common.{◌≡◌, ℕ, ℤ, ◌*◌, ◌+◌, ◌<◌, ◌≤◌, Bool, cond, List, [], ◌∷◌, ◌++◌, length, map, set, get_or, take, Some, None, All, refl, sym, ap, ◌∙◌, subst, inl, inr, arith, get_or-set_same, get_or-set_other}
 use Rattle.std.specs.Prelude.{not, nat_lt, position}
 use Rattle.std.proofs.Props.{props}
 use mathlib.Core.HLevel.{is_prop→PathP}
@@ -7,24 +7,27 @@ use Rattle.pcm_fixed.specs.Fixed.{fixed_len}
 use Rattle.pcm_format.specs.Frames.{Frame, frame_bytes}
 use Rattle.pcm_desk.specs.declared.limits.TheConstants.{RING_FRAMES, SLOTS}
 use Rattle.std.specs.List.{position_or_len, prefix_len}
-use Rattle.std.proofs.lemmas.List.{get_or-map, map-set, length-map, length-set, get_or_default, same_lists}
+use Rattle.std.proofs.lemmas.List.{append-nil, get_or-map, map-set, length-map, length-set, get_or_default, same_lists, take-take}
 use Rattle.std.proofs.lemmas.Bool.{cases_eq}
 use Rattle.pcm_feeder.specs.declared.kind.Kind.{Kind}
 use Rattle.pcm_feeder.specs.Filters.{Filters}
+use Rattle.pcm_feeder.specs.Limits.{IsRate}
+use Rattle.pcm_format.specs.declared.settings.TheConstants.{RATE_LEAST, RATE_MOST}
 use Rattle.pcm_feeder.specs.Kept.{Kept}
 use Rattle.pcm_desk.specs.declared.play_book.PlayBook.{PlayBook}
 use Rattle.pcm_desk.specs.declared.device.Device.{Device}
-use Rattle.pcm_desk.specs.Device.{DeviceSeen}
-use Rattle.pcm_desk.specs.PlayBooks.{is_play_free}
+use Rattle.pcm_desk.specs.declared.here.Here.{Here}
+use Rattle.pcm_desk.specs.Device.{DeviceSeen, HasRates, mixed_for, passed_for, seen, unfiltered}
+use Rattle.pcm_desk.specs.PlayBooks.{is_play_free, play_settled}
 use Rattle.pcm_desk.specs.declared.record_book.RecordBook.{RecordBook}
 use Rattle.pcm_desk.specs.RecordBooks.{is_record_free}
-use Rattle.pcm_desk.specs.Desk.{capturing, least_free_play, least_free_record, mixing}
+use Rattle.pcm_desk.specs.Desk.{capturing, least_free_play, least_free_record, mixed_by, mixing, play_passing, play_rate_at}
 use Rattle.pcm_play.specs.declared.channel.PlayChannelOf.{PlayChannelOf}
 use Rattle.pcm_vchan.specs.declared.parent.ParentOf.{ParentOf}
 use Rattle.pcm_record.specs.declared.channel.RecordChannelOf.{RecordChannelOf}
 use Rattle.pcm_record.specs.Channels.{IsRecordReady, RecordMoves}
-use Rattle.pcm_vchan.specs.Slots.{play_books_of, Each, record_books_of}
-use Rattle.pcm_play.specs.Channels.{IsPlayReady, PlayMoves}
+use Rattle.pcm_vchan.specs.Slots.{AreMixed, Each, IsPlayDue, MaySettle, Mixes, Passes, PlayAreOf, Settles, play_books_of, record_books_of}
+use Rattle.pcm_play.specs.Channels.{IsPlayReady, PlayMoves, PlayStands}
 
 prefix_len-map : {X Y : Type 0} (p : Y → Bool) (f : X → Y) (xs : List X) → prefix_len p (map f xs) ≡ prefix_len (λ x. p (f x)) xs
 prefix_len-map p f [] = refl
@@ -89,18 +92,19 @@ some_channel [] k h = absurd (omega arith)
 some_channel (channel ∷ channels) k h = channel
 
 -- the books after an interrupt
-pub play_books_of-mixed : {B : Type 0} (device : DeviceSeen) (n : ℕ) (old new : List (PlayChannelOf B)) → length new ≡ length old → Each (λ (o : PlayChannelOf B) (c : PlayChannelOf B). c.book ≡ mixing device n o.book) old new
-    → play_books_of new ≡ map (mixing device n) (play_books_of old)
-play_books_of-mixed {B = B} device n old new same each =
-    same_lists (play_books_of new) (map (mixing device n) (play_books_of old))
-    (length-map new (λ (c : PlayChannelOf B). c.book) ∙ same ∙ sym (length-map (play_books_of old) (mixing device n) ∙ length-map old (λ (c : PlayChannelOf B). c.book)))
+pub play_books_of-passed : {B : Type 0} (device : DeviceSeen) (handed n : ℕ) (old new : List (PlayChannelOf B)) → length new ≡ length old → Each (Passes device handed n) old new
+    → play_books_of new ≡ map (play_passing device handed n) (play_books_of old)
+play_books_of-passed {B = B} device handed n old new same each =
+    let passing : PlayBook → PlayBook = play_passing device handed n in
+    same_lists (play_books_of new) (map passing (play_books_of old))
+    (length-map new (λ (c : PlayChannelOf B). c.book) ∙ same ∙ sym (length-map (play_books_of old) passing ∙ length-map old (λ (c : PlayChannelOf B). c.book)))
     (λ k d within.
     let there : k < length new = omega (arith, length-map new (λ (c : PlayChannelOf B). c.book)) in
     let before : k < length old = omega arith in
     let listed : k < length (play_books_of old) = omega (arith, length-map old (λ (c : PlayChannelOf B). c.book)) in
     let other : PlayChannelOf B = some_channel old k before in
     get_or-map (λ (c : PlayChannelOf B). c.book) new k other d there ∙ each k other before
-    ∙ ap (mixing device n) (sym (get_or-map (λ (c : PlayChannelOf B). c.book) old k other d before)) ∙ sym (get_or-map (mixing device n) (play_books_of old) k d d listed))
+    ∙ ap passing (sym (get_or-map (λ (c : PlayChannelOf B). c.book) old k other d before)) ∙ sym (get_or-map passing (play_books_of old) k d d listed))
 
 -- ---- channels that record
 
@@ -143,10 +147,19 @@ record_books_of-captured {B = B} device n old new same each =
 
 -- ---- a parent
 
+rate-prop : (rate : ℕ) (x y : IsRate rate) → x ≡ y
+rate-prop rate x y = λ i. record {
+  least = is_prop→PathP (λ j. RATE_LEAST ≤ rate) (λ j. hlevel props) x.least y.least i;
+  most = is_prop→PathP (λ j. rate ≤ RATE_MOST) (λ j. hlevel props) x.most y.most i;
+}
+
+rates-prop : (device : Device) (x y : HasRates device) → x ≡ y
+rates-prop device x y = λ i. record { rate = rate-prop device.settings.rate x.rate y.rate i; mix_rate = rate-prop device.mix.rate x.mix_rate y.mix_rate i }
+
 -- a parent with other channels that are the old ones is the old one
 pub parent_same : {B : Type 0} (new old : ParentOf B) (device : new.device ≡ old.device) (channels : new.channels ≡ old.channels) (recorders : new.recorders ≡ old.recorders) (bus : new.bus ≡ old.bus) (ring : new.ring ≡ old.ring)
-    → new.handed ≡ old.handed → new.mixed ≡ old.mixed → new ≡ old
-parent_same {B = B} new old device channels recorders bus ring handed mixed = λ i. record {
+    (handed : new.handed ≡ old.handed) → new.mixed ≡ old.mixed → (passed : new.passed ≡ old.passed) → new ≡ old
+parent_same {B = B} new old device channels recorders bus ring handed mixed passed = λ i. record {
   device = device i;
   channels = channels i;
   recorders = recorders i;
@@ -154,6 +167,9 @@ parent_same {B = B} new old device channels recorders bus ring handed mixed = λ
   ring = ring i;
   handed = handed i;
   mixed = mixed i;
+  passed = passed i;
+  passed_is = is_prop→PathP (λ j. passed j ≡ passed_for (unfiltered (device j)) (handed j)) (λ j. hlevel props) new.passed_is old.passed_is i;
+  rates = is_prop→PathP (λ j. HasRates (device j)) (λ j. rates-prop (device j)) new.rates old.rates i;
   bus_of = is_prop→PathP (λ j. (bus j).device ≡ device j) (λ j. hlevel props) new.bus_of old.bus_of i;
   within = is_prop→PathP (λ j. (device j).ring_frames ≤ RING_FRAMES) (λ j. hlevel props) new.within old.within i;
   slots = is_prop→PathP (λ j. fixed_len (channels j) ≡ (device j).play_slots) (λ j. hlevel props) new.slots old.slots i;
@@ -163,3 +179,85 @@ parent_same {B = B} new old device channels recorders bus ring handed mixed = λ
   size = is_prop→PathP (λ j. (ring j).size ≡ (device j).ring_frames * frame_bytes (device j).settings) (λ j. hlevel props) new.size old.size i;
   full = is_prop→PathP (λ j. length (ring j).bytes ≡ (device j).ring_frames * frame_bytes (device j).settings) (λ j. hlevel props) new.full old.full i;
 }
+
+-- ---- an interrupt
+
+-- what it moves of a channel, whose run may end then
+moves-settled : {B : Type 0} (kind : B → Kind) (kept : B → Kept) (filters : Filters) (frames : ℕ) (old between new : PlayChannelOf B) → PlayMoves kind kept filters [] frames old between → PlayMoves kind kept filters [] 0 between new
+    → PlayMoves kind kept filters [] frames old new
+moves-settled {B = B} kind kept filters frames old between new first last =
+    let fewer = first.written in
+    let written = last.written in
+    let counted = first.counted in
+    let least = last.counted in
+    let gives = first.given in
+    let given = last.given in
+    record {
+      kinds = λ h. last.kinds (first.kinds h);
+      planned = λ p. last.planned (first.planned p);
+      stands = λ bytes s. subst (PlayStands kept filters new new.book)
+          (ap (take new.book.written) (append-nil (take between.book.written (bytes ++ []))) ∙ take-take new.book.written between.book.written (bytes ++ []) (omega arith))
+          (last.stands (take between.book.written (bytes ++ [])) (first.stands bytes s));
+      written = omega arith;
+      counted = omega arith;
+      grown = omega arith;
+      given = omega arith;
+    }
+
+-- a channel of a device once so many frames were mixed, and others handed over
+record IsPassed {B : Type 0} (kind : B → Kind) (kept : B → Kept) (filters : Filters) (device : Device) (handed n frames : ℕ) (old new : PlayChannelOf B) : Type 0 where
+  pub own : new.path.device ≡ device
+  pub moves : PlayMoves kind kept filters [] frames old new
+  pub book : Passes (seen filters device) handed n old new
+
+channel-passed : {B : Type 0} (kind : B → Kind) (kept : B → Kept) (filters : Filters) (device : Device) (handed n frames mixed : ℕ) (here : Here) (old between new : PlayChannelOf B)
+    → frames ≡ mixed_by (seen filters device) handed n → mixed ≡ mixed_for (seen filters device) handed → here.passed ≡ passed_for (seen filters device) (handed + n)
+    → IsPlayDue kind kept filters device frames old → between.path.device ≡ device → PlayMoves kind kept filters [] frames old between → Mixes (seen filters device) mixed frames old between → Settles kind kept here between new
+    → IsPassed kind kept filters device handed n frames old new
+channel-passed {B = B} kind kept filters device handed n frames mixed here old between new count level passed due own moves book settled = record {
+  own = settled.device_same ∙ own;
+  moves = moves-settled kind kept filters frames old between new moves (settled.moves filters);
+  book =
+      settled.book filters (moves.planned due.ready.planned)
+      ∙ ap (λ (d : Device). play_settled (play_rate_at (seen filters d) between.book) here.passed between.book) own
+      ∙ ap (λ (y : ℤ). play_settled (play_rate_at seen_device between.book) y between.book) passed
+      ∙ ap (λ (b : PlayBook). play_settled (play_rate_at seen_device b) (passed_for seen_device (handed + n)) b) (book
+      ∙ ap (λ (q : ℕ). mixing seen_device mixed q old.book) count
+      ∙ ap (λ (m : ℕ). mixing seen_device m (mixed_by seen_device handed n) old.book) level);
+}
+  where
+    seen_device : DeviceSeen
+    seen_device = seen filters device
+
+-- all channels of a device, each as one
+pub record ArePassed {B : Type 0} (kind : B → Kind) (kept : B → Kept) (filters : Filters) (device : Device) (handed n frames : ℕ) (old new : List (PlayChannelOf B)) : Type 0 where
+  pub own : PlayAreOf device new
+  pub moves : Each (PlayMoves kind kept filters [] frames) old new
+  pub books : Each (Passes (seen filters device) handed n) old new
+
+pub all-passed : {B : Type 0} (kind : B → Kind) (kept : B → Kept) (filters : Filters) (device : Device) (handed n frames mixed : ℕ) (here : Here) (old between new : List (PlayChannelOf B))
+    → frames ≡ mixed_by (seen filters device) handed n → mixed ≡ mixed_for (seen filters device) handed → here.passed ≡ passed_for (seen filters device) (handed + n)
+    → length between ≡ length old → length new ≡ length between → All (IsPlayDue kind kept filters device frames) old → AreMixed kind kept filters device mixed frames old between → Each (Settles kind kept here) between new
+    → ArePassed kind kept filters device handed n frames old new
+all-passed {B = B} kind kept filters device handed n frames mixed here old between new count level passed same long due m settled = record {
+  own = λ slot other within. (each slot other (omega arith)).own;
+  moves = λ slot other within. (each slot other within).moves;
+  books = λ slot other within. (each slot other within).book;
+}
+  where
+    each : Each (IsPassed kind kept filters device handed n frames) old new
+    each = λ slot other within.
+        let there : slot < length between = omega arith in
+        channel-passed kind kept filters device handed n frames mixed here (get_or old slot other) (get_or between slot other) (get_or new slot other) count level passed
+        (due slot other within) (m.own slot other there) (m.moves slot other within) (m.books slot other within) (settled slot other there)
+
+-- each of them may end a run once it was refilled
+pub may-settle : {B : Type 0} (kind : B → Kind) (kept : B → Kept) (filters : Filters) (device : Device) (frames mixed : ℕ) (old between : List (PlayChannelOf B))
+    → length between ≡ length old → All (IsPlayDue kind kept filters device frames) old → AreMixed kind kept filters device mixed frames old between → All (MaySettle kind) between
+may-settle kind kept filters device frames mixed old between same due m = λ slot other within.
+    let there : slot < length old = omega arith in
+    let d = due slot other there in
+    let moves = m.moves slot other there in
+    let counted = moves.counted in
+    let room = d.counted in
+    record { kinds = moves.kinds d.ready.kinds; counted = omega arith }

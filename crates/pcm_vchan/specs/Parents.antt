@@ -9,7 +9,8 @@ use Rattle.pcm_feeder.specs.Racks.{HaveKinds}
 use Rattle.pcm_chain.specs.Chains.{boxes_in}
 use Rattle.pcm_desk.specs.declared.device.Device.{Device}
 use Rattle.pcm_desk.specs.declared.limits.TheConstants.{MIX_FRAMES, RING_FRAMES, SLOTS}
-use Rattle.pcm_desk.specs.Device.{DeviceSeen, HasRates, mix_frames, seen, unfiltered}
+use Rattle.pcm_desk.specs.declared.here.Here.{Here}
+use Rattle.pcm_desk.specs.Device.{DeviceSeen, HasRates, mix_frames, mixed_for, passed_for, seen, unfiltered}
 use Rattle.pcm_desk.specs.declared.play_book.PlayBook.{PlayBook}
 use Rattle.pcm_desk.specs.declared.record_book.RecordBook.{RecordBook}
 use Rattle.pcm_feeder.specs.declared.kind.Kind.{Kind}
@@ -26,7 +27,7 @@ use Rattle.pcm_vchan.specs.declared.parent.ParentOf.{ParentOf}
 use Rattle.pcm_vchan.specs.Buses.{HasMadeSome, TurnsBus}
 use Rattle.pcm_vchan.specs.Handovers.{IsPlannedBy}
 use Rattle.pcm_vchan.specs.Captures.{AllCapture}
-use Rattle.pcm_vchan.specs.Slots.{Each, IsPlayDue, IsRecordDue, Mixes, PlayAreOf, RecordAreOf, play_books_of, record_books_of}
+use Rattle.pcm_vchan.specs.Slots.{Each, IsPlayDue, IsRecordDue, Passes, PlayAreOf, RecordAreOf, play_books_of, record_books_of}
 
 -- the channels of a parent, by slot: those that play
 abbrev pub play_channels : {B : Type 0} → ParentOf B → List (PlayChannelOf B)
@@ -75,10 +76,15 @@ TotalsFit parent = All (λ channel. channel.book.done + channel.book.written < 2
 abbrev pub mixed_in : {B : Type 0} → Filters → ℕ → ParentOf B → ℕ
 mixed_in filters n parent = mixed_by (seen filters parent.device) parent.handed n
 
--- its bus goes by its plan, and has made what was handed over
+-- its bus goes by its plan, and has made what was handed over; just what that needs was mixed
 pub record HasBus {B : Type 0} (kept : B → Kept) (device : DeviceSeen) (parent : ParentOf B) : Type 0 where
   pub planned : IsPlannedBy device parent.bus.chain
   pub made : HasMadeSome kept device parent.bus.chain parent.handed
+  pub level : parent.mixed ≡ mixed_for device parent.handed
+
+-- where its mix and its device are
+abbrev pub here_of : {B : Type 0} → ParentOf B → Here
+here_of parent = record { mixed = parent.mixed; passed = passed_for (unfiltered parent.device) parent.handed }
 
 -- all are ready for an interrupt of so many frames, and so is its bus
 pub record AreDue {B : Type 0} (kind : B → Kind) (kept : B → Kept) (filters : Filters) (frames : ℕ) (parent : ParentOf B) : Type 0 where
@@ -102,9 +108,9 @@ EachPlayMoves kind kept filters more frames old new = Each (PlayMoves kind kept 
 abbrev pub EachRecordMoves : {B : Type 0} → (B → Kind) → (B → Kept) → Filters → List Frame → ℕ → ParentOf B → ParentOf B → Type 0
 EachRecordMoves kind kept filters input count old new = Each (RecordMoves kind kept filters input count) (record_channels old) (record_channels new)
 
--- the book of each that plays after an interrupt of so many frames
-abbrev pub EachMixes : {B : Type 0} → Filters → ℕ → ParentOf B → ParentOf B → Type 0
-EachMixes filters n old new = Each (Mixes (seen filters old.device) n) (play_channels old) (play_channels new)
+-- the book of each that plays after an interrupt of n frames
+abbrev pub EachPasses : {B : Type 0} → Filters → ℕ → ParentOf B → ParentOf B → Type 0
+EachPasses filters n old new = Each (Passes (seen filters old.device) old.handed n) (play_channels old) (play_channels new)
 
 -- what it leaves of each that records, where it brings these samples
 abbrev pub EachCaptures : {B : Type 0} → (B → Kind) → (B → Kept) → Filters → ℕ → List ℤ → ParentOf B → ParentOf B → Type 0

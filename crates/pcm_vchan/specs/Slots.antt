@@ -3,15 +3,18 @@ use Rattle.std.specs.Prelude.{◌≡◌, ◌≢◌, ℕ, ◌+◌, ◌^◌, ◌<�
 use Rattle.pcm_feeder.specs.declared.kind.Kind.{Kind}
 use Rattle.pcm_feeder.specs.Filters.{Filters}
 use Rattle.pcm_feeder.specs.Kept.{Kept}
+use Rattle.pcm_feeder.specs.Racks.{HaveKinds}
+use Rattle.pcm_chain.specs.Chains.{boxes_in}
 use Rattle.pcm_format.specs.Frames.{Frame}
 use Rattle.pcm_desk.specs.declared.play_book.PlayBook.{PlayBook}
 use Rattle.pcm_desk.specs.declared.record_book.RecordBook.{RecordBook}
 use Rattle.pcm_desk.specs.declared.device.Device.{Device}
-use Rattle.pcm_desk.specs.Desk.{mixing}
+use Rattle.pcm_desk.specs.declared.here.Here.{Here}
+use Rattle.pcm_desk.specs.Desk.{mixing, play_passing}
 use Rattle.pcm_desk.specs.Device.{DeviceSeen, seen}
 use Rattle.pcm_play.specs.declared.channel.PlayChannelOf.{PlayChannelOf}
 use Rattle.pcm_oss.specs.declared.fragments.TheConstants.{RING_BYTES}
-use Rattle.pcm_play.specs.Channels.{IsPlayReady, PlayMoves, PlayStands}
+use Rattle.pcm_play.specs.Channels.{IsPlayReady, PlayMoves, PlayStands, SettlesBook}
 use Rattle.pcm_record.specs.declared.channel.RecordChannelOf.{RecordChannelOf}
 use Rattle.pcm_record.specs.Channels.{IsRecordReady, RecordStands}
 
@@ -39,9 +42,13 @@ ChangesAt {X = X} how slot old new = (other : X) → how (slice_index_or old slo
 abbrev pub OthersStay : {X : Type 0} → ℕ → List X → List X → Type 0
 OthersStay {X = X} slot old new = (at : ℕ) (other : X) → at ≢ slot → slice_index_or new at other ≡ slice_index_or old at other
 
--- the book of a channel after an interrupt that mixes so many frames
-abbrev pub Mixes : {B : Type 0} → DeviceSeen → ℕ → PlayChannelOf B → PlayChannelOf B → Type 0
-Mixes device n old new = new.book ≡ mixing device n old.book
+-- the book of a channel once n frames were mixed, where so many were before
+abbrev pub Mixes : {B : Type 0} → DeviceSeen → ℕ → ℕ → PlayChannelOf B → PlayChannelOf B → Type 0
+Mixes device mixed n old new = new.book ≡ mixing device mixed n old.book
+
+-- the book of a channel after an interrupt of n frames, where so many were handed over before
+abbrev pub Passes : {B : Type 0} → DeviceSeen → ℕ → ℕ → PlayChannelOf B → PlayChannelOf B → Type 0
+Passes device handed n old new = new.book ≡ play_passing device handed n old.book
 
 -- each channel stands for its book and the bytes of its slot
 abbrev pub AllPlayStand : {B : Type 0} → (B → Kept) → Filters → List (PlayChannelOf B) → (ℕ → List ℕ) → Type 0
@@ -55,11 +62,22 @@ pub record IsPlayDue {B : Type 0} (kind : B → Kind) (keeps : B → Kept) (filt
   pub given : channel.book.given + frames < 2 ^ 64
   pub counted : channel.book.done + channel.book.written < 2 ^ 64
 
--- what an interrupt that mixes so many frames leaves of the channels of a device
-pub record AreMixed {B : Type 0} (kind : B → Kind) (kept : B → Kept) (filters : Filters) (device : Device) (frames : ℕ) (old new : List (PlayChannelOf B)) : Type 0 where
+-- what an interrupt that mixes so many frames, where others were mixed before, leaves of the channels of a device
+pub record AreMixed {B : Type 0} (kind : B → Kind) (kept : B → Kept) (filters : Filters) (device : Device) (mixed frames : ℕ) (old new : List (PlayChannelOf B)) : Type 0 where
   pub own : PlayAreOf device new
   pub moves : Each (PlayMoves kind kept filters [] frames) old new
-  pub books : Each (Mixes (seen filters device) frames) old new
+  pub books : Each (Mixes (seen filters device) mixed frames) old new
+
+-- a channel has the boxes of a rack, and its counts have room for the bytes of a run that ends
+pub record MaySettle {B : Type 0} (kind : B → Kind) (channel : PlayChannelOf B) : Type 0 where
+  pub kinds : HaveKinds kind (boxes_in channel.path.chain)
+  pub counted : channel.book.done + channel.book.written < 2 ^ 64
+
+-- what frames that are handed over leave of a channel
+pub record Settles {B : Type 0} (kind : B → Kind) (kept : B → Kept) (here : Here) (old new : PlayChannelOf B) : Type 0 where
+  pub device_same : new.path.device ≡ old.path.device
+  pub book : SettlesBook here old new
+  pub moves : (filters : Filters) → PlayMoves kind kept filters [] 0 old new
 
 -- ---- channels that record
 

@@ -15,7 +15,7 @@ ghost use Rattle.pcm_vchan.specs.Slots.{AreMixed, IsPlayDue};
 use crate::handover::hand_over;
 use crate::mixer::{mix_block, turn_ring};
 use pcm_chain::ChainOf;
-use pcm_desk::Device;
+use pcm_desk::{Device, Here};
 use pcm_feeder::{Feeder, RackOf, Tables};
 use pcm_fixed::Fixed;
 use pcm_plan::plan_record;
@@ -72,19 +72,21 @@ impl<B: Feeder> BusOf<B> {
         })
     }
 
-    /// An interrupt of `n` frames, where so many were handed over before: the ring hands its oldest ones over, and gets those behind
-    /// the rest that the chain makes of what all channels give. Answers how many frames were mixed. Takes no memory.
+    /// An interrupt of `n` frames, where so many were handed over before, and the mix was here: the ring hands its oldest ones over, and
+    /// gets those behind the rest that the chain makes of what all channels give. Answers how many frames were mixed. Takes no memory.
     pub fn turn(
         &mut self,
         tables: &Tables,
         channels: &mut [PlayChannelOf<B>],
         handed: u64,
+        here: Here,
         n: usize,
         ring: &mut ByteRing,
         out: &mut [u8],
     ) -> usize
         requires within { n ≤ self.old.device.ring_frames }
         requires handed { handed + n < 2 ^ 64 }
+        requires count { here.mixed + mixed_by (seen tables.now self.old.device) handed n < 2 ^ 64 }
         requires due { All (IsPlayDue B.kind B.kept tables.now self.old.device
             (mixed_by (seen tables.now self.old.device) handed n)) channels.old }
         requires planned { IsPlannedBy (seen tables.now self.old.device) self.old.chain }
@@ -96,7 +98,7 @@ impl<B: Feeder> BusOf<B> {
         ensures planned { IsPlannedBy (seen tables.now self.old.device) self.new.chain }
         ensures made { HasMadeSome B.kept (seen tables.now self.old.device) self.new.chain (handed + n) }
         ensures count { result ≡ mixed_by (seen tables.now self.old.device) handed n }
-        ensures mixed { AreMixed B.kind B.kept tables.now self.old.device result channels.old channels.new }
+        ensures mixed { AreMixed B.kind B.kept tables.now self.old.device here.mixed result channels.old channels.new }
         ensures size { ring.new.size ≡ ring.old.size }
         ensures full { length ring.new.bytes ≡ ring.old.size }
         ensures out { out.new ≡ take (n * frame_bytes self.old.device.settings) ring.old.bytes }
@@ -109,6 +111,7 @@ impl<B: Feeder> BusOf<B> {
             channels,
             &mut self.chain,
             handed,
+            here,
             n,
             &mut self.part,
             &mut self.sum,
@@ -127,6 +130,7 @@ fn turn<B: Feeder>(
     channels: &mut [PlayChannelOf<B>],
     chain: &mut ChainOf<B>,
     handed: u64,
+    here: Here,
     n: usize,
     part: &mut [i32],
     sum: &mut [i32],
@@ -138,6 +142,7 @@ fn turn<B: Feeder>(
     requires within { n ≤ device.ring_frames }
     requires mix { mix_frames (unfiltered device) ≤ MIX_FRAMES }
     requires handed { handed + n < 2 ^ 64 }
+    requires count { here.mixed + mixed_by (seen tables.now device) handed n < 2 ^ 64 }
     requires due { All (IsPlayDue B.kind B.kept tables.now device
         (mixed_by (seen tables.now device) handed n)) channels.old }
     requires planned { IsPlannedBy (seen tables.now device) chain.old }
@@ -152,7 +157,7 @@ fn turn<B: Feeder>(
     ensures planned { IsPlannedBy (seen tables.now device) chain.new }
     ensures made { HasMadeSome B.kept (seen tables.now device) chain.new (handed + n) }
     ensures count { result ≡ mixed_by (seen tables.now device) handed n }
-    ensures mixed { AreMixed B.kind B.kept tables.now device result channels.old channels.new }
+    ensures mixed { AreMixed B.kind B.kept tables.now device here.mixed result channels.old channels.new }
     ensures size { ring.new.size ≡ ring.old.size }
     ensures full { length ring.new.bytes ≡ ring.old.size }
     ensures out { out.new ≡ take (n * frame_bytes device.settings) ring.old.bytes }
@@ -162,7 +167,15 @@ fn turn<B: Feeder>(
     let count = mixed_by(device, tables, chain, handed, n);
     let samples = count * device.mix.layout.channels();
     let mixed = &mut sum[..samples];
-    mix_block(device, tables, channels, count, &mut part[..samples], mixed);
+    mix_block(
+        device,
+        tables,
+        channels,
+        here,
+        count,
+        &mut part[..samples],
+        mixed,
+    );
     let made = hand_over(device, tables, chain, n, mixed, frames);
     turn_ring(device.settings, n, made, ring, bytes, out);
     count

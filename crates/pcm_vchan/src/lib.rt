@@ -7,5 +7,6 @@ mod handover;
 mod mixer;
 mod parent;
 mod recorder;
+mod settler;
 
 pub use parent::{Parent, ParentOf};

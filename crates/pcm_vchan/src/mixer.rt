@@ -1,6 +1,6 @@
 //! One block of the mix, from all channels in the order of their slots, and the ring that takes what comes of it.
 
-ghost use Rattle.std.specs.Prelude.{◌≡◌, [], ◌*◌, ◌<◌, ◌≤◌, length, take, All, IfOk};
+ghost use Rattle.std.specs.Prelude.{◌≡◌, [], ◌+◌, ◌*◌, ◌^◌, ◌<◌, ◌≤◌, length, take, All, IfOk};
 ghost use Rattle.pcm_num.specs.Limit.{FitsBits};
 ghost use Rattle.pcm_format.specs.Formats.{bits_of};
 ghost use Rattle.pcm_format.specs.Layouts.{channels_of};
@@ -11,7 +11,7 @@ ghost use Rattle.pcm_play.specs.Channels.{AddsTo, HoldBlock, PlayMoves};
 ghost use Rattle.pcm_vchan.specs.Slots.{AreMixed, AtSlot, ChangesAt, IsPlayDue, Mixes, OthersStay};
 ghost use Rattle.pcm_vchan.specs.Blocks.{silent_ring, turned_ring, MixesBlock, MixesOnto};
 
-use pcm_desk::Device;
+use pcm_desk::{Device, Here};
 use pcm_feeder::{Feeder, Tables};
 use pcm_format::{Settings, spell_frames};
 use pcm_play::PlayChannelOf;
@@ -23,19 +23,21 @@ fn mix_channels<B: Feeder>(
     device: Device,
     tables: &Tables,
     channels: &mut [PlayChannelOf<B>],
+    here: Here,
     n: usize,
     frames: &mut [i32],
     sum: &mut [i32],
 )
     requires some { 0 < n }
+    requires count { here.mixed + n < 2 ^ 64 }
     requires due { All (IsPlayDue B.kind B.kept tables.now device n) channels.old }
     requires block { HoldBlock device n frames.old sum.old }
-    ensures mixed { AreMixed B.kind B.kept tables.now device n channels.old channels.new }
+    ensures mixed { AreMixed B.kind B.kept tables.now device here.mixed n channels.old channels.new }
     ensures sum { MixesOnto B.kept tables.now device n channels.old sum.old sum.new }
     ensures fits { All (FitsBits (bits_of device.mix.format)) sum.new }
 {
     for slot in 0..channels.len() {
-        mix_slot(device, tables, channels, slot, n, frames, sum);
+        mix_slot(device, tables, channels, slot, here, n, frames, sum);
     }
 }
 
@@ -45,43 +47,47 @@ fn mix_slot<B: Feeder>(
     tables: &Tables,
     channels: &mut [PlayChannelOf<B>],
     slot: usize,
+    here: Here,
     n: usize,
     frames: &mut [i32],
     sum: &mut [i32],
 )
     requires some { 0 < n }
+    requires count { here.mixed + n < 2 ^ 64 }
     requires there { slot < length channels.old }
     requires due { AtSlot (IsPlayDue B.kind B.kept tables.now device n) channels.old slot }
     requires block { HoldBlock device n frames.old sum.old }
     ensures others { OthersStay slot channels.old channels.new }
     ensures own { AtSlot (λ channel. channel.path.device ≡ device) channels.new slot }
     ensures moves { ChangesAt (PlayMoves B.kind B.kept tables.now [] n) slot channels.old channels.new }
-    ensures book { ChangesAt (Mixes (seen tables.now device) n) slot channels.old channels.new }
+    ensures book { ChangesAt (Mixes (seen tables.now device) here.mixed n) slot channels.old channels.new }
     ensures sum { AtSlot (AddsTo B.kept tables.now device n sum.old sum.new) channels.old slot }
     ensures fits { All (FitsBits (bits_of device.mix.format)) sum.new }
 {
-    channels[slot].refill(tables, n, frames, sum);
+    channels[slot].refill(tables, n, here, frames, sum);
 }
 
-/// Mixes a block of `n` frames from silence on. `part` holds the frames of one channel meanwhile.
+/// Mixes a block of `n` frames from silence on, behind what was mixed before. `part` holds the frames of one channel meanwhile.
 pub fn mix_block<B: Feeder>(
     device: Device,
     tables: &Tables,
     channels: &mut [PlayChannelOf<B>],
+    here: Here,
     n: usize,
     part: &mut [i32],
     sum: &mut [i32],
 )
+    requires count { here.mixed + n < 2 ^ 64 }
     requires due { All (IsPlayDue B.kind B.kept tables.now device n) channels.old }
     requires part { length part.old ≡ n * channels_of device.mix.layout }
     requires sum { length sum.old ≡ n * channels_of device.mix.layout }
-    ensures mixed { AreMixed B.kind B.kept tables.now device n channels.old channels.new }
+    ensures mixed { AreMixed B.kind B.kept tables.now device here.mixed n channels.old channels.new }
     ensures block { MixesBlock B.kept tables.now device n channels.old sum.new }
     ensures fits { All (FitsBits (bits_of device.mix.format)) sum.new }
 {
     sum.fill(0);
     if n > 0 {
-        mix_channels(device, tables, channels, n, part, sum);
+        mix_channels(device, tables, channels, here, n, part, sum);
     }
 }
 

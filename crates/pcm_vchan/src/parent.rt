@@ -8,10 +8,10 @@ ghost use Rattle.pcm_format.specs.Layouts.{channels_of};
 ghost use Rattle.pcm_feeder.specs.Limits.{IsRate};
 ghost use Rattle.pcm_feeder.specs.Racks.{AreRacks, list_of};
 ghost use Rattle.pcm_desk.specs.declared.limits.TheConstants.{RING_FRAMES, SLOTS};
-ghost use Rattle.pcm_desk.specs.Device.{seen, HasRates};
+ghost use Rattle.pcm_desk.specs.Device.{passed_for, seen, unfiltered, HasRates};
 ghost use Rattle.pcm_desk.specs.PlayBooks.{is_play_free};
 ghost use Rattle.pcm_desk.specs.RecordBooks.{is_record_free};
-ghost use Rattle.pcm_vchan.specs.Slots.{PlayAreOf, RecordAreOf};
+ghost use Rattle.pcm_vchan.specs.Slots.{Each, MaySettle, PlayAreOf, RecordAreOf, Settles};
 ghost use Rattle.pcm_play.specs.Channels.{IsPlayReady, IsPlayUnopened};
 ghost use Rattle.pcm_record.specs.Channels.{IsRecordReady, IsRecordUnopened};
 ghost use Rattle.pcm_vchan.specs.Blocks.{silent_ring};
@@ -20,7 +20,8 @@ ghost use Rattle.pcm_vchan.specs.Handovers.{HasMade, IsPlannedBy};
 use crate::bus::BusOf;
 use crate::mixer::silent_ring;
 use crate::recorder::capture_all;
-use pcm_desk::{Device, SLOTS};
+use crate::settler::settle_all;
+use pcm_desk::{Device, Here, SLOTS};
 use pcm_feeder::{Feeder, RackOf, RacksOf, Tables};
 use pcm_fixed::Fixed;
 use pcm_format::Settings;
@@ -30,8 +31,8 @@ use pcm_record::RecordChannelOf;
 use pcm_ring::ByteRing;
 use std::alloc::{AllocError, Global};
 
-/// The channels of a device by slot, those that play and those that record, the bus from the former to its ring, which is always full, and
-/// how many frames were handed over and mixed.
+/// The channels of a device by slot, those that play and those that record, the bus from the former to its ring, which is always full,
+/// how many frames were handed over and mixed, and how many of these have left the ring.
 #[derive(Drop)]
 pub struct ParentOf<B> {
     pub device: Device,
@@ -41,7 +42,10 @@ pub struct ParentOf<B> {
     pub ring: ByteRing,
     pub handed: u64,
     pub mixed: u64,
+    pub passed: i64,
+    ghost rates: { HasRates device },
     ghost bus_of: { bus.device ≡ device },
+    ghost passed_is: { passed ≡ passed_for (unfiltered device) handed },
     ghost within: { device.ring_frames ≤ RING_FRAMES },
     ghost slots: { fixed_len channels ≡ device.play_slots },
     ghost slots_within: { device.play_slots ≤ SLOTS },
@@ -53,7 +57,7 @@ pub struct ParentOf<B> {
 
 impl<B: Feeder> ParentOf<B> {
     ghost use Rattle.pcm_oss.specs.declared.event.Way.TheVariants.{Play, Record};
-    ghost use Rattle.pcm_vchan.specs.Parents.{play_channels, record_channels, mixed_in, AreDue, ArePlayUnopened, AreRecordUnopened, AreServed, EachCaptures, EachMixes, EachPlayMoves, HasBus, HasLimits, KeepsOutput, OpensPlay, OpensRecord, BusTurns};
+    ghost use Rattle.pcm_vchan.specs.Parents.{play_channels, record_channels, mixed_in, AreDue, ArePlayUnopened, AreRecordUnopened, AreServed, EachCaptures, EachPasses, EachPlayMoves, HasBus, HasLimits, KeepsOutput, OpensPlay, OpensRecord, BusTurns, here_of};
     ghost use Rattle.pcm_vchan.specs.Lending.{LendsChannel, LendsRecorder};
 
     /// A device that nobody has opened, whose ring is full of silence. Each slot gets a rack: those that play the first
@@ -91,6 +95,7 @@ impl<B: Feeder> ParentOf<B> {
             ring,
             handed: 0,
             mixed: 0,
+            passed: device.passed(0),
         })
     }
 
@@ -165,21 +170,21 @@ impl<B: Feeder> ParentOf<B> {
     }
 
     /// The device's interrupt: hands the oldest `n` frames over, mixes what the next ones need from all channels that play, and gives
-    /// `n` captured ones to all that record.
+    /// `n` captured ones to all that record. Then draining runs end whose last frame was handed over.
     pub fn interrupt(&mut self, tables: &Tables, n: usize, captured: &[i32], out: &mut [u8])
         requires some { 0 < n }
         requires within { n ≤ self.old.device.ring_frames }
         requires captured { length captured.now ≡ n * channels_of self.old.device.settings.layout }
         requires out { length out.old ≡ n * frame_bytes self.old.device.settings }
         requires due { AreDue B.kind B.kept tables.now n self.old }
-        requires handed { self.old.handed + n < 2 ^ 64 }
+        requires handed { self.old.handed + n < 2 ^ 56 }
         requires mixed { self.old.mixed + mixed_in tables.now n self.old < 2 ^ 64 }
         ensures device { self.new.device ≡ self.old.device }
         ensures own { PlayAreOf self.new.device (play_channels self.new) }
         ensures slots { length (play_channels self.new) ≡ length (play_channels self.old) }
         ensures channels { EachPlayMoves B.kind B.kept tables.now []
             (mixed_in tables.now n self.old) self.old self.new }
-        ensures books { EachMixes tables.now (mixed_in tables.now n self.old) self.old self.new }
+        ensures books { EachPasses tables.now n self.old self.new }
         ensures recorders_own { RecordAreOf self.new.device (record_channels self.new) }
         ensures recorders_slots { length (record_channels self.new) ≡ length (record_channels self.old) }
         ensures recorders { EachCaptures B.kind B.kept tables.now n captured.now self.old self.new }
@@ -190,24 +195,49 @@ impl<B: Feeder> ParentOf<B> {
         ensures bus { HasBus B.kept (seen tables.now self.old.device) self.new }
         ensures turns { BusTurns B.kept tables.now n self.old self.new }
     {
+        let before = self.here();
         let mixed = self.bus.turn(
             tables,
             &mut self.channels,
             self.handed,
+            before,
             n,
             &mut self.ring,
             out,
         );
         capture_all(self.device, tables, &mut self.recorders, n, captured);
-        self.handed += n as u64;
-        self.mixed += mixed as u64;
+        self.pass(n, mixed);
     }
 
-    /// How many frames were mixed so far.
-    pub fn mixed(&self) -> u64
-        ensures { result ≡ self.now.mixed }
+    // So many frames were handed over, and so many mixed for them: draining runs end whose last frame has left the ring.
+    fn pass(&mut self, n: usize, mixed: usize)
+        requires handed { self.old.handed + n < 2 ^ 56 }
+        requires mixed { self.old.mixed + mixed < 2 ^ 64 }
+        requires due { All (MaySettle B.kind) (play_channels self.old) }
+        ensures device { self.new.device ≡ self.old.device }
+        ensures slots { length (play_channels self.new) ≡ length (play_channels self.old) }
+        ensures settled { Each (Settles B.kind B.kept (here_of self.new)) (play_channels self.old) (play_channels self.new) }
+        ensures recorders { self.new.recorders ≡ self.old.recorders }
+        ensures bus { self.new.bus ≡ self.old.bus }
+        ensures ring { self.new.ring ≡ self.old.ring }
+        ensures handed { self.new.handed ≡ self.old.handed + n }
+        ensures mixed { self.new.mixed ≡ self.old.mixed + mixed }
     {
-        self.mixed
+        self.handed += n as u64;
+        self.mixed += mixed as u64;
+        self.passed = self.device.passed(self.handed);
+        let here = self.here();
+        settle_all(&mut self.channels, here);
+    }
+
+    /// Where the mix and the device are.
+    pub fn here(&self) -> Here
+        ensures { result ≡ here_of self.now }
+    {
+        Here {
+            mixed: self.mixed,
+            passed: self.passed,
+        }
     }
 
     // The least slot whose channel is free, if there is one.

@@ -1,4 +1,4 @@
-use Rattle.pcm_desk.proofs.PlaySafe.{safe-begun, safe-write, safe-close, safe-refilled}
+use Rattle.pcm_desk.proofs.PlaySafe.{safe-begun, safe-write, safe-close, safe-refilled, safe-settled}
 use Rattle.pcm_desk.proofs.PlaySafeAsking.{safe-ask}
 use Rattle.pcm_desk.proofs.laws.books_stay_in_order.Goals as goal
 
@@ -14,5 +14,8 @@ returns-clause-closed c = safe-close
 pub returns-clause-refilled : goal.returns-clause-refilled
 returns-clause-refilled c = safe-refilled
 
+pub returns-clause-settled : goal.returns-clause-settled
+returns-clause-settled c = safe-settled
+
 pub returns-clause-asked : goal.returns-clause-asked
-returns-clause-asked c = λ rate now request book ratio same safe. safe-ask rate now request book ratio safe same
+returns-clause-asked c = λ rate now mix_rate here request book ratio same safe. safe-ask rate now mix_rate here request book ratio safe same

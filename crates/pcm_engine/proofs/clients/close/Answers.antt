@@ -22,14 +22,14 @@ close_channel-answer-requires-clause-recording g c =
 
 pub returns-clause-desk : goal.returns-clause-desk
 returns-clause-desk g c =
-    λ filters ready.
+    λ filters ready at.
     let parent = c.args.parent.now in
     let descriptors = c.args.descriptors.now.held in
     let held = c.in_ok-held.held in
     let device = seen filters parent.device in
     let desk : Desk = desk_with parent descriptors in
     ap (λ (list : List (Option Held)). desk_with c.close_channel-answer.new.parent list) c.set.ensures
-    ∙ ap (λ (d : Desk). with_descriptor d c.args.fd None) (c.close_channel-answer.ensures.desk filters descriptors ready)
+    ∙ ap (λ (d : Desk). with_descriptor d c.args.fd None) (c.close_channel-answer.ensures.desk filters descriptors ready at)
     ∙ closes-held device desk c.args.fd (held_by desk c.args.fd) held (holding-is (held_by (desk_with parent c.args.descriptors.now.held) c.args.fd) c.in_ok-held.held (sym c.holding.ensures ∙ c.in_ok-held.was))
 
 pub returns-in_err-held-clause-channels : goal.returns-in_err-held-clause-channels

@@ -9,7 +9,8 @@ use Rattle.pcm_desk.specs.declared.play_book.PlayBook.{PlayBook}
 use Rattle.pcm_desk.specs.declared.record_book.RecordBook.{RecordBook}
 use Rattle.pcm_oss.specs.declared.reply.Answer.TheVariants.{Done}
 use Rattle.pcm_oss.specs.declared.event.Way.{Way}
-use Rattle.pcm_desk.specs.Desk.{Desk, play_at, by_way, closing, record_at, with_play, with_record}
+use Rattle.pcm_desk.specs.declared.here.Here.{Here}
+use Rattle.pcm_desk.specs.Desk.{Desk, play_at, by_way, closing, desk_here, record_at, with_play, with_record}
 use Rattle.pcm_play.specs.declared.channel.PlayChannelOf.{PlayChannelOf}
 use Rattle.pcm_play.specs.Channels.{IsPlayPlanned, PlayMoves}
 use Rattle.pcm_play.proofs.Moving.{moves-nothing}
@@ -40,7 +41,7 @@ returns-in-Play-clause-own g c =
 
 pub returns-in-Play-clause-desk : goal.returns-in-Play-clause-desk
 returns-in-Play-clause-desk g c =
-    λ filters descriptors ready.
+    λ filters descriptors ready at.
     let parent = c.args.parent.now in
     let held = c.args.held in
     let below = c.requires.play c.in-Play.is in
@@ -49,9 +50,9 @@ returns-in-Play-clause-desk g c =
     let device = seen filters parent.device in
     let own = own-lent parent.device (play_channels parent) held.slot lent there c.play.ensures.value c.requires.closable.own in
     let desk : Desk = desk_with parent descriptors in
-    desk-played device (λ (book : PlayBook). record { book = closing device book; reply = Ok Done }) parent descriptors held.slot lent c.close.new.self there c.play.ensures.value
-    (c.close.ensures.book filters (subst (IsPlayPlanned filters) (sym c.play.ensures.value) (ready held.slot lent there).planned) ∙ ap (λ (d : Device). closing (seen filters d) lent.book) own)
-    ∙ sym (ap (λ (w : Way). by_way w (with_play desk held.slot (closing device (play_at device desk held.slot))) (with_record desk held.slot (closed (record_at device desk held.slot)))) c.in-Play.is)
+    desk-played device (λ (book : PlayBook). record { book = closing device (desk_here device desk) book; reply = Ok Done }) parent descriptors held.slot lent c.close.new.self there c.play.ensures.value
+    (c.close.ensures.book filters (subst (IsPlayPlanned filters) (sym c.play.ensures.value) (ready held.slot lent there).planned) ∙ ap (λ (d : Device). closing (seen filters d) c.args.here lent.book) own ∙ ap (λ (here : Here). closing device here lent.book) at)
+    ∙ sym (ap (λ (w : Way). by_way w (with_play desk held.slot (closing device (desk_here device desk) (play_at device desk held.slot))) (with_record desk held.slot (closed (record_at device desk held.slot)))) c.in-Play.is)
 
 pub returns-in-Play-clause-channels : goal.returns-in-Play-clause-channels
 returns-in-Play-clause-channels g c = λ filters.
@@ -75,7 +76,7 @@ returns-in-Record-clause-recorders_own g c =
 
 pub returns-in-Record-clause-desk : goal.returns-in-Record-clause-desk
 returns-in-Record-clause-desk g c =
-    λ filters descriptors ready.
+    λ filters descriptors ready at.
     let parent = c.args.parent.now in
     let held = c.args.held in
     let below = c.requires.recording c.in-Record.is in
@@ -83,7 +84,7 @@ returns-in-Record-clause-desk g c =
     let device = seen filters parent.device in
     let desk : Desk = desk_with parent descriptors in
     desk-recorded device (λ (book : RecordBook). record { book = closed book; reply = Ok Done }) parent descriptors held.slot c.recorder.result.now c.close-in-Record.new.self there c.recorder.ensures.value c.close-in-Record.ensures.book
-    ∙ sym (ap (λ (w : Way). by_way w (with_play desk held.slot (closing device (play_at device desk held.slot))) (with_record desk held.slot (closed (record_at device desk held.slot)))) c.in-Record.is)
+    ∙ sym (ap (λ (w : Way). by_way w (with_play desk held.slot (closing device (desk_here device desk) (play_at device desk held.slot))) (with_record desk held.slot (closed (record_at device desk held.slot)))) c.in-Record.is)
 
 pub returns-in-Record-clause-channels : goal.returns-in-Record-clause-channels
 returns-in-Record-clause-channels g c = λ filters slot other there. moves-nothing g.B.Feeder.kind g.B.Feeder.kept filters [] 0 (get_or (play_channels c.args.parent.now) slot other)

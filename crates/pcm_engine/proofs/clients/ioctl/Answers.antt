@@ -7,10 +7,11 @@ use Rattle.pcm_oss.specs.declared.event.Way.TheVariants.{Play, Record}
 use Rattle.pcm_desk.specs.declared.device.Device.{Device}
 use Rattle.pcm_desk.specs.Device.{seen}
 use Rattle.pcm_desk.specs.RecordRequests.{record_ask}
-use Rattle.pcm_desk.specs.Desk.{DeskTurn, asking, held_by, play_turn, play_rate_at, record_turn}
+use Rattle.pcm_desk.specs.declared.here.Here.{Here}
+use Rattle.pcm_desk.specs.Desk.{DeskTurn, asking, desk_here, held_by, play_turn, play_rate_at, record_turn}
 use Rattle.pcm_desk.proofs.Silent.{ask-silent, record-ask-silent}
 use Rattle.pcm_play.specs.declared.channel.PlayChannelOf.{PlayChannelOf}
-use Rattle.pcm_play.specs.Channels.{IsPlayPlanned, PlayMoves}
+use Rattle.pcm_play.specs.Channels.{IsPlayHere, IsPlayPlanned, PlayMoves}
 use Rattle.pcm_play.proofs.Moving.{moves-nothing}
 use Rattle.pcm_record.specs.declared.channel.RecordChannelOf.{RecordChannelOf}
 use Rattle.pcm_record.specs.Channels.{IsRecordPlanned, RecordMoves}
@@ -60,6 +61,14 @@ ioctl-requires-clause-count g c =
     let there = play-there parent c.args.descriptors.now.held c.args.fd held c.requires.apart e c.in-Play.is in
     subst (λ (channel : PlayChannelOf _). channel.book.done + channel.book.written < 18446744073709551616) (sym c.play.ensures.value) (c.requires.count held.slot c.play.result.now there)
 
+pub ioctl-requires-clause-at : goal.ioctl-requires-clause-at
+ioctl-requires-clause-at g c =
+    let parent = c.args.parent.now in
+    let held = c.in_ok-held.held in
+    let e = holding-is (held_by (desk_with parent c.args.descriptors.now.held) c.args.fd) c.in_ok-held.held (sym c.holding.ensures ∙ c.in_ok-held.was) in
+    let there = play-there parent c.args.descriptors.now.held c.args.fd held c.requires.apart e c.in-Play.is in
+    subst (IsPlayHere c.args.tables.now c.args.here) (sym c.play.ensures.value) (c.requires.places held.slot c.play.result.now there)
+
 pub recorder-requires : goal.recorder-requires
 recorder-requires g c =
     let parent = c.args.parent.now in
@@ -86,7 +95,7 @@ ioctl-requires-in-Record-clause-planned g c =
 
 pub returns-in-Play-clause-silent : goal.returns-in-Play-clause-silent
 returns-in-Play-clause-silent g c =
-    ap bytes_due c.ioctl.ensures.reply ∙ ask-silent (play_rate_at (seen c.args.tables.now c.play.result.now.path.device) c.play.result.now.book) c.args.request c.play.result.now.book
+    ap bytes_due c.ioctl.ensures.reply ∙ ask-silent (play_rate_at (seen c.args.tables.now c.play.result.now.path.device) c.play.result.now.book) c.play.result.now.path.device.mix.rate c.args.here c.args.request c.play.result.now.book
 
 pub returns-in-Play-clause-own : goal.returns-in-Play-clause-own
 returns-in-Play-clause-own g c =
@@ -102,7 +111,7 @@ returns-in-Play-clause-refused g c =
     let held = c.in_ok-held.held in
     let e = holding-is (held_by (desk_with parent c.args.descriptors.now.held) c.args.fd) c.in_ok-held.held (sym c.holding.ensures ∙ c.in_ok-held.was) in
     on_err_weaker c.ioctl.result
-    (λ same. parent_same _ parent refl (item-kept parent.channels held.slot c.ioctl.new.self c.play.result.now (same ∙ c.play.ensures.value)) refl refl refl refl refl)
+    (λ same. parent_same _ parent refl (item-kept parent.channels held.slot c.ioctl.new.self c.play.result.now (same ∙ c.play.ensures.value)) refl refl refl refl refl refl)
     c.ioctl.ensures.refused
 
 pub returns-in-Play-clause-desk : goal.returns-in-Play-clause-desk
@@ -113,9 +122,9 @@ returns-in-Play-clause-desk g c =
     let there = play-there parent c.args.descriptors.now.held c.args.fd held c.requires.apart e c.in-Play.is in
     let lent = c.play.result.now in
     let own = own-lent parent.device (play_channels parent) held.slot lent there c.play.ensures.value c.requires.served.own in
-    desk-played (seen c.args.tables.now parent.device) (asking (seen c.args.tables.now parent.device) c.args.request) parent c.args.descriptors.now.held held.slot lent c.ioctl.new.self there c.play.ensures.value
-    (c.ioctl.ensures.book ∙ ap (λ (d : Device). (asking (seen c.args.tables.now d) c.args.request lent.book).book) own)
-    ∙ sym (ap (λ (t : DeskTurn). t.desk) (turning-held Play (play_turn (seen c.args.tables.now parent.device) (asking (seen c.args.tables.now parent.device) c.args.request) (desk_with parent c.args.descriptors.now.held)) (record_turn (seen c.args.tables.now parent.device) (record_ask c.args.request) (desk_with parent c.args.descriptors.now.held)) (held_by (desk_with parent c.args.descriptors.now.held) c.args.fd) held (desk_with parent c.args.descriptors.now.held) e c.in-Play.is))
+    desk-played (seen c.args.tables.now parent.device) (asking (seen c.args.tables.now parent.device) (desk_here (seen c.args.tables.now parent.device) (desk_with parent c.args.descriptors.now.held)) c.args.request) parent c.args.descriptors.now.held held.slot lent c.ioctl.new.self there c.play.ensures.value
+    (c.ioctl.ensures.book ∙ ap (λ (d : Device). (asking (seen c.args.tables.now d) c.args.here c.args.request lent.book).book) own ∙ ap (λ (here : Here). (asking (seen c.args.tables.now parent.device) here c.args.request lent.book).book) c.requires.at)
+    ∙ sym (ap (λ (t : DeskTurn). t.desk) (turning-held Play (play_turn (seen c.args.tables.now parent.device) (asking (seen c.args.tables.now parent.device) (desk_here (seen c.args.tables.now parent.device) (desk_with parent c.args.descriptors.now.held)) c.args.request) (desk_with parent c.args.descriptors.now.held)) (record_turn (seen c.args.tables.now parent.device) (record_ask c.args.request) (desk_with parent c.args.descriptors.now.held)) (held_by (desk_with parent c.args.descriptors.now.held) c.args.fd) held (desk_with parent c.args.descriptors.now.held) e c.in-Play.is))
 
 pub returns-in-Play-clause-reply : goal.returns-in-Play-clause-reply
 returns-in-Play-clause-reply g c =
@@ -125,9 +134,9 @@ returns-in-Play-clause-reply g c =
     let there = play-there parent c.args.descriptors.now.held c.args.fd held c.requires.apart e c.in-Play.is in
     let lent = c.play.result.now in
     let own = own-lent parent.device (play_channels parent) held.slot lent there c.play.ensures.value c.requires.served.own in
-    reply-played (seen c.args.tables.now parent.device) (asking (seen c.args.tables.now parent.device) c.args.request) parent c.args.descriptors.now.held held.slot lent c.ioctl.result there c.play.ensures.value
-    (c.ioctl.ensures.reply ∙ ap (λ (d : Device). (asking (seen c.args.tables.now d) c.args.request lent.book).reply) own)
-    ∙ sym (ap (λ (t : DeskTurn). t.reply) (turning-held Play (play_turn (seen c.args.tables.now parent.device) (asking (seen c.args.tables.now parent.device) c.args.request) (desk_with parent c.args.descriptors.now.held)) (record_turn (seen c.args.tables.now parent.device) (record_ask c.args.request) (desk_with parent c.args.descriptors.now.held)) (held_by (desk_with parent c.args.descriptors.now.held) c.args.fd) held (desk_with parent c.args.descriptors.now.held) e c.in-Play.is))
+    reply-played (seen c.args.tables.now parent.device) (asking (seen c.args.tables.now parent.device) (desk_here (seen c.args.tables.now parent.device) (desk_with parent c.args.descriptors.now.held)) c.args.request) parent c.args.descriptors.now.held held.slot lent c.ioctl.result there c.play.ensures.value
+    (c.ioctl.ensures.reply ∙ ap (λ (d : Device). (asking (seen c.args.tables.now d) c.args.here c.args.request lent.book).reply) own ∙ ap (λ (here : Here). (asking (seen c.args.tables.now parent.device) here c.args.request lent.book).reply) c.requires.at)
+    ∙ sym (ap (λ (t : DeskTurn). t.reply) (turning-held Play (play_turn (seen c.args.tables.now parent.device) (asking (seen c.args.tables.now parent.device) (desk_here (seen c.args.tables.now parent.device) (desk_with parent c.args.descriptors.now.held)) c.args.request) (desk_with parent c.args.descriptors.now.held)) (record_turn (seen c.args.tables.now parent.device) (record_ask c.args.request) (desk_with parent c.args.descriptors.now.held)) (held_by (desk_with parent c.args.descriptors.now.held) c.args.fd) held (desk_with parent c.args.descriptors.now.held) e c.in-Play.is))
 
 pub returns-in-Play-clause-channels : goal.returns-in-Play-clause-channels
 returns-in-Play-clause-channels g c =
@@ -159,7 +168,7 @@ returns-in-Record-clause-refused g c =
     let held = c.in_ok-held.held in
     let e = holding-is (held_by (desk_with parent c.args.descriptors.now.held) c.args.fd) c.in_ok-held.held (sym c.holding.ensures ∙ c.in_ok-held.was) in
     on_err_weaker c.ioctl-in-Record.result
-    (λ same. parent_same _ parent refl refl (item-kept parent.recorders held.slot c.ioctl-in-Record.new.self c.recorder.result.now (same ∙ c.recorder.ensures.value)) refl refl refl refl)
+    (λ same. parent_same _ parent refl refl (item-kept parent.recorders held.slot c.ioctl-in-Record.new.self c.recorder.result.now (same ∙ c.recorder.ensures.value)) refl refl refl refl refl)
     c.ioctl-in-Record.ensures.refused
 
 pub returns-in-Record-clause-desk : goal.returns-in-Record-clause-desk
@@ -169,7 +178,7 @@ returns-in-Record-clause-desk g c =
     let e = holding-is (held_by (desk_with parent c.args.descriptors.now.held) c.args.fd) c.in_ok-held.held (sym c.holding.ensures ∙ c.in_ok-held.was) in
     let there = record-there parent c.args.descriptors.now.held c.args.fd held c.requires.apart e c.in-Record.is in
     desk-recorded (seen c.args.tables.now parent.device) (record_ask c.args.request) parent c.args.descriptors.now.held held.slot c.recorder.result.now c.ioctl-in-Record.new.self there c.recorder.ensures.value c.ioctl-in-Record.ensures.book
-    ∙ sym (ap (λ (t : DeskTurn). t.desk) (turning-held Record (play_turn (seen c.args.tables.now parent.device) (asking (seen c.args.tables.now parent.device) c.args.request) (desk_with parent c.args.descriptors.now.held)) (record_turn (seen c.args.tables.now parent.device) (record_ask c.args.request) (desk_with parent c.args.descriptors.now.held)) (held_by (desk_with parent c.args.descriptors.now.held) c.args.fd) held (desk_with parent c.args.descriptors.now.held) e c.in-Record.is))
+    ∙ sym (ap (λ (t : DeskTurn). t.desk) (turning-held Record (play_turn (seen c.args.tables.now parent.device) (asking (seen c.args.tables.now parent.device) (desk_here (seen c.args.tables.now parent.device) (desk_with parent c.args.descriptors.now.held)) c.args.request) (desk_with parent c.args.descriptors.now.held)) (record_turn (seen c.args.tables.now parent.device) (record_ask c.args.request) (desk_with parent c.args.descriptors.now.held)) (held_by (desk_with parent c.args.descriptors.now.held) c.args.fd) held (desk_with parent c.args.descriptors.now.held) e c.in-Record.is))
 
 pub returns-in-Record-clause-reply : goal.returns-in-Record-clause-reply
 returns-in-Record-clause-reply g c =
@@ -178,7 +187,7 @@ returns-in-Record-clause-reply g c =
     let e = holding-is (held_by (desk_with parent c.args.descriptors.now.held) c.args.fd) c.in_ok-held.held (sym c.holding.ensures ∙ c.in_ok-held.was) in
     let there = record-there parent c.args.descriptors.now.held c.args.fd held c.requires.apart e c.in-Record.is in
     reply-recorded (seen c.args.tables.now parent.device) (record_ask c.args.request) parent c.args.descriptors.now.held held.slot c.recorder.result.now c.ioctl-in-Record.result there c.recorder.ensures.value c.ioctl-in-Record.ensures.reply
-    ∙ sym (ap (λ (t : DeskTurn). t.reply) (turning-held Record (play_turn (seen c.args.tables.now parent.device) (asking (seen c.args.tables.now parent.device) c.args.request) (desk_with parent c.args.descriptors.now.held)) (record_turn (seen c.args.tables.now parent.device) (record_ask c.args.request) (desk_with parent c.args.descriptors.now.held)) (held_by (desk_with parent c.args.descriptors.now.held) c.args.fd) held (desk_with parent c.args.descriptors.now.held) e c.in-Record.is))
+    ∙ sym (ap (λ (t : DeskTurn). t.reply) (turning-held Record (play_turn (seen c.args.tables.now parent.device) (asking (seen c.args.tables.now parent.device) (desk_here (seen c.args.tables.now parent.device) (desk_with parent c.args.descriptors.now.held)) c.args.request) (desk_with parent c.args.descriptors.now.held)) (record_turn (seen c.args.tables.now parent.device) (record_ask c.args.request) (desk_with parent c.args.descriptors.now.held)) (held_by (desk_with parent c.args.descriptors.now.held) c.args.fd) held (desk_with parent c.args.descriptors.now.held) e c.in-Record.is))
 
 pub returns-in-Record-clause-channels : goal.returns-in-Record-clause-channels
 returns-in-Record-clause-channels g c = λ slot other there. moves-nothing g.B.Feeder.kind g.B.Feeder.kept c.args.tables.now [] 0 (get_or (play_channels c.args.parent.now) slot other)

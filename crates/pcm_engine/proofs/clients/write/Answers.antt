@@ -1,11 +1,12 @@
-use Rattle.std.proofs.Common.{rules, ◌+◌, ◌<◌, length, get_or, refl, sym, ap, ◌∙◌, subst, arith}
+use Rattle.std.proofs.Common.{rules, ◌≡◌, ◌+◌, ◌<◌, length, get_or, refl, sym, ap, ◌∙◌, subst, arith}
 use Rattle.std.proofs.lemmas.Result.{on_err_weaker}
 use Rattle.pcm_fixed.proofs.Items.{item-kept, items-count}
 use Rattle.pcm_oss.specs.declared.event.Way.TheVariants.{Play}
 use Rattle.pcm_oss.specs.declared.reply.Errno.TheVariants.{Inval}
-use Rattle.pcm_desk.specs.Device.{seen}
+use Rattle.pcm_desk.specs.declared.here.Here.{Here}
+use Rattle.pcm_desk.specs.Device.{DeviceSeen, seen}
 use Rattle.pcm_desk.specs.PlayBooks.{write_turn}
-use Rattle.pcm_desk.specs.Desk.{DeskTurn, held_by, play_turn, refusing}
+use Rattle.pcm_desk.specs.Desk.{DeskTurn, desk_here, held_by, play_turn, refusing, write_on}
 use Rattle.pcm_desk.proofs.Silent.{write-silent}
 use Rattle.pcm_play.specs.declared.channel.PlayChannelOf.{PlayChannelOf}
 use Rattle.pcm_play.specs.Channels.{PlayMoves}
@@ -38,7 +39,7 @@ write-requires g c =
 
 pub returns-clause-silent : goal.returns-clause-silent
 returns-clause-silent g c =
-    ap bytes_due c.write.ensures.reply ∙ write-silent (length c.args.bytes.now) c.play.result.now.book
+    ap bytes_due c.write.ensures.reply ∙ write-silent c.args.here (length c.args.bytes.now) c.play.result.now.book
 
 pub returns-clause-own : goal.returns-clause-own
 returns-clause-own g c =
@@ -54,22 +55,31 @@ returns-clause-refused g c =
     let held = channel_of Play c.in_ok-slot.slot in
     let e = playing-is (held_by (desk_with parent c.args.descriptors.now.held) c.args.fd) c.in_ok-slot.slot (sym c.playing.ensures ∙ c.in_ok-slot.was) in
     on_err_weaker c.write.result
-    (λ same. parent_same _ parent refl (item-kept parent.channels held.slot c.write.new.self c.play.result.now (same ∙ c.play.ensures.value)) refl refl refl refl refl)
+    (λ same. parent_same _ parent refl (item-kept parent.channels held.slot c.write.new.self c.play.result.now (same ∙ c.play.ensures.value)) refl refl refl refl refl refl)
     c.write.ensures.refused
 
 pub returns-clause-turn : goal.returns-clause-turn
 returns-clause-turn g c =
     let parent = c.args.parent.now in
+    let desk = desk_with parent c.args.descriptors.now.held in
+    let count = length c.args.bytes.now in
     let held = channel_of Play c.in_ok-slot.slot in
-    let e = playing-is (held_by (desk_with parent c.args.descriptors.now.held) c.args.fd) c.in_ok-slot.slot (sym c.playing.ensures ∙ c.in_ok-slot.was) in
+    let e = playing-is (held_by desk c.args.fd) c.in_ok-slot.slot (sym c.playing.ensures ∙ c.in_ok-slot.was) in
     let there = play-there parent c.args.descriptors.now.held c.args.fd held c.requires.apart e refl in
+    let turned : (device : DeviceSeen) → DeskTurn = λ device. write_on device (held_by desk c.args.fd) desk count in
+    let held_there : (device : DeviceSeen) → turned device ≡ play_turn device (write_turn (desk_here device desk) count) desk held.slot =
+    λ device. turning-held Play (play_turn device (write_turn (desk_here device desk) count) desk) (λ slot. refusing desk Inval) (held_by desk c.args.fd) held desk e refl in
     record {
-      desk = λ filters.
-          desk-played (seen filters parent.device) (write_turn (length c.args.bytes.now)) parent c.args.descriptors.now.held held.slot c.play.result.now c.write.new.self there c.play.ensures.value c.write.ensures.book
-          ∙ sym (ap (λ (t : DeskTurn). t.desk) (turning-held Play (play_turn (seen filters parent.device) (write_turn (length c.args.bytes.now)) (desk_with parent c.args.descriptors.now.held)) (λ slot. refusing (desk_with parent c.args.descriptors.now.held) Inval) (held_by (desk_with parent c.args.descriptors.now.held) c.args.fd) held (desk_with parent c.args.descriptors.now.held) e refl));
-      reply = λ filters.
-          reply-played (seen filters parent.device) (write_turn (length c.args.bytes.now)) parent c.args.descriptors.now.held held.slot c.play.result.now c.write.result there c.play.ensures.value c.write.ensures.reply
-          ∙ sym (ap (λ (t : DeskTurn). t.reply) (turning-held Play (play_turn (seen filters parent.device) (write_turn (length c.args.bytes.now)) (desk_with parent c.args.descriptors.now.held)) (λ slot. refusing (desk_with parent c.args.descriptors.now.held) Inval) (held_by (desk_with parent c.args.descriptors.now.held) c.args.fd) held (desk_with parent c.args.descriptors.now.held) e refl));
+      desk = λ filters at.
+          let device = seen filters parent.device in
+          desk-played device (write_turn (desk_here device desk) count) parent c.args.descriptors.now.held held.slot c.play.result.now c.write.new.self there c.play.ensures.value
+          (c.write.ensures.book ∙ ap (λ (here : Here). (write_turn here count c.play.result.now.book).book) at)
+          ∙ sym (ap (λ (t : DeskTurn). t.desk) (held_there device));
+      reply = λ filters at.
+          let device = seen filters parent.device in
+          reply-played device (write_turn (desk_here device desk) count) parent c.args.descriptors.now.held held.slot c.play.result.now c.write.result there c.play.ensures.value
+          (c.write.ensures.reply ∙ ap (λ (here : Here). (write_turn here count c.play.result.now.book).reply) at)
+          ∙ sym (ap (λ (t : DeskTurn). t.reply) (held_there device));
     }
 
 pub returns-clause-channels : goal.returns-clause-channels
@@ -82,4 +92,4 @@ returns-clause-channels g c = λ filters.
     (moves-nothing g.B.Feeder.kind g.B.Feeder.kept filters c.args.bytes.now 0)
 
 pub returns-in_err-slot-clause-turn : goal.returns-in_err-slot-clause-turn
-returns-in_err-slot-clause-turn g c = record { desk = λ filters. search rules; reply = λ filters. search rules }
+returns-in_err-slot-clause-turn g c = record { desk = λ filters at. search rules; reply = λ filters at. search rules }

@@ -35,7 +35,7 @@ returns-else-n-gt0-clause-mixed g c =
     record {
       own = λ slot other h. (c.requires.due slot other h).own;
       moves = λ slot other h. moves-nothing g.B.Feeder.kind g.B.Feeder.kept c.args.tables.now [] c.args.n (get_or c.args.channels.now slot other);
-      books = λ slot other h. subst (λ (n : ℕ). (get_or c.args.channels.now slot other).book ≡ mixing (seen c.args.tables.now c.args.device) n (get_or c.args.channels.now slot other).book) (sym none) refl;
+      books = λ slot other h. subst (λ (n : ℕ). (get_or c.args.channels.now slot other).book ≡ mixing (seen c.args.tables.now c.args.device) c.args.here.mixed n (get_or c.args.channels.now slot other).book) (sym none) refl;
     }
 
 pub returns-else-n-gt0-clause-block : goal.returns-else-n-gt0-clause-block

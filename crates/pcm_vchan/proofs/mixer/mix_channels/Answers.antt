@@ -51,8 +51,8 @@ loop-slot-preserved g c =
         | inl below ↦ ap (λ (channel : PlayChannelOf _). channel.book) (c.mix_slot.ensures.others at other (omega arith)) ∙ c.loop-slot.invariant.mixed at other below
         | inr above ↦ (
             let here : at ≡ i = omega arith in
-            subst (λ (k : ℕ). (get_or c.mix_slot.new.channels k other).book ≡ mixing device n (get_or before k other).book) (sym here)
-            (c.mix_slot.ensures.book other ∙ ap (λ (channel : PlayChannelOf _). mixing device n channel.book) (c.loop-slot.invariant.rest i other (omega arith))))
+            subst (λ (k : ℕ). (get_or c.mix_slot.new.channels k other).book ≡ mixing device c.args.here.mixed n (get_or before k other).book) (sym here)
+            (c.mix_slot.ensures.book other ∙ ap (λ (channel : PlayChannelOf _). mixing device c.args.here.mixed n channel.book) (c.loop-slot.invariant.rest i other (omega arith))))
       ];
       rest = λ at other h. c.mix_slot.ensures.others at other (omega arith) ∙ c.loop-slot.invariant.rest at other (omega arith);
       sum = λ streams stand. (

@@ -28,14 +28,11 @@ returns-clause-book g c = λ other.
     let old = c.args.channels.now in
     ap (λ (n : PlayChannelOf _). n.book) (get_or-set_same old c.args.slot c.refill.new.self other c.requires.there)
     ∙ c.refill.ensures.book
-    ∙ ap (λ (d : Device). mixing (seen c.args.tables.now d) c.args.n (get_or old c.args.slot held).book) ((c.requires.due held).own)
-    ∙ ap (λ (n : PlayChannelOf _). mixing (seen c.args.tables.now c.args.device) c.args.n n.book) (get_or_default old c.args.slot held other c.requires.there)
+    ∙ ap (λ (d : Device). mixing (seen c.args.tables.now d) c.args.here.mixed c.args.n (get_or old c.args.slot held).book) ((c.requires.due held).own)
+    ∙ ap (λ (n : PlayChannelOf _). mixing (seen c.args.tables.now c.args.device) c.args.here.mixed c.args.n n.book) (get_or_default old c.args.slot held other c.requires.there)
 
 pub refill-requires-clause-count : goal.refill-requires-clause-count
 refill-requires-clause-count g c = (c.requires.due c.index-channels-slot.result).given
-
-pub refill-requires-clause-counted : goal.refill-requires-clause-counted
-refill-requires-clause-counted g c = (c.requires.due c.index-channels-slot.result).counted
 
 pub returns-clause-moves : goal.returns-clause-moves
 returns-clause-moves g c = λ other.

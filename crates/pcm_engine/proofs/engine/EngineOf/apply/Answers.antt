@@ -1,4 +1,4 @@
-use Rattle.std.proofs.Common.{rules, ℕ, ◌+◌, ◌*◌, List, [], get_or, length, sym, ap, ◌∙◌, subst, arith}
+use Rattle.std.proofs.Common.{rules, All, ℕ, ◌+◌, ◌*◌, List, [], get_or, length, sym, ap, ◌∙◌, subst, arith}
 use Rattle.pcm_fixed.specs.declared.fixed.Fixed.{Fixed}
 use Rattle.pcm_fixed.specs.Fixed.{fixed_items}
 use Rattle.pcm_oss.specs.declared.event.Event.{Event}
@@ -13,18 +13,20 @@ use Rattle.pcm_oss.specs.Replies.{Reply}
 use Rattle.pcm_desk.specs.Desk.{after, held_by, write_on}
 use Rattle.pcm_desk.specs.Own.{HoldApart}
 use Rattle.pcm_desk.proofs.Apart.{apart-after}
-use Rattle.pcm_play.specs.Channels.{PlayMoves}
+use Rattle.pcm_desk.specs.declared.here.Here.{Here}
+use Rattle.pcm_desk.specs.Here.{IsHere}
+use Rattle.pcm_play.specs.Channels.{IsPlayHere, PlayMoves}
 use Rattle.pcm_play.proofs.Moving.{moves-nothing}
 use Rattle.pcm_record.specs.Channels.{RecordMoves}
 use Rattle.pcm_record.proofs.Moving as recorders
 use Rattle.pcm_vchan.specs.Slots.{PlayAreOf, Each, RecordAreOf}
 use Rattle.pcm_engine.specs.Engines.{device_of, desk_of}
 use Rattle.pcm_engine.specs.Steps.{BusMoves, ChannelsMove, RecordersMove, bytes_answered}
-use Rattle.pcm_vchan.proofs.Channels.{play_books_of-mixed, record_books_of-captured}
-use Rattle.pcm_vchan.specs.Parents.{mixed_in, play_channels, record_channels}
+use Rattle.pcm_vchan.proofs.Channels.{play_books_of-passed, record_books_of-captured}
+use Rattle.pcm_vchan.specs.Parents.{play_channels, record_channels}
 use Rattle.pcm_engine.proofs.Desks.{count-stays, count-within, desk_with-mixed}
 use Rattle.pcm_engine.proofs.Buses.{bus-same, bus-stays, mixes-few}
-use Rattle.pcm_engine.proofs.InOrder.{closable, served}
+use Rattle.pcm_engine.proofs.InOrder.{channels-here, closable, here-seen, here-within, served}
 use Rattle.pcm_engine.proofs.Recording.{length-captured}
 use Rattle.pcm_engine.proofs.engine.EngineOf.apply.Goals as goal
 
@@ -35,7 +37,7 @@ invariant_of-self-in-Write g c =
     let same = c.write.ensures.output.slots_same in
     let output = c.write.ensures.output in
     record {
-      apart = subst HoldApart (sym (c.write.ensures.turn.desk old.tables)) (apart-after (device_of old) (desk_of old) (Write c.in-Write.fd c.in-Write.source c.in-Write.at (length c.bytes_at-bytes.result.now)) old.apart);
+      apart = subst HoldApart (sym (c.write.ensures.turn.desk old.tables (c.here-here.ensures ∙ here-seen g.B.Feeder.kept old c.requires.ready.bus))) (apart-after (device_of old) (desk_of old) (Write c.in-Write.fd c.in-Write.source c.in-Write.at (length c.bytes_at-bytes.result.now)) old.apart);
       own = c.write.ensures.own;
       counted = count-within (λ (c : PlayChannelOf _). c.book.done + c.book.written) RING_BYTES old.steps (play_channels old.parent) (play_channels new) same
           (λ slot other there. let more = (c.write.ensures.channels old.tables slot other there).grown in omega (arith, more)) old.counted;
@@ -52,21 +54,21 @@ invariant_of-self-in-Write g c =
 pub invariant_of-self-in-Ioctl : goal.invariant_of-self-in-Ioctl
 invariant_of-self-in-Ioctl g c =
     let old = c.args.self.now in
-    let new = c.ioctl.new.parent in
-    let same = c.ioctl.ensures.output.slots_same in
-    let output = c.ioctl.ensures.output in
+    let new = c.ioctl-answer.new.parent in
+    let same = c.ioctl-answer.ensures.output.slots_same in
+    let output = c.ioctl-answer.ensures.output in
     record {
-      apart = subst HoldApart (sym c.ioctl.ensures.desk) (apart-after (device_of old) (desk_of old) (Ioctl c.in-Ioctl.fd c.in-Ioctl.request) old.apart);
-      own = c.ioctl.ensures.own;
+      apart = subst HoldApart (sym c.ioctl-answer.ensures.desk) (apart-after (device_of old) (desk_of old) (Ioctl c.in-Ioctl.fd c.in-Ioctl.request) old.apart);
+      own = c.ioctl-answer.ensures.own;
       counted = count-within (λ (c : PlayChannelOf _). c.book.done + c.book.written) RING_BYTES old.steps (play_channels old.parent) (play_channels new) same
-          (λ slot other there. let more = (c.ioctl.ensures.channels slot other there).grown in omega (arith, more)) old.counted;
+          (λ slot other there. let more = (c.ioctl-answer.ensures.channels slot other there).grown in omega (arith, more)) old.counted;
       given = count-within (λ (c : PlayChannelOf _). c.book.given) MIX_FRAMES old.steps (play_channels old.parent) (play_channels new) same
-          (λ slot other there. let more = (c.ioctl.ensures.channels slot other there).given in omega (arith, more)) old.given;
-      recorders_own = c.ioctl.ensures.recorders_own;
+          (λ slot other there. let more = (c.ioctl-answer.ensures.channels slot other there).given in omega (arith, more)) old.given;
+      recorders_own = c.ioctl-answer.ensures.recorders_own;
       kept = count-within (λ (c : RecordChannelOf _). c.book.kept) RING_BYTES old.steps (record_channels old.parent) (record_channels new) output.recorders_same
-          (λ slot other there. (c.ioctl.ensures.recorders slot other there).kept) old.kept;
+          (λ slot other there. (c.ioctl-answer.ensures.recorders slot other there).kept) old.kept;
       captured_within = count-within (λ (c : RecordChannelOf _). c.book.captured) RING_FRAMES old.steps (record_channels old.parent) (record_channels new) output.recorders_same
-          (λ slot other there. let more = (c.ioctl.ensures.recorders slot other there).captured in omega (arith, more)) old.captured_within;
+          (λ slot other there. let more = (c.ioctl-answer.ensures.recorders slot other there).captured in omega (arith, more)) old.captured_within;
       captured_size = old.captured_size ∙ ap (λ (d : Device). d.ring_frames * channels_of d.settings.layout) (sym output.device_same);
       mixed_within = omega (arith, output.mixed_same, old.mixed_within);
       handed_within = omega (arith, output.handed_same, old.handed_within);
@@ -105,8 +107,21 @@ interrupt-requires-clause-due g c =
 pub open-answer-requires-clause-served : goal.open-answer-requires-clause-served
 open-answer-requires-clause-served g c = served g.B.Feeder.kind g.B.Feeder.kept c.args.self.now c.requires.ready
 
-pub ioctl-requires-clause-served : goal.ioctl-requires-clause-served
-ioctl-requires-clause-served g c = served g.B.Feeder.kind g.B.Feeder.kept c.args.self.now c.requires.ready
+pub ioctl-answer-requires-clause-served : goal.ioctl-answer-requires-clause-served
+ioctl-answer-requires-clause-served g c = served g.B.Feeder.kind g.B.Feeder.kept c.args.self.now c.requires.ready
+
+pub ioctl-answer-requires-clause-here : goal.ioctl-answer-requires-clause-here
+ioctl-answer-requires-clause-here g c =
+    let old = c.args.self.now in
+    subst IsHere (sym c.here-here.ensures) (here-within g.B.Feeder.kept old c.requires.ready.limits c.requires.ready.bus c.requires.count)
+
+pub ioctl-answer-requires-clause-at : goal.ioctl-answer-requires-clause-at
+ioctl-answer-requires-clause-at g c = c.here-here.ensures ∙ here-seen g.B.Feeder.kept c.args.self.now c.requires.ready.bus
+
+pub ioctl-answer-requires-clause-places : goal.ioctl-answer-requires-clause-places
+ioctl-answer-requires-clause-places g c =
+    let old = c.args.self.now in
+    subst (λ (here : Here). All (IsPlayHere old.tables here) (play_channels old.parent)) (sym c.here-here.ensures) (channels-here g.B.Feeder.kept old c.requires.ready.bus c.requires.ready.places)
 
 pub close-requires-clause-closable : goal.close-requires-clause-closable
 close-requires-clause-closable g c = closable g.B.Feeder.kind g.B.Feeder.kept c.args.self.now c.requires.ready
@@ -118,9 +133,8 @@ invariant_of-self-in-Intr g c =
     let fits = rw c.in-Intr.is at c.requires.fits in
     let same = c.interrupt.ensures.slots in
     let within = old.parent.within in
-    let q : ℕ = mixed_in old.tables c.in-Intr.frames old.parent in
     let few = mixes-few old.tables c.in-Intr.frames old.parent c.requires.ready.bus.planned.limits fits.1 in
-    let books = play_books_of-mixed (device_of old) q (play_channels old.parent) (play_channels new) same c.interrupt.ensures.books in
+    let books = play_books_of-passed (device_of old) old.parent.handed c.in-Intr.frames (play_channels old.parent) (play_channels new) same c.interrupt.ensures.books in
     let recorded = record_books_of-captured (device_of old) c.in-Intr.frames (record_channels old.parent) (record_channels new) c.interrupt.ensures.recorders_slots (λ slot other there. (c.interrupt.ensures.recorders slot other there).book) in
     let desk = desk_with-mixed (device_of old) old.parent new old.descriptors.held c.in-Intr.frames books recorded c.interrupt.ensures.handed c.interrupt.ensures.mixed in
     let brought = length-captured old.parent.device.settings.layout c.args.pool.now old.parent.handed c.in-Intr.frames c.requires.captures in
@@ -146,8 +160,7 @@ returns-in-Intr-clause-desk g c =
     let old = c.args.self.now in
     let new = c.interrupt.new.parent in
     let n : ℕ = c.in-Intr.frames in
-    let q : ℕ = mixed_in old.tables n old.parent in
-    let books = play_books_of-mixed (device_of old) q (play_channels old.parent) (play_channels new) c.interrupt.ensures.slots c.interrupt.ensures.books in
+    let books = play_books_of-passed (device_of old) old.parent.handed n (play_channels old.parent) (play_channels new) c.interrupt.ensures.slots c.interrupt.ensures.books in
     let recorded = record_books_of-captured (device_of old) n (record_channels old.parent) (record_channels new) c.interrupt.ensures.recorders_slots (λ slot other there. (c.interrupt.ensures.recorders slot other there).book) in
     desk_with-mixed (device_of old) old.parent new old.descriptors.held n books recorded c.interrupt.ensures.handed c.interrupt.ensures.mixed
     ∙ sym (ap (λ (event : Event). (after (device_of old) (desk_of old) event).desk) c.in-Intr.is)
@@ -155,12 +168,12 @@ returns-in-Intr-clause-desk g c =
 pub returns-in-Write-clause-desk : goal.returns-in-Write-clause-desk
 returns-in-Write-clause-desk g c =
     let old = c.args.self.now in
-    c.write.ensures.turn.desk old.tables ∙ ap (λ (n : ℕ). (write_on (device_of old) (held_by (desk_of old) c.in-Write.fd) (desk_of old) n).desk) c.bytes_at-bytes.ensures.length ∙ sym (ap (λ (event : Event). (after (device_of old) (desk_of old) event).desk) c.in-Write.is)
+    c.write.ensures.turn.desk old.tables (c.here-here.ensures ∙ here-seen g.B.Feeder.kept old c.requires.ready.bus) ∙ ap (λ (n : ℕ). (write_on (device_of old) (held_by (desk_of old) c.in-Write.fd) (desk_of old) n).desk) c.bytes_at-bytes.ensures.length ∙ sym (ap (λ (event : Event). (after (device_of old) (desk_of old) event).desk) c.in-Write.is)
 
 pub returns-in-Write-clause-reply : goal.returns-in-Write-clause-reply
 returns-in-Write-clause-reply g c =
     let old = c.args.self.now in
-    ap (λ (r : Reply). r.result) c.keep-in-Write.ensures ∙ c.write.ensures.turn.reply old.tables ∙ ap (λ (n : ℕ). (write_on (device_of old) (held_by (desk_of old) c.in-Write.fd) (desk_of old) n).reply) c.bytes_at-bytes.ensures.length ∙ sym (ap (λ (event : Event). (after (device_of old) (desk_of old) event).reply) c.in-Write.is)
+    ap (λ (r : Reply). r.result) c.keep-in-Write.ensures ∙ c.write.ensures.turn.reply old.tables (c.here-here.ensures ∙ here-seen g.B.Feeder.kept old c.requires.ready.bus) ∙ ap (λ (n : ℕ). (write_on (device_of old) (held_by (desk_of old) c.in-Write.fd) (desk_of old) n).reply) c.bytes_at-bytes.ensures.length ∙ sym (ap (λ (event : Event). (after (device_of old) (desk_of old) event).reply) c.in-Write.is)
 
 pub returns-in-Write-clause-recorders : goal.returns-in-Write-clause-recorders
 returns-in-Write-clause-recorders g c =
@@ -200,13 +213,13 @@ returns-in-Read-clause-recorders g c =
 pub returns-in-Ioctl-clause-channels : goal.returns-in-Ioctl-clause-channels
 returns-in-Ioctl-clause-channels g c =
     let old = c.args.self.now in
-    subst (λ (event : Event). ChannelsMove g.B.Feeder.kind g.B.Feeder.kept (device_of old) c.args.pool.now old.parent.handed event (play_channels old.parent) (play_channels c.ioctl.new.parent)) (sym c.in-Ioctl.is)
-    (c.ioctl.ensures.channels)
+    subst (λ (event : Event). ChannelsMove g.B.Feeder.kind g.B.Feeder.kept (device_of old) c.args.pool.now old.parent.handed event (play_channels old.parent) (play_channels c.ioctl-answer.new.parent)) (sym c.in-Ioctl.is)
+    (c.ioctl-answer.ensures.channels)
 
 pub returns-in-Close-clause-desk : goal.returns-in-Close-clause-desk
 returns-in-Close-clause-desk g c =
     let old = c.args.self.now in
-    c.close.ensures.desk old.tables c.requires.ready.playing ∙ sym (ap (λ (event : Event). (after (device_of old) (desk_of old) event).desk) c.in-Close.is)
+    c.close.ensures.desk old.tables c.requires.ready.playing (c.here-here.ensures ∙ here-seen g.B.Feeder.kept old c.requires.ready.bus) ∙ sym (ap (λ (event : Event). (after (device_of old) (desk_of old) event).desk) c.in-Close.is)
 
 pub returns-in-Close-clause-reply : goal.returns-in-Close-clause-reply
 returns-in-Close-clause-reply g c =
@@ -268,7 +281,7 @@ invariant_of-self-in-Close g c =
     let output = c.close.ensures.output in
     record {
       own = c.close.ensures.own;
-      apart = subst HoldApart (sym (c.close.ensures.desk old.tables c.requires.ready.playing)) (apart-after (device_of old) (desk_of old) (Close c.in-Close.fd) old.apart);
+      apart = subst HoldApart (sym (c.close.ensures.desk old.tables c.requires.ready.playing (c.here-here.ensures ∙ here-seen g.B.Feeder.kept old c.requires.ready.bus))) (apart-after (device_of old) (desk_of old) (Close c.in-Close.fd) old.apart);
       counted = count-within (λ (c : PlayChannelOf _). c.book.done + c.book.written) RING_BYTES old.steps (play_channels old.parent) (play_channels new) same
           (λ slot other there. let more = (c.close.ensures.channels old.tables slot other there).grown in omega (arith, more)) old.counted;
       given = count-within (λ (c : PlayChannelOf _). c.book.given) MIX_FRAMES old.steps (play_channels old.parent) (play_channels new) same
@@ -343,14 +356,14 @@ returns-in-Read-clause-turns g c =
 pub returns-in-Ioctl-clause-bus : goal.returns-in-Ioctl-clause-bus
 returns-in-Ioctl-clause-bus g c =
     let old = c.args.self.now in
-    bus-stays g.B.Feeder.kept (device_of old) old.parent c.ioctl.new.parent c.ioctl.ensures.output c.requires.ready.bus
+    bus-stays g.B.Feeder.kept (device_of old) old.parent c.ioctl-answer.new.parent c.ioctl-answer.ensures.output c.requires.ready.bus
 
 pub returns-in-Ioctl-clause-turns : goal.returns-in-Ioctl-clause-turns
 returns-in-Ioctl-clause-turns g c =
     let old = c.args.self.now in
-    let new = c.ioctl.new.parent in
+    let new = c.ioctl-answer.new.parent in
     subst (λ (event : Event). BusMoves g.B.Feeder.kept (device_of old) old.parent.handed event (play_channels old.parent) old.parent.bus.chain new.bus.chain old.parent.ring.bytes new.ring.bytes) (sym c.in-Ioctl.is)
-    (bus-same old.parent new c.ioctl.ensures.output)
+    (bus-same old.parent new c.ioctl-answer.ensures.output)
 
 pub returns-in-Close-clause-bus : goal.returns-in-Close-clause-bus
 returns-in-Close-clause-bus g c =

@@ -5,11 +5,12 @@ use Rattle.pcm_desk.proofs.Apart.{apart-shut}
 use Rattle.pcm_sound.proofs.Stories.{get_or-same}
 use Rattle.pcm_desk.specs.declared.device.Device.{Device}
 use Rattle.pcm_desk.specs.declared.record_book.RecordBook.{RecordBook}
-use Rattle.pcm_desk.specs.Device.{seen}
+use Rattle.pcm_desk.specs.Desk.{play_unopened}
+use Rattle.pcm_desk.specs.Device.{IsInLimits, here_at, mixed_for, seen}
 use Rattle.pcm_format.specs.Layouts.{channels_of}
 use Rattle.pcm_sound.specs.Story.{story_at_start}
 use Rattle.pcm_engine.specs.Stands.{RecordersStand}
-use Rattle.pcm_engine.proofs.InOrder.{ready-all}
+use Rattle.pcm_engine.proofs.InOrder.{books-start, ready-all}
 use Rattle.pcm_engine.proofs.Starting.{parent-starts, ready-unopened, record-ready-unopened, record_books_of-unopened, recorders-start}
 use Rattle.pcm_engine.proofs.engine.EngineOf.new.Goals as goal
 use Rattle.pcm_vchan.specs.Handovers.{HasMade}
@@ -44,7 +45,14 @@ returns-clause-ready g c = ready-all g.B.Feeder.kind g.B.Feeder.kept _
     subst (λ (d : Device). HasBus g.B.Feeder.kept (seen c.args.tables d) parent) (sym e.device) (record {
       planned = e.planned;
       made = record { frames = []; made = subst (HasMade g.B.Feeder.kept (seen c.args.tables c.args.device) parent.bus.chain []) (sym e.handed) e.made };
+      level = e.mixed ∙ ap (mixed_for (seen c.args.tables c.args.device)) (sym e.handed);
     }))
+    (subst (λ (d : Device). IsInLimits (seen c.args.tables d)) (sym c.in_ok-parent.ensures.device) c.requires.limits)
+    (λ slot.
+    let parent = c.in_ok-parent.parent in
+    let e = c.in_ok-parent.ensures in
+    books-start c.args.tables parent.device (play_channels parent) slot (here_at (seen c.args.tables parent.device) parent.handed)
+    (λ at other there. (e.channels at other there).book ∙ ap (λ (d : Device). play_unopened (seen c.args.tables d)) (sym e.device)))
 
 pub returns-clause-stands : goal.returns-clause-stands
 returns-clause-stands g c = λ pool.

@@ -3,7 +3,7 @@ use Rattle.pcm_oss.specs.declared.reply.Errno.{Errno}
 use Rattle.std.proofs.Common.{Result, ◌≡◌, All, ℕ, List, [], ◌∷◌, ◌++◌, take, refl, sym, ap, ◌∙◌, subst}
 use Rattle.pcm_fixed.proofs.Items.{items-count}
 use Rattle.pcm_desk.specs.declared.device.Device.{Device}
-use Rattle.pcm_desk.specs.Device.{DeviceSeen, seen}
+use Rattle.pcm_desk.specs.Device.{DeviceSeen, IsInLimits, seen}
 use Rattle.pcm_feeder.specs.Filters.{Filters}
 use Rattle.pcm_oss.specs.declared.event.Event.{Event}
 use Rattle.pcm_play.specs.Channels.{IsPlayReady}
@@ -15,14 +15,14 @@ use Rattle.pcm_sound.specs.Story.{story_of, story_at_start}
 use Rattle.pcm_sound.specs.DeviceList.{device_body}
 use Rattle.pcm_sound.specs.Valid.{StoryIsValid}
 use Rattle.pcm_sound.proofs.Plain.{plain-body}
-use Rattle.pcm_sound.proofs.Stories.{told_all-push}
+use Rattle.pcm_sound.proofs.Stories.{order-after, told_all-push}
 use Rattle.pcm_engine.specs.Stands.{PartsStand, RecordersStand, bytes_kept, frames_captured}
 use Rattle.pcm_engine.specs.Steps.{bytes_answered, bytes_brought, frames_mixed}
-use Rattle.pcm_engine.specs.Engines.{device_of, desk_of}
+use Rattle.pcm_engine.specs.Engines.{BooksAreHere, device_of, desk_of}
 use Rattle.pcm_vchan.proofs.Channels.{ready-after}
 use Rattle.pcm_vchan.specs.Parents.{HasBus, play_channels, record_channels}
 use Rattle.pcm_desk.proofs.Isolation.{isolated}
-use Rattle.pcm_engine.proofs.InOrder.{ready-all, rings-hold}
+use Rattle.pcm_engine.proofs.InOrder.{books-rates, ready-all, rings-hold}
 use Rattle.pcm_engine.proofs.Recording.{all-record, answered-told, recorders-ready, recorders-told, reply-made}
 use Rattle.pcm_engine.proofs.Standing.{Stepped, stands-told, body-told}
 use Rattle.pcm_engine.proofs.Waiting.{read-waiting}
@@ -38,7 +38,13 @@ returns-clause-ready g c =
     (recorders-ready g.B.Feeder.kind g.B.Feeder.kept (device_of old) c.args.pool.now old.parent.handed c.args.event.now (record_channels old.parent) (record_channels new.parent) c.apply.ensures.recorders_slots c.apply.ensures.recorders c.requires.ready.recording) in
     let same : device_of new ≡ device_of old = ap (λ (d : Device). seen new.tables d) c.apply.ensures.device ∙ ap (λ (t : Filters). seen t old.parent.device) c.apply.ensures.tables in
     let bus = subst (λ (d : DeviceSeen). HasBus g.B.Feeder.kept d new.parent) (sym same) c.apply.ensures.bus in
-    ready-all g.B.Feeder.kind g.B.Feeder.kept new playing recording bus
+    let limits = subst IsInLimits (sym same) c.requires.ready.limits in
+    let d = c.requires.ready.limits.device_is in
+    let places : BooksAreHere (device_of new) (desk_of new) =
+    subst (λ (d : DeviceSeen). BooksAreHere d (desk_of new)) (sym same)
+    (subst (BooksAreHere (device_of old)) (sym c.apply.ensures.desk) (λ slot.
+    (order-after (device_of old) c.args.pool.now (desk_of old) c.args.event.now slot d c.requires.fits (books-rates old d) (record { counts = c.requires.ready.books slot; place = c.requires.ready.places slot })).place)) in
+    ready-all g.B.Feeder.kind g.B.Feeder.kept new playing recording bus limits places
 
 pub returns-clause-stands : goal.returns-clause-stands
 returns-clause-stands g c = λ events s.
@@ -111,6 +117,9 @@ returns-clause-plain g c = λ events s unbroken.
 
 pub returns-clause-safe : goal.returns-clause-safe
 returns-clause-safe g c = (returns-clause-ready g c).books
+
+pub returns-clause-places : goal.returns-clause-places
+returns-clause-places g c = (returns-clause-ready g c).places
 
 pub returns-clause-records_safe : goal.returns-clause-records_safe
 returns-clause-records_safe g c = (returns-clause-ready g c).records

@@ -12,7 +12,7 @@ use Rattle.pcm_play.proofs.channel.PlayChannelOf.close.Goals as goal
 pub invariant_of-self : goal.invariant_of-self
 invariant_of-self g c =
     let old = c.args.self.now in
-    let k = book-closed old c.closed-self.result c.rate-rate.result c.plan.result.now c.closed-self.ensures c.rate-rate.ensures.value c.plan.ensures in
+    let k = book-closed old c.args.here c.closed-self.result c.rate-rate.result c.plan.result.now c.closed-self.ensures c.rate-rate.ensures.value c.plan.ensures in
     let none = k.left.ended c.if-self-eq0.true in
     record {
       serves = serves-as old.book.opening c.closed-self.result.opening old.path c.restart.new.self [] c.restart.ensures.device c.restart.ensures.plan c.restart.ensures.ring k.keeps.settings k.keeps.fragments old.serves;
@@ -24,7 +24,7 @@ invariant_of-self g c =
 pub invariant_of-self-else-self-eq0 : goal.invariant_of-self-else-self-eq0
 invariant_of-self-else-self-eq0 g c =
     let old = c.args.self.now in
-    let k = book-closed old c.closed-self.result c.rate-rate.result c.plan.result.now c.closed-self.ensures c.rate-rate.ensures.value c.plan.ensures in
+    let k = book-closed old c.args.here c.closed-self.result c.rate-rate.result c.plan.result.now c.closed-self.ensures c.rate-rate.ensures.value c.plan.ensures in
     let go = k.left.goes c.if-self-eq0.false in
     let size : frame_bytes c.closed-self.result.opening.settings ≡ frame_bytes old.book.opening.settings = ap frame_bytes go.settings in
     record {
@@ -36,16 +36,16 @@ invariant_of-self-else-self-eq0 g c =
 
 pub returns-then-self-eq0-clause-book : goal.returns-then-self-eq0-clause-book
 returns-then-self-eq0-clause-book g c = λ filters planned.
-    c.closed-self.ensures ∙ ap (λ (r : Rate). close_turn r c.args.self.now.book) (c.rate-rate.ensures.value ∙ ap (λ (p : PlanSeen). rate_in_plan p) (c.plan.ensures ∙ planned.plan_is))
+    c.closed-self.ensures ∙ ap (λ (r : Rate). close_turn r c.args.here c.args.self.now.book) (c.rate-rate.ensures.value ∙ ap (λ (p : PlanSeen). rate_in_plan p) (c.plan.ensures ∙ planned.plan_is))
 
 pub returns-else-self-eq0-clause-book : goal.returns-else-self-eq0-clause-book
 returns-else-self-eq0-clause-book g c = λ filters planned.
-    c.closed-self.ensures ∙ ap (λ (r : Rate). close_turn r c.args.self.now.book) (c.rate-rate.ensures.value ∙ ap (λ (p : PlanSeen). rate_in_plan p) (c.plan.ensures ∙ planned.plan_is))
+    c.closed-self.ensures ∙ ap (λ (r : Rate). close_turn r c.args.here c.args.self.now.book) (c.rate-rate.ensures.value ∙ ap (λ (p : PlanSeen). rate_in_plan p) (c.plan.ensures ∙ planned.plan_is))
 
 pub returns-then-self-eq0-clause-moves : goal.returns-then-self-eq0-clause-moves
 returns-then-self-eq0-clause-moves g c = λ filters.
     let old = c.args.self.now in
-    let k = book-closed old c.closed-self.result c.rate-rate.result c.plan.result.now c.closed-self.ensures c.rate-rate.ensures.value c.plan.ensures in
+    let k = book-closed old c.args.here c.closed-self.result c.rate-rate.result c.plan.result.now c.closed-self.ensures c.rate-rate.ensures.value c.plan.ensures in
     let left = k.left in
     let none = left.ended c.if-self-eq0.true in
     moves-ended g.B.Feeder.kind g.B.Feeder.kept filters _ 0 old _ c.restart.ensures.kinds (planned-as Play filters _ _ old.path c.restart.new.self c.restart.ensures.device c.restart.ensures.plan k.keeps.settings) c.if-self-eq0.true none.0 none.1 c.restart.ensures.empty
@@ -54,5 +54,5 @@ returns-then-self-eq0-clause-moves g c = λ filters.
 pub returns-else-self-eq0-clause-moves : goal.returns-else-self-eq0-clause-moves
 returns-else-self-eq0-clause-moves g c = λ filters.
     let old = c.args.self.now in
-    let left = (book-closed old c.closed-self.result c.rate-rate.result c.plan.result.now c.closed-self.ensures c.rate-rate.ensures.value c.plan.ensures).left in
+    let left = (book-closed old c.args.here c.closed-self.result c.rate-rate.result c.plan.result.now c.closed-self.ensures c.rate-rate.ensures.value c.plan.ensures).left in
     moves-state g.B.Feeder.kind g.B.Feeder.kept filters old _ refl refl refl (left.goes c.if-self-eq0.false)

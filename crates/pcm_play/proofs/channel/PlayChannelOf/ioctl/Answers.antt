@@ -9,26 +9,33 @@ use Rattle.pcm_desk.specs.declared.turn.Turn.{Turn}
 use Rattle.pcm_desk.specs.Desk.{play_rate_at}
 use Rattle.pcm_desk.specs.PlaySafe.{PlayIsSafe}
 use Rattle.pcm_desk.proofs.Refused.{ask-refused}
-use Rattle.pcm_play.proofs.Moving.{asked-is, book-asked, moves-ended, moves-state}
+use Rattle.pcm_play.proofs.Moving.{asked-here, asked-is, book-asked, device-is, moves-ended, moves-state}
 use Rattle.pcm_play.proofs.channel.PlayChannelOf.ioctl.Goals as goal
+
+pub asked-turn-requires-clause-at : goal.asked-turn-requires-clause-at
+asked-turn-requires-clause-at g c =
+    asked-here c.args.tables.now c.args.here c.args.self.now c.rate-rate.result c.plan.result.now c.requires.planned c.rate-rate.ensures.value c.plan.ensures c.requires.at
+
+pub asked-turn-requires-clause-mix : goal.asked-turn-requires-clause-mix
+asked-turn-requires-clause-mix g c = (device-is c.args.tables.now c.args.self.now c.requires.planned).mix_rate
 
 pub begin-requires-clause-rate : goal.begin-requires-clause-rate
 begin-requires-clause-rate g c =
     let old = c.args.self.now in
-    (book-asked c.args.tables.now c.args.request old c.asked-turn.result c.requires.planned
-    (asked-is c.args.tables.now c.args.request old c.asked-turn.result c.rate.result c.plan.result.now c.requires.planned c.asked-turn.ensures c.rate.ensures.value c.plan.ensures)).rate
+    (book-asked c.args.tables.now c.args.here c.args.request old c.asked-turn.result c.requires.planned
+    (asked-is c.args.tables.now c.args.here c.args.request old c.asked-turn.result c.rate-rate.result c.plan.result.now c.requires.planned c.asked-turn.ensures c.rate-rate.ensures.value c.plan.ensures)).rate
 
 pub begin-requires-clause-fragments : goal.begin-requires-clause-fragments
 begin-requires-clause-fragments g c =
     let old = c.args.self.now in
-    (book-asked c.args.tables.now c.args.request old c.asked-turn.result c.requires.planned
-    (asked-is c.args.tables.now c.args.request old c.asked-turn.result c.rate.result c.plan.result.now c.requires.planned c.asked-turn.ensures c.rate.ensures.value c.plan.ensures)).safe.fragments
+    (book-asked c.args.tables.now c.args.here c.args.request old c.asked-turn.result c.requires.planned
+    (asked-is c.args.tables.now c.args.here c.args.request old c.asked-turn.result c.rate-rate.result c.plan.result.now c.requires.planned c.asked-turn.ensures c.rate-rate.ensures.value c.plan.ensures)).safe.fragments
 
 pub invariant_of-self : goal.invariant_of-self
 invariant_of-self g c =
     let old = c.args.self.now in
-    let left = book-asked c.args.tables.now c.args.request old c.asked-turn.result c.requires.planned
-    (asked-is c.args.tables.now c.args.request old c.asked-turn.result c.rate.result c.plan.result.now c.requires.planned c.asked-turn.ensures c.rate.ensures.value c.plan.ensures) in
+    let left = book-asked c.args.tables.now c.args.here c.args.request old c.asked-turn.result c.requires.planned
+    (asked-is c.args.tables.now c.args.here c.args.request old c.asked-turn.result c.rate-rate.result c.plan.result.now c.requires.planned c.asked-turn.ensures c.rate-rate.ensures.value c.plan.ensures) in
     let none = left.ended c.if-self-eq0.true in
     record {
       serves = c.begin.ensures.serves;
@@ -40,8 +47,8 @@ invariant_of-self g c =
 pub invariant_of-self-else-self-eq0 : goal.invariant_of-self-else-self-eq0
 invariant_of-self-else-self-eq0 g c =
     let old = c.args.self.now in
-    let left = book-asked c.args.tables.now c.args.request old c.asked-turn.result c.requires.planned
-    (asked-is c.args.tables.now c.args.request old c.asked-turn.result c.rate.result c.plan.result.now c.requires.planned c.asked-turn.ensures c.rate.ensures.value c.plan.ensures) in
+    let left = book-asked c.args.tables.now c.args.here c.args.request old c.asked-turn.result c.requires.planned
+    (asked-is c.args.tables.now c.args.here c.args.request old c.asked-turn.result c.rate-rate.result c.plan.result.now c.requires.planned c.asked-turn.ensures c.rate-rate.ensures.value c.plan.ensures) in
     let go = left.goes c.if-self-eq0.false in
     let size : frame_bytes c.asked-turn.result.book.opening.settings ≡ frame_bytes old.book.opening.settings = ap frame_bytes go.settings in
     record {
@@ -55,8 +62,8 @@ invariant_of-self-else-self-eq0 g c =
 pub returns-then-self-eq0-clause-moves : goal.returns-then-self-eq0-clause-moves
 returns-then-self-eq0-clause-moves g c =
     let old = c.args.self.now in
-    let left = book-asked c.args.tables.now c.args.request old c.asked-turn.result c.requires.planned
-    (asked-is c.args.tables.now c.args.request old c.asked-turn.result c.rate.result c.plan.result.now c.requires.planned c.asked-turn.ensures c.rate.ensures.value c.plan.ensures) in
+    let left = book-asked c.args.tables.now c.args.here c.args.request old c.asked-turn.result c.requires.planned
+    (asked-is c.args.tables.now c.args.here c.args.request old c.asked-turn.result c.rate-rate.result c.plan.result.now c.requires.planned c.asked-turn.ensures c.rate-rate.ensures.value c.plan.ensures) in
     let none = left.ended c.if-self-eq0.true in
     moves-ended g.B.Feeder.kind g.B.Feeder.kept c.args.tables.now _ 0 old _ c.begin.ensures.kinds
     (λ p. c.begin.ensures.planned) c.if-self-eq0.true none.0 none.1 c.begin.ensures.empty (left.done c.if-self-eq0.true)
@@ -64,21 +71,21 @@ returns-then-self-eq0-clause-moves g c =
 pub returns-else-self-eq0-clause-moves : goal.returns-else-self-eq0-clause-moves
 returns-else-self-eq0-clause-moves g c =
     let old = c.args.self.now in
-    let left = book-asked c.args.tables.now c.args.request old c.asked-turn.result c.requires.planned
-    (asked-is c.args.tables.now c.args.request old c.asked-turn.result c.rate.result c.plan.result.now c.requires.planned c.asked-turn.ensures c.rate.ensures.value c.plan.ensures) in
+    let left = book-asked c.args.tables.now c.args.here c.args.request old c.asked-turn.result c.requires.planned
+    (asked-is c.args.tables.now c.args.here c.args.request old c.asked-turn.result c.rate-rate.result c.plan.result.now c.requires.planned c.asked-turn.ensures c.rate-rate.ensures.value c.plan.ensures) in
     moves-state g.B.Feeder.kind g.B.Feeder.kept c.args.tables.now old _ refl refl refl (left.goes c.if-self-eq0.false)
 
 -- what is refused leaves the book
 pub returns-in_err-answer-clause-book : goal.returns-in_err-answer-clause-book
 returns-in_err-answer-clause-book g c =
     let old = c.args.self.now in
-    let asked = asked-is c.args.tables.now c.args.request c.args.self.now c.asked-turn.result c.rate.result c.plan.result.now c.requires.planned c.asked-turn.ensures c.rate.ensures.value c.plan.ensures in
-    sym (ask-refused (play_rate_at (seen c.args.tables.now old.path.device) old.book) c.args.request old.book c.in_err-answer.field-0.0 (ap (λ (t : Turn PlayBook). t.reply) (sym asked) ∙ c.in_err-answer.was))
+    let asked = asked-is c.args.tables.now c.args.here c.args.request c.args.self.now c.asked-turn.result c.rate-rate.result c.plan.result.now c.requires.planned c.asked-turn.ensures c.rate-rate.ensures.value c.plan.ensures in
+    sym (ask-refused (play_rate_at (seen c.args.tables.now old.path.device) old.book) old.path.device.mix.rate c.args.here c.args.request old.book c.in_err-answer.field-0.0 (ap (λ (t : Turn PlayBook). t.reply) (sym asked) ∙ c.in_err-answer.was))
 
 pub returns-then-self-eq0-clause-book : goal.returns-then-self-eq0-clause-book
 returns-then-self-eq0-clause-book g c =
-    ap (λ (t : Turn PlayBook). t.book) (asked-is c.args.tables.now c.args.request c.args.self.now c.asked-turn.result c.rate.result c.plan.result.now c.requires.planned c.asked-turn.ensures c.rate.ensures.value c.plan.ensures)
+    ap (λ (t : Turn PlayBook). t.book) (asked-is c.args.tables.now c.args.here c.args.request c.args.self.now c.asked-turn.result c.rate-rate.result c.plan.result.now c.requires.planned c.asked-turn.ensures c.rate-rate.ensures.value c.plan.ensures)
 
 pub returns-then-self-eq0-clause-reply : goal.returns-then-self-eq0-clause-reply
 returns-then-self-eq0-clause-reply g c =
-    sym c.in_ok-answer.was ∙ ap (λ (t : Turn PlayBook). t.reply) (asked-is c.args.tables.now c.args.request c.args.self.now c.asked-turn.result c.rate.result c.plan.result.now c.requires.planned c.asked-turn.ensures c.rate.ensures.value c.plan.ensures)
+    sym c.in_ok-answer.was ∙ ap (λ (t : Turn PlayBook). t.reply) (asked-is c.args.tables.now c.args.here c.args.request c.args.self.now c.asked-turn.result c.rate-rate.result c.plan.result.now c.requires.planned c.asked-turn.ensures c.rate-rate.ensures.value c.plan.ensures)

@@ -5,8 +5,7 @@ use Rattle.pcm_num.specs.Limit.{FitsBits}
 use Rattle.pcm_format.specs.Formats.{bits_of, bytes_of}
 use Rattle.pcm_format.specs.Layouts.{channels_of}
 use Rattle.pcm_ring.specs.Ring.{Ring}
-use Rattle.pcm_oss.specs.declared.event.Way.TheVariants.{Play}
-use Rattle.pcm_path.proofs.Paths.{planned-as, serves-as}
+use Rattle.pcm_path.proofs.Paths.{serves-as}
 use Rattle.pcm_plan.specs.Plans.{PlanSeen, rate_in_plan}
 use Rattle.pcm_plan.specs.Fits.{HaveTables}
 use Rattle.pcm_chain.specs.Chains.{plan_in}
@@ -14,7 +13,7 @@ use Rattle.pcm_chain.proofs.Standing.{stands-fitted}
 use Rattle.pcm_desk.specs.Device.{play_plan_between, seen}
 use Rattle.pcm_desk.specs.PlaySafe.{PlayIsSafe}
 use Rattle.pcm_desk.proofs.Ratios.{tables-between}
-use Rattle.pcm_play.proofs.Moving.{device-is, moves-ended, moves-nothing, safe-at}
+use Rattle.pcm_play.proofs.Moving.{device-is, moves-nothing, safe-at}
 use Rattle.pcm_play.proofs.Refilling.{pulls-run, book-mixed, book-refilled, turned-none, ring-refilled, turned-pulled, moves-pulled}
 use Rattle.pcm_play.proofs.channel.PlayChannelOf.refill.Goals as goal
 
@@ -54,96 +53,50 @@ invariant_of-self g c =
     let old = c.args.self.now in
     let planned = c.requires.ready.planned in
     let device = seen c.args.tables.now old.path.device in
-    let k = book-refilled device c.args.n old.book c.refilled-self.result c.rate.result c.plan.result.now c.requires.some (device-is c.args.tables.now old planned) old.serves.rate (safe-at c.args.tables.now old planned) (sym c.if-not-is_started.ensures)
-    c.refilled-self.ensures c.rate.ensures.value (c.plan.ensures ∙ c.pull-pulled.ensures.plan ∙ planned.plan_is) in
-    let none = k.ended c.if-self-eq0.true in
-    record {
-      serves = serves-as old.book.opening c.refilled-self.result.opening old.path c.restart.new.self [] c.restart.ensures.device (c.restart.ensures.plan ∙ c.pull-pulled.ensures.plan)
-          (c.restart.ensures.ring ∙ ap (λ (ring : Ring). record ring { bytes = [] }) c.pull-pulled.ensures.ring) k.settings k.fragments old.serves;
-      fill = ap length c.restart.ensures.empty.ring ∙ none.3;
-      within = none.2;
-      safe = subst (λ (p : PlanSeen). PlayIsSafe (rate_in_plan p) c.refilled-self.result)
-          (sym (c.restart.ensures.plan ∙ c.pull-pulled.ensures.plan ∙ planned.plan_is ∙ ap (play_plan_between device) (sym k.settings))) k.safe;
-    }
-
-pub invariant_of-self-else-self-eq0 : goal.invariant_of-self-else-self-eq0
-invariant_of-self-else-self-eq0 g c =
-    let old = c.args.self.now in
-    let planned = c.requires.ready.planned in
-    let device = seen c.args.tables.now old.path.device in
-    let k = book-refilled device c.args.n old.book c.refilled-self.result c.rate.result c.plan.result.now c.requires.some (device-is c.args.tables.now old planned) old.serves.rate (safe-at c.args.tables.now old planned) (sym c.if-not-is_started.ensures)
-    c.refilled-self.ensures c.rate.ensures.value (c.plan.ensures ∙ c.pull-pulled.ensures.plan ∙ planned.plan_is) in
-    let go = k.goes c.if-self-eq0.false in
+    let is = book-mixed device c.args.here.mixed c.args.n old.book c.refilled-self.result c.rate.result c.plan.result.now c.requires.some c.refilled-self.ensures c.rate.ensures.value (c.plan.ensures ∙ c.pull-pulled.ensures.plan ∙ planned.plan_is) in
+    let k = book-refilled device c.args.here.mixed c.args.n old.book c.refilled-self.result c.requires.some (device-is c.args.tables.now old planned) old.serves.rate (safe-at c.args.tables.now old planned) (sym c.if-not-is_started.ensures) is in
+    let go = k.goes in
     let p = pulls-run g.B.Feeder.kept c.args.tables.now old c.pull-pulled.new.self _ c.is_draining-ended.result c.args.n c.pull-pulled.result c.args.frames.now c.pull-pulled.new.out c.requires.ready.stands.bytes
     (sym c.if-not-is_started.ensures) c.requires.ready.planned c.is_draining-ended.ensures c.pull-pulled.ensures.pulls c.requires.ready.stands.stands in
     let r = ring-refilled device c.args.n old.book c.refilled-self.result c.pull-pulled.result k.safe go p.counted in
     let size = ap (λ (q : PlanSeen). c.pull-pulled.result.eaten * (channels_of q.source * bytes_of old.book.opening.settings.format)) planned.plan_is in
     record {
-      serves = serves-as old.book.opening c.refilled-self.result.opening old.path (record old.path { ring = c.pull-pulled.new.ring; chain = c.pull-pulled.new.self }) _ refl c.pull-pulled.ensures.plan c.pull-pulled.ensures.ring k.settings k.fragments old.serves;
+      serves = serves-as old.book.opening c.refilled-self.result.opening old.path (record old.path { ring = c.pull-pulled.new.ring; chain = c.pull-pulled.new.self }) _ refl c.pull-pulled.ensures.plan c.pull-pulled.ensures.ring go.settings go.fragments old.serves;
       fill = ap (λ (ring : Ring). length ring.bytes) c.pull-pulled.ensures.ring ∙ (let long = length-drop (c.pull-pulled.result.eaten * (channels_of (plan_in old.path.chain).source * bytes_of old.book.opening.settings.format)) old.path.ring.bytes in
           let fill = old.fill in let left = r.fill in omega arith);
       within = r.within;
       safe = subst (λ (p : PlanSeen). PlayIsSafe (rate_in_plan p) c.refilled-self.result)
-          (sym (c.pull-pulled.ensures.plan ∙ planned.plan_is ∙ ap (play_plan_between device) (sym k.settings))) k.safe;
+          (sym (c.pull-pulled.ensures.plan ∙ planned.plan_is ∙ ap (play_plan_between device) (sym go.settings))) k.safe;
     }
 
-pub returns-then-self-eq0-clause-book : goal.returns-then-self-eq0-clause-book
-returns-then-self-eq0-clause-book g c =
+pub returns-clause-book : goal.returns-clause-book
+returns-clause-book g c =
     let old = c.args.self.now in
     let planned = c.requires.ready.planned in
-    book-mixed (seen c.args.tables.now old.path.device) c.args.n old.book c.refilled-self.result c.rate.result c.plan.result.now c.requires.some c.refilled-self.ensures c.rate.ensures.value (c.plan.ensures ∙ c.pull-pulled.ensures.plan ∙ planned.plan_is)
+    book-mixed (seen c.args.tables.now old.path.device) c.args.here.mixed c.args.n old.book c.refilled-self.result c.rate.result c.plan.result.now c.requires.some c.refilled-self.ensures c.rate.ensures.value (c.plan.ensures ∙ c.pull-pulled.ensures.plan ∙ planned.plan_is)
 
-pub returns-else-self-eq0-clause-book : goal.returns-else-self-eq0-clause-book
-returns-else-self-eq0-clause-book g c =
+pub returns-clause-moves : goal.returns-clause-moves
+returns-clause-moves g c =
     let old = c.args.self.now in
     let planned = c.requires.ready.planned in
-    book-mixed (seen c.args.tables.now old.path.device) c.args.n old.book c.refilled-self.result c.rate.result c.plan.result.now c.requires.some c.refilled-self.ensures c.rate.ensures.value (c.plan.ensures ∙ c.pull-pulled.ensures.plan ∙ planned.plan_is)
-
-pub returns-then-self-eq0-clause-moves : goal.returns-then-self-eq0-clause-moves
-returns-then-self-eq0-clause-moves g c =
-    let old = c.args.self.now in
-    let planned = c.requires.ready.planned in
-    let k = book-refilled (seen c.args.tables.now old.path.device) c.args.n old.book c.refilled-self.result c.rate.result c.plan.result.now c.requires.some (device-is c.args.tables.now old planned) old.serves.rate (safe-at c.args.tables.now old planned) (sym c.if-not-is_started.ensures)
-    c.refilled-self.ensures c.rate.ensures.value (c.plan.ensures ∙ c.pull-pulled.ensures.plan ∙ planned.plan_is) in
-    let none = k.ended c.if-self-eq0.true in
-    moves-ended g.B.Feeder.kind g.B.Feeder.kept c.args.tables.now _ c.args.n old _ (c.restart.ensures.kinds)
-    (planned-as Play c.args.tables.now _ _ old.path c.restart.new.self c.restart.ensures.device (c.restart.ensures.plan ∙ c.pull-pulled.ensures.plan) k.settings) c.if-self-eq0.true none.0 none.1 c.restart.ensures.empty (k.done c.if-self-eq0.true)
-
-pub returns-else-self-eq0-clause-moves : goal.returns-else-self-eq0-clause-moves
-returns-else-self-eq0-clause-moves g c =
-    let old = c.args.self.now in
-    let planned = c.requires.ready.planned in
-    let k = book-refilled (seen c.args.tables.now old.path.device) c.args.n old.book c.refilled-self.result c.rate.result c.plan.result.now c.requires.some (device-is c.args.tables.now old planned) old.serves.rate (safe-at c.args.tables.now old planned) (sym c.if-not-is_started.ensures)
-    c.refilled-self.ensures c.rate.ensures.value (c.plan.ensures ∙ c.pull-pulled.ensures.plan ∙ planned.plan_is) in
-    moves-pulled g.B.Feeder.kind g.B.Feeder.kept c.args.tables.now old _ c.args.n c.pull-pulled.result _ c.args.frames.now c.pull-pulled.new.out planned refl c.pull-pulled.ensures.plan (k.goes c.if-self-eq0.false) c.pull-pulled.ensures.kinds
+    let device = seen c.args.tables.now old.path.device in
+    let is = book-mixed device c.args.here.mixed c.args.n old.book c.refilled-self.result c.rate.result c.plan.result.now c.requires.some c.refilled-self.ensures c.rate.ensures.value (c.plan.ensures ∙ c.pull-pulled.ensures.plan ∙ planned.plan_is) in
+    let k = book-refilled device c.args.here.mixed c.args.n old.book c.refilled-self.result c.requires.some (device-is c.args.tables.now old planned) old.serves.rate (safe-at c.args.tables.now old planned) (sym c.if-not-is_started.ensures) is in
+    moves-pulled g.B.Feeder.kind g.B.Feeder.kept c.args.tables.now old _ c.args.n c.pull-pulled.result _ c.args.frames.now c.pull-pulled.new.out planned refl c.pull-pulled.ensures.plan k.goes c.pull-pulled.ensures.kinds
     (ap (λ (ring : Ring). ring.bytes) c.pull-pulled.ensures.ring ∙ ap (λ (q : PlanSeen). drop (c.pull-pulled.result.eaten * (channels_of q.source * bytes_of old.book.opening.settings.format)) old.path.ring.bytes) planned.plan_is)
     (λ bytes s. pulls-run g.B.Feeder.kept c.args.tables.now old c.pull-pulled.new.self _ c.is_draining-ended.result c.args.n c.pull-pulled.result c.args.frames.now c.pull-pulled.new.out bytes
     (sym c.if-not-is_started.ensures) c.requires.ready.planned c.is_draining-ended.ensures c.pull-pulled.ensures.pulls s)
 
-pub returns-then-self-eq0-clause-sum : goal.returns-then-self-eq0-clause-sum
-returns-then-self-eq0-clause-sum g c = λ bytes s.
+pub returns-clause-sum : goal.returns-clause-sum
+returns-clause-sum g c = λ bytes s.
     let old = c.args.self.now in
     let p = pulls-run g.B.Feeder.kept c.args.tables.now old c.pull-pulled.new.self _ c.is_draining-ended.result c.args.n c.pull-pulled.result c.args.frames.now c.pull-pulled.new.out bytes
     (sym c.if-not-is_started.ensures) c.requires.ready.planned c.is_draining-ended.ensures c.pull-pulled.ensures.pulls s in
     turned-pulled g.B.Feeder.kept (seen c.args.tables.now old.path.device) c.gain_of-gain.result c.args.n old.book bytes c.pull-pulled.new.self c.pull-pulled.result c.args.frames.now c.pull-pulled.new.out c.args.sum.now c.mix_into.new.acc c.channels.result c.bits.result
     (device-is c.args.tables.now old c.requires.ready.planned) old.serves.rate c.gain_of-gain.ensures.value p c.channels.ensures c.bits.ensures c.mix_into.ensures.value
 
-pub returns-else-self-eq0-clause-sum : goal.returns-else-self-eq0-clause-sum
-returns-else-self-eq0-clause-sum g c = λ bytes s.
-    let old = c.args.self.now in
-    let p = pulls-run g.B.Feeder.kept c.args.tables.now old c.pull-pulled.new.self _ c.is_draining-ended.result c.args.n c.pull-pulled.result c.args.frames.now c.pull-pulled.new.out bytes
-    (sym c.if-not-is_started.ensures) c.requires.ready.planned c.is_draining-ended.ensures c.pull-pulled.ensures.pulls s in
-    turned-pulled g.B.Feeder.kept (seen c.args.tables.now old.path.device) c.gain_of-gain.result c.args.n old.book bytes c.pull-pulled.new.self c.pull-pulled.result c.args.frames.now c.pull-pulled.new.out c.args.sum.now c.mix_into.new.acc c.channels.result c.bits.result
-    (device-is c.args.tables.now old c.requires.ready.planned) old.serves.rate c.gain_of-gain.ensures.value p c.channels.ensures c.bits.ensures c.mix_into.ensures.value
-
-pub returns-then-self-eq0-clause-fits : goal.returns-then-self-eq0-clause-fits
-returns-then-self-eq0-clause-fits g c =
-    All-append (FitsBits (bits_of c.args.self.now.path.device.mix.format)) c.mix_into.new.acc (drop (c.pull-pulled.result.given * c.channels.result) c.args.sum.now)
-    (subst (λ b. All (FitsBits b) c.mix_into.new.acc) c.bits.ensures c.mix_into.ensures.fits)
-    (All-drop (FitsBits (bits_of c.args.self.now.path.device.mix.format)) (c.pull-pulled.result.given * c.channels.result) c.args.sum.now c.requires.block.fits)
-
-pub returns-else-self-eq0-clause-fits : goal.returns-else-self-eq0-clause-fits
-returns-else-self-eq0-clause-fits g c =
+pub returns-clause-fits : goal.returns-clause-fits
+returns-clause-fits g c =
     All-append (FitsBits (bits_of c.args.self.now.path.device.mix.format)) c.mix_into.new.acc (drop (c.pull-pulled.result.given * c.channels.result) c.args.sum.now)
     (subst (λ b. All (FitsBits b) c.mix_into.new.acc) c.bits.ensures c.mix_into.ensures.fits)
     (All-drop (FitsBits (bits_of c.args.self.now.path.device.mix.format)) (c.pull-pulled.result.given * c.channels.result) c.args.sum.now c.requires.block.fits)

@@ -1,17 +1,22 @@
-use Rattle.std.proofs.Common.{◌≡◌, ◌+◌, ◌++◌, ℕ, List, [], length, take, drop, All, sym, ap, ◌∙◌, subst, arith}
+use Rattle.std.proofs.Common.{refl, ◌≡◌, ◌+◌, ◌++◌, ℕ, List, length, take, drop, All, sym, ap, ◌∙◌, subst, arith}
 use Rattle.std.proofs.lemmas.List.{take_at}
 use Rattle.pcm_fixed.specs.Fixed.{fixed_len}
+use Rattle.pcm_feeder.specs.declared.kind.Kind.{Kind}
+use Rattle.pcm_feeder.specs.Filters.{Filters}
+use Rattle.pcm_feeder.specs.Kept.{Kept}
 use Rattle.pcm_desk.specs.declared.device.Device.{Device}
-use Rattle.pcm_desk.specs.Device.{seen}
+use Rattle.pcm_desk.specs.declared.here.Here.{Here}
+use Rattle.pcm_desk.specs.Device.{passed_for, seen, unfiltered}
 use Rattle.pcm_desk.specs.Desk.{mixed_by}
+use Rattle.pcm_desk.proofs.Ratios.{mixed-behind}
 use Rattle.pcm_play.specs.declared.channel.PlayChannelOf.{PlayChannelOf}
-use Rattle.pcm_play.specs.Channels.{PlayMoves}
 use Rattle.pcm_record.specs.declared.channel.RecordChannelOf.{RecordChannelOf}
 use Rattle.pcm_vchan.specs.Buses.{HasMadeSome, TurnsBus}
 use Rattle.pcm_vchan.specs.Handovers.{IsPlannedBy}
 use Rattle.pcm_vchan.specs.Captures.{Captures}
-use Rattle.pcm_vchan.specs.Slots.{Each, IsPlayDue, IsRecordDue, Mixes, PlayAreOf}
-use Rattle.pcm_vchan.specs.Parents.{mixed_in, play_channels, record_channels}
+use Rattle.pcm_vchan.specs.Slots.{AreMixed, Each, IsPlayDue, IsRecordDue, PlayAreOf, Settles}
+use Rattle.pcm_vchan.specs.Parents.{here_of, mixed_in, play_channels, record_channels}
+use Rattle.pcm_vchan.proofs.Channels.{ArePassed, all-passed, may-settle}
 use Rattle.pcm_vchan.proofs.parent.ParentOf.interrupt.Goals as goal
 
 -- what stands in a list whose front was written over by as many elements
@@ -27,81 +32,122 @@ turn-mixed-requires-clause-due g c =
 pub capture_all-requires-clause-due : goal.capture_all-requires-clause-due
 capture_all-requires-clause-due g c = subst (All (IsRecordDue g.B.Feeder.kind g.B.Feeder.kept c.args.tables.now c.args.self.now.device c.args.n)) (sym c.deref_mut-2.ensures.value) c.requires.due.recording
 
-pub overflow_add-self-2 : goal.overflow_add-self-2
-overflow_add-self-2 g c =
+pub turn-mixed-requires-clause-count : goal.turn-mixed-requires-clause-count
+turn-mixed-requires-clause-count g c =
+    let old = c.args.self.now in
+    let mixed : c.here-before.result.mixed ≡ old.mixed = ap (λ (here : Here). here.mixed) c.here-before.ensures in
+    let count : mixed_by (seen c.args.tables.now old.bus.device) old.handed c.args.n ≡ mixed_in c.args.tables.now c.args.n old = ap (λ (device : Device). mixed_by (seen c.args.tables.now device) old.handed c.args.n) old.bus_of in
+    omega (arith, mixed, count, c.requires.mixed)
+
+pub pass-requires-clause-mixed : goal.pass-requires-clause-mixed
+pass-requires-clause-mixed g c =
     let old = c.args.self.now in
     let count = c.turn-mixed.ensures.count ∙ ap (λ (device : Device). mixed_by (seen c.args.tables.now device) old.handed c.args.n) old.bus_of in
-    record { fits = omega (arith, count, c.requires.mixed) }
+    omega (arith, count, c.requires.mixed)
 
-pub returns-clause-own : goal.returns-clause-own
-returns-clause-own g c =
+-- what the bus leaves of the channels, whatever the names of its device and counts
+are-mixed : {B : Type 0} (kind : B → Kind) (kept : B → Kept) (filters : Filters) (mixer device : Device) (here : Here) (mixed result frames : ℕ) (lent old new : List (PlayChannelOf B)) → mixer ≡ device → here.mixed ≡ mixed → result ≡ frames → lent ≡ old
+    → AreMixed kind kept filters mixer here.mixed result lent new → AreMixed kind kept filters device mixed frames old new
+are-mixed kind kept filters mixer device here mixed result frames lent old new of level count is m =
+    subst (λ (d : Device). AreMixed kind kept filters d mixed frames old new) of
+    (subst (λ (at : ℕ). AreMixed kind kept filters mixer at frames old new) level
+    (subst (λ (q : ℕ). AreMixed kind kept filters mixer here.mixed q old new) count
+    (subst (λ (channels : List (PlayChannelOf _)). AreMixed kind kept filters mixer here.mixed result channels new) is m)))
+
+pub pass-requires-clause-due : goal.pass-requires-clause-due
+pass-requires-clause-due g c =
     let old = c.args.self.now in
-    let same = rewritten c.turn-mixed.new.channels (play_channels old) (fixed_len old.channels) (c.turn-mixed.auto.channels ∙ c.deref_mut.ensures.len) in
-    rw same (subst (λ (device : Device). PlayAreOf device c.turn-mixed.new.channels) old.bus_of c.turn-mixed.ensures.mixed.own)
+    let kind = g.B.Feeder.kind in
+    let kept = g.B.Feeder.kept in
+    let between = c.turn-mixed.new.channels in
+    let count = c.turn-mixed.ensures.count ∙ ap (λ (device : Device). mixed_by (seen c.args.tables.now device) old.handed c.args.n) old.bus_of in
+    let m = are-mixed kind kept c.args.tables.now old.bus.device old.device c.here-before.result old.mixed c.turn-mixed.result (mixed_in c.args.tables.now c.args.n old) c.deref_mut.result.now (play_channels old) between
+    old.bus_of (ap (λ (here : Here). here.mixed) c.here-before.ensures) count c.deref_mut.ensures.value c.turn-mixed.ensures.mixed in
+    rw (rewritten between (play_channels old) (fixed_len old.channels) (c.turn-mixed.auto.channels ∙ c.deref_mut.ensures.len))
+    (may-settle kind kept c.args.tables.now old.device (mixed_in c.args.tables.now c.args.n old) old.mixed (play_channels old) between (c.turn-mixed.auto.channels ∙ ap length c.deref_mut.ensures.value) c.requires.due.playing m)
 
 -- no list of channels has become longer
 pub returns-clause-slots : goal.returns-clause-slots
 returns-clause-slots g c =
     let old = c.args.self.now in
     let same = rewritten c.turn-mixed.new.channels (play_channels old) (fixed_len old.channels) (c.turn-mixed.auto.channels ∙ c.deref_mut.ensures.len) in
-    rw same (c.turn-mixed.auto.channels ∙ ap length c.deref_mut.ensures.value)
+    c.pass.ensures.slots ∙ ap length same ∙ c.turn-mixed.auto.channels ∙ ap length c.deref_mut.ensures.value
+
+passed : (g : _) (c : goal.After-pass g) → ArePassed g.B.Feeder.kind g.B.Feeder.kept c.args.tables.now c.args.self.now.device c.args.self.now.handed c.args.n (mixed_in c.args.tables.now c.args.n c.args.self.now)
+    (play_channels c.args.self.now) (play_channels c.pass.new.self)
+passed g c =
+    let old = c.args.self.now in
+    let kind = g.B.Feeder.kind in
+    let kept = g.B.Feeder.kept in
+    let filters = c.args.tables.now in
+    let between = c.turn-mixed.new.channels in
+    let new = play_channels c.pass.new.self in
+    let count = c.turn-mixed.ensures.count ∙ ap (λ (device : Device). mixed_by (seen filters device) old.handed c.args.n) old.bus_of in
+    let m = are-mixed kind kept filters old.bus.device old.device c.here-before.result old.mixed c.turn-mixed.result (mixed_in filters c.args.n old) c.deref_mut.result.now (play_channels old) between
+    old.bus_of (ap (λ (here : Here). here.mixed) c.here-before.ensures) count c.deref_mut.ensures.value c.turn-mixed.ensures.mixed in
+    let same = rewritten between (play_channels old) (fixed_len old.channels) (c.turn-mixed.auto.channels ∙ c.deref_mut.ensures.len) in
+    let told : passed_for (unfiltered c.pass.new.self.device) c.pass.new.self.handed ≡ passed_for (unfiltered old.device) (old.handed + c.args.n) =
+    ap (λ (device : Device). passed_for (unfiltered device) c.pass.new.self.handed) c.pass.ensures.device ∙ ap (passed_for (unfiltered old.device)) c.pass.ensures.handed in
+    all-passed kind kept filters old.device old.handed c.args.n (mixed_in filters c.args.n old) old.mixed (here_of c.pass.new.self) (play_channels old) between new refl c.requires.due.bus.level told
+    (c.turn-mixed.auto.channels ∙ ap length c.deref_mut.ensures.value) (c.pass.ensures.slots ∙ ap length same) c.requires.due.playing m
+    (subst (λ (channels : List (PlayChannelOf _)). Each (Settles kind kept (here_of c.pass.new.self)) channels new) same c.pass.ensures.settled)
+
+pub returns-clause-own : goal.returns-clause-own
+returns-clause-own g c = subst (λ (device : Device). PlayAreOf device (play_channels c.pass.new.self)) (sym c.pass.ensures.device) (passed g c).own
 
 pub returns-clause-channels : goal.returns-clause-channels
-returns-clause-channels g c =
-    let old = c.args.self.now in
-    let count = c.turn-mixed.ensures.count ∙ ap (λ (device : Device). mixed_by (seen c.args.tables.now device) old.handed c.args.n) old.bus_of in
-    let same = rewritten c.turn-mixed.new.channels (play_channels old) (fixed_len old.channels) (c.turn-mixed.auto.channels ∙ c.deref_mut.ensures.len) in
-    let Moved : ℕ → PlayChannelOf _ → PlayChannelOf _ → Type 0 = PlayMoves g.B.Feeder.kind g.B.Feeder.kept c.args.tables.now [] in
-    rw same (subst (λ (before : List (PlayChannelOf _)). Each (Moved (mixed_in c.args.tables.now c.args.n old)) before c.turn-mixed.new.channels) c.deref_mut.ensures.value
-    (subst (λ (frames : ℕ). Each (Moved frames) c.deref_mut.result.now c.turn-mixed.new.channels) count c.turn-mixed.ensures.mixed.moves))
+returns-clause-channels g c = (passed g c).moves
 
 pub returns-clause-books : goal.returns-clause-books
-returns-clause-books g c =
-    let old = c.args.self.now in
-    let count = c.turn-mixed.ensures.count ∙ ap (λ (device : Device). mixed_by (seen c.args.tables.now device) old.handed c.args.n) old.bus_of in
-    let same = rewritten c.turn-mixed.new.channels (play_channels old) (fixed_len old.channels) (c.turn-mixed.auto.channels ∙ c.deref_mut.ensures.len) in
-    let Mixed : Device → ℕ → PlayChannelOf _ → PlayChannelOf _ → Type 0 = λ device. Mixes (seen c.args.tables.now device) in
-    rw same (subst (λ (before : List (PlayChannelOf _)). Each (Mixed old.device (mixed_in c.args.tables.now c.args.n old)) before c.turn-mixed.new.channels) c.deref_mut.ensures.value
-    (subst (λ (frames : ℕ). Each (Mixed old.device frames) c.deref_mut.result.now c.turn-mixed.new.channels) count
-    (subst (λ (device : Device). Each (Mixed device c.turn-mixed.result) c.deref_mut.result.now c.turn-mixed.new.channels) old.bus_of c.turn-mixed.ensures.mixed.books)))
+returns-clause-books g c = (passed g c).books
 
 pub returns-clause-recorders_own : goal.returns-clause-recorders_own
 returns-clause-recorders_own g c =
     let old = c.args.self.now in
     let same = rewritten c.capture_all.new.channels (record_channels old) (fixed_len old.recorders) (c.capture_all.auto.channels ∙ c.deref_mut-2.ensures.len) in
-    rw same c.capture_all.ensures.own
+    rw (c.pass.ensures.device, c.pass.ensures.recorders, same) c.capture_all.ensures.own
 
 pub returns-clause-recorders_slots : goal.returns-clause-recorders_slots
 returns-clause-recorders_slots g c =
     let old = c.args.self.now in
     let same = rewritten c.capture_all.new.channels (record_channels old) (fixed_len old.recorders) (c.capture_all.auto.channels ∙ c.deref_mut-2.ensures.len) in
-    rw same (c.capture_all.auto.channels ∙ ap length c.deref_mut-2.ensures.value)
+    rw (c.pass.ensures.recorders, same) (c.capture_all.auto.channels ∙ ap length c.deref_mut-2.ensures.value)
 
 pub returns-clause-recorders : goal.returns-clause-recorders
 returns-clause-recorders g c =
     let old = c.args.self.now in
     let same = rewritten c.capture_all.new.channels (record_channels old) (fixed_len old.recorders) (c.capture_all.auto.channels ∙ c.deref_mut-2.ensures.len) in
-    rw same (subst (λ (before : List (RecordChannelOf _)). Each (Captures g.B.Feeder.kind g.B.Feeder.kept (seen c.args.tables.now old.device) c.args.n c.args.captured.now) before c.capture_all.new.channels) c.deref_mut-2.ensures.value c.capture_all.ensures.moves)
+    rw (c.pass.ensures.recorders, same) (subst (λ (before : List (RecordChannelOf _)). Each (Captures g.B.Feeder.kind g.B.Feeder.kept (seen c.args.tables.now old.device) c.args.n c.args.captured.now) before c.capture_all.new.channels) c.deref_mut-2.ensures.value c.capture_all.ensures.moves)
 
 pub returns-clause-mixed : goal.returns-clause-mixed
 returns-clause-mixed g c =
     let old = c.args.self.now in
-    ap (λ (frames : ℕ). old.mixed + frames) (c.turn-mixed.ensures.count ∙ ap (λ (device : Device). mixed_by (seen c.args.tables.now device) old.handed c.args.n) old.bus_of)
+    c.pass.ensures.mixed ∙ ap (λ (frames : ℕ). old.mixed + frames) (c.turn-mixed.ensures.count ∙ ap (λ (device : Device). mixed_by (seen c.args.tables.now device) old.handed c.args.n) old.bus_of)
 
 pub returns-clause-turns : goal.returns-clause-turns
 returns-clause-turns g c =
     let old = c.args.self.now in
     let kept = g.B.Feeder.kept in
     let new = c.turn-mixed.new in
-    subst (λ (channels : List (PlayChannelOf _)). TurnsBus kept (seen c.args.tables.now old.device) old.handed c.args.n channels old.bus.chain new.self.chain old.ring.bytes new.ring.bytes) c.deref_mut.ensures.value
-    (subst (λ (device : Device). TurnsBus kept (seen c.args.tables.now device) old.handed c.args.n c.deref_mut.result.now old.bus.chain new.self.chain old.ring.bytes new.ring.bytes) old.bus_of c.turn-mixed.ensures.turns)
+    rw (c.pass.ensures.bus, c.pass.ensures.ring)
+    (subst (λ (channels : List (PlayChannelOf _)). TurnsBus kept (seen c.args.tables.now old.device) old.handed c.args.n channels old.bus.chain new.self.chain old.ring.bytes new.ring.bytes) c.deref_mut.ensures.value
+    (subst (λ (device : Device). TurnsBus kept (seen c.args.tables.now device) old.handed c.args.n c.deref_mut.result.now old.bus.chain new.self.chain old.ring.bytes new.ring.bytes) old.bus_of c.turn-mixed.ensures.turns))
 
 pub returns-clause-bus : goal.returns-clause-bus
 returns-clause-bus g c =
     let old = c.args.self.now in
     let kept = g.B.Feeder.kept in
     let chain = c.turn-mixed.new.self.chain in
+    let device = seen c.args.tables.now old.device in
+    let planned = subst (λ (device : Device). IsPlannedBy (seen c.args.tables.now device) chain) old.bus_of c.turn-mixed.ensures.planned in
+    let made = subst (λ (device : Device). HasMadeSome kept (seen c.args.tables.now device) chain (old.handed + c.args.n)) old.bus_of c.turn-mixed.ensures.made in
+    let count = c.turn-mixed.ensures.count ∙ ap (λ (device : Device). mixed_by (seen c.args.tables.now device) old.handed c.args.n) old.bus_of in
+    let behind = mixed-behind device old.handed c.args.n planned.limits in
+    let level = c.requires.due.bus.level in
+    let mixed = c.pass.ensures.mixed in
+    let handed = c.pass.ensures.handed in
     record {
-      planned = subst (λ (device : Device). IsPlannedBy (seen c.args.tables.now device) chain) old.bus_of c.turn-mixed.ensures.planned;
-      made = subst (λ (device : Device). HasMadeSome kept (seen c.args.tables.now device) chain (old.handed + c.args.n)) old.bus_of c.turn-mixed.ensures.made;
+      planned = rw c.pass.ensures.bus planned;
+      made = rw (c.pass.ensures.bus, handed) made;
+      level = rw handed (omega (arith, mixed, count, behind, level));
     }

@@ -1,4 +1,5 @@
-use Rattle.std.proofs.Common.{List, [], ◌∷◌, ◌++◌, sym, ap, ◌∙◌, subst}
+use Rattle.std.proofs.Common.{List, [], ◌∷◌, ◌++◌, w64, sym, ap, ◌∙◌, subst}
+use Rattle.std.proofs.lemmas.Int.{to_z-of_z}
 use Rattle.std.specs.Prelude.{All}
 use Rattle.std.specs.Option.{option_to_list}
 use Rattle.std.proofs.lemmas.List.Elements.{All-cons, All-head, All-nil, All-tail, All-take, All-drop}
@@ -36,7 +37,9 @@ free_recorders-requires-clause-kinds g c =
 pub invariant_of-result : goal.invariant_of-result
 invariant_of-result g c =
     record {
+      rates = c.requires.limits.rates;
       bus_of = c.in_ok-bus.ensures.device;
+      passed_is = to_z-of_z w64 c.passed.result (record { sfits = c.passed.type_inv }) ∙ c.passed.ensures;
       within = c.requires.limits.ring;
       slots = c.new-2.ensures.len ∙ c.in_ok-channels.channels.ok.0 ∙ c.in_ok-channels.ensures.slots;
       slots_within = c.requires.limits.slots;

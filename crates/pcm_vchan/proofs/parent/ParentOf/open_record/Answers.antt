@@ -16,7 +16,9 @@ invariant_of-self g c =
     let within = c.in-Some.ensures.within in
     let there : c.in-Some.slot < length (record_channels old) = omega (arith, items-count old.recorders) in
     record {
+      rates = old.rates;
       bus_of = old.bus_of;
+      passed_is = old.passed_is;
       within = old.within;
       slots = old.slots;
       slots_within = old.slots_within;

@@ -1,0 +1,237 @@
+-- Where the mix and the device can be, however many frames were handed over.
+use Rattle.std.proofs.Common.{◌≡◌, ℕ, ℤ, pos, negsuc, zero, suc, ◌+◌, ◌-◌, ◌*◌, ◌/◌, ◌^◌, ◌<◌, ◌≤◌, ◌⊎◌, inl, inr, refl, sym, ap, ◌∙◌, subst, arith, w64, FitsSigned}
+use mir.Syntax.{w128}
+use Rattle.std.specs.Prelude.{◌==◌, ◌≤ℤ◌, ◌+ℤ◌, ◌-ℤ◌, ◌*ℤ◌}
+use Rattle.std.proofs.lemmas.Int.{ints}
+use Rattle.std.specs.Int.{int_div_euclid}
+use Rattle.std.proofs.Math.Nat.{div-lt_iff_lt-mul, div-mul-le_self, le-div_iff_mul-le, mul-le-mul_left, mul-le-mul_right, mul-div_cancel}
+use Rattle.std.proofs.lemmas.Bool.{cases_eq, cases_lt, cond_both, eqb-true}
+use Rattle.pcm_num.specs.Floor.{floor_div}
+use Rattle.pcm_rate.specs.declared.rate.Rate.{Rate}
+use Rattle.pcm_rate.specs.Rates.{need}
+use Rattle.pcm_rate.proofs.Counts.{div_grows, need-unchanged}
+use Rattle.pcm_feeder.specs.Limits.{IsRate}
+use Rattle.pcm_plan.proofs.Fits.{record-changes, record-level}
+use Rattle.pcm_desk.specs.Device.{DeviceSeen, IsDevice, IsInLimits, device_settings, filters_of, here_at, mix_frames, mix_settings, mixed_for, parent_rate, passed_for, quality_of, ring_frames}
+use Rattle.pcm_desk.specs.Here.{IsHere, held_most}
+
+-- ---- quotients
+
+-- the sum of two quotients is at most the quotient of the sum
+div_joined : (a b d : ℕ) → 0 < d → a / d + b / d ≤ (a + b) / d
+div_joined a b d above = (le-div_iff_mul-le {k = d} {x = a / d + b / d} {y = a + b} above).1 (omega (arith, div-mul-le_self a d, div-mul-le_self b d))
+
+-- and at least one below it
+div_parted : (a b d : ℕ) → 0 < d → (a + b) / d ≤ a / d + b / d + 1
+div_parted a b d above =
+    let x = a / d in
+    let y = b / d in
+    let first = (div-lt_iff_lt-mul {k = d} {x = a} {y = x + 1} above).0 (omega arith) in
+    let second = (div-lt_iff_lt-mul {k = d} {x = b} {y = y + 1} above).0 (omega arith) in
+    let both : (a + b) / d < x + y + 2 = (div-lt_iff_lt-mul {k = d} {x = a + b} {y = x + y + 2} above).1 (omega (arith, first, second)) in
+    omega (arith, both)
+
+-- ---- how many frames have left the ring
+
+-- how many frames of the mix last as long as so many of the device
+abbrev lasting : DeviceSeen → ℕ → ℕ
+lasting device frames = frames * (mix_settings device).rate / (device_settings device).rate
+
+-- once as many frames were handed over as the ring holds, those of the mix count that last as long as the rest
+passed-past : (device : DeviceSeen) (handed : ℕ) → ring_frames device ≤ handed → passed_for device handed ≡ pos (lasting device (handed - ring_frames device))
+passed-past device handed past =
+    let gap : (pos handed -ℤ pos (ring_frames device)) ≡ pos (handed - ring_frames device) = omega (arith, ints) in
+    ap (λ z. floor_div (z *ℤ pos (mix_settings device).rate) (device_settings device).rate) gap
+
+product-below : (k m : ℕ) → 0 < k * m → ((pos 0 -ℤ pos k) *ℤ pos m) ≡ negsuc (k * m - 1)
+product-below zero m some = absurd (omega arith)
+product-below (suc j) m some =
+    let gap : (pos 0 -ℤ pos (suc j)) ≡ negsuc j = omega (arith, ints) in
+    ap (λ z. z *ℤ pos m) gap ∙ omega (arith, ints, some)
+
+-- before, those that are still to leave, rounded up, are below 0
+passed-before : (device : DeviceSeen) (handed : ℕ) → handed < ring_frames device → 0 < (mix_settings device).rate
+    → passed_for device handed ≡ negsuc (((ring_frames device - handed) * (mix_settings device).rate - 1) / (device_settings device).rate)
+passed-before device handed before above =
+    let m = (mix_settings device).rate in
+    let k = ring_frames device - handed in
+    let least = mul-le-mul_right {m = 1} {n = k} m (omega arith) in
+    let gap : (pos handed -ℤ pos (ring_frames device)) ≡ (pos 0 -ℤ pos k) = omega (arith, ints) in
+    ap (λ z. floor_div (z *ℤ pos m) (device_settings device).rate) gap ∙ ap (λ z. floor_div z (device_settings device).rate) (product-below k m (omega (arith, least)))
+
+-- ---- how they are divided
+
+-- a quotient that leaves a rest from 0 on is rounded down
+pub euclid-floor : (z : ℤ) (d : ℕ) → int_div_euclid z (pos d) ≡ floor_div z d
+euclid-floor (pos n) d = refl
+euclid-floor (negsuc n) d = refl
+
+fits-below : (z : ℤ) (k : ℕ) → k < 2 ^ 100 → (z ≡ pos k) ⊎ (z ≡ (pos 0 -ℤ pos k)) → FitsSigned w128 z
+fits-below (pos n) k few is = record { sfits = elim is [ inl up ↦ omega (arith, ints, up, few) | inr down ↦ omega (arith, ints, down, few) ] }
+fits-below (negsuc n) k few is = record { sfits = elim is [ inl up ↦ omega (arith, ints, up, few) | inr down ↦ omega (arith, ints, down, few) ] }
+
+-- what is handed over past the ring fits, or what is short of it
+pub fits-gap : (a b : ℕ) → a < 2 ^ 56 → b < 2 ^ 32 → FitsSigned w128 (pos a -ℤ pos b)
+fits-gap a b few small =
+    elim (cases_lt a b) [
+      | inl below ↦ fits-below (pos a -ℤ pos b) (b - a) (omega (arith, small)) (inr (omega (arith, ints, below)))
+      | inr past ↦ fits-below (pos a -ℤ pos b) (a - b) (omega (arith, few)) (inl (omega (arith, ints, past)))
+    ]
+
+-- and so does its product with a rate
+pub fits-product : (a b m : ℕ) → a < 2 ^ 56 → b < 2 ^ 32 → m ≤ 192000 → FitsSigned w128 ((pos a -ℤ pos b) *ℤ pos m)
+fits-product a b m few small rate =
+    elim (cases_lt a b) [
+      | inl below ↦ (
+          let k = b - a in
+          let most : k * m ≤ k * 192000 = mul-le-mul_left k rate in
+          let gap : (pos a -ℤ pos b) ≡ (pos 0 -ℤ pos k) = omega (arith, ints, below) in
+          fits-below ((pos a -ℤ pos b) *ℤ pos m) (k * m) (omega (arith, most, small)) (inr (ap (λ z. z *ℤ pos m) gap ∙ down k m)))
+      | inr past ↦ (
+          let k = a - b in
+          let most : k * m ≤ k * 192000 = mul-le-mul_left k rate in
+          let gap : (pos a -ℤ pos b) ≡ pos k = omega (arith, ints, past) in
+          fits-below ((pos a -ℤ pos b) *ℤ pos m) (k * m) (omega (arith, most, few)) (inl (ap (λ z. z *ℤ pos m) gap)))
+    ]
+  where
+    down : (k m : ℕ) → ((pos 0 -ℤ pos k) *ℤ pos m) ≡ (pos 0 -ℤ pos (k * m))
+    down zero m = omega (arith, ints)
+    down (suc j) m =
+        let gap : (pos 0 -ℤ pos (suc j)) ≡ negsuc j = omega (arith, ints) in
+        ap (λ z. z *ℤ pos m) gap ∙ omega (arith, ints)
+
+-- the quotient has room in 64 bits
+pub fits-passed : (device : DeviceSeen) (handed : ℕ) → handed < 2 ^ 56 → ring_frames device < 2 ^ 32 → IsRate (mix_settings device).rate → IsRate (device_settings device).rate → FitsSigned w64 (passed_for device handed)
+fits-passed device handed few small mix rate =
+    elim (cases_lt handed (ring_frames device)) [
+      | inl before ↦ (
+          let above = mix.least in
+          subst (FitsSigned w64) (sym (passed-before device handed before (omega (arith, above))))
+          (record { sfits = (let k = ring_frames device - handed in let most = at-most k in let fewer = div_grows (k * m - 1) (k * m) d (omega (arith, slow)) (omega arith) in omega (arith, ints, most, fewer, small)) }))
+      | inr past ↦ subst (FitsSigned w64) (sym (passed-past device handed past))
+          (record { sfits = (let most = at-most (handed - ring_frames device) in omega (arith, ints, most, few)) })
+    ]
+  where
+    m : ℕ
+    m = (mix_settings device).rate
+
+    d : ℕ
+    d = (device_settings device).rate
+
+    slow : 4000 ≤ d
+    slow = rate.least
+
+    -- frames last for at most 48 times as many
+    at-most : (k : ℕ) → k * m / d ≤ k * 48
+    at-most k =
+        let fast : k * m ≤ k * 192000 = mul-le-mul_left k mix.most in
+        let long : k * 48 * 4000 ≤ k * 48 * d = mul-le-mul_left (k * 48) slow in
+        let below : k * m / d < k * 48 + 1 = (div-lt_iff_lt-mul {k = d} {x = k * m} {y = k * 48 + 1} (omega (arith, slow))).1 (omega (arith, fast, long, slow)) in
+        omega (arith, below)
+
+-- ---- how many are mixed
+
+-- the mixed frames that a frame of the device needs, and all before it: those that last as long, its own, and what a filter reads ahead
+record NeedsAhead (device : DeviceSeen) (count : ℕ) : Type 0 where
+  ahead : ℕ
+  most : ahead ≤ 32
+  is : mixed_for device (suc count) ≡ lasting device count + 1 + ahead
+
+needs-ahead : (device : DeviceSeen) (count : ℕ) → IsDevice device → NeedsAhead device count
+needs-ahead device count d =
+    elim (cases_eq (mix_settings device).rate (device_settings device).rate) [
+      | inl same ↦ (
+          let is = record-level (filters_of device) (quality_of device) (device_settings device) (mix_settings device) same in
+          let above = d.rate.least in
+          let lasts : lasting device count ≡ count = ap (λ (r : ℕ). count * r / (device_settings device).rate) same ∙ mul-div_cancel count (omega (arith, above)) in
+          record { ahead = 0; most = omega arith; is = ap (λ (r : Rate). need r (suc count)) is ∙ need-unchanged (suc count) ∙ omega (arith, lasts) })
+      | inr differ ↦ (
+          let is = record-changes (filters_of device) (quality_of device) (device_settings device) (mix_settings device) d.filters differ in
+          record {
+            ahead = (parent_rate device).lookahead;
+            most = is.lookahead;
+            is = ap (λ (r : ℕ). count * r / (parent_rate device).dst + 1 + (parent_rate device).lookahead) is.src_is
+                ∙ ap (λ (r : ℕ). count * (mix_settings device).rate / r + 1 + (parent_rate device).lookahead) is.dst_is;
+          })
+    ]
+
+-- the frames that a ring holds last for no more than an interrupt mixes at most
+ring-lasts : (device : DeviceSeen) → IsDevice device → lasting device (ring_frames device) ≤ mix_frames device
+ring-lasts device d =
+    cond_both ((device_settings device).rate == (mix_settings device).rate) (ring_frames device) (lasting device (ring_frames device) + 33) (λ most. lasting device (ring_frames device) ≤ most)
+    (λ same.
+    let above = d.rate.least in
+    let level : (mix_settings device).rate ≡ (device_settings device).rate = sym (eqb-true (device_settings device).rate (mix_settings device).rate same) in
+    let lasts : lasting device (ring_frames device) ≡ ring_frames device = ap (λ (r : ℕ). ring_frames device * r / (device_settings device).rate) level ∙ mul-div_cancel (ring_frames device) (omega (arith, above)) in
+    omega (arith, lasts))
+    (λ other. omega arith)
+
+-- ---- both
+
+-- what was handed over was mixed
+past-is : (device : DeviceSeen) (handed : ℕ) → IsDevice device → 0 < ring_frames device → passed_for device handed ≤ℤ pos (mixed_for device handed)
+past-is device handed d some =
+    elim (cases_lt handed (ring_frames device)) [
+      | inl before ↦ (
+          let above = d.mix_rate.least in
+          let is = passed-before device handed before (omega (arith, above)) in
+          omega (arith, ints, is))
+      | inr past ↦ (
+          let rate = d.rate.least in
+          let c = handed - 1 in
+          let last : suc c ≡ handed = omega arith in
+          let needs = needs-ahead device c d in
+          let mixed : mixed_for device handed ≡ lasting device c + 1 + needs.ahead = ap (mixed_for device) (sym last) ∙ needs.is in
+          let fewer = div_grows ((handed - ring_frames device) * (mix_settings device).rate) (c * (mix_settings device).rate) (device_settings device).rate (omega (arith, rate))
+          (mul-le-mul_right {m = handed - ring_frames device} {n = c} (mix_settings device).rate (omega arith)) in
+          let is = passed-past device handed past in
+          omega (arith, ints, is, mixed, fewer))
+    ]
+
+-- and no more is held than a ring and a filter hold
+held-is : (device : DeviceSeen) (handed : ℕ) → IsInLimits device → pos (mixed_for device handed) ≤ℤ (passed_for device handed +ℤ pos held_most)
+held-is device handed l =
+    let d = l.device_is in
+    let mix = (mix_settings device).rate in
+    let rate = (device_settings device).rate in
+    let ring = ring_frames device in
+    let slow = d.rate.least in
+    let above = d.mix_rate.least in
+    let most = l.mix_most in
+    let lasts = ring-lasts device d in
+    elim (cases_lt handed ring) [
+      | inl before ↦ (
+          let is = passed-before device handed before (omega (arith, above)) in
+          let k = ring - handed in
+          let left = div_grows (k * mix - 1) (k * mix) rate (omega (arith, slow)) (omega arith) in
+          let joined = div_joined (handed * mix) (k * mix) rate (omega (arith, slow)) in
+          let whole : lasting device ring ≡ (handed * mix + k * mix) / rate = ap (λ z. z / rate) (let all : ring ≡ handed + k = omega arith in ap (λ n. n * mix) all ∙ omega arith) in
+          let mixed = mixed-most device handed d in
+          omega (arith, ints, is, left, joined, whole, mixed, most, lasts))
+      | inr past ↦ (
+          let is = passed-past device handed past in
+          let k = handed - ring in
+          let parted = div_parted (k * mix) (ring * mix) rate (omega (arith, slow)) in
+          let whole : lasting device handed ≡ (k * mix + ring * mix) / rate = ap (λ z. z / rate) (let all : handed ≡ k + ring = omega arith in ap (λ n. n * mix) all ∙ omega arith) in
+          let mixed = mixed-most device handed d in
+          omega (arith, ints, is, parted, whole, mixed, most, lasts))
+    ]
+  where
+    -- no more are mixed than last as long, and a filter's besides
+    mixed-most : (device : DeviceSeen) (handed : ℕ) → IsDevice device → mixed_for device handed ≤ lasting device handed + 33
+    mixed-most device zero d = omega arith
+    mixed-most device (suc c) d =
+        let needs = needs-ahead device c d in
+        let slow = d.rate.least in
+        let ahead = needs.most in
+        let fewer = div_grows (c * (mix_settings device).rate) (suc c * (mix_settings device).rate) (device_settings device).rate (omega (arith, slow))
+        (mul-le-mul_right {m = c} {n = suc c} (mix_settings device).rate (omega arith)) in
+        omega (arith, needs.is, ahead, fewer)
+
+-- where the mix and the device are at any moment
+pub here-is : (device : DeviceSeen) (handed : ℕ) → IsInLimits device → mixed_for device handed < 2 ^ 56 → IsHere (here_at device handed)
+here-is device handed l count = record {
+  past = past-is device handed l.device_is (let block = l.block in let ring = l.ring in omega arith);
+  held = held-is device handed l;
+  count = count;
+}
