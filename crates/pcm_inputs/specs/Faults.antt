@@ -1,5 +1,5 @@
--- What a contract sees of a fault, and how its line is put.
-use Rattle.std.specs.Prelude.{◌≡◌, ℕ}
+-- What a contract sees of a fault, and how its line is put, and other lines.
+use Rattle.std.specs.Prelude.{◌≡◌, ℕ, List}
 use Rattle.pcm_outside.specs.Sink.{SinkSeen, FailsToPut, Puts}
 use Rattle.pcm_verdict.specs.Faults as verdicts
 use Rattle.pcm_verdict.specs.Faults.{fault_line}
@@ -49,3 +49,9 @@ pub data TellsFault (fault : verdicts.Fault) (ending : Ending) (old new : SinkSe
   Cut : ending ≡ CannotWrite → FailsToPut old new (fault_line fault) → TellsFault fault ending old new
   -- it found no memory
   Lost : ending ≡ NoMemory → new ≡ old → TellsFault fault ending old new
+
+-- what became of other lines that were to be put, by how the call ends, where nothing else was done
+abbrev pub CutsLines : List ℕ → SinkSeen → SinkSeen → Ending → Type 0
+CutsLines lines old new CannotWrite = FailsToPut old new lines
+CutsLines lines old new NoMemory = new ≡ old
+CutsLines lines old new ending = ⊥

@@ -1,7 +1,7 @@
--- What is left of a device file.
-use Rattle.std.proofs.Common.{◌≡◌, ℕ, ◌++◌, List, [], Option, Some, None, append_assoc, append-nil, refl, sym, ◌∙◌, ap, subst, arith}
+-- What files that were read, with nothing else done, change of what is written.
+use Rattle.std.proofs.Common.{◌≡◌, ℕ, ◌++◌, List, Option, Some, None, ◌∙◌, ap, subst}
 use Rattle.pcm_outside.specs.Counts.{Rose}
-use Rattle.pcm_outside.specs.Files.{FilesSeen, Appends, Creates, FailsToAppend, FailsToCreate, Grows, IsLeft, OnlyAppends, OnlyReads, OnlyWrites}
+use Rattle.pcm_outside.specs.Files.{FilesSeen, FailsToCreate, IsLeft, OnlyReads}
 use Rattle.pcm_outside.specs.Sink.{SinkSeen, FailsToPut, Puts, PutsMore}
 use Rattle.pcm_inputs.specs.Outside.{Outside}
 use Rattle.pcm_inputs.proofs.Parts.{reads-later}
@@ -10,68 +10,8 @@ use Rattle.pcm_verdict.specs.Verdict.{Accepted, Runs, Checks, Converts, Soaks}
 use Rattle.pcm_replay.specs.Cuts.{CutsCall, CutsRun, RunAtCreate, RunInBytes, RunInHeader, RunInLine}
 use Rattle.pcm_replay.specs.Playback.{Playback, bytes_until, lines_until, playback_of}
 use Rattle.pcm_inputs.specs.Reads.{OnlyHasRead}
-use Rattle.pcm_replay.specs.Written.{AtAppend, AtCreate, AtPut, CutAtAppend, CutAtCreate, CutsOutput, HasWritten, WritesAll, WritesFile}
-
--- a file that was created, and that a piece was appended to
-pub has_written : (name piece : List ℕ) (old made new : FilesSeen) → OnlyWrites old made → Creates old made name → Grows made new piece → HasWritten name piece old new
-has_written name piece old made new only creates grows = record {
-  file = λ told. grows.bytes name [] (only.tells ∙ told) (creates.empty told);
-  others = λ told other ne. grows.others name (creates.empty told).created other ne ∙ creates.others other ne;
-}
-
--- a count that rose after it had stood
-pub rose_later : (a b c : ℕ) → b ≡ a → Rose b c → Rose a c
-rose_later a b c same rose = subst (λ n. Rose n c) same rose
-
--- ---- appended pieces
-
-pub grows-on : (a b c : FilesSeen) (one two : List ℕ) → OnlyAppends a b → Grows a b one → Grows b c two → Grows a c (one ++ two)
-grows-on a b c one two only first next = record {
-  bytes = λ name bytes told has. let both = next.bytes name (bytes ++ one) (only.writes.tells ∙ told) (first.bytes name bytes told has) in
-      record { created = both.created; content = both.content ∙ ap (λ (b : List ℕ). Some b) (append_assoc bytes one two) };
-  others = λ name created other ne. next.others name (only.created ∙ created) other ne ∙ first.others name created other ne;
-}
-
-pub grows-nothing : (a : FilesSeen) → Grows a a []
-grows-nothing a = record {
-  bytes = λ name bytes told has. record { created = has.created; content = has.content ∙ ap (λ (b : List ℕ). Some b) (sym (append-nil bytes)) };
-  others = λ name created other ne. refl;
-}
-
-pub appends-only : (a b c : FilesSeen) → OnlyAppends a b → OnlyAppends b c → OnlyAppends a c
-appends-only a b c one two = record {
-  writes = record {
-    tells = two.writes.tells ∙ one.writes.tells;
-    read_faults = two.writes.read_faults ∙ one.writes.read_faults;
-    failed = two.writes.failed ∙ one.writes.failed;
-    write_faults = omega (arith, one.writes.write_faults, two.writes.write_faults);
-  };
-  created = two.created ∙ one.created;
-  stands = two.stands;
-}
-
-pub appends-on : (a b c : FilesSeen) (one two : List ℕ) → OnlyAppends a b → Appends a b one → Appends b c two → Appends a c (one ++ two)
-appends-on a b c one two only first next = record { grows = grows-on a b c one two only first.grows next.grows; write_faults = next.write_faults ∙ first.write_faults }
-
--- an append that failed behind one that didn't
-pub fails-behind : (a b c : FilesSeen) (one two : List ℕ) → OnlyAppends a b → Appends a b one → FailsToAppend b c two → FailsToAppend a c (one ++ two)
-fails-behind a b c one two only first fails = record {
-  rose = rose_later _ _ _ first.write_faults fails.rose;
-  part = one ++ fails.part;
-  front = record { rest = fails.front.rest; joined = ap (λ (b : List ℕ). one ++ b) fails.front.joined ∙ sym (append_assoc one fails.part fails.front.rest) };
-  grows = grows-on a b c one fails.part only first.grows fails.grows;
-}
-
--- one that failed before more was to come
-pub fails-before : (a b : FilesSeen) (one two : List ℕ) → FailsToAppend a b one → FailsToAppend a b (one ++ two)
-fails-before a b one two fails = record {
-  rose = fails.rose;
-  part = fails.part;
-  front = record { rest = fails.front.rest ++ two; joined = ap (λ (b : List ℕ). b ++ two) fails.front.joined ∙ append_assoc fails.part fails.front.rest two };
-  grows = fails.grows;
-}
-
--- ---- what files that were read, with nothing else done, change of what is written
+use Rattle.pcm_converting.specs.Written.{AtAppend, AtCreate, AtPut, CutAtAppend, CutAtCreate, CutsOutput, HasWritten, WritesAll, WritesFile}
+use Rattle.pcm_converting.proofs.Appending.{rose_later}
 
 -- what a read leaves alone, and then a write changes
 pub has_written_later : (name bytes : List ℕ) (old read new : FilesSeen) → OnlyReads old read → HasWritten name bytes read new → HasWritten name bytes old new
@@ -153,10 +93,3 @@ cut-later (Runs out inputs) before between after only cut = cut_run-later out (h
 cut-later (Checks inputs) before between after only cut = cut_output-later (output_of (Checks inputs)) before between after only cut
 cut-later (Converts out conversion) before between after only cut = cut_output-later (output_of (Converts out conversion)) before between after only cut
 cut-later (Soaks n) before between after only cut = cut_output-later (output_of (Soaks n)) before between after only cut
-
--- what holds of a file that is left, by other terms for its bytes and for the lines
-pub output-as : (P : Output → Type 0) (name bytes lines bytes_as lines_as : List ℕ) → bytes ≡ bytes_as → lines ≡ lines_as
-    → P (record { file = Some (record { name = name; bytes = bytes }); lines = lines }) → P (record { file = Some (record { name = name; bytes = bytes_as }); lines = lines_as })
-output-as P name bytes lines bytes_as lines_as same_bytes same_lines holds =
-    subst (λ (b : List ℕ). P (record { file = Some (record { name = name; bytes = b }); lines = lines_as })) same_bytes
-    (subst (λ (l : List ℕ). P (record { file = Some (record { name = name; bytes = bytes }); lines = l })) same_lines holds)

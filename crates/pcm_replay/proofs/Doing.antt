@@ -12,14 +12,15 @@ use Rattle.pcm_verdict.specs.Verdict.{Accepted, Runs, Checks, Converts, Soaks, C
 use Rattle.pcm_inputs.specs.declared.ending.Ending.{Ending}
 use Rattle.pcm_inputs.specs.declared.ending.Ending.TheVariants.{Usage, CannotRead, BadConfig, BadScript, BadWave, CannotWrite, NoMemory}
 use Rattle.pcm_inputs.specs.Commands.{IsOf, MayRead}
-use Rattle.pcm_replay.specs.Endings.{Cuts, CutsLines, DoesCommand, EndsCall, EndsCommand, HasRun, InAccepted, InLine, IsCommandCut}
+use Rattle.pcm_inputs.specs.Faults.{CutsLines}
+use Rattle.pcm_replay.specs.Endings.{Cuts, DoesCommand, EndsCall, EndsCommand, HasRun, InAccepted, InLine, IsCommandCut}
 use Rattle.pcm_replay.specs.Calls.{Call}
 use Rattle.pcm_replay.specs.Outcomes.{InFaultLine, InForms, InOutput, IsCut, Spells, TellsForms, command_part, verdict_on}
 use Rattle.pcm_replay.specs.Cuts.{CutsCall}
 use Rattle.pcm_inputs.specs.Outside.{Outside, outside}
 use Rattle.pcm_inputs.specs.Parts.{conversion_part, inputs_part}
 use Rattle.pcm_inputs.specs.Reads.{Comes, Ends, OnlyHasRead, Part}
-use Rattle.pcm_replay.specs.Written.{AtPut, CutsOutput, WritesAll}
+use Rattle.pcm_converting.specs.Written.{AtPut, CutsOutput, EndsOutput, WritesAll}
 use Rattle.pcm_replay.proofs.Cuts.{cut-later, written-later}
 use Rattle.pcm_inputs.proofs.Parts.{LeadsTo, comes-next, ends-as, leads-first, reads-nothing}
 
@@ -128,6 +129,18 @@ cuts-lines BadScript accepted lines files old new is cut = cut
 cuts-lines BadWave accepted lines files old new is cut = cut
 cuts-lines CannotWrite accepted lines files old new is cut = cuts-call accepted lines files old new is cut
 cuts-lines NoMemory accepted lines files old new is same = ap (outside files) same
+
+-- ---- a conversion
+
+pub cuts-conversion : (name : List ℕ) (conversion : Conversion) (ending : Ending) (before after : Outside) → EndsOutput (output_of (Converts name conversion)) before after ending
+    → Cuts (Converts name conversion) before after ending
+cuts-conversion name conversion Usage before after cut = cut
+cuts-conversion name conversion CannotRead before after cut = cut
+cuts-conversion name conversion BadConfig before after cut = cut
+cuts-conversion name conversion BadScript before after cut = cut
+cuts-conversion name conversion BadWave before after cut = cut
+cuts-conversion name conversion CannotWrite before after cut = cut
+cuts-conversion name conversion NoMemory before after cut = cut
 
 -- ---- the words that spell it
 

@@ -6,6 +6,3 @@ pub mod Statuses
 pub mod Cuts
 pub mod Plays
 pub mod Turns
-pub mod Soaking
-pub mod Blocks
-pub mod Waves

@@ -1,17 +1,17 @@
 -- A run by one event more.
-use Rattle.std.proofs.Common.{◌≡◌, ℕ, zero, suc, ◌+◌, ◌*◌, max, List, [], ◌∷◌, ◌++◌, ◌<◌, ◌≤◌, All, fold, slice_index_or, length, take, refl, sym, ◌∙◌, ap, subst, arith, append_assoc, append-nil, length-append, length-take-le}
+use Rattle.std.proofs.Common.{◌≡◌, ℕ, zero, suc, ◌+◌, ◌*◌, max, List, [], ◌∷◌, ◌++◌, ◌<◌, ◌≤◌, fold, slice_index_or, length, take, refl, sym, ◌∙◌, ap, subst, arith, append_assoc, append-nil, length-take-le}
 use Rattle.pcm_fixed.specs.Fixed.{fixed_len}
 use Rattle.std.proofs.Math.Nat.{mul-le-mul_right}
-use Rattle.std.proofs.lemmas.List.{take-append-le, take_all, take_more}
+use Rattle.std.proofs.lemmas.List.{take_more}
 use Rattle.pcm_oss.specs.declared.event.Event.{Event}
 use Rattle.pcm_oss.specs.declared.event.Event.TheVariants.{Open, Write, Read, Ioctl, Close, Intr}
 use Rattle.pcm_wave.specs.declared.pool.Pool.{Pool}
 use Rattle.pcm_oss.specs.Replies.{Reply}
 use Rattle.pcm_desk.specs.Device.{DeviceSeen, device_frame_bytes}
-use Rattle.pcm_desk.specs.Events.{Fits, bytes_handed, frames_taken}
+use Rattle.pcm_desk.specs.Events.{bytes_handed, frames_taken}
 use Rattle.pcm_sound.specs.DeviceList.{device_text}
 use Rattle.pcm_sound.specs.StoryReplies.{replies, reply_to}
-use Rattle.pcm_sound.specs.Story.{Story, story_at_start, story_of, told, told_all}
+use Rattle.pcm_sound.specs.Story.{Story, story_at_start, story_of}
 use Rattle.pcm_feeder.specs.declared.kind.Kind.{Kind}
 use Rattle.pcm_feeder.specs.Kept.{Kept}
 use Rattle.pcm_engine.specs.Engines.{AreReady, Stands, device_of}
@@ -19,22 +19,9 @@ use Rattle.pcm_report.specs.Lines.{reply_line}
 use Rattle.pcm_verdict.specs.Transcript.{lines_from, transcript}
 use Rattle.pcm_replay.specs.declared.replay.ReplayOf.{ReplayOf}
 use Rattle.pcm_replay.specs.Playback.{playback}
-use Rattle.pcm_replay.specs.Playing.{HasPlayed, greatest_taken, ring_room}
+use Rattle.pcm_soaking.proofs.Running.{length-push, length-replies, replies-more}
+use Rattle.pcm_replay.specs.Playing.{HasPlayed, greatest_taken}
 use Rattle.pcm_replay.specs.Turns.{IsNext}
-
-pub length-push : (events : List Event) (event : Event) → length events + 1 ≡ length (events ++ event ∷ [])
-length-push events event = omega (arith, length-append events (event ∷ []))
-
--- the replies to one event more
-pub replies-more : (device : DeviceSeen) (pool : Pool) (story : Story) (events : List Event) (event : Event)
-    → replies device pool story (events ++ event ∷ []) ≡ replies device pool story events ++ reply_to device (told_all device pool story events) event ∷ []
-replies-more device pool story [] event = refl
-replies-more device pool story (first ∷ events) event =
-    ap (λ (rest : List Reply). reply_to device story first ∷ rest) (replies-more device pool (told device pool story first) events event)
-
-pub length-replies : (device : DeviceSeen) (pool : Pool) (story : Story) (events : List Event) → length (replies device pool story events) ≡ length events
-length-replies device pool story [] = refl
-length-replies device pool story (first ∷ events) = ap (λ n. suc n) (length-replies device pool (told device pool story first) events)
 
 -- the lines of one reply more
 pub lines_from-more : (number : ℕ) (said : List Reply) (reply : Reply)
@@ -110,30 +97,6 @@ next-given kind kept old new pool events at other piece bytes line reply there s
           ∙ ap (λ (r : Reply). transcript device pool first ++ reply_line (at + 1) r) (sym (s.replied h.engine.stands))
           ∙ ap (λ (l : List ℕ). transcript device pool first ++ l) (sym is);
     }
-
--- the front of joined lists
-pub front : (n : ℕ) (a b : List ℕ) → length a ≡ n → take n (a ++ b) ≡ a
-front n a b e =
-    let within : n ≤ length a = omega arith in
-    let whole : length a ≤ n = omega arith in
-    take-append-le n a b within ∙ take_all n a whole
-
--- ---- the bytes of one event
-
-handed-one : (device : DeviceSeen) (pool : Pool) (event : Event) → Fits device pool event → bytes_handed device event ≤ ring_room device
-handed-one device pool (Open fd way settings) fits = omega arith
-handed-one device pool (Write fd source at count) fits = omega arith
-handed-one device pool (Read fd count) fits = omega arith
-handed-one device pool (Ioctl fd request) fits = omega arith
-handed-one device pool (Close fd) fits = omega arith
-handed-one device pool (Intr frames) fits = mul-le-mul_right (device_frame_bytes device) fits.1
-
--- no event of these hands over more than the device's whole ring
-pub handed-within : (device : DeviceSeen) (pool : Pool) (events : List Event) (at count : ℕ) (other : Event) → All (Fits device pool) events → at < length events
-    → count ≡ bytes_handed device (slice_index_or events at other) → count ≤ ring_room device
-handed-within device pool events at count other fits there is =
-    let within = handed-one device pool (slice_index_or events at other) (fits at other there) in
-    subst (λ n. n ≤ ring_room device) (sym is) within
 
 -- ---- the greatest interrupt
 

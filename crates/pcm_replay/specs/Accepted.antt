@@ -1,16 +1,19 @@
 -- What a call leaves that came to its end, by what its words ask for.
-use Rattle.std.specs.Prelude.{◌≡◌, ℕ, List, Some, IsSomeAnd, Option}
+use Rattle.std.specs.Prelude.{◌≡◌, ◌++◌, ℕ, List, Some, IsSomeAnd, Option}
 use Rattle.pcm_feeder.specs.Kept.{Kept}
 use Rattle.pcm_engine.specs.declared.engine.EngineOf.{EngineOf}
-use Rattle.pcm_sound.specs.Plain.{HasNoShortage}
+use Rattle.pcm_outside.specs.Files.{FilesSeen}
+use Rattle.pcm_sound.specs.Plain.{AgreeInCommon, HasNoShortage}
 use Rattle.pcm_verdict.specs.Commands.{SoakRun, command_of}
+use Rattle.pcm_verdict.specs.Outputs.{device_bytes_in, header_in}
 use Rattle.pcm_verdict.specs.Plain.{IsAcceptedRun, PlayAlike, plain_output, story_in}
 use Rattle.pcm_verdict.specs.Verdict.{Accepted, Checks, Conversion, Converts, Inputs, Runs, Soaks}
 use Rattle.pcm_inputs.specs.Outside.{Lent}
 use Rattle.pcm_replay.specs.Calls.{Call, Words, texts}
-use Rattle.pcm_replay.specs.Endings.{Does, RanInputs, RanSoak}
+use Rattle.pcm_soaking.specs.Soaking.{RanSoak}
+use Rattle.pcm_replay.specs.Endings.{Does, RanInputs}
 use Rattle.pcm_replay.specs.Outcomes.{IsAccepted}
-use Rattle.pcm_replay.specs.Written.{WritesAll, WritesLike}
+use Rattle.pcm_converting.specs.Written.{WritesAll, WritesWhole}
 
 -- The words of a soak say all. What other words ask for is what the files tell.
 abbrev pub AsksFor : Call → Accepted → Type 0
@@ -38,6 +41,12 @@ LeavesWave call = (name : List ℕ) (conversion : Conversion) → LeavesAll call
 abbrev pub LeavesPlain : Call → Type 0
 LeavesPlain call = (name : List ℕ) (inputs : Inputs) → AsksFor call (Runs name inputs)
     → HasNoShortage (story_in inputs) → WritesAll (plain_output name inputs) call.before call.after
+
+-- the file of a run was written whole: behind its header stand bytes that are those of another run's device, as far as both go
+pub record WritesLike (name : List ℕ) (inputs other : Inputs) (old new : FilesSeen) : Type 0 where
+  pub body : List ℕ
+  pub written : WritesWhole (record { name = name; bytes = header_in inputs ++ body }) old new
+  pub alike : AgreeInCommon body (device_bytes_in other)
 
 -- its device gets the bytes of any other run whose clients sound alike, as far as both go
 abbrev pub LeavesAlike : Call → Type 0

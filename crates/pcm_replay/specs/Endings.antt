@@ -1,25 +1,22 @@
 -- What a call did, by its ending.
-use Rattle.std.specs.Prelude.{◌≡◌, ℕ, List, Option, Some, None, Ok}
-use Rattle.pcm_outside.specs.Sink.{SinkSeen, FailsToPut}
+use Rattle.std.specs.Prelude.{◌≡◌, Option, Some, None, Ok}
 use Rattle.pcm_config.specs.Configs.{device_seen}
-use Rattle.pcm_desk.specs.Usual.{usual_device}
-use Rattle.pcm_soak.specs.Soak.{soak_script}
 use Rattle.pcm_feeder.specs.Kept.{Kept}
 use Rattle.pcm_engine.specs.declared.engine.EngineOf.{EngineOf}
 use Rattle.pcm_verdict.specs.Commands.{Command}
 use Rattle.pcm_verdict.specs.Outputs.{inputs_pool, output_of}
-use Rattle.pcm_verdict.specs.Soaks.{soak_pool}
 use Rattle.pcm_verdict.specs.Verdict.{Accepted, Runs, Checks, Converts, Soaks, Inputs}
 use Rattle.pcm_inputs.specs.declared.ending.Ending.{Ending}
 use Rattle.pcm_inputs.specs.declared.ending.Ending.TheVariants.{Usage, CannotRead, BadConfig, BadScript, BadWave, CannotWrite, NoMemory}
 use Rattle.pcm_inputs.specs.Commands.{IsOf}
 use Rattle.pcm_inputs.specs.Outside.{Lent, Outside}
+use Rattle.pcm_soaking.specs.Running.{RanThrough}
+use Rattle.pcm_soaking.specs.Soaking.{RanSoak}
 use Rattle.pcm_replay.specs.Calls.{Call}
 use Rattle.pcm_replay.specs.Cuts.{CutsCall}
 use Rattle.pcm_replay.specs.Outcomes.{CannotReadOne, IsCut, LacksMemory, RefusesConfig, RefusesScript, RefusesWave, RefusesWords, Spells, command_part}
-use Rattle.pcm_replay.specs.Playing.{RanThrough}
 use Rattle.pcm_inputs.specs.Reads.{Comes, CutsLine, FailsToReadOne, Lacks, RefusesPart}
-use Rattle.pcm_replay.specs.Written.{WritesAll}
+use Rattle.pcm_converting.specs.Written.{WritesAll}
 
 -- what a call did that ended before its end
 abbrev pub EndsCall : Call → Ending → Type 0
@@ -41,19 +38,9 @@ Cuts accepted before after CannotWrite = CutsCall accepted before after
 Cuts accepted before after NoMemory = after ≡ before
 Cuts accepted before after ending = ⊥
 
--- what became of lines that were to be put, and nothing else was done
-abbrev pub CutsLines : List ℕ → SinkSeen → SinkSeen → Ending → Type 0
-CutsLines lines old new CannotWrite = FailsToPut old new lines
-CutsLines lines old new NoMemory = new ≡ old
-CutsLines lines old new ending = ⊥
-
 -- an engine ran the script of these inputs
 abbrev pub RanInputs : {B : Type 0} → (B → Kept) → EngineOf B → Inputs → Type 0
 RanInputs kept engine inputs = RanThrough kept engine (device_seen inputs.config) (inputs_pool inputs) inputs.script.events
-
--- an engine ran the script that a number makes
-abbrev pub RanSoak : {B : Type 0} → (B → Kept) → EngineOf B → ℕ → Type 0
-RanSoak kept engine n = RanThrough kept engine usual_device (soak_pool n) (soak_script n).events
 
 -- an engine ran where a script was to be run, and there is none elsewhere
 abbrev pub HasRun : {B : Type 0} → (B → Kept) → Option (EngineOf B) → Accepted → Type 0

@@ -1,5 +1,4 @@
 pub mod Calls
-pub mod Written
 pub mod Playback
 pub mod Turns
 pub mod Cuts
@@ -7,4 +6,3 @@ pub mod Outcomes
 pub mod Endings
 pub mod Accepted
 pub mod Playing
-pub mod Converting

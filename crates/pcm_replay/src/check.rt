@@ -3,7 +3,7 @@
 ghost use Rattle.std.specs.Prelude.{IfErr, OnOk};
 ghost use Rattle.pcm_outside.specs.Sink.{Puts};
 ghost use Rattle.pcm_verdict.specs.Outputs.{check_line};
-ghost use Rattle.pcm_replay.specs.Endings.{CutsLines};
+ghost use Rattle.pcm_inputs.specs.Faults.{CutsLines};
 ghost use Rattle.pcm_inputs.specs.Parts.{inputs_seen};
 
 use pcm_inputs::{Ending, Inputs};

@@ -10,14 +10,14 @@ ghost use Rattle.pcm_replay.specs.Endings.{DoesCommand, EndsCommand};
 ghost use Rattle.pcm_inputs.specs.Outside.{both, ◌over◌};
 
 use crate::check::tell_script;
-use crate::convert::convert_wave;
 use crate::running::run_script;
-use crate::soak::soak;
+use pcm_converting::convert_wave;
 use pcm_engine::EngineOf;
 use pcm_feeder::{Feeder, RacksOf};
 use pcm_format::Settings;
 use pcm_inputs::{Command, Ending, read_inputs, read_source};
 use pcm_outside::{Files, Sink};
+use pcm_soaking::run_soak;
 use std::alloc::Global;
 
 /// Does what a command asks for. An engine is left of a script that was run.
@@ -122,6 +122,6 @@ fn soak_run<B: Feeder, F: Files, K: Sink>(
     ensures ok { IfOk result (DoesCommand B.kept (SoakRun seed) over both F.seen K.seen files out) }
     ensures err { IfErr result (EndsCommand (SoakRun seed) over both F.seen K.seen files out) }
 {
-    let engine = soak(alloc, racks, seed, out)?;
+    let engine = run_soak(alloc, racks, seed, out)?;
     Ok(Some(engine))
 }

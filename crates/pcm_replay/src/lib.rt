@@ -4,14 +4,11 @@
 
 mod check;
 mod commands;
-mod convert;
 mod playing;
 mod refusals;
 mod replay;
 mod running;
-mod soak;
 mod tallied;
-mod tally_line;
 mod top;
 mod writing;
 

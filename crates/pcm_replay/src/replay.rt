@@ -8,7 +8,8 @@ ghost use Rattle.pcm_desk.specs.Device.{IsInLimits, seen};
 ghost use Rattle.pcm_feeder.specs.Racks.{AreRacks, list_of};
 ghost use Rattle.pcm_engine.specs.Engines.{device_of};
 ghost use Rattle.pcm_replay.specs.Playback.{playback};
-ghost use Rattle.pcm_replay.specs.Playing.{CanRun, HasPlayed, greatest_taken};
+ghost use Rattle.pcm_soaking.specs.Running.{CanRun};
+ghost use Rattle.pcm_replay.specs.Playing.{HasPlayed, greatest_taken};
 ghost use Rattle.pcm_inputs.specs.Outside.{both, ◌over◌};
 ghost use Rattle.pcm_replay.specs.Turns.{CutsNext, IsNext, OnlyAdds, WritesNext};
 

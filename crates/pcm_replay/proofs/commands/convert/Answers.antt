@@ -4,7 +4,7 @@ use Rattle.pcm_verdict.specs.Verdict.{Accepted, Conversion, Converts}
 use Rattle.pcm_inputs.specs.Outside.{Outside, outside}
 use Rattle.pcm_inputs.specs.Parts.{conversion_part, conversion_to}
 use Rattle.pcm_replay.specs.Endings.{EndsCommand}
-use Rattle.pcm_replay.proofs.Doing.{comes-convert, cuts-command, does-command, ends-command, leads-convert}
+use Rattle.pcm_replay.proofs.Doing.{comes-convert, cuts-command, cuts-conversion, does-command, ends-command, leads-convert}
 use Rattle.pcm_inputs.proofs.Refusing.{err-as}
 use Rattle.pcm_replay.proofs.commands.convert.Goals as goal
 
@@ -31,7 +31,8 @@ returns-in_err-convert_wave-clause-err g c =
     let ending = c.in_err-convert_wave.field-0.0 in
     err-as (EndsCommand command before after) ending c.from_residual-in_err-convert_wave.result c.from_residual-in_err-convert_wave.ensures.1
     (cuts-command command accepted ending before between after (refl, refl)
-    (comes-convert c.args.input.now c.args.name.now c.args.target conversion before.files read.came) read.only c.in_err-convert_wave.ensures.err)
+    (comes-convert c.args.input.now c.args.name.now c.args.target conversion before.files read.came) read.only
+    (cuts-conversion c.args.name.now conversion ending between after c.in_err-convert_wave.ensures.err))
 
 -- it was converted
 pub returns-clause-ok : goal.returns-clause-ok

@@ -14,7 +14,7 @@ pub returns-in_err-engine-clause-err : goal.returns-in_err-engine-clause-err
 returns-in_err-engine-clause-err g c =
     let n = c.args.seed in
     let before : Outside = outside (g.F.Files.seen c.args.files.now) (g.K.Sink.seen c.args.out.now) in
-    let after : Outside = outside (g.F.Files.seen c.args.files.now) (g.K.Sink.seen c.soak.new.out) in
+    let after : Outside = outside (g.F.Files.seen c.args.files.now) (g.K.Sink.seen c.run_soak.new.out) in
     let ending = c.in_err-engine.field-0.0 in
     err-as (EndsCommand (SoakRun n) before after) ending c.from_residual.result c.from_residual.ensures.1
     (cuts-command (SoakRun n) (Soaks n) ending before before after refl (comes-soak n before.files) (nothing before)
@@ -25,7 +25,7 @@ pub returns-clause-ok : goal.returns-clause-ok
 returns-clause-ok g c =
     let n = c.args.seed in
     let before : Outside = outside (g.F.Files.seen c.args.files.now) (g.K.Sink.seen c.args.out.now) in
-    let after : Outside = outside (g.F.Files.seen c.args.files.now) (g.K.Sink.seen c.soak.new.out) in
+    let after : Outside = outside (g.F.Files.seen c.args.files.now) (g.K.Sink.seen c.run_soak.new.out) in
     does-command g.B.Feeder.kept (SoakRun n) (Soaks n) (Some c.in_ok-engine.engine) before before after refl
     (comes-soak n before.files) (nothing before) c.in_ok-engine.ensures.ran
     (writes-lines (Soaks n) (soak_line n) before.files before.sink after.sink refl c.in_ok-engine.ensures.ok)

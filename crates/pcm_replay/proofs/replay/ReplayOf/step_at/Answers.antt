@@ -1,6 +1,7 @@
 use Rattle.std.proofs.Common.{ℕ, List, take, refl, ◌∙◌, ap}
 use Rattle.pcm_engine.specs.Engines.{device_of}
-use Rattle.pcm_replay.proofs.Plays.{front, handed-among, next-given, played}
+use Rattle.pcm_soaking.proofs.Running.{front}
+use Rattle.pcm_replay.proofs.Plays.{handed-among, next-given, played}
 use Rattle.pcm_replay.proofs.replay.ReplayOf.step_at.Goals as goal
 
 -- the bytes that the event hands over have room
