@@ -5,16 +5,16 @@ import struct
 
 # numbers at the ends of ranges, as a script or a configuration tells them
 ENDS = (
-    "0 1 2 3 4 15 16 17 31 32 33 63 64 65 100 101 127 128 255 256 257 512 1023 1024 1025 3999 4000 4095 4096 4097 8192 8193 16384 "
-    "22050 48000 65535 65536 131072 131073 192000 192001 16777216 16777217 2147483647 2147483648 4294967295 4294967296 9999999999 "
-    "10000000000 18446744073709551615 18446744073709551616 -1 -16777216 -16777217 0x0 0xffffffff 0x100000000 00 007 1.5 1e9"
+    "0 1 2 3 4 8 9 15 16 17 31 32 33 63 64 65 100 101 127 128 255 256 257 512 1023 1024 1025 3999 4000 4095 4096 4097 8192 8193 "
+    "16384 22050 48000 65535 65536 131072 131073 192000 192001 16777216 16777217 2147483647 2147483648 4294967295 4294967296 "
+    "9999999999 10000000000 18446744073709551615 18446744073709551616 -1 -16777216 -16777217 0x0 0xffffffff 0x100000000 00 007 1.5 1e9"
 ).split()
 # words of the languages of scripts and configurations
 WORDS = (
     "open write send read ioctl close intr play rec u8 s8 s16le s16be u16le u16be s24le s24be u24le u24be s32le s32be u32le u32be "
     "setfmt speed channels getfmts getcaps getblksize setfragment getospace getispace getoptr getiptr getodelay geterror settrigger "
-    "gettrigger setplayvol getplayvol post sync halt - # w 00 ff 0a0b nosuch [device] [vchans] [files] [[tables]] rate format channels "
-    "container capture hw_block hw_blocks quality record shift rows src dst = , \" ' { } [ ] true raw wav 1979-05-27"
+    "gettrigger setplayvol getplayvol post sync halt syncgroup syncstart - # w 00 ff 0a0b nosuch [device] [vchans] [files] [[tables]] "
+    "rate format channels container capture hw_block hw_blocks quality record shift rows src dst = , \" ' { } [ ] true raw wav 1979-05-27"
 ).split()
 # sizes and numbers in the header of a wave
 FIELDS = (0, 1, 2, 3, 4, 8, 15, 16, 17, 18, 24, 32, 40, 255, 65534, 65535, 2**24, 0x7EFFFFFF, 0x7F000000, 2**31, 2**32 - 1)

@@ -3,7 +3,8 @@ use Rattle.std.specs.Prelude.{ℕ, ℤ, ◌*◌, ◌<◌, ◌≤◌, List, Optio
 use Rattle.pcm_format.specs.declared.settings.Settings.{Settings}
 use Rattle.pcm_feeder.specs.Limits.{IsRate}
 use Rattle.pcm_desk.specs.declared.device.TheConstants.{QUALITY_MOST}
-use Rattle.pcm_desk.specs.declared.limits.TheConstants.{RING_FRAMES, SLOTS}
+use Rattle.pcm_desk.specs.declared.limits.TheConstants.{RING_FRAMES}
+use Rattle.pcm_oss.specs.declared.event.TheConstants.{SLOTS}
 use Rattle.toml.specs.Data.{Members, as_str}
 use Rattle.pcm_config.specs.declared.fault.ConfigRefusal.{ConfigRefusal}
 use Rattle.pcm_config.specs.declared.hardware.Hardware.{Hardware}

@@ -8,15 +8,16 @@ ghost use Rattle.pcm_config.specs.Values.{AreSlots, slots_in};
 use crate::mix::mix_in;
 use crate::number::{NumberRow, number_in};
 use crate::{ConfigPlace, ConfigRefusal};
-use pcm_desk::{QUALITY_MOST, SLOTS};
+use pcm_desk::QUALITY_MOST;
 use pcm_format::Settings;
+use pcm_oss::SLOTS;
 use toml::Table;
 
 // Channels that play.
 const PLAY: NumberRow = NumberRow {
     place: ConfigPlace::VchansPlay,
     least: 1,
-    most: SLOTS,
+    most: SLOTS as u32,
     usual: 4,
 };
 
@@ -24,7 +25,7 @@ const PLAY: NumberRow = NumberRow {
 const RECORDING: NumberRow = NumberRow {
     place: ConfigPlace::VchansRecord,
     least: 0,
-    most: SLOTS,
+    most: SLOTS as u32,
     usual: 4,
 };
 

@@ -1,16 +1,20 @@
 -- Two open descriptors never hold one channel, whatever events come.
 use Rattle.std.proofs.Common.{◌≡◌, ◌≢◌, ℕ, ◌<◌, ◌≤◌, Bool, true, false, cond, List, [], ◌∷◌, length, set, get_or, map, replicate, Option, Some, None, ◌⊎◌, inl, inr, refl, sym, ap, ◌∙◌, subst, arith, get_or-set_same, get_or-set_other}
-use Rattle.std.specs.Prelude.{is_some}
+use Rattle.std.specs.Prelude.{eqb, is_some}
 use Rattle.std.proofs.lemmas.Bool.{cases_lt, cases_eq}
 use Rattle.std.proofs.lemmas.List.{get_or-map, get_or_past, get_or-replicate, length-map, length-replicate, length-set, set_past}
 use Rattle.std.proofs.lemmas.List.Quantifiers.{position-Some}
 use Rattle.pcm_format.specs.declared.settings.Settings.{Settings}
 use Rattle.pcm_oss.specs.declared.event.Event.{Event}
-use Rattle.pcm_oss.specs.declared.event.Event.TheVariants.{Open, Write, Read, Ioctl, Close, Intr}
+use Rattle.pcm_oss.specs.declared.event.Event.TheVariants.{Open, Write, Read, Ioctl, Join, StartGroup, Close, Intr}
 use Rattle.pcm_oss.specs.declared.event.Way.{Way}
 use Rattle.pcm_oss.specs.declared.event.Way.TheVariants.{Play, Record}
 use Rattle.pcm_oss.specs.declared.reply.Errno.TheVariants.{Exist, Inval}
 use Rattle.pcm_oss.specs.declared.request.Request.{Request}
+use Rattle.pcm_oss.specs.declared.request.Request.TheVariants.{SetTrigger}
+use Rattle.pcm_group.specs.declared.sync_groups.Groups.{Groups}
+use Rattle.pcm_group.specs.Groups.{change_in, with_group}
+use Rattle.pcm_group.proofs.Members.{get_or-change_in, length-change_in, used-some}
 use Rattle.pcm_desk.specs.declared.play_book.PlayBook.{PlayBook}
 use Rattle.pcm_desk.specs.declared.play_book.PlayState.{PlayState}
 use Rattle.pcm_desk.specs.declared.play_book.PlayState.TheVariants.{Free, Setup, Primed, Running, Draining}
@@ -23,9 +27,10 @@ use Rattle.pcm_desk.specs.PlayBooks.{is_play_free, play_begun, write_turn}
 use Rattle.pcm_desk.specs.RecordBooks as records
 use Rattle.pcm_desk.specs.RecordBooks.{is_record_free, record_begun}
 use Rattle.pcm_desk.specs.RecordRequests.{record_ask}
-use Rattle.pcm_desk.specs.Desk.{Desk, DeskTurn, after, asking, by_way, capturing, close_on, close_play, close_record, closing, desk_at_start, desk_here, held_by, interrupt_turn, ioctl_on, least_free_play, least_free_record, open_play, open_record, play_at, play_passing, play_rate_at, play_turn, play_unopened, read_on, record_at, record_rate_at, record_turn, record_unopened, refusing, turning, with_play, with_record, write_on}
+use Rattle.pcm_desk.specs.Desk.{Desk, DeskTurn, after, asking, both_bits, by_way, capturing, close_on, close_play, close_record, closing, desk_at_start, desk_here, group_started, held_by, interrupt_turn, ioctl_on, join_on, leaving, left, least_free_play, least_free_record, open_play, open_record, play_at, play_passing, play_rate_at, play_starting, play_turn, play_unopened, read_on, record_at, record_rate_at, record_starting, record_turn, record_unopened, refusing, request_on, start_on, turning, with_play, with_record, write_on}
 use Rattle.pcm_desk.specs.Events.{after_all}
 use Rattle.pcm_desk.specs.Own.{HoldApart, MayBeHeld, is_held, slots_of}
+use Rattle.pcm_desk.proofs.Grouping.{by-asking, by-joining, by-starting}
 use Rattle.pcm_desk.proofs.PlayHolding.{held-ask, held-passing, held-write}
 use Rattle.pcm_desk.proofs.RecordHolding.{record-held-ask, record-held-captured, record-held-read}
 
@@ -64,6 +69,17 @@ has_map P f books slot keeps has = record {
   within = omega (arith, has.within, length-map books f);
   book = λ other. subst P (sym (get_or-map f books slot other other has.within)) (keeps (get_or books slot other) (has.book other));
 }
+
+-- those of a group change
+has_change : {B : Type 0} (P : B → Type 0) (group : ℕ) (how : B → B) (groups : List ℕ) (books : List B) (slot : ℕ) → 0 < group → ((book : B) → P book → P (how book)) → HasAt P books slot → HasAt P (change_in group how groups books) slot
+has_change {B = B} P group how groups books slot some keeps has = record {
+  within = omega (arith, has.within, length-change_in group how groups books);
+  book = λ other. subst P (sym (get_or-change_in group how groups books slot other some has.within)) (either (eqb (get_or groups slot 0) group) other);
+}
+  where
+    either : (b : Bool) (other : B) → P (cond b (how (get_or books slot other)) (get_or books slot other))
+    either true other = keeps (get_or books slot other) (has.book other)
+    either false other = has.book other
 
 -- ---- channels
 
@@ -332,6 +348,35 @@ closed device desk fd h =
     (λ slot e. shut desk (close_record device desk fd slot).desk fd (channel Record slot) e refl
     (record_spared slot (records.closed (record_at device desk slot)) (set desk.descriptors fd None) desk) h)
 
+-- ---- groups
+
+-- who starts with whom has no part in who holds what
+pub regrouped : (desk : Desk) (groups : Groups) → HoldApart desk → HoldApart (record desk { groups = groups })
+regrouped desk groups h = record { within = h.within; taken = λ fd held e. may_of held.way (record desk { groups = groups }) held.slot (regrouped_in held.way held.slot (taken desk fd held h e)); apart = h.apart }
+  where
+    regrouped_in : (way : Way) (slot : ℕ) → IsTaken desk way slot → IsTaken (record desk { groups = groups }) way slot
+    regrouped_in Play slot has = has
+    regrouped_in Record slot has = has
+
+requested : (device : DeviceSeen) (request : Request) (desk : Desk) (fd : ℕ) → HoldApart desk → HoldApart (request_on device (held_by desk fd) desk request).desk
+requested device request desk fd h = by-asking device HoldApart (held_by desk fd) desk request h (λ groups. asked device request (record desk { groups = groups }) fd (regrouped desk groups h))
+
+joined : (device : DeviceSeen) (desk : Desk) (fd group : ℕ) → HoldApart desk → HoldApart (join_on device (held_by desk fd) desk group).desk
+joined device desk fd group h =
+    by-joining device (λ (t : DeskTurn). HoldApart t.desk) (held_by desk fd) desk group (λ errno. h)
+    (λ held number e resting. regrouped (ioctl_on device (Some held) desk (SetTrigger 0)).desk (with_group desk.groups held.way held.slot number)
+    (subst (λ (o : Option Held). HoldApart (ioctl_on device o desk (SetTrigger 0)).desk) e (asked device (SetTrigger 0) desk fd h)))
+
+started : (device : DeviceSeen) (desk : Desk) (held : Option Held) (group : ℕ) → HoldApart desk → HoldApart (start_on device held desk group).desk
+started device desk held group h =
+    by-starting device (λ (t : DeskTurn). HoldApart t.desk) held desk group (λ errno. h) (λ used ready. moved desk (group_started device desk group) (λ fd. refl) (moves (used-some desk.groups group used)) h)
+  where
+    moves : 0 < group → (way : Way) (slot : ℕ) → IsTaken desk way slot → IsTaken (group_started device desk group) way slot
+    moves some Play slot has =
+        has_change IsHeld group (play_starting device (desk_here device desk)) desk.groups.play desk.play slot some
+        (λ book is. held-ask (play_rate_at device book) (mix_settings device).rate (desk_here device desk) (SetTrigger both_bits) book is) has
+    moves some Record slot has = has_change IsRecordHeld group record_starting desk.groups.recording desk.recording slot some (record-held-ask (SetTrigger both_bits)) has
+
 -- an interrupt
 passed : (device : DeviceSeen) (n : ℕ) (desk : Desk) → HoldApart desk → HoldApart (interrupt_turn device desk n).desk
 passed device n desk h = moved desk (interrupt_turn device desk n).desk (λ fd. refl) moves h
@@ -345,8 +390,10 @@ pub apart-after : (device : DeviceSeen) (desk : Desk) (event : Event) → HoldAp
 apart-after device desk (Open fd way settings) h = opened_or (is_some (held_by desk fd)) way desk fd settings h
 apart-after device desk (Write fd source at count) h = wrote device desk fd count h
 apart-after device desk (Read fd count) h = read device desk fd count h
-apart-after device desk (Ioctl fd request) h = asked device request desk fd h
-apart-after device desk (Close fd) h = closed device desk fd h
+apart-after device desk (Ioctl fd request) h = requested device request desk fd h
+apart-after device desk (Join fd group) h = joined device desk fd group h
+apart-after device desk (StartGroup fd group) h = started device desk (held_by desk fd) group h
+apart-after device desk (Close fd) h = closed device (left (held_by desk fd) desk) fd (regrouped desk (leaving (held_by desk fd) desk.groups) h)
 apart-after device desk (Intr n) h = passed device n desk h
 
 -- and after any events

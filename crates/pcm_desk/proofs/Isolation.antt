@@ -1,17 +1,22 @@
--- No book of a desk looks at another, and no event but its own changes what a descriptor holds.
-use Rattle.std.proofs.Common.{◌≡◌, ℕ, ◌<◌, true, false, List, length, set, get_or, Option, Some, None, Ok, inl, inr, refl, sym, ap, ◌∙◌, subst, arith, get_or-set_same, get_or-set_other}
+-- No book of a desk looks at another, but for those of a group that starts, and no event but its own changes what a descriptor holds.
+use Rattle.std.proofs.Common.{◌≡◌, ℕ, ◌<◌, Bool, true, false, cond, List, length, set, get_or, Option, Some, None, Result, Ok, Err, ◌⊎◌, inl, inr, refl, sym, ap, ◌∙◌, subst, arith, get_or-set_same, get_or-set_other}
 use Rattle.std.specs.Prelude.{◌≢◌}
-use Rattle.std.proofs.lemmas.Bool.{cases_lt}
+use Rattle.std.proofs.lemmas.Bool.{cases_eq, cases_lt}
 use Rattle.std.proofs.lemmas.List.{get_or_past, set_past}
 use Rattle.std.proofs.lemmas.List.Quantifiers.{position-Some}
 use Rattle.pcm_format.specs.declared.settings.Settings.{Settings}
 use Rattle.pcm_oss.specs.declared.event.Event.{Event}
-use Rattle.pcm_oss.specs.declared.event.Event.TheVariants.{Open, Write, Read, Ioctl, Close, Intr}
+use Rattle.pcm_oss.specs.declared.event.Event.TheVariants.{Open, Write, Read, Ioctl, Join, StartGroup, Close, Intr}
 use Rattle.pcm_oss.specs.declared.event.Way.{Way}
 use Rattle.pcm_oss.specs.declared.event.Way.TheVariants.{Play, Record}
 use Rattle.pcm_oss.specs.declared.request.Request.{Request}
-use Rattle.pcm_oss.specs.declared.reply.Answer.TheVariants.{Done}
+use Rattle.pcm_oss.specs.declared.request.Request.TheVariants.{SetTrigger, Sync}
+use Rattle.pcm_oss.specs.declared.reply.Answer.TheVariants.{Done, Number}
+use Rattle.pcm_oss.specs.declared.reply.Errno.{Errno}
 use Rattle.pcm_oss.specs.declared.reply.Errno.TheVariants.{Exist, Inval}
+use Rattle.pcm_group.specs.declared.sync_groups.Groups.{Groups}
+use Rattle.pcm_group.specs.Groups.{groups_joined, joining}
+use Rattle.pcm_group.proofs.Members.{used-some}
 use Rattle.pcm_wave.specs.declared.pool.Source.{Source}
 use Rattle.pcm_desk.specs.declared.play_book.PlayBook.{PlayBook}
 use Rattle.pcm_desk.specs.declared.device.Held.{Held}
@@ -22,10 +27,11 @@ use Rattle.pcm_desk.specs.PlayBooks.{is_play_free, play_begun, write_turn}
 use Rattle.pcm_desk.specs.RecordBooks as records
 use Rattle.pcm_desk.specs.RecordBooks.{is_record_free, record_begun}
 use Rattle.pcm_desk.specs.RecordRequests.{record_ask}
-use Rattle.pcm_desk.specs.Desk.{Desk, DeskTurn, after, asking, play_at, by_way, close_on, close_play, close_record, closing, desk_here, held_by, ioctl_on, least_free_play, least_free_record, open_play, open_record, open_turn, play_turn, read_on, record_at, record_turn, record_unopened, refusing, play_unopened, write_on}
-use Rattle.pcm_desk.specs.Own.{Channel, GoesByDescriptor, HoldApart, IsIsolated, Playing, Recording, channel_at, descriptor_of, held_after, is_held, own_turn, slots_of}
+use Rattle.pcm_desk.specs.Desk.{Desk, DeskTurn, after, asking, play_at, by_way, close_on, close_play, close_record, closing, desk_here, group_of, group_started, held_by, ioctl_on, is_member, join_result, join_turn, left, left_by, member_refusal, play_starting, record_starting, request_turn, rests, least_free_play, least_free_record, open_play, open_record, open_turn, play_turn, read_on, record_at, record_turn, record_unopened, refusing, play_unopened, start_on, write_on}
+use Rattle.pcm_desk.specs.Own.{Channel, GoesByDescriptor, HoldApart, IsIsolated, Playing, Recording, StartsTogether, channel_at, descriptor_of, grouping_at, groups_after, held_after, is_held, own_join, own_request, own_turn, slots_of, starting}
 use Rattle.pcm_desk.specs.OwnEvents.{channel_begun}
 use Rattle.pcm_desk.proofs.Apart.{free-unheld}
+use Rattle.pcm_desk.proofs.Grouping.{by-asking, by-joining, by-starting, is-other, is-this, play_at-started, record_at-started}
 use Rattle.pcm_desk.proofs.Slots.{play_at-passing, record_at-capturing}
 use Rattle.pcm_desk.proofs.Turning.{by-opening, by-turning}
 
@@ -34,8 +40,24 @@ abbrev number_of : Option ℕ → ℕ
 number_of None = 0
 number_of (Some fd) = fd
 
-named : (at fd : ℕ) → Some at ≡ Some fd → at ≡ fd
-named at fd e = ap number_of e
+pub named-fd : (at fd : ℕ) → Some at ≡ Some fd → at ≡ fd
+named-fd at fd e = ap number_of e
+
+-- two channels are one, or they differ in their way or their slot
+pub same-channel : (one other : Held) → (one ≡ other) ⊎ (one ≢ other)
+same-channel one other = ways one.way other.way refl refl
+  where
+    slots : one.way ≡ other.way → (one ≡ other) ⊎ (one ≢ other)
+    slots way = elim (cases_eq one.slot other.slot) [
+      | inl slot ↦ inl (λ i. record { way = way i; slot = slot i })
+      | inr differ ↦ inr (λ same. differ (ap (λ (h : Held). h.slot) same))
+    ]
+
+    ways : (mine theirs : Way) → one.way ≡ mine → other.way ≡ theirs → (one ≡ other) ⊎ (one ≢ other)
+    ways Play Play m t = slots (m ∙ sym t)
+    ways Record Record m t = slots (m ∙ sym t)
+    ways Play Record m t = inr (λ same. let clash : Play ≡ Record = sym m ∙ ap (λ (h : Held). h.way) same ∙ t in cc)
+    ways Record Play m t = inr (λ same. let clash : Record ≡ Play = sym m ∙ ap (λ (h : Held). h.way) same ∙ t in cc)
 
 -- two slots of one way are two channels
 abbrev channel_named : (way : Way) (slot : ℕ) → Held
@@ -50,15 +72,15 @@ pub record TurnsOne (device : DeviceSeen) (turn : Channel → Turn Channel) (hel
 -- ---- one book of each way
 
 -- another channel that plays than the one at a slot
-other_play : (device : DeviceSeen) (desk : Desk) (slot : ℕ) (book : PlayBook) (way : Way) (other : ℕ) → (channel_named way other ≢ channel_named Play slot)
+pub other-play : (device : DeviceSeen) (desk : Desk) (slot : ℕ) (book : PlayBook) (way : Way) (other : ℕ) → (channel_named way other ≢ channel_named Play slot)
     → channel_at device (record desk { play = set desk.play slot book }) (channel_named way other) ≡ channel_at device desk (channel_named way other)
-other_play device desk slot book Play other differ = ap Playing (get_or-set_other desk.play slot other book (play_unopened device) (λ same. differ (ap (channel_named Play) same)))
-other_play device desk slot book Record other differ = refl
+other-play device desk slot book Play other differ = ap Playing (get_or-set_other desk.play slot other book (play_unopened device) (λ same. differ (ap (channel_named Play) same)))
+other-play device desk slot book Record other differ = refl
 
-other_record : (device : DeviceSeen) (desk : Desk) (slot : ℕ) (book : RecordBook) (way : Way) (other : ℕ) → (channel_named way other ≢ channel_named Record slot)
+pub other-record : (device : DeviceSeen) (desk : Desk) (slot : ℕ) (book : RecordBook) (way : Way) (other : ℕ) → (channel_named way other ≢ channel_named Record slot)
     → channel_at device (record desk { recording = set desk.recording slot book }) (channel_named way other) ≡ channel_at device desk (channel_named way other)
-other_record device desk slot book Play other differ = refl
-other_record device desk slot book Record other differ = ap Recording (get_or-set_other desk.recording slot other book (record_unopened device) (λ same. differ (ap (channel_named Record) same)))
+other-record device desk slot book Play other differ = refl
+other-record device desk slot book Record other differ = ap Recording (get_or-set_other desk.recording slot other book (record_unopened device) (λ same. differ (ap (channel_named Record) same)))
 
 -- ---- an event of a descriptor
 
@@ -72,7 +94,7 @@ one_play device turn own desk slot new there reply is same =
     record {
       own = same (channel_named Play slot) ∙ ap Playing (get_or-set_same desk.play slot book (play_unopened device) there) ∙ sym is;
       reply = reply;
-      others = λ other differ. same other ∙ other_play device desk slot book other.way other.slot differ;
+      others = λ other differ. same other ∙ other-play device desk slot book other.way other.slot differ;
     }
 
 one_record : (device : DeviceSeen) (turn : RecordBook → Turn RecordBook) (own : Channel → Turn Channel) (desk : Desk) (slot : ℕ) (new : DeskTurn) → slot < length desk.recording
@@ -84,7 +106,7 @@ one_record device turn own desk slot new there reply is same =
     record {
       own = same (channel_named Record slot) ∙ ap Recording (get_or-set_same desk.recording slot book (record_unopened device) there) ∙ sym is;
       reply = reply;
-      others = λ other differ. same other ∙ other_record device desk slot book other.way other.slot differ;
+      others = λ other differ. same other ∙ other-record device desk slot book other.way other.slot differ;
     }
 
 -- an event that is refused
@@ -97,61 +119,78 @@ one_refused device own held desk new same reply is = record {
 }
 
 write_one : (device : DeviceSeen) (way : Way) (slot : ℕ) (desk : Desk) (fd at count : ℕ) (source : Source) → slot < slots_of desk way
-    → TurnsOne device (own_turn device desk.handed (Write fd source at count)) (channel_named way slot) desk (write_on device (Some (channel_named way slot)) desk count)
-write_one device Play slot desk fd at count source there = one_play device (write_turn (desk_here device desk) count) (own_turn device desk.handed (Write fd source at count)) desk slot (write_on device (Some (channel_named Play slot)) desk count) there refl refl (λ held. refl)
-write_one device Record slot desk fd at count source there = one_refused device (own_turn device desk.handed (Write fd source at count)) (channel_named Record slot) desk (write_on device (Some (channel_named Record slot)) desk count) refl refl refl
+    → TurnsOne device (own_turn device desk.handed (grouping_at device desk (channel_named way slot)) (Write fd source at count)) (channel_named way slot) desk (write_on device (Some (channel_named way slot)) desk count)
+write_one device Play slot desk fd at count source there = one_play device (write_turn (desk_here device desk) count) (own_turn device desk.handed (grouping_at device desk (channel_named Play slot)) (Write fd source at count)) desk slot (write_on device (Some (channel_named Play slot)) desk count) there refl refl (λ held. refl)
+write_one device Record slot desk fd at count source there = one_refused device (own_turn device desk.handed (grouping_at device desk (channel_named Record slot)) (Write fd source at count)) (channel_named Record slot) desk (write_on device (Some (channel_named Record slot)) desk count) refl refl refl
 
 read_one : (device : DeviceSeen) (way : Way) (slot : ℕ) (desk : Desk) (fd count : ℕ) → slot < slots_of desk way
-    → TurnsOne device (own_turn device desk.handed (Read fd count)) (channel_named way slot) desk (read_on device (Some (channel_named way slot)) desk count)
-read_one device Play slot desk fd count there = one_refused device (own_turn device desk.handed (Read fd count)) (channel_named Play slot) desk (read_on device (Some (channel_named Play slot)) desk count) refl refl refl
-read_one device Record slot desk fd count there = one_record device (records.read_turn count) (own_turn device desk.handed (Read fd count)) desk slot (read_on device (Some (channel_named Record slot)) desk count) there refl refl (λ held. refl)
+    → TurnsOne device (own_turn device desk.handed (grouping_at device desk (channel_named way slot)) (Read fd count)) (channel_named way slot) desk (read_on device (Some (channel_named way slot)) desk count)
+read_one device Play slot desk fd count there = one_refused device (own_turn device desk.handed (grouping_at device desk (channel_named Play slot)) (Read fd count)) (channel_named Play slot) desk (read_on device (Some (channel_named Play slot)) desk count) refl refl refl
+read_one device Record slot desk fd count there = one_record device (records.read_turn count) (own_turn device desk.handed (grouping_at device desk (channel_named Record slot)) (Read fd count)) desk slot (read_on device (Some (channel_named Record slot)) desk count) there refl refl (λ held. refl)
 
-ioctl_one : (device : DeviceSeen) (way : Way) (slot : ℕ) (desk : Desk) (fd : ℕ) (request : Request) → slot < slots_of desk way
-    → TurnsOne device (own_turn device desk.handed (Ioctl fd request)) (channel_named way slot) desk (ioctl_on device (Some (channel_named way slot)) desk request)
-ioctl_one device Play slot desk fd request there = one_play device (asking device (desk_here device desk) request) (own_turn device desk.handed (Ioctl fd request)) desk slot (ioctl_on device (Some (channel_named Play slot)) desk request) there refl refl (λ held. refl)
-ioctl_one device Record slot desk fd request there = one_record device (record_ask request) (own_turn device desk.handed (Ioctl fd request)) desk slot (ioctl_on device (Some (channel_named Record slot)) desk request) there refl refl (λ held. refl)
+-- a request, which may be refused to a member
+ioctl_one : (device : DeviceSeen) (way : Way) (slot : ℕ) (desk : Desk) (request : Request) (refusal : Option Errno) → slot < slots_of desk way
+    → TurnsOne device (own_request device (desk_here device desk) request refusal) (channel_named way slot) desk (request_turn device desk (channel_named way slot) request refusal)
+ioctl_one device way slot desk request (Some errno) there = one_refused device (own_request device (desk_here device desk) request (Some errno)) (channel_named way slot) desk (refusing desk errno) refl refl refl
+ioctl_one device Play slot desk request None there =
+    one_play device (asking device (desk_here device desk) request) (own_request device (desk_here device desk) request None) desk slot (request_turn device desk (channel_named Play slot) request None) there refl refl (λ held. refl)
+ioctl_one device Record slot desk request None there =
+    one_record device (record_ask request) (own_request device (desk_here device desk) request None) desk slot (request_turn device desk (channel_named Record slot) request None) there refl refl (λ held. refl)
+
+-- a join, which may be refused
+join_one : (device : DeviceSeen) (way : Way) (slot : ℕ) (desk : Desk) (result : Result ℕ Errno) → slot < slots_of desk way
+    → TurnsOne device (own_join device (desk_here device desk) result) (channel_named way slot) desk (join_turn device desk (channel_named way slot) result)
+join_one device way slot desk (Err errno) there = one_refused device (own_join device (desk_here device desk) (Err errno)) (channel_named way slot) desk (refusing desk errno) refl refl refl
+join_one device Play slot desk (Ok group) there =
+    one_play device (λ book. record { book = (asking device (desk_here device desk) (SetTrigger 0) book).book; reply = Ok (Number group) }) (own_join device (desk_here device desk) (Ok group)) desk slot
+    (join_turn device desk (channel_named Play slot) (Ok group)) there refl refl (λ held. refl)
+join_one device Record slot desk (Ok group) there =
+    one_record device (λ book. record { book = (record_ask (SetTrigger 0) book).book; reply = Ok (Number group) }) (own_join device (desk_here device desk) (Ok group)) desk slot
+    (join_turn device desk (channel_named Record slot) (Ok group)) there refl refl (λ held. refl)
 
 close_one : (device : DeviceSeen) (way : Way) (slot : ℕ) (desk : Desk) (fd at : ℕ) → slot < slots_of desk way
-    → TurnsOne device (own_turn device desk.handed (Close fd)) (channel_named way slot) desk (close_on device (Some (channel_named way slot)) desk at)
+    → TurnsOne device (own_turn device desk.handed (grouping_at device desk (channel_named way slot)) (Close fd)) (channel_named way slot) desk (close_on device (Some (channel_named way slot)) (left (Some (channel_named way slot)) desk) at)
 close_one device Play slot desk fd at there =
-    one_play device (λ book. record { book = closing device (desk_here device desk) book; reply = Ok Done }) (own_turn device desk.handed (Close fd)) desk slot (close_on device (Some (channel_named Play slot)) desk at) there refl refl (λ held. refl)
+    let closing_desk : Desk = left (Some (channel_named Play slot)) desk in
+    one_play device (λ book. record { book = closing device (desk_here device desk) book; reply = Ok Done }) (own_turn device desk.handed (grouping_at device desk (channel_named Play slot)) (Close fd)) desk slot (close_on device (Some (channel_named Play slot)) closing_desk at) there refl refl (λ held. refl)
 close_one device Record slot desk fd at there =
-    one_record device (λ book. record { book = records.closed book; reply = Ok Done }) (own_turn device desk.handed (Close fd)) desk slot (close_on device (Some (channel_named Record slot)) desk at) there refl refl (λ held. refl)
+    let closing_desk : Desk = left (Some (channel_named Record slot)) desk in
+    one_record device (λ book. record { book = records.closed book; reply = Ok Done }) (own_turn device desk.handed (grouping_at device desk (channel_named Record slot)) (Close fd)) desk slot (close_on device (Some (channel_named Record slot)) closing_desk at) there refl refl (λ held. refl)
 
 -- an open descriptor is refused
 open_one : (device : DeviceSeen) (way : Way) (settings : Settings) (held : Held) (desk : Desk) (fd : ℕ) → held_by desk fd ≡ Some held
-    → TurnsOne device (own_turn device desk.handed (Open fd way settings)) held desk (open_turn desk fd way settings)
-open_one device way settings held desk fd e = rw e (one_refused device (own_turn device desk.handed (Open fd way settings)) held desk (refusing desk Exist) refl refl refl)
+    → TurnsOne device (own_turn device desk.handed (grouping_at device desk held) (Open fd way settings)) held desk (open_turn desk fd way settings)
+open_one device way settings held desk fd e = rw e (one_refused device (own_turn device desk.handed (grouping_at device desk held) (Open fd way settings)) held desk (refusing desk Exist) refl refl refl)
 
 -- a descriptor that is open turns its own book
 turns : (device : DeviceSeen) (event : Event) (held : Held) (desk : Desk) (fd : ℕ) → descriptor_of event ≡ Some fd → held_by desk fd ≡ Some held → held.slot < slots_of desk held.way
-    → TurnsOne device (own_turn device desk.handed event) held desk (after device desk event)
-turns device (Open at way settings) held desk fd n e there = open_one device way settings held desk at (ap (held_by desk) (named at fd n) ∙ e)
-turns device (Write at source from count) held desk fd n e there = rw (ap (held_by desk) (named at fd n) ∙ e) (write_one device held.way held.slot desk at from count source there)
-turns device (Read at count) held desk fd n e there = rw (ap (held_by desk) (named at fd n) ∙ e) (read_one device held.way held.slot desk at count there)
-turns device (Ioctl at request) held desk fd n e there = rw (ap (held_by desk) (named at fd n) ∙ e) (ioctl_one device held.way held.slot desk at request there)
-turns device (Close at) held desk fd n e there = rw (ap (held_by desk) (named at fd n) ∙ e) (close_one device held.way held.slot desk at at there)
+    → TurnsOne device (own_turn device desk.handed (grouping_at device desk held) event) held desk (after device desk event)
+turns device (Open at way settings) held desk fd n e there = open_one device way settings held desk at (ap (held_by desk) (named-fd at fd n) ∙ e)
+turns device (Write at source from count) held desk fd n e there = rw (ap (held_by desk) (named-fd at fd n) ∙ e) (write_one device held.way held.slot desk at from count source there)
+turns device (Read at count) held desk fd n e there = rw (ap (held_by desk) (named-fd at fd n) ∙ e) (read_one device held.way held.slot desk at count there)
+turns device (Ioctl at request) held desk fd n e there = rw (ap (held_by desk) (named-fd at fd n) ∙ e) (ioctl_one device held.way held.slot desk request (member_refusal (is_member desk held) request) there)
+turns device (Join at group) held desk fd n e there =
+    rw (ap (held_by desk) (named-fd at fd n) ∙ e) (join_one device held.way held.slot desk (join_result (joining desk.groups held.way held.slot group) (rests device desk held)) there)
+turns device (StartGroup at group) held desk fd n e there = cc
+turns device (Close at) held desk fd n e there = rw (ap (held_by desk) (named-fd at fd n) ∙ e) (close_one device held.way held.slot desk at at there)
 turns device (Intr frames) held desk fd n e there = cc
 
 -- an interrupt goes by each book alone
-passed : (device : DeviceSeen) (desk : Desk) (frames : ℕ) (way : Way) (slot : ℕ) → channel_at device (after device desk (Intr frames)).desk (channel_named way slot) ≡ (own_turn device desk.handed (Intr frames) (channel_at device desk (channel_named way slot))).book
+passed : (device : DeviceSeen) (desk : Desk) (frames : ℕ) (way : Way) (slot : ℕ) → channel_at device (after device desk (Intr frames)).desk (channel_named way slot) ≡ (own_turn device desk.handed (grouping_at device desk (channel_named way slot)) (Intr frames) (channel_at device desk (channel_named way slot))).book
 passed device desk frames Play slot = ap Playing (play_at-passing device desk frames slot)
 passed device desk frames Record slot = ap Recording (record_at-capturing device desk frames slot)
 
-each_alone : (device : DeviceSeen) (event : Event) (desk : Desk) → descriptor_of event ≡ None → (held : Held) → channel_at device (after device desk event).desk held ≡ (own_turn device desk.handed event (channel_at device desk held)).book
-each_alone device (Open at way settings) desk n held = cc
-each_alone device (Write at source from count) desk n held = cc
-each_alone device (Read at count) desk n held = cc
-each_alone device (Ioctl at request) desk n held = cc
-each_alone device (Close at) desk n held = cc
-each_alone device (Intr frames) desk n held = passed device desk frames held.way held.slot
-
 -- ---- what descriptors hold
+
+-- a request leaves what each does
+asked_holds : (device : DeviceSeen) (held : Option Held) (desk : Desk) (request : Request) (fd : ℕ) → held_by (ioctl_on device held desk request).desk fd ≡ held_by desk fd
+asked_holds device held desk request fd =
+    by-turning (λ (d : Desk). held_by d fd ≡ held_by desk fd) (play_turn device (asking device (desk_here device desk) request) desk) (record_turn device (record_ask request) desk) held desk refl (λ slot. refl) (λ slot. refl)
 
 -- any event of another descriptor leaves what this one holds
 holds_same : (device : DeviceSeen) (event : Event) (desk : Desk) (fd other : ℕ) → descriptor_of event ≡ Some fd → other ≢ fd → held_by (after device desk event).desk other ≡ held_by desk other
 holds_same device (Open at way settings) desk fd other n differ =
-    let apart : other ≢ at = λ same. differ (same ∙ named at fd n) in
+    let apart : other ≢ at = λ same. differ (same ∙ named-fd at fd n) in
     by-opening (λ (w : Way) (d : Desk). held_by d other ≡ held_by desk other) way desk at settings (λ w. refl)
     (λ slot e. get_or-set_other desk.descriptors at other (Some (channel_named Play slot)) None apart)
     (λ slot e. get_or-set_other desk.descriptors at other (Some (channel_named Record slot)) None apart)
@@ -160,10 +199,13 @@ holds_same device (Write at source from count) desk fd other n differ =
 holds_same device (Read at count) desk fd other n differ =
     by-turning (λ (d : Desk). held_by d other ≡ held_by desk other) (λ slot. refusing desk Inval) (record_turn device (records.read_turn count) desk) (held_by desk at) desk refl (λ slot. refl) (λ slot. refl)
 holds_same device (Ioctl at request) desk fd other n differ =
-    by-turning (λ (d : Desk). held_by d other ≡ held_by desk other) (play_turn device (asking device (desk_here device desk) request) desk) (record_turn device (record_ask request) desk) (held_by desk at) desk refl (λ slot. refl) (λ slot. refl)
+    by-asking device (λ (d : Desk). held_by d other ≡ held_by desk other) (held_by desk at) desk request refl (λ groups. asked_holds device (held_by desk at) (record desk { groups = groups }) request other)
+holds_same device (Join at group) desk fd other n differ =
+    by-joining device (λ (t : DeskTurn). held_by t.desk other ≡ held_by desk other) (held_by desk at) desk group (λ errno. refl) (λ held number e resting. asked_holds device (Some held) desk (SetTrigger 0) other)
+holds_same device (StartGroup at group) desk fd other n differ = cc
 holds_same device (Close at) desk fd other n differ =
-    let apart : other ≢ at = λ same. differ (same ∙ named at fd n) in
-    by-turning (λ (d : Desk). held_by d other ≡ held_by desk other) (close_play device desk at) (close_record device desk at) (held_by desk at) desk refl
+    let apart : other ≢ at = λ same. differ (same ∙ named-fd at fd n) in
+    by-turning (λ (d : Desk). held_by d other ≡ held_by desk other) (close_play device (left (held_by desk at) desk) at) (close_record device (left (held_by desk at) desk) at) (held_by desk at) (left (held_by desk at) desk) refl
     (λ slot. get_or-set_other desk.descriptors at other None None apart) (λ slot. get_or-set_other desk.descriptors at other None None apart)
 holds_same device (Intr frames) desk fd other n differ = cc
 
@@ -185,26 +227,70 @@ closed_shut device desk fd held there =
 
 -- an event of its own leaves an open descriptor its channel, but for a close
 holds_until : (device : DeviceSeen) (event : Event) (desk : Desk) (fd : ℕ) (held : Held) → descriptor_of event ≡ Some fd → held_by desk fd ≡ Some held → held_by (after device desk event).desk fd ≡ held_after event held
-holds_until device (Open at way settings) desk fd held n e = rw (ap (held_by desk) (named at fd n) ∙ e) e
+holds_until device (Open at way settings) desk fd held n e = rw (ap (held_by desk) (named-fd at fd n) ∙ e) e
 holds_until device (Write at source from count) desk fd held n e =
     by-turning (λ (d : Desk). held_by d fd ≡ Some held) (play_turn device (write_turn (desk_here device desk) count) desk) (λ slot. refusing desk Inval) (held_by desk at) desk e (λ slot. e) (λ slot. e)
 holds_until device (Read at count) desk fd held n e =
     by-turning (λ (d : Desk). held_by d fd ≡ Some held) (λ slot. refusing desk Inval) (record_turn device (records.read_turn count) desk) (held_by desk at) desk e (λ slot. e) (λ slot. e)
 holds_until device (Ioctl at request) desk fd held n e =
-    by-turning (λ (d : Desk). held_by d fd ≡ Some held) (play_turn device (asking device (desk_here device desk) request) desk) (record_turn device (record_ask request) desk) (held_by desk at) desk e (λ slot. e) (λ slot. e)
+    by-asking device (λ (d : Desk). held_by d fd ≡ Some held) (held_by desk at) desk request e (λ groups. asked_holds device (held_by desk at) (record desk { groups = groups }) request fd ∙ e)
+holds_until device (Join at group) desk fd held n e =
+    by-joining device (λ (t : DeskTurn). held_by t.desk fd ≡ Some held) (held_by desk at) desk group (λ errno. e) (λ mine number m resting. asked_holds device (Some mine) desk (SetTrigger 0) fd ∙ e)
+holds_until device (StartGroup at group) desk fd held n e = cc
 holds_until device (Close at) desk fd held n e =
-    subst (λ (k : ℕ). held_by (close_on device (held_by desk k) desk k).desk fd ≡ None) (sym (named at fd n))
-    (subst (λ (h : Option Held). held_by (close_on device h desk fd).desk fd ≡ None) (sym e) (closed_shut device desk fd held (descriptor_there desk fd held e)))
+    subst (λ (k : ℕ). held_by (close_on device (held_by desk k) (left (held_by desk k) desk) k).desk fd ≡ None) (sym (named-fd at fd n))
+    (subst (λ (h : Option Held). held_by (close_on device h (left h desk) fd).desk fd ≡ None) (sym e) (closed_shut device (left (Some held) desk) fd held (descriptor_there desk fd held e)))
 holds_until device (Intr frames) desk fd held n e = cc
 
--- an interrupt leaves what each holds
-holds_passing : (device : DeviceSeen) (event : Event) (desk : Desk) → descriptor_of event ≡ None → (fd : ℕ) → held_by (after device desk event).desk fd ≡ held_by desk fd
-holds_passing device (Open at way settings) desk n fd = cc
-holds_passing device (Write at source from count) desk n fd = cc
-holds_passing device (Read at count) desk n fd = cc
-holds_passing device (Ioctl at request) desk n fd = cc
-holds_passing device (Close at) desk n fd = cc
-holds_passing device (Intr frames) desk n fd = refl
+-- ---- the groups
+
+-- a request that is refused to a member leaves no group
+refused_leaves : (member : Bool) (request : Request) (held : Held) (groups : Groups) (errno : Errno) → member_refusal member request ≡ Some errno → groups ≡ left_by request (Some held) groups
+refused_leaves true Sync held groups errno e = cc
+refused_leaves false Sync held groups errno e = cc
+refused_leaves member _ held groups errno e = refl
+
+asked_groups : (device : DeviceSeen) (held : Option Held) (desk : Desk) (request : Request) → (ioctl_on device held desk request).desk.groups ≡ desk.groups
+asked_groups device held desk request =
+    by-turning (λ (d : Desk). d.groups ≡ desk.groups) (play_turn device (asking device (desk_here device desk) request) desk) (record_turn device (record_ask request) desk) held desk refl (λ slot. refl) (λ slot. refl)
+
+requested_groups : (device : DeviceSeen) (desk : Desk) (held : Held) (request : Request) (refusal : Option Errno) → member_refusal (is_member desk held) request ≡ refusal
+    → (request_turn device desk held request refusal).desk.groups ≡ left_by request (Some held) desk.groups
+requested_groups device desk held request None e = asked_groups device (Some held) (record desk { groups = left_by request (Some held) desk.groups }) request
+requested_groups device desk held request (Some errno) e = refused_leaves (is_member desk held) request held desk.groups errno e
+
+joined_groups : (device : DeviceSeen) (desk : Desk) (held : Held) (result : Result ℕ Errno) → (join_turn device desk held result).desk.groups ≡ groups_joined desk.groups held.way held.slot result
+joined_groups device desk held (Err errno) = refl
+joined_groups device desk held (Ok group) = refl
+
+closed_groups : (device : DeviceSeen) (held : Option Held) (desk : Desk) (fd : ℕ) → (close_on device held desk fd).desk.groups ≡ desk.groups
+closed_groups device held desk fd = by-turning (λ (d : Desk). d.groups ≡ desk.groups) (close_play device desk fd) (close_record device desk fd) held desk refl (λ slot. refl) (λ slot. refl)
+
+-- what an event of its own leaves of the groups
+groups_turned : (device : DeviceSeen) (event : Event) (held : Held) (desk : Desk) (fd : ℕ) → descriptor_of event ≡ Some fd → held_by desk fd ≡ Some held
+    → (after device desk event).desk.groups ≡ groups_after event held (grouping_at device desk held) desk.groups
+groups_turned device (Open at way settings) held desk fd n e = rw (ap (held_by desk) (named-fd at fd n) ∙ e) refl
+groups_turned device (Write at source from count) held desk fd n e =
+    by-turning (λ (d : Desk). d.groups ≡ desk.groups) (play_turn device (write_turn (desk_here device desk) count) desk) (λ slot. refusing desk Inval) (held_by desk at) desk refl (λ slot. refl) (λ slot. refl)
+groups_turned device (Read at count) held desk fd n e =
+    by-turning (λ (d : Desk). d.groups ≡ desk.groups) (λ slot. refusing desk Inval) (record_turn device (records.read_turn count) desk) (held_by desk at) desk refl (λ slot. refl) (λ slot. refl)
+groups_turned device (Ioctl at request) held desk fd n e = rw (ap (held_by desk) (named-fd at fd n) ∙ e) (requested_groups device desk held request (member_refusal (is_member desk held) request) refl)
+groups_turned device (Join at group) held desk fd n e =
+    rw (ap (held_by desk) (named-fd at fd n) ∙ e) (joined_groups device desk held (join_result (joining desk.groups held.way held.slot group) (rests device desk held)))
+groups_turned device (StartGroup at group) held desk fd n e = cc
+groups_turned device (Close at) held desk fd n e = rw (ap (held_by desk) (named-fd at fd n) ∙ e) (closed_groups device (Some held) (left (Some held) desk) at)
+groups_turned device (Intr frames) held desk fd n e = cc
+
+-- an event of a descriptor that is shut leaves all
+groups_shut : (device : DeviceSeen) (event : Event) (desk : Desk) (fd : ℕ) → descriptor_of event ≡ Some fd → held_by desk fd ≡ None → (after device desk event).desk.groups ≡ desk.groups
+groups_shut device (Open at way settings) desk fd n e = by-opening (λ (w : Way) (d : Desk). d.groups ≡ desk.groups) way desk at settings (λ w. refl) (λ slot found. refl) (λ slot found. refl)
+groups_shut device (Write at source from count) desk fd n e = rw (ap (held_by desk) (named-fd at fd n) ∙ e) refl
+groups_shut device (Read at count) desk fd n e = rw (ap (held_by desk) (named-fd at fd n) ∙ e) refl
+groups_shut device (Ioctl at request) desk fd n e = rw (ap (held_by desk) (named-fd at fd n) ∙ e) refl
+groups_shut device (Join at group) desk fd n e = rw (ap (held_by desk) (named-fd at fd n) ∙ e) refl
+groups_shut device (StartGroup at group) desk fd n e = cc
+groups_shut device (Close at) desk fd n e = rw (ap (held_by desk) (named-fd at fd n) ∙ e) refl
+groups_shut device (Intr frames) desk fd n e = cc
 
 -- ---- a descriptor that is shut
 
@@ -216,16 +302,18 @@ taken_there desk fd mine other there differ same = differ (get_or-set_same desk.
 untaken_same : (device : DeviceSeen) (event : Event) (desk : Desk) (fd : ℕ) (other : Held) → descriptor_of event ≡ Some fd → held_by desk fd ≡ None → fd < length desk.descriptors
     → held_by (after device desk event).desk fd ≢ Some other → channel_at device (after device desk event).desk other ≡ channel_at device desk other
 untaken_same device (Open at way settings) desk fd other n e there differ =
-    let is : at ≡ fd = named at fd n in
+    let is : at ≡ fd = named-fd at fd n in
     let here : at < length desk.descriptors = omega arith in
     by-opening (λ (w : Way) (d : Desk). held_by d at ≢ Some other → channel_at device d other ≡ channel_at device desk other) way desk at settings (λ w apart. refl)
-    (λ slot found apart. other_play device desk slot (play_begun settings) other.way other.slot (taken_there desk at (channel_named Play slot) other here apart))
-    (λ slot found apart. other_record device desk slot (record_begun settings) other.way other.slot (taken_there desk at (channel_named Record slot) other here apart))
+    (λ slot found apart. other-play device desk slot (play_begun settings) other.way other.slot (taken_there desk at (channel_named Play slot) other here apart))
+    (λ slot found apart. other-record device desk slot (record_begun settings) other.way other.slot (taken_there desk at (channel_named Record slot) other here apart))
     (subst (λ (k : ℕ). held_by (open_turn desk at way settings).desk k ≢ Some other) (sym is) differ)
-untaken_same device (Write at source from count) desk fd other n e there differ = rw (ap (held_by desk) (named at fd n) ∙ e) refl
-untaken_same device (Read at count) desk fd other n e there differ = rw (ap (held_by desk) (named at fd n) ∙ e) refl
-untaken_same device (Ioctl at request) desk fd other n e there differ = rw (ap (held_by desk) (named at fd n) ∙ e) refl
-untaken_same device (Close at) desk fd other n e there differ = rw (ap (held_by desk) (named at fd n) ∙ e) refl
+untaken_same device (Write at source from count) desk fd other n e there differ = rw (ap (held_by desk) (named-fd at fd n) ∙ e) refl
+untaken_same device (Read at count) desk fd other n e there differ = rw (ap (held_by desk) (named-fd at fd n) ∙ e) refl
+untaken_same device (Ioctl at request) desk fd other n e there differ = rw (ap (held_by desk) (named-fd at fd n) ∙ e) refl
+untaken_same device (Join at group) desk fd other n e there differ = rw (ap (held_by desk) (named-fd at fd n) ∙ e) refl
+untaken_same device (StartGroup at group) desk fd other n e there differ = cc
+untaken_same device (Close at) desk fd other n e there differ = rw (ap (held_by desk) (named-fd at fd n) ∙ e) refl
 untaken_same device (Intr frames) desk fd other n e there differ = cc
 
 -- no open takes a slot that some descriptor holds
@@ -248,12 +336,14 @@ shut_leaves : (device : DeviceSeen) (event : Event) (desk : Desk) (fd other : �
     → channel_at device (after device desk event).desk theirs ≡ channel_at device desk theirs
 shut_leaves device (Open at way settings) desk fd other theirs h n e m =
     by-opening (λ (w : Way) (d : Desk). channel_at device d theirs ≡ channel_at device desk theirs) way desk at settings (λ w. refl)
-    (λ slot found. other_play device desk slot (play_begun settings) theirs.way theirs.slot (play_taken device desk slot other theirs.way theirs.slot h found m))
-    (λ slot found. other_record device desk slot (record_begun settings) theirs.way theirs.slot (record_taken device desk slot other theirs.way theirs.slot h found m))
-shut_leaves device (Write at source from count) desk fd other theirs h n e m = rw (ap (held_by desk) (named at fd n) ∙ e) refl
-shut_leaves device (Read at count) desk fd other theirs h n e m = rw (ap (held_by desk) (named at fd n) ∙ e) refl
-shut_leaves device (Ioctl at request) desk fd other theirs h n e m = rw (ap (held_by desk) (named at fd n) ∙ e) refl
-shut_leaves device (Close at) desk fd other theirs h n e m = rw (ap (held_by desk) (named at fd n) ∙ e) refl
+    (λ slot found. other-play device desk slot (play_begun settings) theirs.way theirs.slot (play_taken device desk slot other theirs.way theirs.slot h found m))
+    (λ slot found. other-record device desk slot (record_begun settings) theirs.way theirs.slot (record_taken device desk slot other theirs.way theirs.slot h found m))
+shut_leaves device (Write at source from count) desk fd other theirs h n e m = rw (ap (held_by desk) (named-fd at fd n) ∙ e) refl
+shut_leaves device (Read at count) desk fd other theirs h n e m = rw (ap (held_by desk) (named-fd at fd n) ∙ e) refl
+shut_leaves device (Ioctl at request) desk fd other theirs h n e m = rw (ap (held_by desk) (named-fd at fd n) ∙ e) refl
+shut_leaves device (Join at group) desk fd other theirs h n e m = rw (ap (held_by desk) (named-fd at fd n) ∙ e) refl
+shut_leaves device (StartGroup at group) desk fd other theirs h n e m = cc
+shut_leaves device (Close at) desk fd other theirs h n e m = rw (ap (held_by desk) (named-fd at fd n) ∙ e) refl
 shut_leaves device (Intr frames) desk fd other theirs h n e m = cc
 
 -- any event of a descriptor leaves what another one holds as it is
@@ -264,40 +354,74 @@ leaves device event desk fd other theirs (Some held) h n differ m e =
     (turns device event held desk fd n e (h.within fd held e)).others theirs (λ same. differ (h.apart other fd theirs held m e same))
 
 -- an event of a descriptor
-by_descriptor : (device : DeviceSeen) (event : Event) (desk : Desk) (fd : ℕ) → HoldApart desk → descriptor_of event ≡ Some fd → GoesByDescriptor device event desk (after device desk event).desk (after device desk event).reply fd
-by_descriptor device event desk fd hold n = record {
+pub by-descriptor : (device : DeviceSeen) (event : Event) (desk : Desk) (fd : ℕ) → HoldApart desk → descriptor_of event ≡ Some fd → GoesByDescriptor device event desk (after device desk event).desk (after device desk event).reply fd
+by-descriptor device event desk fd hold n = record {
   opened = λ held e. (let turned = turns device event held desk fd n e (hold.within fd held e) in
-      record { own = turned.own; answer = turned.reply; until = holds_until device event desk fd held n e; others = turned.others });
-  shut = λ e other there differ. untaken_same device event desk fd other n e there differ;
+      record { own = turned.own; answer = turned.reply; until = holds_until device event desk fd held n e; groups = groups_turned device event held desk fd n e; others = turned.others });
+  shut = λ e. record { others = λ other there differ. untaken_same device event desk fd other n e there differ; groups = groups_shut device event desk fd n e };
   holds = λ other differ. holds_same device event desk fd other n differ;
   strangers = λ other theirs differ m. leaves device event desk fd other theirs (held_by desk fd) hold n differ m refl;
 }
 
+-- ---- a start of a group
+
+-- a member starts
+member_starts : (device : DeviceSeen) (desk : Desk) (group : ℕ) (way : Way) (slot : ℕ) → 0 < group → group_of desk (channel_named way slot) ≡ group
+    → channel_at device (group_started device desk group) (channel_named way slot) ≡ starting device (desk_here device desk) (channel_at device desk (channel_named way slot))
+member_starts device desk group Play slot some is =
+    ap Playing (play_at-started device desk group slot some ∙ ap (λ (b : Bool). cond b (play_starting device (desk_here device desk) (play_at device desk slot)) (play_at device desk slot)) (is-this (get_or desk.groups.play slot 0) group is))
+member_starts device desk group Record slot some is =
+    ap Recording (record_at-started device desk group slot some ∙ ap (λ (b : Bool). cond b (record_starting (record_at device desk slot)) (record_at device desk slot)) (is-this (get_or desk.groups.recording slot 0) group is))
+
+-- and no other channel changes
+pub other-waits : (device : DeviceSeen) (desk : Desk) (group : ℕ) (way : Way) (slot : ℕ) → 0 < group → (group_of desk (channel_named way slot) ≢ group)
+    → channel_at device (group_started device desk group) (channel_named way slot) ≡ channel_at device desk (channel_named way slot)
+other-waits device desk group Play slot some differ =
+    ap Playing (play_at-started device desk group slot some ∙ ap (λ (b : Bool). cond b (play_starting device (desk_here device desk) (play_at device desk slot)) (play_at device desk slot)) (is-other (get_or desk.groups.play slot 0) group differ))
+other-waits device desk group Record slot some differ =
+    ap Recording (record_at-started device desk group slot some ∙ ap (λ (b : Bool). cond b (record_starting (record_at device desk slot)) (record_at device desk slot)) (is-other (get_or desk.groups.recording slot 0) group differ))
+
+starts_together : (device : DeviceSeen) (held : Option Held) (desk : Desk) (group : ℕ) → let turn : DeskTurn = start_on device held desk group in StartsTogether device group desk turn.desk turn.reply
+starts_together device held desk group =
+    by-starting device (λ (t : DeskTurn). StartsTogether device group desk t.desk t.reply) held desk group
+    (λ errno. record { members = λ mine is. tt; groups = tt; refused = refl; others = λ mine differ. refl; passes = λ fd. refl })
+    (λ used ready. let some : 0 < group = used-some desk.groups group used in record {
+      members = λ mine is. member_starts device desk group mine.way mine.slot some is;
+      groups = refl;
+      refused = tt;
+      others = λ mine differ. other-waits device desk group mine.way mine.slot some differ;
+      passes = λ fd. refl;
+    })
+
 -- every event leaves the books of a desk to themselves
 pub isolated : (device : DeviceSeen) (event : Event) (desk : Desk) → HoldApart desk → IsIsolated device event desk (after device desk event).desk (after device desk event).reply
-isolated device (Open fd way settings) desk hold = by_descriptor device (Open fd way settings) desk fd hold refl
-isolated device (Write fd source at count) desk hold = by_descriptor device (Write fd source at count) desk fd hold refl
-isolated device (Read fd count) desk hold = by_descriptor device (Read fd count) desk fd hold refl
-isolated device (Ioctl fd request) desk hold = by_descriptor device (Ioctl fd request) desk fd hold refl
-isolated device (Close fd) desk hold = by_descriptor device (Close fd) desk fd hold refl
-isolated device (Intr n) desk hold = record { each = each_alone device (Intr n) desk refl; passes = holds_passing device (Intr n) desk refl }
+isolated device (Open fd way settings) desk hold = by-descriptor device (Open fd way settings) desk fd hold refl
+isolated device (Write fd source at count) desk hold = by-descriptor device (Write fd source at count) desk fd hold refl
+isolated device (Read fd count) desk hold = by-descriptor device (Read fd count) desk fd hold refl
+isolated device (Ioctl fd request) desk hold = by-descriptor device (Ioctl fd request) desk fd hold refl
+isolated device (Join fd group) desk hold = by-descriptor device (Join fd group) desk fd hold refl
+isolated device (StartGroup fd group) desk hold = starts_together device (held_by desk fd) desk group
+isolated device (Close fd) desk hold = by-descriptor device (Close fd) desk fd hold refl
+isolated device (Intr n) desk hold = record { each = λ held. passed device desk n held.way held.slot; passes = λ fd. refl; groups = refl }
 
 -- ---- an opening
 
--- the channel that an opened descriptor holds
-begins : (device : DeviceSeen) (desk : Desk) (fd : ℕ) (mine held : Held) (new : Desk) (channel : Channel) → held_by desk fd ≡ None → new.descriptors ≡ set desk.descriptors fd (Some mine) → channel_at device new mine ≡ channel → held_by new fd ≡ Some held
-    → channel_at device new held ≡ channel
-begins device desk fd mine held new channel shut put is holds =
-    let reads : get_or (set desk.descriptors fd (Some mine)) fd None ≡ Some held = ap (λ (l : List (Option Held)). get_or l fd None) (sym put) ∙ holds in
-    elim (cases_lt fd (length desk.descriptors)) [
-      | inl here ↦ (let same : Some held ≡ Some mine = sym reads ∙ get_or-set_same desk.descriptors fd (Some mine) None here in
-          ap (channel_at device new) (ap (λ (h : Option Held). held_or h) same) ∙ is)
-      | inr past ↦ absurd (let none : None ≡ Some held = sym shut ∙ ap (λ (l : List (Option Held)). get_or l fd None) (sym (set_past desk.descriptors fd (Some mine) past)) ∙ reads in cc)
+-- the channel that an opened descriptor holds is the one that it was given
+pub opened-is : (descriptors : List (Option Held)) (fd : ℕ) (mine held : Held) → get_or descriptors fd None ≡ None → get_or (set descriptors fd (Some mine)) fd None ≡ Some held → held ≡ mine
+opened-is descriptors fd mine held shut reads =
+    elim (cases_lt fd (length descriptors)) [
+      | inl here ↦ ap (λ (h : Option Held). held_or h) (sym reads ∙ get_or-set_same descriptors fd (Some mine) None here)
+      | inr past ↦ absurd (let none : None ≡ Some held = sym shut ∙ ap (λ (l : List (Option Held)). get_or l fd None) (sym (set_past descriptors fd (Some mine) past)) ∙ reads in cc)
     ]
   where
     held_or : Option Held → Held
     held_or None = mine
     held_or (Some h) = h
+
+begins : (device : DeviceSeen) (desk : Desk) (fd : ℕ) (mine held : Held) (new : Desk) (channel : Channel) → held_by desk fd ≡ None → new.descriptors ≡ set desk.descriptors fd (Some mine) → channel_at device new mine ≡ channel → held_by new fd ≡ Some held
+    → channel_at device new held ≡ channel
+begins device desk fd mine held new channel shut put is holds =
+    ap (channel_at device new) (opened-is desk.descriptors fd mine held shut (ap (λ (l : List (Option Held)). get_or l fd None) (sym put) ∙ holds)) ∙ is
 
 pub opened-begins : (device : DeviceSeen) (desk : Desk) (fd : ℕ) (way : Way) (settings : Settings) (held : Held) → held_by desk fd ≡ None → held_by (open_turn desk fd way settings).desk fd ≡ Some held
     → channel_at device (open_turn desk fd way settings).desk held ≡ channel_begun way settings

@@ -11,6 +11,8 @@ pub mod RecordAsking
 pub mod RecordSafe
 pub mod RecordLeaves
 pub mod RecordHolding
+pub mod Grouping
+pub mod Members
 pub mod Apart
 pub mod Slots
 pub mod Turning

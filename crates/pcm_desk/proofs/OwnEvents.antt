@@ -1,37 +1,39 @@
 -- What a client is told along a list of events goes by its own events alone.
-use Rattle.std.proofs.Common.{◌≡◌, ◌≢◌, ℕ, ◌+◌, Bool, true, false, cond, List, [], ◌∷◌, Option, Some, None, ◌⊎◌, inl, inr, Result, refl, sym, ap, ◌∙◌, subst, arith}
-use Rattle.std.specs.Prelude.{All}
-use Rattle.std.proofs.lemmas.Bool.{eqb-true}
+use Rattle.std.proofs.Common.{◌≡◌, ◌≢◌, ℕ, ◌+◌, ◌<◌, Bool, true, false, cond, List, [], ◌∷◌, Option, Some, None, ◌⊎◌, inl, inr, Result, Ok, Err, refl, sym, ap, ◌∙◌, subst, arith}
+use Rattle.std.specs.Prelude.{All, IsErr, eqb, nat_lt}
+use Rattle.std.proofs.lemmas.Bool.{cases_eq, eqb-true}
 use Rattle.std.proofs.lemmas.Bool.Decides.{nat_tests}
 use Rattle.std.proofs.lemmas.List.Elements.{All-head, All-tail}
 use Rattle.pcm_format.specs.declared.settings.Settings.{Settings}
 use Rattle.pcm_oss.specs.declared.event.Event.{Event}
-use Rattle.pcm_oss.specs.declared.event.Event.TheVariants.{Open, Write, Read, Ioctl, Close, Intr}
+use Rattle.pcm_oss.specs.declared.event.Event.TheVariants.{Open, Write, Read, Ioctl, Join, StartGroup, Close, Intr}
 use Rattle.pcm_oss.specs.declared.event.Way.{Way}
 use Rattle.pcm_oss.specs.declared.reply.Answer.{Answer}
 use Rattle.pcm_oss.specs.declared.reply.Errno.{Errno}
 use Rattle.pcm_desk.specs.declared.device.Held.{Held}
 use Rattle.pcm_desk.specs.Device.{DeviceSeen}
-use Rattle.pcm_desk.specs.Desk.{Desk, after, held_by}
+use Rattle.pcm_oss.specs.declared.request.Request.TheVariants.{Sync}
+use Rattle.pcm_group.specs.declared.sync_groups.Groups.{Groups}
+use Rattle.pcm_group.proofs.Members.{group-dissolved, group-left, used-some}
+use Rattle.pcm_desk.specs.Desk.{Desk, DeskTurn, after, held_by, group_of, is_member, member_refusal}
 use Rattle.pcm_desk.specs.Events.{after_all, frames_taken}
 use Rattle.pcm_desk.specs.declared.turn.Turn.{Turn}
-use Rattle.pcm_desk.specs.Own.{Channel, GoesByDescriptor, GoesByEach, HoldApart, IsIsolatedBy, Playing, Recording, channel_at, descriptor_of, held_after, own_turn}
-use Rattle.pcm_desk.specs.OwnEvents.{Opens, channel_begun, closes, concerns, names, own_after, own_events, own_replies, replies_to, unnamed}
+use Rattle.pcm_desk.specs.Device.{here_at}
+use Rattle.pcm_desk.specs.Own.{Channel, GoesByDescriptor, GoesByEach, Grouping, HoldApart, IsIsolatedBy, MembersWait, Playing, Recording, StartsTogether, channel_at, descriptor_of, grouping_at, groups_after, held_after, own_request, own_turn, ungrouped}
+use Rattle.pcm_desk.specs.OwnEvents.{JoinsNone, Opens, channel_begun, closes, concerns, joins, names, own_after, own_events, own_replies, replies_to, unnamed}
 use Rattle.pcm_desk.proofs.Apart.{apart-after}
+use Rattle.pcm_desk.proofs.Grouping.{by-joining, by-starting, is-this}
+use Rattle.pcm_desk.proofs.Members.{opened-alone, others-group}
 use Rattle.pcm_desk.proofs.Isolation.{isolated, opened-begins}
 use Rattle.pcm_desk.proofs.Turning.{handed-taken}
 
 -- ---- one event
 
 -- a channel turns by an event whatever the number of its descriptor, and whatever bytes a write has
-unnamed_same : (device : DeviceSeen) (handed : ℕ) (event : Event) (channel : Channel) → own_turn device handed (unnamed event) channel ≡ own_turn device handed event channel
-unnamed_same device handed (Open fd way settings) channel = refl
+unnamed_same : (device : DeviceSeen) (handed : ℕ) (event : Event) (channel : Channel) → own_turn device handed ungrouped (unnamed event) channel ≡ own_turn device handed ungrouped event channel
 unnamed_same device handed (Write fd source at count) (Playing book) = refl
 unnamed_same device handed (Write fd source at count) (Recording book) = refl
-unnamed_same device handed (Read fd count) channel = refl
-unnamed_same device handed (Ioctl fd request) channel = refl
-unnamed_same device handed (Close fd) channel = refl
-unnamed_same device handed (Intr n) channel = refl
+unnamed_same device handed _ channel = refl
 
 -- and it takes as many frames
 unnamed_taken : (event : Event) → frames_taken (unnamed event) ≡ frames_taken event
@@ -39,6 +41,8 @@ unnamed_taken (Open fd way settings) = refl
 unnamed_taken (Write fd source at count) = refl
 unnamed_taken (Read fd count) = refl
 unnamed_taken (Ioctl fd request) = refl
+unnamed_taken (Join fd group) = refl
+unnamed_taken (StartGroup fd group) = refl
 unnamed_taken (Close fd) = refl
 unnamed_taken (Intr n) = refl
 
@@ -46,12 +50,12 @@ unnamed_taken (Intr n) = refl
 unnamed_replies : (device : DeviceSeen) (handed : ℕ) (event : Event) (channel : Channel) (more : List Event) → own_replies device handed channel (unnamed event ∷ more) ≡ own_replies device handed channel (event ∷ more)
 unnamed_replies device handed event channel more =
     ap (λ (t : Turn Channel). t.reply ∷ own_replies device (handed + frames_taken (unnamed event)) t.book more) (unnamed_same device handed event channel)
-    ∙ ap (λ (k : ℕ). (own_turn device handed event channel).reply ∷ own_replies device (handed + k) (own_turn device handed event channel).book more) (unnamed_taken event)
+    ∙ ap (λ (k : ℕ). (own_turn device handed ungrouped event channel).reply ∷ own_replies device (handed + k) (own_turn device handed ungrouped event channel).book more) (unnamed_taken event)
 
 unnamed_after : (device : DeviceSeen) (handed : ℕ) (event : Event) (channel : Channel) (more : List Event) → own_after device handed channel (unnamed event ∷ more) ≡ own_after device handed channel (event ∷ more)
 unnamed_after device handed event channel more =
     ap (λ (t : Turn Channel). own_after device (handed + frames_taken (unnamed event)) t.book more) (unnamed_same device handed event channel)
-    ∙ ap (λ (k : ℕ). own_after device (handed + k) (own_turn device handed event channel).book more) (unnamed_taken event)
+    ∙ ap (λ (k : ℕ). own_after device (handed + k) (own_turn device handed ungrouped event channel).book more) (unnamed_taken event)
 
 -- an event of another takes no frames
 others_take : (event : Event) (fd : ℕ) → concerns fd event ≡ false → frames_taken event ≡ 0
@@ -59,83 +63,194 @@ others_take (Open at way settings) fd e = refl
 others_take (Write at source from count) fd e = refl
 others_take (Read at count) fd e = refl
 others_take (Ioctl at request) fd e = refl
+others_take (Join at group) fd e = refl
+others_take (StartGroup at group) fd e = refl
 others_take (Close at) fd e = refl
 others_take (Intr n) fd e = cc
 
--- what an event tells of a descriptor that holds a channel: it is another's, or its own, be it a close or not
+-- ---- who is in no group
+
+-- what holds of a channel that is in none, after an event
+abbrev IsAlone : Desk → Held → Type 0
+IsAlone desk held = group_of desk held ≡ 0
+
+alone_is : (group : ℕ) → nat_lt 0 group ≡ false → group ≡ 0
+alone_is group e = grind (arith, nat_tests)
+
+member_alone : (group : ℕ) → group ≡ 0 → nat_lt 0 group ≡ false
+member_alone group e = grind (arith, nat_tests)
+
+-- what an event leaves of the group of a channel of its own, which joins none
+own_group : (event : Event) (fd : ℕ) (held : Held) (grouping : Grouping) (groups : Groups) (old new : Desk) → concerns fd event ≡ true → old.groups ≡ groups → new.groups ≡ groups_after event held grouping groups → IsAlone old held → IsAlone new held
+own_group event fd held grouping groups old new mine was is alone = ap (λ (g : Groups). group_of (record new { groups = g }) held) is ∙ stays event mine
+  where
+    same : group_of (record new { groups = groups }) held ≡ 0
+    same = ap (λ (g : Groups). group_of (record old { groups = g }) held) (sym was) ∙ alone
+
+    stays : (event : Event) → concerns fd event ≡ true → group_of (record new { groups = groups_after event held grouping groups }) held ≡ 0
+    stays (Ioctl at Sync) mine = group-left groups held.way held.slot
+    stays (Ioctl at _) mine = same
+    stays (Join at group) mine = cc
+    stays (Close at) mine = group-left groups held.way held.slot
+    stays _ mine = same
+
+-- what an event tells of a descriptor that holds a channel of no group: it is another's, or its own, be it a close or not
 pub record IsOther (device : DeviceSeen) (held : Held) (fd : ℕ) (old new : Desk) : Type 0 where
   pub channel : channel_at device new held ≡ channel_at device old held
   pub holds : held_by new fd ≡ Some held
+  pub alone : IsAlone new held
 
 pub record IsMine (device : DeviceSeen) (event : Event) (held : Held) (fd : ℕ) (old : Desk) : Type 0 where
-  pub reply : (after device old event).reply ≡ (own_turn device old.handed event (channel_at device old held)).reply
-  pub channel : channel_at device (after device old event).desk held ≡ (own_turn device old.handed event (channel_at device old held)).book
+  pub reply : (after device old event).reply ≡ (own_turn device old.handed ungrouped event (channel_at device old held)).reply
+  pub channel : channel_at device (after device old event).desk held ≡ (own_turn device old.handed ungrouped event (channel_at device old held)).book
   pub holds : closes fd event ≡ false → held_by (after device old event).desk fd ≡ Some held
+  pub alone : IsAlone (after device old event).desk held
 
 -- an interrupt is answered alike at every desk
-told_alike : (device : DeviceSeen) (event : Event) (desk : Desk) (channel : Channel) → descriptor_of event ≡ None → (after device desk event).reply ≡ (own_turn device desk.handed event channel).reply
-told_alike device (Open fd way settings) desk channel n = cc
-told_alike device (Write fd source at count) desk channel n = cc
-told_alike device (Read fd count) desk channel n = cc
-told_alike device (Ioctl fd request) desk channel n = cc
-told_alike device (Close fd) desk channel n = cc
-told_alike device (Intr n) desk channel none = refl
+told_alike : (device : DeviceSeen) (event : Event) (desk : Desk) (fd : ℕ) (channel : Channel) → descriptor_of event ≡ None → concerns fd event ≡ true → (after device desk event).reply ≡ (own_turn device desk.handed ungrouped event channel).reply
+told_alike device (Intr n) desk fd channel none mine = refl
+told_alike device (StartGroup at group) desk fd channel none mine = cc
+told_alike device _ desk fd channel none mine = cc
 
 -- an event of its own that is no close leaves what it holds
 stays_open : (event : Event) (fd : ℕ) (held : Held) → descriptor_of event ≡ Some fd → closes fd event ≡ false → held_after event held ≡ Some held
-stays_open (Open at way settings) fd held n e = refl
-stays_open (Write at source from count) fd held n e = refl
-stays_open (Read at count) fd held n e = refl
-stays_open (Ioctl at request) fd held n e = refl
 stays_open (Close at) fd held n e = absurd (let same : at ≡ fd = ap (λ (o : Option ℕ). number_in o) n in grind (arith, nat_tests))
   where
     number_in : Option ℕ → ℕ
     number_in None = 0
     number_in (Some k) = k
-stays_open (Intr n) fd held none e = refl
+stays_open _ fd held n e = refl
 
-isolated_by : (device : DeviceSeen) (event : Event) (desk : Desk) (named : Option ℕ) → descriptor_of event ≡ named → HoldApart desk
+-- an event that starts no group is isolated by whose it is
+abbrev StartsNone : Event → Type 0
+StartsNone (StartGroup at group) = ⊥
+StartsNone _ = Unit {0}
+
+mine_starts : (event : Event) (fd : ℕ) → concerns fd event ≡ true → StartsNone event
+mine_starts (StartGroup at group) fd mine = cc
+mine_starts _ fd mine = tt
+
+named_starts : (event : Event) (fd : ℕ) → descriptor_of event ≡ Some fd → StartsNone event
+named_starts (StartGroup at group) fd n = cc
+named_starts _ fd n = tt
+
+isolated_by : (device : DeviceSeen) (event : Event) (desk : Desk) (named : Option ℕ) → descriptor_of event ≡ named → StartsNone event → HoldApart desk
     → IsIsolatedBy named device event desk (after device desk event).desk (after device desk event).reply
-isolated_by device event desk named n h =
-    subst (λ (o : Option ℕ). IsIsolatedBy o device event desk (after device desk event).desk (after device desk event).reply) n (isolated device event desk h)
+isolated_by device event desk named n starts h =
+    subst (λ (o : Option ℕ). IsIsolatedBy o device event desk (after device desk event).desk (after device desk event).reply) n (by_kind event starts)
+  where
+    by_kind : (event : Event) → StartsNone event → IsIsolatedBy (descriptor_of event) device event desk (after device desk event).desk (after device desk event).reply
+    by_kind (StartGroup at group) starts = absurd starts
+    by_kind (Open fd way settings) starts = isolated device (Open fd way settings) desk h
+    by_kind (Write fd source at count) starts = isolated device (Write fd source at count) desk h
+    by_kind (Read fd count) starts = isolated device (Read fd count) desk h
+    by_kind (Ioctl fd request) starts = isolated device (Ioctl fd request) desk h
+    by_kind (Join fd group) starts = isolated device (Join fd group) desk h
+    by_kind (Close fd) starts = isolated device (Close fd) desk h
+    by_kind (Intr n) starts = isolated device (Intr n) desk h
 
-mine_by : (device : DeviceSeen) (event : Event) (desk : Desk) (fd : ℕ) (held : Held) (named : Option ℕ) → descriptor_of event ≡ named → (named ≡ None) ⊎ (named ≡ Some fd) → HoldApart desk → held_by desk fd ≡ Some held → IsMine device event held fd desk
-mine_by device event desk fd held named n (inl none) h e =
-    let alone : GoesByEach device event desk (after device desk event).desk = isolated_by device event desk None (n ∙ none) h in
+-- the groups have no part in an event that concerns a channel of none
+ungrouped_same : (device : DeviceSeen) (event : Event) (desk : Desk) (fd : ℕ) (held : Held) (channel : Channel) → concerns fd event ≡ true → IsAlone desk held
+    → own_turn device desk.handed (grouping_at device desk held) event channel ≡ own_turn device desk.handed ungrouped event channel
+ungrouped_same device (Ioctl at request) desk fd held channel mine alone =
+    ap (λ (b : Bool). own_request device (here_at device desk.handed) request (member_refusal b request) channel) (member_alone (group_of desk held) alone)
+ungrouped_same device (Join at group) desk fd held channel mine alone = cc
+ungrouped_same device _ desk fd held channel mine alone = refl
+
+mine_by : (device : DeviceSeen) (event : Event) (desk : Desk) (fd : ℕ) (held : Held) (named : Option ℕ) → descriptor_of event ≡ named → concerns fd event ≡ true → (named ≡ None) ⊎ (named ≡ Some fd) → HoldApart desk → held_by desk fd ≡ Some held → IsAlone desk held
+    → IsMine device event held fd desk
+mine_by device event desk fd held named n c (inl none) h e a =
+    let goes : GoesByEach device event desk (after device desk event).desk = isolated_by device event desk None (n ∙ none) (mine_starts event fd c) h in
+    let same = ungrouped_same device event desk fd held (channel_at device desk held) c a in
     record {
-      reply = told_alike device event desk (channel_at device desk held) (n ∙ none);
-      channel = alone.each held;
-      holds = λ goes. alone.passes fd ∙ e;
+      reply = told_alike device event desk fd (channel_at device desk held) (n ∙ none) c;
+      channel = goes.each held ∙ ap (λ (t : Turn Channel). t.book) same;
+      holds = λ still. goes.passes fd ∙ e;
+      alone = ap (λ (g : Groups). group_of (record desk { groups = g }) held) goes.groups ∙ a;
     }
-mine_by device event desk fd held named n (inr mine) h e =
-    let turned : GoesByDescriptor device event desk (after device desk event).desk (after device desk event).reply fd = isolated_by device event desk (Some fd) (n ∙ mine) h in
-    let alone = turned.opened held e in
+mine_by device event desk fd held named n c (inr mine) h e a =
+    let turned : GoesByDescriptor device event desk (after device desk event).desk (after device desk event).reply fd = isolated_by device event desk (Some fd) (n ∙ mine) (mine_starts event fd c) h in
+    let goes = turned.opened held e in
+    let same = ungrouped_same device event desk fd held (channel_at device desk held) c a in
     record {
-      reply = alone.answer;
-      channel = alone.own;
-      holds = λ goes. alone.until ∙ stays_open event fd held (n ∙ mine) goes;
+      reply = goes.answer ∙ ap (λ (t : Turn Channel). t.reply) same;
+      channel = goes.own ∙ ap (λ (t : Turn Channel). t.book) same;
+      holds = λ still. goes.until ∙ stays_open event fd held (n ∙ mine) still;
+      alone = own_group event fd held (grouping_at device desk held) desk.groups desk (after device desk event).desk c refl goes.groups a;
     }
 
-other_by : (device : DeviceSeen) (event : Event) (desk : Desk) (fd at : ℕ) (held : Held) → descriptor_of event ≡ Some at → fd ≢ at → HoldApart desk → held_by desk fd ≡ Some held → IsOther device held fd desk (after device desk event).desk
-other_by device event desk fd at held n differ h e =
-    let turned : GoesByDescriptor device event desk (after device desk event).desk (after device desk event).reply at = isolated_by device event desk (Some at) n h in
-    record { channel = turned.strangers fd held differ e; holds = turned.holds fd differ ∙ e }
+-- another descriptor's event leaves the group of this one's channel
+theirs_group : (device : DeviceSeen) (event : Event) (desk : Desk) (fd at : ℕ) (held : Held) (mine : Option Held) → held_by desk at ≡ mine → fd ≢ at → HoldApart desk → held_by desk fd ≡ Some held
+    → GoesByDescriptor device event desk (after device desk event).desk (after device desk event).reply at → group_of (after device desk event).desk held ≡ group_of desk held
+theirs_group device event desk fd at held None m differ h e turned = ap (λ (g : Groups). group_of (record desk { groups = g }) held) (turned.shut m).groups
+theirs_group device event desk fd at held (Some mine) m differ h e turned =
+    others-group event mine held (grouping_at device desk mine) desk (after device desk event).desk (λ same. differ (h.apart fd at held mine e m same)) (turned.opened mine m).groups
+
+other_by : (device : DeviceSeen) (event : Event) (desk : Desk) (fd at : ℕ) (held : Held) → descriptor_of event ≡ Some at → fd ≢ at → HoldApart desk → held_by desk fd ≡ Some held → IsAlone desk held → IsOther device held fd desk (after device desk event).desk
+other_by device event desk fd at held n differ h e a =
+    let turned : GoesByDescriptor device event desk (after device desk event).desk (after device desk event).reply at = isolated_by device event desk (Some at) n (named_starts event at n) h in
+    record { channel = turned.strangers fd held differ e; holds = turned.holds fd differ ∙ e; alone = theirs_group device event desk fd at held (held_by desk at) refl differ h e turned ∙ a }
 
 -- whose an event is
 mine_named : (fd : ℕ) (named : Option ℕ) → names fd named ≡ true → (named ≡ None) ⊎ (named ≡ Some fd)
 mine_named fd None e = inl refl
 mine_named fd (Some at) e = inr (ap (λ (k : ℕ). Some k) (eqb-true at fd e))
 
-pub mine-turns : (device : DeviceSeen) (event : Event) (desk : Desk) (fd : ℕ) (held : Held) → concerns fd event ≡ true → HoldApart desk → held_by desk fd ≡ Some held → IsMine device event held fd desk
-mine-turns device event desk fd held e h m = mine_by device event desk fd held (descriptor_of event) refl (mine_named fd (descriptor_of event) e) h m
+concerned : (fd : ℕ) (event : Event) → concerns fd event ≡ true → names fd (descriptor_of event) ≡ true
+concerned fd (Join at group) e = cc
+concerned fd (StartGroup at group) e = cc
+concerned fd _ e = e
 
-other_named : (device : DeviceSeen) (event : Event) (desk : Desk) (fd : ℕ) (held : Held) (named : Option ℕ) → descriptor_of event ≡ named → names fd named ≡ false → HoldApart desk → held_by desk fd ≡ Some held
+pub mine-turns : (device : DeviceSeen) (event : Event) (desk : Desk) (fd : ℕ) (held : Held) → concerns fd event ≡ true → HoldApart desk → held_by desk fd ≡ Some held → IsAlone desk held → IsMine device event held fd desk
+mine-turns device event desk fd held e h m a = mine_by device event desk fd held (descriptor_of event) refl e (mine_named fd (descriptor_of event) (concerned fd event e)) h m a
+
+-- a start of a group leaves what is in none
+started_leaves : (device : DeviceSeen) (desk new : Desk) (group fd : ℕ) (held : Held) (reply : Result Answer Errno) → StartsTogether device group desk new reply → held_by desk fd ≡ Some held → IsAlone desk held → (IsErr reply ⊎ (0 < group)) → IsOther device held fd desk new
+started_leaves device desk new group fd held (Err errno) s m a which = record {
+  channel = ap (λ (d : Desk). channel_at device d held) s.refused;
+  holds = s.passes fd ∙ m;
+  alone = ap (λ (d : Desk). group_of d held) s.refused ∙ a;
+}
+started_leaves device desk new group fd held (Ok answer) s m a (inl refused) = cc
+started_leaves device desk new group fd held (Ok answer) s m a (inr some) = record {
+  channel = s.others held (λ same. omega (arith, same, a));
+  holds = s.passes fd ∙ m;
+  alone = ap (λ (g : Groups). group_of (record new { groups = g }) held) s.groups ∙ group-dissolved group desk.groups held.way held.slot
+      ∙ either (eqb (group_of desk held) group);
+}
+  where
+    either : (b : Bool) → cond b 0 (group_of desk held) ≡ 0
+    either true = refl
+    either false = a
+
+started_some : (device : DeviceSeen) (desk : Desk) (fd group : ℕ) → IsErr (after device desk (StartGroup fd group)).reply ⊎ (0 < group)
+started_some device desk fd group =
+    by-starting device (λ (t : DeskTurn). IsErr t.reply ⊎ (0 < group)) (held_by desk fd) desk group (λ errno. inl refl) (λ used ready. inr (used-some desk.groups group used))
+
+-- a refused join leaves all
+refused_leaves : (device : DeviceSeen) (desk : Desk) (fd group : ℕ) → IsErr (after device desk (Join fd group)).reply → (after device desk (Join fd group)).desk ≡ desk
+refused_leaves device desk fd group =
+    by-joining device (λ (t : DeskTurn). IsErr t.reply → t.desk ≡ desk) (held_by desk fd) desk group (λ errno refused. refl) (λ held number e resting refused. cc)
+
+pub other-stays : (device : DeviceSeen) (event : Event) (desk : Desk) (fd : ℕ) (held : Held) → concerns fd event ≡ false → (joins fd event ≡ true → IsErr (after device desk event).reply) → HoldApart desk → held_by desk fd ≡ Some held → IsAlone desk held
     → IsOther device held fd desk (after device desk event).desk
-other_named device event desk fd held None n e h m = cc
-other_named device event desk fd held (Some at) n e h m = other_by device event desk fd at held n (λ same. grind (arith, nat_tests)) h m
-
-pub other-stays : (device : DeviceSeen) (event : Event) (desk : Desk) (fd : ℕ) (held : Held) → concerns fd event ≡ false → HoldApart desk → held_by desk fd ≡ Some held → IsOther device held fd desk (after device desk event).desk
-other-stays device event desk fd held e h m = other_named device event desk fd held (descriptor_of event) refl e h m
+other-stays device (Join at group) desk fd held e refused h m a =
+    elim (cases_eq at fd) [
+      | inl same ↦ (let is = refused_leaves device desk at group (refused (is-this at fd same)) in record {
+        channel = ap (λ (d : Desk). channel_at device d held) is;
+        holds = ap (λ (d : Desk). held_by d fd) is ∙ m;
+        alone = ap (λ (d : Desk). group_of d held) is ∙ a;
+      })
+      | inr differ ↦ other_by device (Join at group) desk fd at held refl (λ same. differ (sym same)) h m a
+    ]
+other-stays device (StartGroup at group) desk fd held e refused h m a =
+    started_leaves device desk (after device desk (StartGroup at group)).desk group fd held (after device desk (StartGroup at group)).reply (isolated device (StartGroup at group) desk h) m a (started_some device desk at group)
+other-stays device (Open at way settings) desk fd held e refused h m a = other_by device (Open at way settings) desk fd at held refl (λ same. grind (arith, nat_tests)) h m a
+other-stays device (Write at source from count) desk fd held e refused h m a = other_by device (Write at source from count) desk fd at held refl (λ same. grind (arith, nat_tests)) h m a
+other-stays device (Read at count) desk fd held e refused h m a = other_by device (Read at count) desk fd at held refl (λ same. grind (arith, nat_tests)) h m a
+other-stays device (Ioctl at request) desk fd held e refused h m a = other_by device (Ioctl at request) desk fd at held refl (λ same. grind (arith, nat_tests)) h m a
+other-stays device (Close at) desk fd held e refused h m a = other_by device (Close at) desk fd at held refl (λ same. grind (arith, nat_tests)) h m a
+other-stays device (Intr n) desk fd held e refused h m a = cc
 
 -- ---- a list of events
 
@@ -143,38 +258,44 @@ other-stays device event desk fd held e h m = other_named device event desk fd h
 handed_stays : (device : DeviceSeen) (desk : Desk) (event : Event) (fd : ℕ) → concerns fd event ≡ false → (after device desk event).desk.handed ≡ desk.handed
 handed_stays device desk event fd e = let taken = handed-taken device desk event in let none = others_take event fd e in omega (arith, taken, none)
 
+-- an event that isn't its own doesn't close it
+pub others-go : (event : Event) (fd : ℕ) → concerns fd event ≡ false → closes fd event ≡ false
+others-go (Close at) fd e = e
+others-go _ fd e = refl
+
 -- the replies to one event and to those behind it
-replies_step : (device : DeviceSeen) (event : Event) (events : List Event) (desk : Desk) (fd : ℕ) (held : Held) (own closing : Bool) → concerns fd event ≡ own → closes fd event ≡ closing → HoldApart desk → held_by desk fd ≡ Some held
+replies_step : (device : DeviceSeen) (event : Event) (events : List Event) (desk : Desk) (fd : ℕ) (held : Held) (own closing : Bool) → concerns fd event ≡ own → closes fd event ≡ closing → HoldApart desk → held_by desk fd ≡ Some held → IsAlone desk held
+    → (joins fd event ≡ true → IsErr (after device desk event).reply)
     → let new : Desk = (after device desk event).desk in
-    (held_by new fd ≡ Some held → replies_to device fd new events ≡ own_replies device new.handed (channel_at device new held) (own_events fd events))
+    (closes fd event ≡ false → held_by new fd ≡ Some held → IsAlone new held → replies_to device fd new events ≡ own_replies device new.handed (channel_at device new held) (own_events fd events))
     → cond own ((after device desk event).reply ∷ cond closing [] (replies_to device fd new events)) (replies_to device fd new events)
     ≡ own_replies device desk.handed (channel_at device desk held) (cond own (unnamed event ∷ cond closing [] (own_events fd events)) (own_events fd events))
-replies_step device event events desk fd held true true o c h m rest =
-    let told = mine-turns device event desk fd held o h m in
+replies_step device event events desk fd held true true o c h m a joined rest =
+    let told = mine-turns device event desk fd held o h m a in
     ap (λ (r : Result Answer Errno). r ∷ []) told.reply ∙ sym (unnamed_replies device desk.handed event (channel_at device desk held) [])
-replies_step device event events desk fd held true false o c h m rest =
-    let told = mine-turns device event desk fd held o h m in
+replies_step device event events desk fd held true false o c h m a joined rest =
+    let told = mine-turns device event desk fd held o h m a in
     let new : Desk = (after device desk event).desk in
     let more : List Event = own_events fd events in
     let channel : Channel = channel_at device desk held in
-    let turn : Turn Channel = own_turn device desk.handed event channel in
+    let turn : Turn Channel = own_turn device desk.handed ungrouped event channel in
     ap (λ (r : Result Answer Errno). r ∷ replies_to device fd new events) told.reply
     ∙ ap (λ (list : List (Result Answer Errno)). turn.reply ∷ list)
-    (rest (told.holds c) ∙ ap (λ (c : Channel). own_replies device new.handed c more) told.channel ∙ ap (λ (k : ℕ). own_replies device k turn.book more) (handed-taken device desk event))
+    (rest c (told.holds c) told.alone ∙ ap (λ (c : Channel). own_replies device new.handed c more) told.channel ∙ ap (λ (k : ℕ). own_replies device k turn.book more) (handed-taken device desk event))
     ∙ sym (unnamed_replies device desk.handed event channel more)
-replies_step device event events desk fd held false closing o c h m rest =
-    let theirs = other-stays device event desk fd held o h m in
+replies_step device event events desk fd held false closing o c h m a joined rest =
+    let theirs = other-stays device event desk fd held o joined h m a in
     let new : Desk = (after device desk event).desk in
-    rest theirs.holds ∙ ap (λ (c : Channel). own_replies device new.handed c (own_events fd events)) theirs.channel
+    rest (others-go event fd o) theirs.holds theirs.alone ∙ ap (λ (c : Channel). own_replies device new.handed c (own_events fd events)) theirs.channel
     ∙ ap (λ (k : ℕ). own_replies device k (channel_at device desk held) (own_events fd events)) (handed_stays device desk event fd o)
 
--- What the client of a descriptor is told is what its book and its own events say.
-pub replies-own : (device : DeviceSeen) (desk : Desk) (fd : ℕ) (held : Held) (events : List Event) → HoldApart desk → held_by desk fd ≡ Some held
+-- What the client of a descriptor is told is what its book and its own events say, as long as it joins no group.
+pub replies-own : (device : DeviceSeen) (desk : Desk) (fd : ℕ) (held : Held) (events : List Event) → HoldApart desk → held_by desk fd ≡ Some held → is_member desk held ≡ false → JoinsNone device fd desk events
     → replies_to device fd desk events ≡ own_replies device desk.handed (channel_at device desk held) (own_events fd events)
-replies-own device desk fd held [] h m = refl
-replies-own device desk fd held (event ∷ events) h m =
-    replies_step device event events desk fd held (concerns fd event) (closes fd event) refl refl h m
-    (λ goes. replies-own device (after device desk event).desk fd held events (apart-after device desk event h) goes)
+replies-own device desk fd held [] h m a none = refl
+replies-own device desk fd held (event ∷ events) h m a none =
+    replies_step device event events desk fd held (concerns fd event) (closes fd event) refl refl h m (alone_is (group_of desk held) a) none.0
+    (λ still goes alone. replies-own device (after device desk event).desk fd held events (apart-after device desk event h) goes (member_alone (group_of (after device desk event).desk held) alone) (none.1 still))
 
 -- a descriptor that is open still, and its book
 record IsAfter (device : DeviceSeen) (fd : ℕ) (held : Held) (new : Desk) (channel : Channel) : Type 0 where
@@ -182,48 +303,79 @@ record IsAfter (device : DeviceSeen) (fd : ℕ) (held : Held) (new : Desk) (chan
   book : channel_at device new held ≡ channel
 
 -- the book after one event and those behind it, of which none is a close
-after_step : (device : DeviceSeen) (event : Event) (events : List Event) (desk : Desk) (fd : ℕ) (held : Held) (own closing : Bool) → concerns fd event ≡ own → closes fd event ≡ closing → closing ≡ false → HoldApart desk → held_by desk fd ≡ Some held
+after_step : (device : DeviceSeen) (event : Event) (events : List Event) (desk : Desk) (fd : ℕ) (held : Held) (own closing : Bool) → concerns fd event ≡ own → closes fd event ≡ closing → closing ≡ false → HoldApart desk → held_by desk fd ≡ Some held → IsAlone desk held
+    → (joins fd event ≡ true → IsErr (after device desk event).reply)
     → let new : Desk = (after device desk event).desk in
-    (held_by new fd ≡ Some held → IsAfter device fd held (after_all device new events) (own_after device new.handed (channel_at device new held) (own_events fd events)))
+    (held_by new fd ≡ Some held → IsAlone new held → IsAfter device fd held (after_all device new events) (own_after device new.handed (channel_at device new held) (own_events fd events)))
     → IsAfter device fd held (after_all device new events) (own_after device desk.handed (channel_at device desk held) (cond own (unnamed event ∷ cond closing [] (own_events fd events)) (own_events fd events)))
-after_step device event events desk fd held own true o c goes h m rest = cc
-after_step device event events desk fd held true false o c goes h m rest =
-    let told = mine-turns device event desk fd held o h m in
+after_step device event events desk fd held own true o c goes h m a joined rest = cc
+after_step device event events desk fd held true false o c goes h m a joined rest =
+    let told = mine-turns device event desk fd held o h m a in
     let new : Desk = (after device desk event).desk in
     let more : List Event = own_events fd events in
     let channel : Channel = channel_at device desk held in
-    let is = rest (told.holds c) in
+    let is = rest (told.holds c) told.alone in
     record {
       holds = is.holds;
       book = is.book ∙ ap (λ (c : Channel). own_after device new.handed c more) told.channel
-          ∙ ap (λ (k : ℕ). own_after device k (own_turn device desk.handed event channel).book more) (handed-taken device desk event)
+          ∙ ap (λ (k : ℕ). own_after device k (own_turn device desk.handed ungrouped event channel).book more) (handed-taken device desk event)
           ∙ sym (unnamed_after device desk.handed event channel more);
     }
-after_step device event events desk fd held false false o c goes h m rest =
-    let theirs = other-stays device event desk fd held o h m in
+after_step device event events desk fd held false false o c goes h m a joined rest =
+    let theirs = other-stays device event desk fd held o joined h m a in
     let new : Desk = (after device desk event).desk in
-    let is = rest theirs.holds in
+    let is = rest theirs.holds theirs.alone in
     record {
       holds = is.holds;
       book = is.book ∙ ap (λ (c : Channel). own_after device new.handed c (own_events fd events)) theirs.channel
           ∙ ap (λ (k : ℕ). own_after device k (channel_at device desk held) (own_events fd events)) (handed_stays device desk event fd o);
     }
 
-after_own : (device : DeviceSeen) (desk : Desk) (fd : ℕ) (held : Held) (events : List Event) → HoldApart desk → held_by desk fd ≡ Some held → All (λ (event : Event). closes fd event ≡ false) events
+after_own : (device : DeviceSeen) (desk : Desk) (fd : ℕ) (held : Held) (events : List Event) → HoldApart desk → held_by desk fd ≡ Some held → IsAlone desk held → JoinsNone device fd desk events → All (λ (event : Event). closes fd event ≡ false) events
     → IsAfter device fd held (after_all device desk events) (own_after device desk.handed (channel_at device desk held) (own_events fd events))
-after_own device desk fd held [] h m goes = record { holds = m; book = refl }
-after_own device desk fd held (event ∷ events) h m goes =
-    after_step device event events desk fd held (concerns fd event) (closes fd event) refl refl (All-head (λ (event : Event). closes fd event ≡ false) event events goes) h m
-    (λ still. after_own device (after device desk event).desk fd held events (apart-after device desk event h) still (All-tail (λ (event : Event). closes fd event ≡ false) event events goes))
+after_own device desk fd held [] h m a none goes = record { holds = m; book = refl }
+after_own device desk fd held (event ∷ events) h m a none goes =
+    let still : closes fd event ≡ false = All-head (λ (event : Event). closes fd event ≡ false) event events goes in
+    after_step device event events desk fd held (concerns fd event) (closes fd event) refl refl still h m a none.0
+    (λ holds alone. after_own device (after device desk event).desk fd held events (apart-after device desk event h) holds alone (none.1 still) (All-tail (λ (event : Event). closes fd event ≡ false) event events goes))
 
--- As long as it isn't closed, a descriptor holds its channel, whose book is what its own events make of it.
+-- ---- what a descriptor holds
+
+-- an event that is of its channel leaves it that until a close, and an event of another leaves it
+holds_named : (device : DeviceSeen) (event : Event) (desk : Desk) (fd at : ℕ) (held : Held) → descriptor_of event ≡ Some at → HoldApart desk → held_by desk fd ≡ Some held → closes fd event ≡ false
+    → held_by (after device desk event).desk fd ≡ Some held
+holds_named device event desk fd at held n h m still =
+    let turned : GoesByDescriptor device event desk (after device desk event).desk (after device desk event).reply at = isolated_by device event desk (Some at) n (named_starts event at n) h in
+    elim (cases_eq fd at) [
+      | inl same ↦ (
+          let own : descriptor_of event ≡ Some fd = n ∙ ap (λ (k : ℕ). Some k) (sym same) in
+          let mine : GoesByDescriptor device event desk (after device desk event).desk (after device desk event).reply fd = isolated_by device event desk (Some fd) own (named_starts event fd own) h in
+          (mine.opened held m).until ∙ stays_open event fd held own still)
+      | inr differ ↦ turned.holds fd differ ∙ m
+    ]
+
+holds_still : (device : DeviceSeen) (event : Event) (desk : Desk) (fd : ℕ) (held : Held) → HoldApart desk → held_by desk fd ≡ Some held → closes fd event ≡ false → held_by (after device desk event).desk fd ≡ Some held
+holds_still device (Open at way settings) desk fd held h m still = holds_named device (Open at way settings) desk fd at held refl h m still
+holds_still device (Write at source from count) desk fd held h m still = holds_named device (Write at source from count) desk fd at held refl h m still
+holds_still device (Read at count) desk fd held h m still = holds_named device (Read at count) desk fd at held refl h m still
+holds_still device (Ioctl at request) desk fd held h m still = holds_named device (Ioctl at request) desk fd at held refl h m still
+holds_still device (Join at group) desk fd held h m still = holds_named device (Join at group) desk fd at held refl h m still
+holds_still device (StartGroup at group) desk fd held h m still = (isolated device (StartGroup at group) desk h).passes fd ∙ m
+holds_still device (Close at) desk fd held h m still = holds_named device (Close at) desk fd at held refl h m still
+holds_still device (Intr n) desk fd held h m still = m
+
+-- As long as it isn't closed, a descriptor holds its channel,
 pub holds-own : (device : DeviceSeen) (desk : Desk) (fd : ℕ) (held : Held) (events : List Event) → HoldApart desk → held_by desk fd ≡ Some held → All (λ (event : Event). closes fd event ≡ false) events
     → held_by (after_all device desk events) fd ≡ Some held
-holds-own device desk fd held events h m goes = (after_own device desk fd held events h m goes).holds
+holds-own device desk fd held [] h m goes = m
+holds-own device desk fd held (event ∷ events) h m goes =
+    holds-own device (after device desk event).desk fd held events (apart-after device desk event h)
+    (holds_still device event desk fd held h m (All-head (λ (event : Event). closes fd event ≡ false) event events goes)) (All-tail (λ (event : Event). closes fd event ≡ false) event events goes)
 
-pub book-own : (device : DeviceSeen) (desk : Desk) (fd : ℕ) (held : Held) (events : List Event) → HoldApart desk → held_by desk fd ≡ Some held → All (λ (event : Event). closes fd event ≡ false) events
+-- whose book is what its own events make of it, as long as it joins no group.
+pub book-own : (device : DeviceSeen) (desk : Desk) (fd : ℕ) (held : Held) (events : List Event) → HoldApart desk → held_by desk fd ≡ Some held → is_member desk held ≡ false → JoinsNone device fd desk events → All (λ (event : Event). closes fd event ≡ false) events
     → channel_at device (after_all device desk events) held ≡ own_after device desk.handed (channel_at device desk held) (own_events fd events)
-book-own device desk fd held events h m goes = (after_own device desk fd held events h m goes).book
+book-own device desk fd held events h m a none goes = (after_own device desk fd held events h m (alone_is (group_of desk held) a) none goes).book
 
 -- ---- two openings
 
@@ -243,38 +395,46 @@ handed_opened device fd way settings held old new o =
     let is = ap (λ (d : Desk). d.handed) o.is in
     omega (arith, is, taken)
 
+-- it is in no group
+alone_opened : (device : DeviceSeen) (fd : ℕ) (way : Way) (settings : Settings) (held : Held) (old new : Desk) → MembersWait device old → Opens device fd way settings held old new → is_member new held ≡ false
+alone_opened device fd way settings held old new w o =
+    subst (λ (d : Desk). is_member d held ≡ false) (sym o.is) (opened-alone device old fd way settings held w o.shut (ap (λ (d : Desk). held_by d fd) (sym o.is) ∙ o.holds))
+
+pub opened-none : (device : DeviceSeen) (fd : ℕ) (way : Way) (settings : Settings) (held : Held) (old new : Desk) → MembersWait device old → Opens device fd way settings held old new → group_of new held ≡ 0
+opened-none device fd way settings held old new w o = alone_is (group_of new held) (alone_opened device fd way settings held old new w o)
+
 -- what an opening is told
-opening_told : (device : DeviceSeen) (fd : ℕ) (way : Way) (settings : Settings) (held : Held) (old new : Desk) (events : List Event) → HoldApart old → Opens device fd way settings held old new
+opening_told : (device : DeviceSeen) (fd : ℕ) (way : Way) (settings : Settings) (held : Held) (old new : Desk) (events : List Event) → HoldApart old → MembersWait device old → Opens device fd way settings held old new → JoinsNone device fd new events
     → replies_to device fd new events ≡ own_replies device old.handed (channel_begun way settings) (own_events fd events)
-opening_told device fd way settings held old new events h o =
-    replies-own device new fd held events (apart_opened device fd way settings held old new h o) o.holds
+opening_told device fd way settings held old new events h w o none =
+    replies-own device new fd held events (apart_opened device fd way settings held old new h o) o.holds (alone_opened device fd way settings held old new w o) none
     ∙ ap (λ (c : Channel). own_replies device new.handed c (own_events fd events)) (begun-own device fd way settings held old new o)
     ∙ ap (λ (k : ℕ). own_replies device k (channel_begun way settings) (own_events fd events)) (handed_opened device fd way settings held old new o)
 
 -- Two openings with the same settings and the same events of their own are told the same, where as many frames were handed over before.
-pub alike-told : (device : DeviceSeen) (fd at : ℕ) (way : Way) (settings : Settings) (held theirs : Held) (one new other anew : Desk) (events others : List Event) → HoldApart one → HoldApart other → one.handed ≡ other.handed
-    → Opens device fd way settings held one new → Opens device at way settings theirs other anew → own_events fd events ≡ own_events at others
+pub alike-told : (device : DeviceSeen) (fd at : ℕ) (way : Way) (settings : Settings) (held theirs : Held) (one new other anew : Desk) (events others : List Event) → HoldApart one → HoldApart other → MembersWait device one → MembersWait device other → one.handed ≡ other.handed
+    → Opens device fd way settings held one new → Opens device at way settings theirs other anew → JoinsNone device fd new events → JoinsNone device at anew others → own_events fd events ≡ own_events at others
     → replies_to device fd new events ≡ replies_to device at anew others
-alike-told device fd at way settings held theirs one new other anew events others h k level o p same =
-    opening_told device fd way settings held one new events h o
+alike-told device fd at way settings held theirs one new other anew events others h k w v level o p none never same =
+    opening_told device fd way settings held one new events h w o none
     ∙ ap (λ (k : ℕ). own_replies device k (channel_begun way settings) (own_events fd events)) level
     ∙ ap (own_replies device other.handed (channel_begun way settings)) same
-    ∙ sym (opening_told device at way settings theirs other anew others k p)
+    ∙ sym (opening_told device at way settings theirs other anew others k v p never)
 
-opening_book : (device : DeviceSeen) (fd : ℕ) (way : Way) (settings : Settings) (held : Held) (old new : Desk) (events : List Event) → HoldApart old → Opens device fd way settings held old new → All (λ (event : Event). closes fd event ≡ false) events
+opening_book : (device : DeviceSeen) (fd : ℕ) (way : Way) (settings : Settings) (held : Held) (old new : Desk) (events : List Event) → HoldApart old → MembersWait device old → Opens device fd way settings held old new → JoinsNone device fd new events → All (λ (event : Event). closes fd event ≡ false) events
     → channel_at device (after_all device new events) held ≡ own_after device old.handed (channel_begun way settings) (own_events fd events)
-opening_book device fd way settings held old new events h o goes =
-    book-own device new fd held events (apart_opened device fd way settings held old new h o) o.holds goes
+opening_book device fd way settings held old new events h w o none goes =
+    book-own device new fd held events (apart_opened device fd way settings held old new h o) o.holds (alone_opened device fd way settings held old new w o) none goes
     ∙ ap (λ (c : Channel). own_after device new.handed c (own_events fd events)) (begun-own device fd way settings held old new o)
     ∙ ap (λ (k : ℕ). own_after device k (channel_begun way settings) (own_events fd events)) (handed_opened device fd way settings held old new o)
 
 -- and their books are equal, as long as neither is closed
-pub alike-books : (device : DeviceSeen) (fd at : ℕ) (way : Way) (settings : Settings) (held theirs : Held) (one new other anew : Desk) (events others : List Event) → HoldApart one → HoldApart other → one.handed ≡ other.handed
-    → Opens device fd way settings held one new → Opens device at way settings theirs other anew → All (λ (event : Event). closes fd event ≡ false) events → All (λ (event : Event). closes at event ≡ false) others
+pub alike-books : (device : DeviceSeen) (fd at : ℕ) (way : Way) (settings : Settings) (held theirs : Held) (one new other anew : Desk) (events others : List Event) → HoldApart one → HoldApart other → MembersWait device one → MembersWait device other → one.handed ≡ other.handed
+    → Opens device fd way settings held one new → Opens device at way settings theirs other anew → JoinsNone device fd new events → JoinsNone device at anew others → All (λ (event : Event). closes fd event ≡ false) events → All (λ (event : Event). closes at event ≡ false) others
     → own_events fd events ≡ own_events at others
     → channel_at device (after_all device new events) held ≡ channel_at device (after_all device anew others) theirs
-alike-books device fd at way settings held theirs one new other anew events others h k level o p goes still same =
-    opening_book device fd way settings held one new events h o goes
+alike-books device fd at way settings held theirs one new other anew events others h k w v level o p none never goes still same =
+    opening_book device fd way settings held one new events h w o none goes
     ∙ ap (λ (k : ℕ). own_after device k (channel_begun way settings) (own_events fd events)) level
     ∙ ap (own_after device other.handed (channel_begun way settings)) same
-    ∙ sym (opening_book device at way settings theirs other anew others k p still)
+    ∙ sym (opening_book device at way settings theirs other anew others k v p never still)

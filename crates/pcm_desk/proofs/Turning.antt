@@ -3,17 +3,20 @@ use Rattle.std.proofs.Common.{◌≡◌, ℕ, ◌+◌, Bool, true, false, cond, 
 use Rattle.std.specs.Prelude.{is_some}
 use Rattle.pcm_format.specs.declared.settings.Settings.{Settings}
 use Rattle.pcm_oss.specs.declared.event.Event.{Event}
-use Rattle.pcm_oss.specs.declared.event.Event.TheVariants.{Open, Write, Read, Ioctl, Close, Intr}
+use Rattle.pcm_oss.specs.declared.event.Event.TheVariants.{Open, Write, Read, Ioctl, Join, StartGroup, Close, Intr}
 use Rattle.pcm_oss.specs.declared.event.Way.{Way}
 use Rattle.pcm_oss.specs.declared.event.Way.TheVariants.{Play, Record}
 use Rattle.pcm_oss.specs.declared.reply.Errno.TheVariants.{Exist, Inval}
+use Rattle.pcm_oss.specs.declared.request.Request.{Request}
+use Rattle.pcm_oss.specs.declared.request.Request.TheVariants.{SetTrigger}
 use Rattle.pcm_desk.specs.declared.device.Held.{Held}
 use Rattle.pcm_desk.specs.Device.{DeviceSeen}
 use Rattle.pcm_desk.specs.PlayBooks.{write_turn}
 use Rattle.pcm_desk.specs.RecordBooks as records
 use Rattle.pcm_desk.specs.RecordRequests.{record_ask}
-use Rattle.pcm_desk.specs.Desk.{Desk, DeskTurn, after, asking, by_way, close_play, close_record, desk_here, held_by, least_free_play, least_free_record, open_play, open_record, open_turn, play_turn, record_turn, refusing, turning}
+use Rattle.pcm_desk.specs.Desk.{Desk, DeskTurn, after, asking, by_way, close_play, close_record, desk_here, held_by, ioctl_on, left, least_free_play, least_free_record, open_play, open_record, open_turn, play_turn, record_turn, refusing, turning}
 use Rattle.pcm_desk.specs.Events.{frames_taken}
+use Rattle.pcm_desk.proofs.Grouping.{by-asking, by-joining, by-starting}
 
 -- an event of a descriptor, whatever it does to a channel of each way
 pub by-turning : (D : Desk → Type 0) (play recording : ℕ → DeskTurn) (held : Option Held) (desk : Desk) → D desk → ((slot : ℕ) → D (play slot).desk) → ((slot : ℕ) → D (recording slot).desk) → D (turning play recording held desk).desk
@@ -55,6 +58,10 @@ by-opening D way desk fd settings same p r =
 
 -- ---- the frames handed over
 
+asks_none : (device : DeviceSeen) (held : Option Held) (desk : Desk) (request : Request) → (ioctl_on device held desk request).desk.handed ≡ desk.handed + 0
+asks_none device held desk request =
+    by-turning (λ (d : Desk). d.handed ≡ desk.handed + 0) (play_turn device (asking device (desk_here device desk) request) desk) (record_turn device (record_ask request) desk) held desk (omega arith) (λ slot. omega arith) (λ slot. omega arith)
+
 -- an event hands over the frames that it takes
 pub handed-taken : (device : DeviceSeen) (desk : Desk) (event : Event) → (after device desk event).desk.handed ≡ desk.handed + frames_taken event
 handed-taken device desk (Open fd way settings) = by-opening (λ (w : Way) (d : Desk). d.handed ≡ desk.handed + 0) way desk fd settings (λ w. omega arith) (λ slot found. omega arith) (λ slot found. omega arith)
@@ -63,7 +70,11 @@ handed-taken device desk (Write fd source at count) =
 handed-taken device desk (Read fd count) =
     by-turning (λ (d : Desk). d.handed ≡ desk.handed + 0) (λ slot. refusing desk Inval) (record_turn device (records.read_turn count) desk) (held_by desk fd) desk (omega arith) (λ slot. omega arith) (λ slot. omega arith)
 handed-taken device desk (Ioctl fd request) =
-    by-turning (λ (d : Desk). d.handed ≡ desk.handed + 0) (play_turn device (asking device (desk_here device desk) request) desk) (record_turn device (record_ask request) desk) (held_by desk fd) desk (omega arith) (λ slot. omega arith) (λ slot. omega arith)
+    by-asking device (λ (d : Desk). d.handed ≡ desk.handed + 0) (held_by desk fd) desk request (omega arith) (λ groups. asks_none device (held_by desk fd) (record desk { groups = groups }) request)
+handed-taken device desk (Join fd group) =
+    by-joining device (λ (t : DeskTurn). t.desk.handed ≡ desk.handed + 0) (held_by desk fd) desk group (λ errno. omega arith) (λ held number e resting. asks_none device (Some held) desk (SetTrigger 0))
+handed-taken device desk (StartGroup fd group) = by-starting device (λ (t : DeskTurn). t.desk.handed ≡ desk.handed + 0) (held_by desk fd) desk group (λ errno. omega arith) (λ used ready. omega arith)
 handed-taken device desk (Close fd) =
-    by-turning (λ (d : Desk). d.handed ≡ desk.handed + 0) (close_play device desk fd) (close_record device desk fd) (held_by desk fd) desk (omega arith) (λ slot. omega arith) (λ slot. omega arith)
+    let closing : Desk = left (held_by desk fd) desk in
+    by-turning (λ (d : Desk). d.handed ≡ desk.handed + 0) (close_play device closing fd) (close_record device closing fd) (held_by desk fd) closing (omega arith) (λ slot. omega arith) (λ slot. omega arith)
 handed-taken device desk (Intr n) = refl

@@ -1,16 +1,19 @@
--- The desk: the books by slot, who holds which, and how far the device is. An event gives a new desk and a reply.
-use Rattle.std.specs.Prelude.{ℕ, zero, suc, ◌+◌, ◌-◌, Option, Some, None, is_some, if◌then◌else◌, List, map, position, replicate, slice_index_or, slice_set, Result, Ok, Err}
+-- The desk: the books by slot, who holds which and who starts with whom, and how far the device is. An event gives a new desk and a reply.
+use Rattle.std.specs.Prelude.{ℕ, zero, suc, ◌+◌, ◌-◌, Bool, true, not, nat_lt, Option, Some, None, is_some, if◌then◌else◌, List, map, position, replicate, slice_index_or, slice_set, Result, Ok, Err}
 use Rattle.pcm_format.specs.declared.settings.Settings.{Settings}
 use Rattle.pcm_oss.specs.declared.event.Event.{Event}
-use Rattle.pcm_oss.specs.declared.event.Event.TheVariants.{Open, Write, Read, Ioctl, Close, Intr}
+use Rattle.pcm_oss.specs.declared.event.Event.TheVariants.{Open, Write, Read, Ioctl, Join, StartGroup, Close, Intr}
 use Rattle.pcm_oss.specs.declared.event.Way.{Way}
 use Rattle.pcm_oss.specs.declared.event.Way.TheVariants.{Play, Record}
 use Rattle.pcm_oss.specs.declared.request.Request.{Request}
+use Rattle.pcm_oss.specs.declared.request.Request.TheVariants.{SetTrigger, Sync}
 use Rattle.pcm_oss.specs.declared.reply.Answer.{Answer}
 use Rattle.pcm_oss.specs.declared.reply.Answer.TheVariants.{Done, Number}
 use Rattle.pcm_oss.specs.declared.reply.Errno.{Errno}
 use Rattle.pcm_oss.specs.declared.reply.Errno.TheVariants.{BadF, Busy, Exist, Inval}
 use Rattle.pcm_rate.specs.declared.rate.Rate.{Rate}
+use Rattle.pcm_group.specs.declared.sync_groups.Groups.{Groups}
+use Rattle.pcm_group.specs.Groups.{all_in, change_in, dissolved, group_at, is_used, joining, no_groups, with_group}
 use Rattle.pcm_desk.specs.declared.play_book.PlayBook.{PlayBook}
 use Rattle.pcm_desk.specs.declared.play_book.PlayState.TheVariants.{Free}
 use Rattle.pcm_desk.specs.declared.record_book.RecordBook.{RecordBook}
@@ -18,12 +21,14 @@ use Rattle.pcm_desk.specs.declared.record_book.RecordState.TheVariants as record
 use Rattle.pcm_desk.specs.declared.device.Held.{Held}
 use Rattle.pcm_desk.specs.declared.here.Here.{Here}
 use Rattle.pcm_desk.specs.declared.limits.TheConstants.{DESCRIPTORS}
+use Rattle.pcm_desk.specs.declared.play_requests.TheConstants.{PLAY_BIT}
+use Rattle.pcm_desk.specs.declared.record_requests.TheConstants.{RECORD_BIT}
 use Rattle.pcm_desk.specs.Device.{DeviceSeen, device_settings, here_at, mix_settings, mixed_for, passed_for, play_slots, play_rate_between, record_rate_between, record_slots}
 use Rattle.pcm_desk.specs.declared.turn.Turn.{Turn}
-use Rattle.pcm_desk.specs.PlayBooks.{close_turn, is_play_free, play_begun, play_settled, refilled, write_turn}
+use Rattle.pcm_desk.specs.PlayBooks.{close_turn, is_play_free, is_play_setup, play_begun, play_is_ready, play_settled, refilled, write_turn}
 use Rattle.pcm_desk.specs.PlayRequests.{play_ask}
 use Rattle.pcm_desk.specs.RecordBooks as records
-use Rattle.pcm_desk.specs.RecordBooks.{is_record_free, record_begun}
+use Rattle.pcm_desk.specs.RecordBooks.{is_record_free, is_record_setup, record_begun}
 use Rattle.pcm_desk.specs.RecordRequests.{record_ask}
 
 pub record Desk : Type 0 where
@@ -33,6 +38,8 @@ pub record Desk : Type 0 where
   pub recording : List RecordBook
   -- by descriptor: the channel that it holds, if it is open
   pub descriptors : List (Option Held)
+  -- which channels start together
+  pub groups : Groups
   -- the frames of all interrupts so far
   pub handed : ℕ
   -- the frames mixed so far
@@ -57,6 +64,7 @@ desk_at_start device = record {
   play = replicate (play_slots device) (play_unopened device);
   recording = replicate (record_slots device) (record_unopened device);
   descriptors = replicate DESCRIPTORS None;
+  groups = no_groups;
   handed = 0;
   mixed = 0;
 }
@@ -161,10 +169,102 @@ record_rate_at device book = record_rate_between device book.opening.settings
 abbrev pub asking : DeviceSeen → Here → Request → PlayBook → Turn PlayBook
 asking device here request book = play_ask (play_rate_at device book) (mix_settings device).rate here request book
 
--- a request
+-- a request of a channel, as one of no group
 abbrev pub ioctl_on : DeviceSeen → Option Held → Desk → Request → DeskTurn
 ioctl_on device held desk request =
     turning (play_turn device (asking device (desk_here device desk) request) desk) (record_turn device (record_ask request) desk) held desk
+
+-- ---- groups
+
+-- the group of a channel, where 0 is none
+abbrev pub group_of : Desk → Held → ℕ
+group_of desk held = group_at desk.groups held.way held.slot
+
+-- it is a member of one
+abbrev pub is_member : Desk → Held → Bool
+is_member desk held = nat_lt 0 (group_of desk held)
+
+-- the groups once a channel is a member of none
+abbrev pub leaving : Option Held → Groups → Groups
+leaving None groups = groups
+leaving (Some held) groups = with_group groups held.way held.slot 0
+
+abbrev pub left : Option Held → Desk → Desk
+left held desk = record desk { groups = leaving held desk.groups }
+
+-- a sync leaves the group
+abbrev pub left_by : Request → Option Held → Groups → Groups
+left_by Sync held groups = leaving held groups
+left_by request held groups = groups
+
+-- what is asked of a member is refused where it is its trigger: it starts with its group
+abbrev pub member_refusal : Bool → Request → Option Errno
+member_refusal true (SetTrigger bits) = Some (if nat_lt 3 bits then Inval else Busy)
+member_refusal member request = None
+
+-- a request, unless it is refused
+abbrev pub request_turn : DeviceSeen → Desk → Held → Request → Option Errno → DeskTurn
+request_turn device desk held request (Some errno) = refusing desk errno
+request_turn device desk held request None =
+    ioctl_on device (Some held) (record desk { groups = left_by request (Some held) desk.groups }) request
+
+abbrev pub request_on : DeviceSeen → Option Held → Desk → Request → DeskTurn
+request_on device None desk request = refusing desk BadF
+request_on device (Some held) desk request = request_turn device desk held request (member_refusal (is_member desk held) request)
+
+-- a channel has no bytes of a run: it is in Setup
+abbrev pub rests : DeviceSeen → Desk → Held → Bool
+rests device desk held = by_way held.way (is_play_setup (play_at device desk held.slot).state) (is_record_setup (record_at device desk held.slot).state)
+
+-- what a join comes to: what the groups say, of a channel that rests
+abbrev pub join_result : Result ℕ Errno → Bool → Result ℕ Errno
+join_result (Err errno) resting = Err errno
+join_result (Ok group) resting = if resting then Ok group else Err Busy
+
+-- the channel is in the group, with its trigger off
+abbrev pub join_turn : DeviceSeen → Desk → Held → Result ℕ Errno → DeskTurn
+join_turn device desk held (Err errno) = refusing desk errno
+join_turn device desk held (Ok group) = record {
+  desk = record (ioctl_on device (Some held) desk (SetTrigger 0)).desk { groups = with_group desk.groups held.way held.slot group };
+  reply = Ok (Number group);
+}
+
+abbrev pub join_on : DeviceSeen → Option Held → Desk → ℕ → DeskTurn
+join_on device None desk group = refusing desk BadF
+join_on device (Some held) desk group =
+    join_turn device desk held (join_result (joining desk.groups held.way held.slot group) (rests device desk held))
+
+-- the bits of both ways, by which a trigger is set on
+abbrev pub both_bits : ℕ
+both_bits = PLAY_BIT + RECORD_BIT
+
+-- a member that starts has its trigger set on
+abbrev pub play_starting : DeviceSeen → Here → PlayBook → PlayBook
+play_starting device here book = (asking device here (SetTrigger both_bits) book).book
+
+abbrev pub record_starting : RecordBook → RecordBook
+record_starting book = (record_ask (SetTrigger both_bits) book).book
+
+-- all members of a group start at once, and are in none any more
+abbrev pub group_started : DeviceSeen → Desk → ℕ → Desk
+group_started device desk group = record desk {
+  play = change_in group (play_starting device (desk_here device desk)) desk.groups.play desk.play;
+  recording = change_in group record_starting desk.groups.recording desk.recording;
+  groups = dissolved group desk.groups;
+}
+
+-- a group that nobody is in isn't there; and then each of its members that plays must be ready
+abbrev pub start_turn : DeviceSeen → Desk → ℕ → DeskTurn
+start_turn device desk group =
+    if not (is_used desk.groups group) then refusing desk Inval
+    else if not (all_in group play_is_ready desk.groups.play desk.play) then refusing desk Busy
+    else record { desk = group_started device desk group; reply = Ok Done }
+
+abbrev pub start_on : DeviceSeen → Option Held → Desk → ℕ → DeskTurn
+start_on device None desk group = refusing desk BadF
+start_on device (Some held) desk group = start_turn device desk group
+
+-- ---- closes and interrupts
 
 -- the book after a close
 abbrev pub closing : DeviceSeen → Here → PlayBook → PlayBook
@@ -221,6 +321,8 @@ abbrev pub after : DeviceSeen → Desk → Event → DeskTurn
 after device desk (Open fd way settings) = open_turn desk fd way settings
 after device desk (Write fd source at length) = write_on device (held_by desk fd) desk length
 after device desk (Read fd length) = read_on device (held_by desk fd) desk length
-after device desk (Ioctl fd request) = ioctl_on device (held_by desk fd) desk request
-after device desk (Close fd) = close_on device (held_by desk fd) desk fd
+after device desk (Ioctl fd request) = request_on device (held_by desk fd) desk request
+after device desk (Join fd group) = join_on device (held_by desk fd) desk group
+after device desk (StartGroup fd group) = start_on device (held_by desk fd) desk group
+after device desk (Close fd) = close_on device (held_by desk fd) (left (held_by desk fd) desk) fd
 after device desk (Intr frames) = interrupt_turn device desk frames

@@ -14,7 +14,8 @@ use Rattle.pcm_plan.specs.Plans.{PlanSeen, plan_play, plan_record, rate_in_plan}
 use Rattle.pcm_desk.specs.declared.device.Device.{Device}
 use Rattle.pcm_desk.specs.declared.device.TheConstants.{QUALITY_MOST}
 use Rattle.pcm_desk.specs.declared.here.Here.{Here}
-use Rattle.pcm_desk.specs.declared.limits.TheConstants.{MIX_FRAMES, RING_FRAMES, SLOTS}
+use Rattle.pcm_desk.specs.declared.limits.TheConstants.{MIX_FRAMES, RING_FRAMES}
+use Rattle.pcm_oss.specs.declared.event.TheConstants.{SLOTS}
 
 pub record DeviceSeen : Type 0 where
   -- the frames that are handed over, and captured

@@ -1,17 +1,20 @@
--- What a client is told, and what becomes of its book, is a matter of that book and its own events alone.
-use Rattle.std.specs.Prelude.{◌≡◌, ◌≢◌, ◌<◌, ℕ, Bool, true, false, not, Option, Some, None, Result, length, slice_index_or}
+-- What a client is told, and what becomes of its book, is a matter of that book and its own events alone, but for the group that it joins.
+use Rattle.std.specs.Prelude.{◌≡◌, ◌≢◌, ◌<◌, ℕ, Bool, true, false, not, Option, Some, None, Result, Ok, Err, OnErr, OnOk, length, slice_index_or}
 use Rattle.pcm_oss.specs.declared.event.Event.{Event}
-use Rattle.pcm_oss.specs.declared.event.Event.TheVariants.{Open, Write, Read, Ioctl, Close, Intr}
+use Rattle.pcm_oss.specs.declared.event.Event.TheVariants.{Open, Write, Read, Ioctl, Join, StartGroup, Close, Intr}
 use Rattle.pcm_oss.specs.declared.event.Way.{Way}
 use Rattle.pcm_oss.specs.declared.event.Way.TheVariants.{Play, Record}
 use Rattle.pcm_oss.specs.declared.request.Request.{Request}
+use Rattle.pcm_oss.specs.declared.request.Request.TheVariants.{SetTrigger}
 use Rattle.pcm_oss.specs.declared.reply.Answer.{Answer}
 use Rattle.pcm_oss.specs.declared.reply.Answer.TheVariants.{Number}
 use Rattle.pcm_oss.specs.declared.reply.Errno.{Errno}
-use Rattle.pcm_oss.specs.declared.reply.Errno.TheVariants.{Exist, Inval}
+use Rattle.pcm_oss.specs.declared.reply.Errno.TheVariants.{Busy, Exist, Inval}
+use Rattle.pcm_group.specs.declared.sync_groups.Groups.{Groups}
+use Rattle.pcm_group.specs.Groups.{dissolved, groups_joined, joining}
 use Rattle.pcm_desk.specs.declared.play_book.PlayBook.{PlayBook}
 use Rattle.pcm_desk.specs.declared.play_book.PlayState.{PlayState}
-use Rattle.pcm_desk.specs.declared.play_book.PlayState.TheVariants.{Free, Draining}
+use Rattle.pcm_desk.specs.declared.play_book.PlayState.TheVariants.{Free, Setup, Primed, Draining}
 use Rattle.pcm_desk.specs.declared.device.Held.{Held}
 use Rattle.pcm_desk.specs.declared.here.Here.{Here}
 use Rattle.pcm_desk.specs.declared.record_book.RecordBook.{RecordBook}
@@ -20,17 +23,19 @@ use Rattle.pcm_desk.specs.declared.turn.Turn.{Turn}
 use Rattle.pcm_desk.specs.BookTurns.{doing, refused, telling}
 use Rattle.pcm_desk.specs.PlayBooks.{write_turn}
 use Rattle.pcm_desk.specs.RecordBooks as records
-use Rattle.pcm_desk.specs.RecordBooks.{is_record_free}
+use Rattle.pcm_desk.specs.RecordBooks.{is_record_free, is_record_setup}
 use Rattle.pcm_desk.specs.RecordRequests.{record_ask}
-use Rattle.pcm_desk.specs.Desk.{Desk, asking, play_at, by_way, capturing, closing, held_by, play_passing, record_at}
+use Rattle.pcm_desk.specs.Desk.{Desk, asking, play_at, by_way, capturing, closing, group_of, held_by, is_member, join_result, leaving, left_by, member_refusal, play_passing, play_starting, record_at, record_starting, rests}
 
--- the descriptor that a client's event names
+-- The descriptor whose channel an event is of. An interrupt is of all channels, and a start of a group is of its members.
 abbrev pub descriptor_of : Event → Option ℕ
 descriptor_of (Open fd way settings) = Some fd
 descriptor_of (Write fd source at count) = Some fd
 descriptor_of (Read fd count) = Some fd
 descriptor_of (Ioctl fd request) = Some fd
+descriptor_of (Join fd group) = Some fd
 descriptor_of (Close fd) = Some fd
+descriptor_of (StartGroup fd group) = None
 descriptor_of (Intr n) = None
 
 -- the book of a channel, of either way
@@ -61,6 +66,15 @@ abbrev pub own_ioctl : DeviceSeen → Here → Request → Channel → Turn Chan
 own_ioctl device here request (Playing book) = played (asking device here request book)
 own_ioctl device here request (Recording book) = recorded (record_ask request book)
 
+abbrev pub own_request : DeviceSeen → Here → Request → Option Errno → Channel → Turn Channel
+own_request device here request (Some errno) channel = refused errno channel
+own_request device here request None channel = own_ioctl device here request channel
+
+-- a join sets the trigger off
+abbrev pub own_join : DeviceSeen → Here → Result ℕ Errno → Channel → Turn Channel
+own_join device here (Err errno) channel = refused errno channel
+own_join device here (Ok group) channel = telling (Number group) (own_ioctl device here (SetTrigger 0) channel).book
+
 abbrev pub closing_own : DeviceSeen → Here → Channel → Channel
 closing_own device here (Playing book) = Playing (closing device here book)
 closing_own device here (Recording book) = Recording (records.closed book)
@@ -70,15 +84,33 @@ abbrev pub passing : DeviceSeen → ℕ → ℕ → Channel → Channel
 passing device handed n (Playing book) = Playing (play_passing device handed n book)
 passing device handed n (Recording book) = Recording (capturing device n book)
 
+-- what the groups are to a channel: whether it is a member of one, and what it gets that asks for one
+pub record Grouping : Type 0 where
+  pub member : Bool
+  pub joins : ℕ → Result ℕ Errno
+
+abbrev pub grouping_at : DeviceSeen → Desk → Held → Grouping
+grouping_at device desk held = record {
+  member = is_member desk held;
+  joins = λ group. join_result (joining desk.groups held.way held.slot group) (rests device desk held);
+}
+
+-- to a channel that joins none
+abbrev pub ungrouped : Grouping
+ungrouped = record { member = false; joins = λ group. Err Busy }
+
 -- A book and the reply after an event of its own, or after an interrupt, where so many frames were handed over before. A descriptor
--- that is open can't be opened.
-abbrev pub own_turn : DeviceSeen → ℕ → Event → Channel → Turn Channel
-own_turn device handed (Open fd way settings) channel = refused Exist channel
-own_turn device handed (Write fd source at count) channel = own_write (here_at device handed) count channel
-own_turn device handed (Read fd count) channel = own_read count channel
-own_turn device handed (Ioctl fd request) channel = own_ioctl device (here_at device handed) request channel
-own_turn device handed (Close fd) channel = doing (closing_own device (here_at device handed) channel)
-own_turn device handed (Intr n) channel = telling (Number n) (passing device handed n channel)
+-- that is open can't be opened. The groups have a part in a join and a trigger alone.
+abbrev pub own_turn : DeviceSeen → ℕ → Grouping → Event → Channel → Turn Channel
+own_turn device handed grouping (Open fd way settings) channel = refused Exist channel
+own_turn device handed grouping (Write fd source at count) channel = own_write (here_at device handed) count channel
+own_turn device handed grouping (Read fd count) channel = own_read count channel
+own_turn device handed grouping (Ioctl fd request) channel =
+    own_request device (here_at device handed) request (member_refusal grouping.member request) channel
+own_turn device handed grouping (Join fd group) channel = own_join device (here_at device handed) (grouping.joins group) channel
+own_turn device handed grouping (StartGroup fd group) channel = doing channel
+own_turn device handed grouping (Close fd) channel = doing (closing_own device (here_at device handed) channel)
+own_turn device handed grouping (Intr n) channel = telling (Number n) (passing device handed n channel)
 
 -- a channel that a descriptor may hold: it isn't free, and doesn't drain behind a close
 abbrev pub is_held : PlayState → Bool
@@ -106,19 +138,28 @@ abbrev pub held_after : Event → Held → Option Held
 held_after (Close fd) held = None
 held_after _ held = Some held
 
+-- and of the groups: a sync and a close leave one
+abbrev pub groups_after : Event → Held → Grouping → Groups → Groups
+groups_after (Ioctl fd request) held grouping groups = left_by request (Some held) groups
+groups_after (Join fd group) held grouping groups = groups_joined groups held.way held.slot (grouping.joins group)
+groups_after (Close fd) held grouping groups = leaving (Some held) groups
+groups_after _ held grouping groups = groups
+
 -- Of one descriptor: what its event leaves of a desk.
 
--- where it is open, its channel goes by the book of that channel alone, every other channel stays, and it holds its own until it is
--- closed
+-- where it is open, its channel goes by the book of that channel alone, and by what the groups are to it, every other channel stays, and it
+-- holds its own until it is closed
 pub record GoesAlone (device : DeviceSeen) (event : Event) (old new : Desk) (reply : Result Answer Errno) (fd : ℕ) (held : Held) : Type 0 where
-  pub own : channel_at device new held ≡ (own_turn device old.handed event (channel_at device old held)).book
-  pub answer : reply ≡ (own_turn device old.handed event (channel_at device old held)).reply
+  pub own : channel_at device new held ≡ (own_turn device old.handed (grouping_at device old held) event (channel_at device old held)).book
+  pub answer : reply ≡ (own_turn device old.handed (grouping_at device old held) event (channel_at device old held)).reply
   pub until : held_by new fd ≡ held_after event held
+  pub groups : new.groups ≡ groups_after event held (grouping_at device old held) old.groups
   pub others : (other : Held) → other ≢ held → channel_at device new other ≡ channel_at device old other
 
 -- where it is shut, every channel stays but that of the slot that it holds then, be it free or drain behind a close
-abbrev pub TakesOne : DeviceSeen → Desk → Desk → ℕ → Type 0
-TakesOne device old new fd = (other : Held) → fd < length old.descriptors → held_by new fd ≢ Some other → channel_at device new other ≡ channel_at device old other
+pub record TakesOne (device : DeviceSeen) (old new : Desk) (fd : ℕ) : Type 0 where
+  pub others : (other : Held) → fd < length old.descriptors → held_by new fd ≢ Some other → channel_at device new other ≡ channel_at device old other
+  pub groups : new.groups ≡ old.groups
 
 pub record GoesByDescriptor (device : DeviceSeen) (event : Event) (old new : Desk) (reply : Result Answer Errno) (fd : ℕ) : Type 0 where
   pub opened : (held : Held) → held_by old fd ≡ Some held → GoesAlone device event old new reply fd held
@@ -127,15 +168,47 @@ pub record GoesByDescriptor (device : DeviceSeen) (event : Event) (old new : Des
   pub holds : (other : ℕ) → other ≢ fd → held_by new other ≡ held_by old other
   pub strangers : (other : ℕ) (theirs : Held) → other ≢ fd → held_by old other ≡ Some theirs → channel_at device new theirs ≡ channel_at device old theirs
 
--- Of an interrupt: it goes by each channel alone, and leaves what every descriptor holds, or that it is shut.
+-- Of an interrupt: it goes by each channel alone, and leaves what every descriptor holds, or that it is shut, and the groups.
 pub record GoesByEach (device : DeviceSeen) (event : Event) (old new : Desk) : Type 0 where
-  pub each : (held : Held) → channel_at device new held ≡ (own_turn device old.handed event (channel_at device old held)).book
+  pub each : (held : Held) → channel_at device new held ≡ (own_turn device old.handed (grouping_at device old held) event (channel_at device old held)).book
+  pub passes : (fd : ℕ) → held_by new fd ≡ held_by old fd
+  pub groups : new.groups ≡ old.groups
+
+-- a member of a group starts where the mix and the device are
+abbrev pub starting : DeviceSeen → Here → Channel → Channel
+starting device here (Playing book) = Playing (play_starting device here book)
+starting device here (Recording book) = Recording (record_starting book)
+
+-- Of a start of a group: where it is accepted its members start, and are in none any more; where it is refused nothing changes. Every
+-- other channel stays, and what every descriptor holds, or that it is shut.
+pub record StartsTogether (device : DeviceSeen) (group : ℕ) (old new : Desk) (reply : Result Answer Errno) : Type 0 where
+  pub members : (held : Held) → group_of old held ≡ group → OnOk reply (channel_at device new held ≡ starting device (here_at device old.handed) (channel_at device old held))
+  pub groups : OnOk reply (new.groups ≡ dissolved group old.groups)
+  pub refused : OnErr reply (new ≡ old)
+  pub others : (held : Held) → group_of old held ≢ group → channel_at device new held ≡ channel_at device old held
   pub passes : (fd : ℕ) → held_by new fd ≡ held_by old fd
 
--- What an event leaves of the channels of a desk, and its reply: no book looks at another.
+-- What an event leaves of the channels of a desk, and its reply: no book looks at another, but for those of a group that starts.
 abbrev pub IsIsolatedBy : Option ℕ → DeviceSeen → Event → Desk → Desk → Result Answer Errno → Type 0
 IsIsolatedBy (Some fd) device event old new reply = GoesByDescriptor device event old new reply fd
 IsIsolatedBy None device event old new reply = GoesByEach device event old new
 
 abbrev pub IsIsolated : DeviceSeen → Event → Desk → Desk → Result Answer Errno → Type 0
+IsIsolated device (StartGroup fd group) old new reply = StartsTogether device group old new reply
 IsIsolated device event old new reply = IsIsolatedBy (descriptor_of event) device event old new reply
+
+-- ---- members of groups
+
+abbrev pub is_waiting : PlayState → Bool
+is_waiting Setup = true
+is_waiting Primed = true
+is_waiting state = false
+
+-- a channel waits for the start of its group: it hasn't started, and its trigger is off
+abbrev pub Waits : Channel → Type 0
+Waits (Playing book) = (is_waiting book.state ≡ true) × (book.opening.trigger ≡ false)
+Waits (Recording book) = (is_record_setup book.state ≡ true) × (book.opening.trigger ≡ false)
+
+-- each member of a group does
+abbrev pub MembersWait : DeviceSeen → Desk → Type 0
+MembersWait device desk = (held : Held) → is_member desk held ≡ true → Waits (channel_at device desk held)

@@ -1,8 +1,8 @@
 -- What the events of one descriptor come to along a list of events, from its opening on until its close.
-use Rattle.std.specs.Prelude.{◌≡◌, ℕ, ◌+◌, Bool, true, false, ◌==◌, if◌then◌else◌, List, [], ◌∷◌, Option, Some, None, Result}
+use Rattle.std.specs.Prelude.{◌≡◌, ℕ, ◌+◌, Bool, true, false, ◌==◌, if◌then◌else◌, List, [], ◌∷◌, Option, Some, None, Result, IsErr}
 use Rattle.pcm_format.specs.declared.settings.Settings.{Settings}
 use Rattle.pcm_oss.specs.declared.event.Event.{Event}
-use Rattle.pcm_oss.specs.declared.event.Event.TheVariants.{Open, Write, Read, Ioctl, Close, Intr}
+use Rattle.pcm_oss.specs.declared.event.Event.TheVariants.{Open, Write, Read, Ioctl, Join, StartGroup, Close, Intr}
 use Rattle.pcm_oss.specs.declared.event.Way.{Way}
 use Rattle.pcm_oss.specs.declared.reply.Answer.{Answer}
 use Rattle.pcm_oss.specs.declared.reply.Errno.{Errno}
@@ -14,16 +14,23 @@ use Rattle.pcm_desk.specs.RecordBooks.{record_begun}
 use Rattle.pcm_desk.specs.Desk.{Desk, DeskTurn, after, by_way, held_by}
 use Rattle.pcm_desk.specs.declared.turn.Turn.{Turn}
 use Rattle.pcm_desk.specs.Events.{frames_taken}
-use Rattle.pcm_desk.specs.Own.{Channel, Playing, Recording, descriptor_of, own_turn}
+use Rattle.pcm_desk.specs.Own.{Channel, Playing, Recording, descriptor_of, own_turn, ungrouped}
 
 -- a descriptor is this one; an event that names none is everyone's
 abbrev pub names : ℕ → Option ℕ → Bool
 names fd None = true
 names fd (Some at) = at == fd
 
--- an event of the descriptor, or an interrupt
+-- an event of the descriptor that has nothing to do with groups, or an interrupt
 abbrev pub concerns : ℕ → Event → Bool
+concerns fd (Join at group) = false
+concerns fd (StartGroup at group) = false
 concerns fd event = names fd (descriptor_of event)
+
+-- a join of the descriptor
+abbrev pub joins : ℕ → Event → Bool
+joins fd (Join at group) = at == fd
+joins fd _ = false
 
 -- the close of the descriptor
 abbrev pub closes : ℕ → Event → Bool
@@ -36,6 +43,8 @@ unnamed (Open fd way settings) = Open 0 way settings
 unnamed (Write fd source at count) = Write 0 Inline 0 count
 unnamed (Read fd count) = Read 0 count
 unnamed (Ioctl fd request) = Ioctl 0 request
+unnamed (Join fd group) = Join 0 group
+unnamed (StartGroup fd group) = StartGroup 0 group
 unnamed (Close fd) = Close 0
 unnamed (Intr n) = Intr n
 
@@ -52,18 +61,25 @@ replies_to device fd desk (event ∷ events) =
     let turn : DeskTurn = after device desk event in
     if concerns fd event then turn.reply ∷ (if closes fd event then [] else replies_to device fd turn.desk events) else replies_to device fd turn.desk events
 
--- the replies to a channel's own events and the interrupts between them, by its book alone and how many frames were handed over before
+-- no join of a descriptor is accepted until its close, at a desk and all that comes of it
+abbrev pub JoinsNone : DeviceSeen → ℕ → Desk → List Event → Type 0
+JoinsNone device fd desk [] = Unit {0}
+JoinsNone device fd desk (event ∷ events) =
+    let turn : DeskTurn = after device desk event in
+    (joins fd event ≡ true → IsErr turn.reply) × (closes fd event ≡ false → JoinsNone device fd turn.desk events)
+
+-- the replies to the own events of a channel of no group and the interrupts between them, by its book alone and how many frames were handed over before
 abbrev pub own_replies : DeviceSeen → ℕ → Channel → List Event → List (Result Answer Errno)
 own_replies device handed channel [] = []
 own_replies device handed channel (event ∷ events) =
-    let turn : Turn Channel = own_turn device handed event channel in
+    let turn : Turn Channel = own_turn device handed ungrouped event channel in
     turn.reply ∷ own_replies device (handed + frames_taken event) turn.book events
 
 -- and its book after them
 abbrev pub own_after : DeviceSeen → ℕ → Channel → List Event → Channel
 own_after device handed channel [] = channel
 own_after device handed channel (event ∷ events) =
-    own_after device (handed + frames_taken event) (own_turn device handed event channel).book events
+    own_after device (handed + frames_taken event) (own_turn device handed ungrouped event channel).book events
 
 -- a channel whose opening begins
 abbrev pub channel_begun : Way → Settings → Channel

@@ -24,6 +24,10 @@ abbrev pub is_play_setup : PlayState → Bool
 is_play_setup Setup = true
 is_play_setup state = false
 
+abbrev pub is_primed : PlayState → Bool
+is_primed Primed = true
+is_primed state = false
+
 abbrev pub is_draining : PlayState → Bool
 is_draining (Draining _) = true
 is_draining state = false
@@ -95,6 +99,10 @@ primed_in state book = book
 -- the trigger is on, and a full fragment waits
 abbrev pub may_start : PlayBook → Bool
 may_start book = book.opening.trigger && nat_le (fragment_bytes book.opening) (play_fill_of book)
+
+-- a run may start at any moment: it has a whole frame
+abbrev pub play_is_ready : PlayBook → Bool
+play_is_ready book = is_primed book.state && nat_lt 0 (frames_written book)
 
 -- a run starts where so many frames were mixed
 abbrev pub started_at : ℕ → PlayState → PlayBook → PlayBook

@@ -20,10 +20,10 @@ ghost use Rattle.pcm_desk.specs.RecordRequests.{record_ask};
 ghost use Rattle.pcm_desk.specs.RecordSafe.{RecordIsSafe};
 ghost use Rattle.pcm_desk.specs.Device.{DeviceSeen, IsInLimits, here_at, mixed_for};
 ghost use Rattle.pcm_desk.specs.declared.device.Held.{Held};
-ghost use Rattle.pcm_desk.specs.Desk.{Desk, after, desk_at_start, held_by};
+ghost use Rattle.pcm_desk.specs.Desk.{Desk, after, desk_at_start, held_by, is_member};
 ghost use Rattle.pcm_desk.specs.Events.{after_all};
-ghost use Rattle.pcm_desk.specs.Own.{HoldApart, IsIsolated, channel_at};
-ghost use Rattle.pcm_desk.specs.OwnEvents.{Opens, channel_begun, closes, own_after, own_events, own_replies, replies_to};
+ghost use Rattle.pcm_desk.specs.Own.{HoldApart, IsIsolated, MembersWait, channel_at};
+ghost use Rattle.pcm_desk.specs.OwnEvents.{JoinsNone, Opens, channel_begun, closes, own_after, own_events, own_replies, replies_to};
 
 /// The counts of a book stay in order through every event, for every rate between its client and the mix.
 pub fn books_stay_in_order()
@@ -90,36 +90,48 @@ pub fn descriptors_hold_apart()
         → HoldApart (after_all device (desk_at_start device) events) }
 {}
 
-/// No client is told what others do, but that no slot is free and which one it got: what it is told goes by its settings, its own events and the
-/// interrupts between them.
+/// Each member of a group waits for its start, from the start on and through every event: it is in Setup or has bytes, and its trigger is off.
+pub fn members_wait_for_their_group()
+    ensures start { (device : DeviceSeen) → MembersWait device (desk_at_start device) }
+    ensures after { (device : DeviceSeen) (desk : Desk) (event : Event) → HoldApart desk → MembersWait device desk
+        → MembersWait device (after device desk event).desk }
+    ensures always { (device : DeviceSeen) (events : List Event)
+        → MembersWait device (after_all device (desk_at_start device) events) }
+{}
+
+/// No client is told what others do, but that no slot is free and which one it got, and what a group that it joins is: what it is told goes by its
+/// settings, its own events and the interrupts between them.
 pub fn openings_stand_alone()
     ensures isolated { (device : DeviceSeen) (event : Event) (desk : Desk) → HoldApart desk
         → IsIsolated device event desk (after device desk event).desk (after device desk event).reply }
     ensures begun { (device : DeviceSeen) (fd : ℕ) (way : Way) (settings : Settings) (held : Held) (old new : Desk)
         → Opens device fd way settings held old new → channel_at device new held ≡ channel_begun way settings }
-    // along a list of events
+    // along a list of events, of an opening that joins no group
     ensures told { (device : DeviceSeen) (desk : Desk) (fd : ℕ) (held : Held) (events : List Event)
-        → HoldApart desk → held_by desk fd ≡ Some held
+        → HoldApart desk → held_by desk fd ≡ Some held → is_member desk held ≡ false → JoinsNone device fd desk events
         → replies_to device fd desk events
         ≡ own_replies device desk.handed (channel_at device desk held) (own_events fd events) }
     ensures holds { (device : DeviceSeen) (desk : Desk) (fd : ℕ) (held : Held) (events : List Event)
         → HoldApart desk → held_by desk fd ≡ Some held → All (λ event. closes fd event ≡ false) events
         → held_by (after_all device desk events) fd ≡ Some held }
     ensures book { (device : DeviceSeen) (desk : Desk) (fd : ℕ) (held : Held) (events : List Event)
-        → HoldApart desk → held_by desk fd ≡ Some held → All (λ event. closes fd event ≡ false) events
+        → HoldApart desk → held_by desk fd ≡ Some held → is_member desk held ≡ false → JoinsNone device fd desk events
+        → All (λ event. closes fd event ≡ false) events
         → channel_at device (after_all device desk events) held
         ≡ own_after device desk.handed (channel_at device desk held) (own_events fd events) }
     // two openings, of one script or of two
     ensures alike { (device : DeviceSeen) (fd at : ℕ) (way : Way) (settings : Settings) (held theirs : Held)
         (one new other anew : Desk) (events others : List Event)
-        → HoldApart one → HoldApart other → one.handed ≡ other.handed
+        → HoldApart one → HoldApart other → MembersWait device one → MembersWait device other → one.handed ≡ other.handed
         → Opens device fd way settings held one new → Opens device at way settings theirs other anew
+        → JoinsNone device fd new events → JoinsNone device at anew others
         → own_events fd events ≡ own_events at others
         → replies_to device fd new events ≡ replies_to device at anew others }
     ensures books_alike { (device : DeviceSeen) (fd at : ℕ) (way : Way) (settings : Settings) (held theirs : Held)
         (one new other anew : Desk) (events others : List Event)
-        → HoldApart one → HoldApart other → one.handed ≡ other.handed
+        → HoldApart one → HoldApart other → MembersWait device one → MembersWait device other → one.handed ≡ other.handed
         → Opens device fd way settings held one new → Opens device at way settings theirs other anew
+        → JoinsNone device fd new events → JoinsNone device at anew others
         → All (λ event. closes fd event ≡ false) events → All (λ event. closes at event ≡ false) others
         → own_events fd events ≡ own_events at others
         → channel_at device (after_all device new events) held

@@ -19,10 +19,10 @@ pub use device::{Device, Held, OPENING, QUALITY_MOST};
 pub use here::Here;
 pub use laws::{
     books_stay_here, books_stay_in_order, descriptors_hold_apart, devices_hold_what_is_mixed,
-    openings_stand_alone, record_books_stay_in_order,
+    members_wait_for_their_group, openings_stand_alone, record_books_stay_in_order,
 };
 pub use limits::{
-    DESCRIPTORS, DEVICE_BYTES, EVENTS, MIX_FRAMES, READ_BYTES, RING_FRAMES, SLOTS, WRITE_BYTES,
+    DESCRIPTORS, DEVICE_BYTES, EVENTS, MIX_FRAMES, READ_BYTES, RING_FRAMES, WRITE_BYTES,
 };
 pub use opening::{ALL_FORMATS, CAPABILITIES, Opening};
 pub use play_book::{PlayBook, PlayState};

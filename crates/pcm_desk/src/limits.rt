@@ -20,6 +20,3 @@ pub const RING_FRAMES: u32 = 262144;
 
 /// The frames that an interrupt mixes at most.
 pub const MIX_FRAMES: u32 = 262144;
-
-/// How many clients of each way a device has at most.
-pub const SLOTS: u32 = 16;

@@ -5,7 +5,7 @@ ghost use Rattle.pcm_format.specs.Frames.{frame_bytes};
 ghost use Rattle.pcm_oss.specs.Fragments.{AreFragments};
 ghost use Rattle.pcm_rate.specs.Rates.{IsRatio};
 ghost use Rattle.pcm_desk.specs.Openings.{ring_bytes};
-ghost use Rattle.pcm_desk.specs.PlayBooks.{accepting, close_turn, drained_in, finished, frames_written, gives, giving, has_given_all, is_draining, is_over, is_play_free, is_started, last_after, may_start, play_begun, play_dropped, play_emptied, play_fill_of, play_free_of, play_settled, primed_in, refilled, started_at, started_in, underruns_after, write_turn};
+ghost use Rattle.pcm_desk.specs.PlayBooks.{accepting, close_turn, drained_in, finished, frames_written, gives, giving, has_given_all, is_draining, is_over, is_play_free, is_play_setup, is_started, last_after, may_start, play_begun, play_is_ready, play_dropped, play_emptied, play_fill_of, play_free_of, play_settled, primed_in, refilled, started_at, started_in, underruns_after, write_turn};
 
 use crate::{Here, Opening, PlayBook, PlayState, Turn};
 use pcm_format::Settings;
@@ -35,6 +35,20 @@ impl PlayBook {
         ensures { result ≡ is_play_free self.now.state }
     {
         matches!(self.state, PlayState::Free)
+    }
+
+    /// Whether the channel is open, and nothing of a run is there.
+    pub fn is_setup(&self) -> bool
+        ensures { result ≡ is_play_setup self.now.state }
+    {
+        matches!(self.state, PlayState::Setup)
+    }
+
+    /// Whether a run may start at any moment: it waits with a whole frame.
+    pub fn is_ready(&self) -> bool
+        ensures { result ≡ play_is_ready self.now }
+    {
+        matches!(self.state, PlayState::Primed) && self.frames_written() > 0
     }
 
     /// Whether nothing more will be written of the run.

@@ -4,7 +4,7 @@ ghost use Rattle.std.specs.Prelude.{◌≡◌, pos, ◌+◌, ◌*◌, ◌^◌, �
 ghost use Rattle.pcm_format.specs.Frames.{frame_bytes};
 ghost use Rattle.pcm_oss.specs.Fragments.{AreFragments};
 ghost use Rattle.pcm_rate.specs.Rates.{IsRatio};
-ghost use Rattle.pcm_desk.specs.PlayBooks.{is_play_setup, play_fill_of, played_of};
+ghost use Rattle.pcm_desk.specs.PlayBooks.{play_fill_of, played_of};
 ghost use Rattle.pcm_desk.specs.Openings.{ring_bytes};
 ghost use Rattle.pcm_desk.specs.Here.{IsHere, held_most};
 ghost use Rattle.pcm_desk.specs.PlaySafe.{PlayIsHere};
@@ -65,12 +65,6 @@ impl PlayBook {
             },
             reply: turn.reply,
         }
-    }
-
-    fn is_setup(&self) -> bool
-        ensures { result ≡ is_play_setup self.now.state }
-    {
-        matches!(self.state, PlayState::Setup)
     }
 
     // The bytes that wait in the ring, and those that the device's still holds.

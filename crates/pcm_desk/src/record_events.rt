@@ -42,8 +42,8 @@ impl RecordBook {
         matches!(self.state, RecordState::Running)
     }
 
-    // Whether the channel is open and hasn't started.
-    pub(crate) fn is_setup(&self) -> bool
+    /// Whether the channel is open and hasn't started.
+    pub fn is_setup(&self) -> bool
         ensures { result ≡ is_record_setup self.now.state }
     {
         matches!(self.state, RecordState::Setup)

@@ -32,6 +32,7 @@ use Rattle.pcm_vchan.proofs.Channels.{some_channel}
 use Rattle.pcm_vchan.specs.Parents.{AreClosable, AreServed, HasBus, here_of, play_channels, record_channels}
 use Rattle.pcm_engine.specs.declared.engine.EngineOf.{EngineOf}
 use Rattle.pcm_engine.specs.declared.limits.TheConstants.{STEPS}
+use Rattle.pcm_desk.specs.Own.{MembersWait}
 use Rattle.pcm_engine.specs.Engines.{AreReady, BooksAreHere, RecordsAreSafe, RingsHold, desk_of, device_of}
 
 -- ---- channels that play
@@ -144,8 +145,9 @@ rings-hold engine = record {
 -- ---- an engine whose channels are ready
 
 pub ready-all : {B : Type 0} (kind : B → Kind) (kept : B → Kept) (engine : EngineOf B) → All (IsPlayReady kind kept engine.tables) (play_channels engine.parent) → All (IsRecordReady kind kept engine.tables) (record_channels engine.parent)
-    → HasBus kept (device_of engine) engine.parent → IsInLimits (device_of engine) → BooksAreHere (device_of engine) (desk_of engine) → AreReady kind kept engine
-ready-all kind kept engine playing recording bus limits places = record {
+    → HasBus kept (device_of engine) engine.parent → IsInLimits (device_of engine) → BooksAreHere (device_of engine) (desk_of engine) → MembersWait (device_of engine) (desk_of engine) → AreReady kind kept engine
+ready-all kind kept engine playing recording bus limits places members = record {
+  members = members;
   limits = limits;
   places = places;
   playing = playing;

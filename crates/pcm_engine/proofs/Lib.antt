@@ -3,6 +3,7 @@ pub mod Desks
 pub mod Buses
 pub mod InOrder
 pub mod Turning
+pub mod Grouping
 pub mod Blocks
 pub mod Mixing
 pub mod Standing

@@ -4,7 +4,7 @@ use Rattle.std.proofs.lemmas.List.{append-nil, take-append-le, get_or-map}
 use Rattle.std.proofs.Math.Seq.{take-add}
 use Rattle.std.proofs.Math.Nat.{mul-le-mul_right}
 use Rattle.pcm_oss.specs.declared.event.Event.{Event}
-use Rattle.pcm_oss.specs.declared.event.Event.TheVariants.{Open, Write, Read, Ioctl, Close, Intr}
+use Rattle.pcm_oss.specs.declared.event.Event.TheVariants.{Open, Write, Read, Ioctl, Join, StartGroup, Close, Intr}
 use Rattle.pcm_wave.specs.declared.pool.Pool.{Pool}
 use Rattle.pcm_feeder.specs.declared.kind.Kind.{Kind}
 use Rattle.pcm_feeder.specs.Kept.{Kept}
@@ -92,6 +92,14 @@ counts_told device pool story (Ioctl fd request) slot fits v more = record {
   are = marks device pool story (Ioctl fd request) slot
       ∙ counted-kept (play_at device story.desk slot) (play_at device (told device pool story (Ioctl fd request)).desk slot).written (newest_bytes (story.runs slot)) (omega arith);
 }
+counts_told device pool story (Join fd group) slot fits v more = record {
+  are = marks device pool story (Join fd group) slot
+      ∙ counted-kept (play_at device story.desk slot) (play_at device (told device pool story (Join fd group)).desk slot).written (newest_bytes (story.runs slot)) (omega arith);
+}
+counts_told device pool story (StartGroup fd group) slot fits v more = record {
+  are = marks device pool story (StartGroup fd group) slot
+      ∙ counted-kept (play_at device story.desk slot) (play_at device (told device pool story (StartGroup fd group)).desk slot).written (newest_bytes (story.runs slot)) (omega arith);
+}
 counts_told device pool story (Close fd) slot fits v more = record {
   are = marks device pool story (Close fd) slot
       ∙ counted-kept (play_at device story.desk slot) (play_at device (told device pool story (Close fd)).desk slot).written (newest_bytes (story.runs slot)) (omega arith);
@@ -167,6 +175,10 @@ bus_told kind kept device pool story (Read fd count) before now chain_before cha
     bus_kept kept device pool story (Read fd count) chain_before chain_now ring_before ring_now fits refl st.bus s.valid (bus_before kept device story before chain_before ring_before s)
 bus_told kind kept device pool story (Ioctl fd request) before now chain_before chain_now ring_before ring_now fits st s =
     bus_kept kept device pool story (Ioctl fd request) chain_before chain_now ring_before ring_now fits refl st.bus s.valid (bus_before kept device story before chain_before ring_before s)
+bus_told kind kept device pool story (Join fd group) before now chain_before chain_now ring_before ring_now fits st s =
+    bus_kept kept device pool story (Join fd group) chain_before chain_now ring_before ring_now fits refl st.bus s.valid (bus_before kept device story before chain_before ring_before s)
+bus_told kind kept device pool story (StartGroup fd group) before now chain_before chain_now ring_before ring_now fits st s =
+    bus_kept kept device pool story (StartGroup fd group) chain_before chain_now ring_before ring_now fits refl st.bus s.valid (bus_before kept device story before chain_before ring_before s)
 bus_told kind kept device pool story (Close fd) before now chain_before chain_now ring_before ring_now fits st s =
     bus_kept kept device pool story (Close fd) chain_before chain_now ring_before ring_now fits refl st.bus s.valid (bus_before kept device story before chain_before ring_before s)
 bus_told kind kept device pool story (Intr n) before now chain_before chain_now ring_before ring_now fits st s =
@@ -229,6 +241,8 @@ body-told kept device pool story (Open fd way settings) desk channels chain ring
 body-told kept device pool story (Write fd source at count) desk channels chain ring fits s = body_kept device pool story (Write fd source at count) ring fits refl s.valid
 body-told kept device pool story (Read fd count) desk channels chain ring fits s = body_kept device pool story (Read fd count) ring fits refl s.valid
 body-told kept device pool story (Ioctl fd request) desk channels chain ring fits s = body_kept device pool story (Ioctl fd request) ring fits refl s.valid
+body-told kept device pool story (Join fd group) desk channels chain ring fits s = body_kept device pool story (Join fd group) ring fits refl s.valid
+body-told kept device pool story (StartGroup fd group) desk channels chain ring fits s = body_kept device pool story (StartGroup fd group) ring fits refl s.valid
 body-told kept device pool story (Close fd) desk channels chain ring fits s = body_kept device pool story (Close fd) ring fits refl s.valid
 body-told kept device pool story (Intr n) desk channels chain ring fits s =
     let z : ℕ = device_frame_bytes device in

@@ -11,6 +11,8 @@ use Rattle.pcm_format.specs.Frames.{frame_bytes}
 use Rattle.pcm_feeder.specs.declared.kind.Kind.{Kind}
 use Rattle.pcm_feeder.specs.Filters.{Filters}
 use Rattle.pcm_feeder.specs.Kept.{Kept}
+use Rattle.pcm_group.specs.declared.sync_groups.Groups.{Groups}
+use Rattle.pcm_group.specs.Groups.{no_groups}
 use Rattle.pcm_desk.specs.declared.play_book.PlayBook.{PlayBook}
 use Rattle.pcm_desk.specs.declared.device.Device.{Device}
 use Rattle.pcm_desk.specs.declared.device.Held.{Held}
@@ -34,6 +36,7 @@ use Rattle.pcm_play.specs.Channels.{PlayStands, IsPlayReady, IsPlayUnopened}
 use Rattle.pcm_chain.specs.declared.chain.ChainOf.{ChainOf}
 use Rattle.pcm_vchan.specs.Blocks.{silent_ring}
 use Rattle.pcm_vchan.specs.Handovers.{HasMade}
+use Rattle.pcm_engine.specs.declared.descriptors.Descriptors.{Descriptors}
 use Rattle.pcm_engine.specs.Desks.{desk_with}
 use Rattle.pcm_vchan.specs.Parents.{play_books, play_channels, record_books}
 use Rattle.pcm_engine.specs.Stands.{bytes_counted, PartsStand, RecordersStand}
@@ -66,15 +69,16 @@ play_books_of-play_unopened {B = B} kind kept filters device channels slots each
     get_or-map (λ (c : PlayChannelOf B). c.book) channels k other d there ∙ (each k other there).book ∙ sym (get_or-replicate device.play_slots k (play_unopened (seen filters device)) d (omega arith)))
 
 -- free channels and a silent ring stand for the beginning
-pub stands-start : {B : Type 0} (kind : B → Kind) (kept : B → Kept) (filters : Filters) (device : Device) (desk : Desk) (channels : List (PlayChannelOf B)) (descriptors : List (Option Held)) (chain : ChainOf B) (ring : List ℕ) → IsDevice (seen filters device)
+pub stands-start : {B : Type 0} (kind : B → Kind) (kept : B → Kept) (filters : Filters) (device : Device) (desk : Desk) (channels : List (PlayChannelOf B)) (descriptors : Descriptors) (chain : ChainOf B) (ring : List ℕ) → IsDevice (seen filters device)
     → length channels ≡ device.play_slots → All (IsPlayUnopened kind kept filters device) channels
-    → descriptors ≡ replicate DESCRIPTORS None → HasMade kept (seen filters device) chain [] 0 → ring ≡ silent_ring (seen filters device)
+    → descriptors.held ≡ replicate DESCRIPTORS None → descriptors.groups ≡ no_groups → HasMade kept (seen filters device) chain [] 0 → ring ≡ silent_ring (seen filters device)
     → (recorders : List RecordBook) → recorders ≡ replicate device.record_slots (record_unopened (seen filters device))
-    → desk ≡ record { play = play_books_of channels; recording = recorders; descriptors = descriptors; handed = 0; mixed = 0 } → PartsStand kept (seen filters device) desk channels chain ring (story_at_start (seen filters device))
-stands-start kind kept filters device desk channels descriptors chain ring limits slots each closed made silent recorders recorded is = record {
-  desk_is = is ∙ ap (λ (play : List PlayBook). record { play = play; recording = recorders; descriptors = descriptors; handed = 0; mixed = 0 }) (play_books_of-play_unopened kind kept filters device channels slots each)
-      ∙ ap (λ (r : List RecordBook). record { play = replicate device.play_slots (play_unopened (seen filters device)); recording = r; descriptors = descriptors; handed = 0; mixed = 0 }) recorded
-      ∙ ap (λ (d : List (Option Held)). record { play = replicate device.play_slots (play_unopened (seen filters device)); recording = replicate device.record_slots (record_unopened (seen filters device)); descriptors = d; handed = 0; mixed = 0 }) closed;
+    → desk ≡ record { play = play_books_of channels; recording = recorders; descriptors = descriptors.held; groups = descriptors.groups; handed = 0; mixed = 0 } → PartsStand kept (seen filters device) desk channels chain ring (story_at_start (seen filters device))
+stands-start kind kept filters device desk channels descriptors chain ring limits slots each closed none_grouped made silent recorders recorded is = record {
+  desk_is = is ∙ ap (λ (play : List PlayBook). record { play = play; recording = recorders; descriptors = descriptors.held; groups = descriptors.groups; handed = 0; mixed = 0 }) (play_books_of-play_unopened kind kept filters device channels slots each)
+      ∙ ap (λ (r : List RecordBook). record { play = replicate device.play_slots (play_unopened (seen filters device)); recording = r; descriptors = descriptors.held; groups = descriptors.groups; handed = 0; mixed = 0 }) recorded
+      ∙ ap (λ (d : List (Option Held)). record { play = replicate device.play_slots (play_unopened (seen filters device)); recording = replicate device.record_slots (record_unopened (seen filters device)); descriptors = d; groups = descriptors.groups; handed = 0; mixed = 0 }) closed
+      ∙ ap (λ (g : Groups). record { play = replicate device.play_slots (play_unopened (seen filters device)); recording = replicate device.record_slots (record_unopened (seen filters device)); descriptors = replicate DESCRIPTORS None; groups = g; handed = 0; mixed = 0 }) none_grouped;
   slots = λ slot other there.
       let opened : play_unopened (seen filters device) ≡ play_at (seen filters device) (desk_at_start (seen filters device)) slot = sym (get_or-same device.play_slots slot (play_unopened (seen filters device))) in
       let nothing : [] ≡ bytes_counted (seen filters device) (story_at_start (seen filters device)) slot = ap (λ (b : PlayBook). take b.written []) opened in
@@ -90,15 +94,15 @@ stands-start kind kept filters device desk channels descriptors chain ring limit
 }
 
 -- a parent that nobody has opened, and no descriptor, stand for the beginning
-pub parent-starts : {B : Type 0} (kind : B → Kind) (kept : B → Kept) (filters : Filters) (device : Device) (parent : ParentOf B) (descriptors : List (Option Held)) → IsDevice (seen filters device) → descriptors ≡ replicate DESCRIPTORS None → parent.device ≡ device
+pub parent-starts : {B : Type 0} (kind : B → Kind) (kept : B → Kept) (filters : Filters) (device : Device) (parent : ParentOf B) (descriptors : Descriptors) → IsDevice (seen filters device) → descriptors.held ≡ replicate DESCRIPTORS None → descriptors.groups ≡ no_groups → parent.device ≡ device
     → length (play_channels parent) ≡ device.play_slots → record_books parent ≡ replicate device.record_slots (record_unopened (seen filters device))
     → All (IsPlayUnopened kind kept filters device) (play_channels parent) → HasMade kept (seen filters device) parent.bus.chain [] 0 → parent.ring.bytes ≡ silent_ring (seen filters device) → parent.handed ≡ 0 → parent.mixed ≡ 0
     → PartsStand kept (seen filters parent.device) (desk_with parent descriptors) (play_channels parent) parent.bus.chain parent.ring.bytes (story_at_start (seen filters parent.device))
-parent-starts kind kept filters device parent descriptors limits closed is slots recorded each made silent handed mixed =
+parent-starts kind kept filters device parent descriptors limits closed none_grouped is slots recorded each made silent handed mixed =
     subst (λ (d : Device). PartsStand kept (seen filters d) (desk_with parent descriptors) (play_channels parent) parent.bus.chain parent.ring.bytes (story_at_start (seen filters d))) (sym is)
-    (stands-start kind kept filters device (desk_with parent descriptors) (play_channels parent) descriptors parent.bus.chain parent.ring.bytes limits slots each closed made silent (record_books parent) recorded
-    (ap (λ (h : ℕ). record { play = play_books parent; recording = record_books parent; descriptors = descriptors; handed = h; mixed = parent.mixed }) handed
-    ∙ ap (λ (m : ℕ). record { play = play_books parent; recording = record_books parent; descriptors = descriptors; handed = 0; mixed = m }) mixed))
+    (stands-start kind kept filters device (desk_with parent descriptors) (play_channels parent) descriptors parent.bus.chain parent.ring.bytes limits slots each closed none_grouped made silent (record_books parent) recorded
+    (ap (λ (h : ℕ). record { play = play_books parent; recording = record_books parent; descriptors = descriptors.held; groups = descriptors.groups; handed = h; mixed = parent.mixed }) handed
+    ∙ ap (λ (m : ℕ). record { play = play_books parent; recording = record_books parent; descriptors = descriptors.held; groups = descriptors.groups; handed = 0; mixed = m }) mixed))
 
 -- ---- channels that record
 

@@ -2,6 +2,8 @@
 use Rattle.std.proofs.Common.{Ok, Err, ◌≡◌, ℕ, ◌<◌, List, length, set, get_or, min, take, drop, Option, Some, None, Result, refl, sym, ap, ◌∙◌, subst, arith}
 use Rattle.std.proofs.lemmas.List.{length-map}
 use Rattle.pcm_oss.specs.declared.event.Way.{Way}
+use Rattle.pcm_oss.specs.declared.event.TheConstants.{SLOTS}
+use Rattle.pcm_fixed.proofs.Items.{items-count}
 use Rattle.pcm_oss.specs.declared.event.Way.TheVariants.{Play, Record}
 use Rattle.pcm_oss.specs.declared.reply.Answer.{Answer}
 use Rattle.pcm_oss.specs.declared.reply.Errno.{Errno}
@@ -22,6 +24,7 @@ use Rattle.pcm_vchan.specs.Slots.{PlayAreOf, RecordAreOf}
 use Rattle.pcm_vchan.specs.Parents.{play_books, play_channels, record_channels, record_books}
 use Rattle.pcm_vchan.specs.Lending.{with_channel, with_recorder}
 use Rattle.pcm_vchan.proofs.Channels.{play_at-channel, play_books_of-set, record_at-channel, record_books_of-set}
+use Rattle.pcm_engine.specs.declared.descriptors.Descriptors.{Descriptors}
 use Rattle.pcm_engine.specs.Descriptors.{holding, playing_slot, recording_slot}
 use Rattle.pcm_engine.specs.Desks.{desk_with}
 use Rattle.pcm_engine.specs.Steps.{bytes_read, channel_read}
@@ -94,21 +97,29 @@ pub recording-not : (recording : ℕ → DeskTurn) (found : Option Held) (desk :
 recording-not recording None desk errno e = ap (λ (r : Result ℕ Errno). refusing desk (why_of r)) e
 recording-not recording (Some held) desk errno e = recording_not_way held.way held.slot recording desk errno e
 
-slot_there : {B : Type 0} (way : Way) (parent : ParentOf B) (descriptors : List (Option Held)) (fd : ℕ) (held : Held) → HoldApart (desk_with parent descriptors) → held_by (desk_with parent descriptors) fd ≡ Some held → held.way ≡ way
+slot_there : {B : Type 0} (way : Way) (parent : ParentOf B) (descriptors : Descriptors) (fd : ℕ) (held : Held) → HoldApart (desk_with parent descriptors) → held_by (desk_with parent descriptors) fd ≡ Some held → held.way ≡ way
     → held.slot < slots_of (desk_with parent descriptors) way
 slot_there way parent descriptors fd held h e is = subst (λ (w : Way). held.slot < slots_of (desk_with parent descriptors) w) is (h.within fd held e)
 
-pub play-there : {B : Type 0} (parent : ParentOf B) (descriptors : List (Option Held)) (fd : ℕ) (held : Held) → HoldApart (desk_with parent descriptors) → held_by (desk_with parent descriptors) fd ≡ Some held → held.way ≡ Play
+pub play-there : {B : Type 0} (parent : ParentOf B) (descriptors : Descriptors) (fd : ℕ) (held : Held) → HoldApart (desk_with parent descriptors) → held_by (desk_with parent descriptors) fd ≡ Some held → held.way ≡ Play
     → held.slot < length (play_channels parent)
 play-there {B = B} parent descriptors fd held h e is =
     let there = slot_there Play parent descriptors fd held h e is in
     omega (arith, length-map (play_channels parent) (λ (c : PlayChannelOf B). c.book))
 
-pub record-there : {B : Type 0} (parent : ParentOf B) (descriptors : List (Option Held)) (fd : ℕ) (held : Held) → HoldApart (desk_with parent descriptors) → held_by (desk_with parent descriptors) fd ≡ Some held → held.way ≡ Record
+pub record-there : {B : Type 0} (parent : ParentOf B) (descriptors : Descriptors) (fd : ℕ) (held : Held) → HoldApart (desk_with parent descriptors) → held_by (desk_with parent descriptors) fd ≡ Some held → held.way ≡ Record
     → held.slot < length (record_channels parent)
 record-there {B = B} parent descriptors fd held h e is =
     let there = slot_there Record parent descriptors fd held h e is in
     omega (arith, length-map (record_channels parent) (λ (c : RecordChannelOf B). c.book))
+
+-- there are few slots of each way
+pub held-few : {B : Type 0} (parent : ParentOf B) (descriptors : Descriptors) (fd : ℕ) (held : Held) → HoldApart (desk_with parent descriptors) → held_by (desk_with parent descriptors) fd ≡ Some held → held.slot < SLOTS
+held-few parent descriptors fd held h e = at held.way refl
+  where
+    at : (way : Way) → held.way ≡ way → held.slot < SLOTS
+    at Play is = let there = play-there parent descriptors fd held h e is in omega (arith, there, items-count parent.channels, parent.slots, parent.slots_within)
+    at Record is = let there = record-there parent descriptors fd held h e is in omega (arith, there, items-count parent.recorders, parent.recorders_count, parent.recorders_within)
 
 -- ---- channels that play
 
@@ -122,15 +133,15 @@ pub books-lent : {B : Type 0} (how : PlayBook → PlayBook) (parent : ParentOf B
 books-lent how parent slot lent new other there is changed = play_books_of-set how (play_channels parent) slot lent new other there is changed
 
 -- the desk, where the book of the channel was turned
-pub desk-played : {B : Type 0} (device : DeviceSeen) (turn : PlayBook → Turn PlayBook) (parent : ParentOf B) (descriptors : List (Option Held)) (slot : ℕ) (lent new : PlayChannelOf B)
+pub desk-played : {B : Type 0} (device : DeviceSeen) (turn : PlayBook → Turn PlayBook) (parent : ParentOf B) (descriptors : Descriptors) (slot : ℕ) (lent new : PlayChannelOf B)
     → slot < length (play_channels parent) → lent ≡ get_or (play_channels parent) slot lent → new.book ≡ (turn lent.book).book
     → desk_with (with_channel parent slot new) descriptors ≡ (play_turn device turn (desk_with parent descriptors) slot).desk
 desk-played device turn parent descriptors slot lent new there is changed =
-    ap (λ (play : List PlayBook). record { play = play; recording = record_books parent; descriptors = descriptors; handed = parent.handed; mixed = parent.mixed })
+    ap (λ (play : List PlayBook). record { play = play; recording = record_books parent; descriptors = descriptors.held; groups = descriptors.groups; handed = parent.handed; mixed = parent.mixed })
     (books-lent (λ (book : PlayBook). (turn book).book) parent slot lent new (play_unopened device) there is changed)
 
 -- and the reply
-pub reply-played : {B : Type 0} (device : DeviceSeen) (turn : PlayBook → Turn PlayBook) (parent : ParentOf B) (descriptors : List (Option Held)) (slot : ℕ) (lent : PlayChannelOf B) (answer : Result Answer Errno)
+pub reply-played : {B : Type 0} (device : DeviceSeen) (turn : PlayBook → Turn PlayBook) (parent : ParentOf B) (descriptors : Descriptors) (slot : ℕ) (lent : PlayChannelOf B) (answer : Result Answer Errno)
     → slot < length (play_channels parent) → lent ≡ get_or (play_channels parent) slot lent → answer ≡ (turn lent.book).reply
     → answer ≡ (play_turn device turn (desk_with parent descriptors) slot).reply
 reply-played device turn parent descriptors slot lent answer there is answered =
@@ -141,14 +152,14 @@ reply-played device turn parent descriptors slot lent answer there is answered =
 pub own-lent_record : {B : Type 0} (device : Device) (channels : List (RecordChannelOf B)) (slot : ℕ) (lent : RecordChannelOf B) → slot < length channels → lent ≡ get_or channels slot lent → RecordAreOf device channels → lent.path.device ≡ device
 own-lent_record {B = B} device channels slot lent there is own = ap (λ (channel : RecordChannelOf B). channel.path.device) is ∙ own slot lent there
 
-pub desk-recorded : {B : Type 0} (device : DeviceSeen) (turn : RecordBook → Turn RecordBook) (parent : ParentOf B) (descriptors : List (Option Held)) (slot : ℕ) (lent new : RecordChannelOf B)
+pub desk-recorded : {B : Type 0} (device : DeviceSeen) (turn : RecordBook → Turn RecordBook) (parent : ParentOf B) (descriptors : Descriptors) (slot : ℕ) (lent new : RecordChannelOf B)
     → slot < length (record_channels parent) → lent ≡ get_or (record_channels parent) slot lent → new.book ≡ (turn lent.book).book
     → desk_with (with_recorder parent slot new) descriptors ≡ (record_turn device turn (desk_with parent descriptors) slot).desk
 desk-recorded device turn parent descriptors slot lent new there is changed =
-    ap (λ (recording : List RecordBook). record { play = play_books parent; recording = recording; descriptors = descriptors; handed = parent.handed; mixed = parent.mixed })
+    ap (λ (recording : List RecordBook). record { play = play_books parent; recording = recording; descriptors = descriptors.held; groups = descriptors.groups; handed = parent.handed; mixed = parent.mixed })
     (record_books_of-set (λ (book : RecordBook). (turn book).book) (record_channels parent) slot lent new (record_unopened device) there is changed)
 
-pub reply-recorded : {B : Type 0} (device : DeviceSeen) (turn : RecordBook → Turn RecordBook) (parent : ParentOf B) (descriptors : List (Option Held)) (slot : ℕ) (lent : RecordChannelOf B) (answer : Result Answer Errno)
+pub reply-recorded : {B : Type 0} (device : DeviceSeen) (turn : RecordBook → Turn RecordBook) (parent : ParentOf B) (descriptors : Descriptors) (slot : ℕ) (lent : RecordChannelOf B) (answer : Result Answer Errno)
     → slot < length (record_channels parent) → lent ≡ get_or (record_channels parent) slot lent → answer ≡ (turn lent.book).reply
     → answer ≡ (record_turn device turn (desk_with parent descriptors) slot).reply
 reply-recorded device turn parent descriptors slot lent answer there is answered =

@@ -1,7 +1,9 @@
 -- What a descriptor holds, or what it is refused for.
-use Rattle.std.specs.Prelude.{ℕ, Option, Some, None, Result, Ok, Err}
+use Rattle.std.specs.Prelude.{ℕ, Bool, nat_lt, Option, Some, None, Result, Ok, Err}
 use Rattle.pcm_oss.specs.declared.reply.Errno.{Errno}
 use Rattle.pcm_oss.specs.declared.reply.Errno.TheVariants.{BadF, Exist, Inval}
+use Rattle.pcm_group.specs.declared.sync_groups.Groups.{Groups}
+use Rattle.pcm_group.specs.Groups.{group_at}
 use Rattle.pcm_desk.specs.declared.device.Held.{Held}
 use Rattle.pcm_desk.specs.Desk.{by_way}
 
@@ -14,6 +16,10 @@ shut (Some held) = Err Exist
 abbrev pub holding : Option Held → Result Held Errno
 holding None = Err BadF
 holding (Some held) = Ok held
+
+-- it is a member of a group
+abbrev pub is_member_in : Groups → Held → Bool
+is_member_in groups held = nat_lt 0 (group_at groups held.way held.slot)
 
 -- one that plays, in this slot
 abbrev pub playing_slot : Option Held → Result ℕ Errno

@@ -1,5 +1,5 @@
 -- What a parent and descriptors are to the rules: a desk. And what a call of a client makes of it.
-use Rattle.std.specs.Prelude.{◌≡◌, ℕ, List, All, Option, Result, take}
+use Rattle.std.specs.Prelude.{◌≡◌, ℕ, List, All, Result, take}
 use Rattle.pcm_format.specs.Frames.{Frame}
 use Rattle.pcm_feeder.specs.declared.kind.Kind.{Kind}
 use Rattle.pcm_feeder.specs.Filters.{Filters}
@@ -11,7 +11,7 @@ use Rattle.pcm_oss.specs.Replies.{bytes_due}
 use Rattle.pcm_desk.specs.declared.device.Held.{Held}
 use Rattle.pcm_desk.specs.declared.here.Here.{Here}
 use Rattle.pcm_desk.specs.Device.{DeviceSeen, here_at, seen}
-use Rattle.pcm_desk.specs.Desk.{Desk, DeskTurn, by_way, close_on, closing, desk_here, held_by, ioctl_on, play_at, read_on, record_at, with_play, with_record, write_on}
+use Rattle.pcm_desk.specs.Desk.{Desk, DeskTurn, by_way, close_on, closing, desk_here, held_by, ioctl_on, join_on, left, play_at, read_on, record_at, request_on, start_on, with_play, with_record, write_on}
 use Rattle.pcm_desk.specs.RecordBooks.{closed}
 use Rattle.pcm_play.specs.Channels.{IsPlayReady}
 use Rattle.pcm_vchan.specs.declared.parent.ParentOf.{ParentOf}
@@ -21,11 +21,12 @@ use Rattle.pcm_engine.specs.declared.descriptors.Descriptors.{Descriptors}
 use Rattle.pcm_engine.specs.Steps.{bytes_read}
 
 -- the desk of a parent and descriptors
-abbrev pub desk_with : {B : Type 0} → ParentOf B → List (Option Held) → Desk
+abbrev pub desk_with : {B : Type 0} → ParentOf B → Descriptors → Desk
 desk_with parent descriptors = record {
   play = play_books parent;
   recording = record_books parent;
-  descriptors = descriptors;
+  descriptors = descriptors.held;
+  groups = descriptors.groups;
   handed = parent.handed;
   mixed = parent.mixed;
 }
@@ -40,13 +41,23 @@ write_call fd count device desk = write_on device (held_by desk fd) desk count
 abbrev pub read_call : ℕ → ℕ → DeviceSeen → Desk → DeskTurn
 read_call fd count device desk = read_on device (held_by desk fd) desk count
 
--- a request
+-- a request of the channel alone, and one that groups have a part in
 abbrev pub ioctl_call : ℕ → Request → DeviceSeen → Desk → DeskTurn
 ioctl_call fd request device desk = ioctl_on device (held_by desk fd) desk request
 
+abbrev pub request_call : ℕ → Request → DeviceSeen → Desk → DeskTurn
+request_call fd request device desk = request_on device (held_by desk fd) desk request
+
+-- a join of a group, and the start of one
+abbrev pub join_call : ℕ → ℕ → DeviceSeen → Desk → DeskTurn
+join_call fd group device desk = join_on device (held_by desk fd) desk group
+
+abbrev pub start_call : ℕ → ℕ → DeviceSeen → Desk → DeskTurn
+start_call fd group device desk = start_on device (held_by desk fd) desk group
+
 -- a close
 abbrev pub close_call : ℕ → DeviceSeen → Desk → DeskTurn
-close_call fd device desk = close_on device (held_by desk fd) desk fd
+close_call fd device desk = close_on device (held_by desk fd) (left (held_by desk fd) desk) fd
 
 -- the desk once a channel of either way was closed, whose descriptor is open still
 abbrev pub closed_held : DeviceSeen → Desk → Held → Desk
@@ -58,11 +69,15 @@ closed_held device desk held = by_way held.way
 
 -- by these filters the desk becomes that of a turn
 abbrev pub TurnsBy : {B : Type 0} → Filters → (DeviceSeen → Desk → DeskTurn) → ParentOf B → ParentOf B → Descriptors → Type 0
-TurnsBy filters turn old new descriptors = desk_with new descriptors.held ≡ (turn (seen filters old.device) (desk_with old descriptors.held)).desk
+TurnsBy filters turn old new descriptors = desk_with new descriptors ≡ (turn (seen filters old.device) (desk_with old descriptors)).desk
 
 -- and the reply is that of a turn
 abbrev pub RepliesBy : {B : Type 0} → Filters → (DeviceSeen → Desk → DeskTurn) → ParentOf B → Descriptors → Result Answer Errno → Type 0
-RepliesBy filters turn parent descriptors result = result ≡ (turn (seen filters parent.device) (desk_with parent descriptors.held)).reply
+RepliesBy filters turn parent descriptors result = result ≡ (turn (seen filters parent.device) (desk_with parent descriptors)).reply
+
+-- by these filters a call that changes what descriptors hold, or who starts with whom, turns the desk
+abbrev pub ChangesBy : {B : Type 0} → Filters → (DeviceSeen → Desk → DeskTurn) → ParentOf B → Descriptors → ParentOf B → Descriptors → Type 0
+ChangesBy filters turn old before new after = desk_with new after ≡ (turn (seen filters old.device) (desk_with old before)).desk
 
 -- by whichever filters
 abbrev pub Turns : {B : Type 0} → (DeviceSeen → Desk → DeskTurn) → ParentOf B → ParentOf B → Descriptors → Type 0
@@ -88,11 +103,11 @@ pub record TakesTurn {B : Type 0} (turn : DeviceSeen → Desk → DeskTurn) (old
 -- a close shuts a descriptor, by whichever filters the channels are ready, and the mix and the device are here
 abbrev pub Closes : {B : Type 0} → (B → Kind) → (B → Kept) → Here → ℕ → ParentOf B → Descriptors → ParentOf B → Descriptors → Type 0
 Closes kind kept here fd old descriptors new shut = (filters : Filters) → All (IsPlayReady kind kept filters) (play_channels old) → IsAt filters here old
-    → desk_with new shut.held ≡ (close_call fd (seen filters old.device) (desk_with old descriptors.held)).desk
+    → desk_with new shut ≡ (close_call fd (seen filters old.device) (desk_with old descriptors)).desk
 
 -- so it is of the channel alone, whatever the descriptors are
 abbrev pub ClosesHeld : {B : Type 0} → (B → Kind) → (B → Kept) → Here → Held → ParentOf B → ParentOf B → Type 0
-ClosesHeld kind kept here held old new = (filters : Filters) (descriptors : List (Option Held)) → All (IsPlayReady kind kept filters) (play_channels old) → IsAt filters here old
+ClosesHeld kind kept here held old new = (filters : Filters) (descriptors : Descriptors) → All (IsPlayReady kind kept filters) (play_channels old) → IsAt filters here old
     → desk_with new descriptors ≡ closed_held (seen filters old.device) (desk_with old descriptors) held
 
 -- the bytes that come with an answer
@@ -102,4 +117,4 @@ front_due result out = take (bytes_due result) out
 -- whatever bytes the channels stand for, a read gets what was kept in its own slot
 abbrev pub ReadsKept : {B : Type 0} → (B → Kept) → ParentOf B → Descriptors → ℕ → ℕ → List ℕ → Type 0
 ReadsKept kept parent descriptors fd count got = (filters : Filters) (bytes : ℕ → List ℕ) (frames : ℕ → List Frame) → AllRecordStand kept filters (record_channels parent) bytes frames
-    → got ≡ bytes_read (seen filters parent.device) (desk_with parent descriptors.held) bytes count (held_by (desk_with parent descriptors.held) fd)
+    → got ≡ bytes_read (seen filters parent.device) (desk_with parent descriptors) bytes count (held_by (desk_with parent descriptors) fd)

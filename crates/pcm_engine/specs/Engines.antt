@@ -1,7 +1,9 @@
 -- What an engine stands for, and what holds of every one.
-use Rattle.std.specs.Prelude.{◌≡◌, ◌≤◌, ◌*◌, ℕ, List, [], ◌∷◌, ◌++◌, All, length, map}
+use Rattle.std.specs.Prelude.{◌≡◌, ◌≤◌, ◌*◌, ℕ, List, [], ◌∷◌, ◌++◌, All, IsOk, Result, length, map}
 use Rattle.pcm_oss.specs.declared.event.Event.{Event}
-use Rattle.pcm_oss.specs.declared.event.Event.TheVariants.{Read}
+use Rattle.pcm_oss.specs.declared.event.Event.TheVariants.{Read, StartGroup}
+use Rattle.pcm_oss.specs.declared.reply.Answer.{Answer}
+use Rattle.pcm_oss.specs.declared.reply.Errno.{Errno}
 use Rattle.pcm_oss.specs.Replies.{Reply}
 use Rattle.pcm_format.specs.Frames.{Frame}
 use Rattle.pcm_wave.specs.declared.pool.Pool.{Pool}
@@ -18,6 +20,8 @@ use Rattle.pcm_sound.specs.Plain.{HasNoShortage, plain_text}
 use Rattle.pcm_sound.specs.Pools.{AreAlike, IsLonger}
 use Rattle.pcm_sound.specs.Story.{story_of}
 use Rattle.pcm_sound.specs.StoryReplies.{reply_to}
+use Rattle.pcm_sound.specs.Together.{StartAsOne}
+use Rattle.pcm_desk.specs.Own.{MembersWait}
 use Rattle.pcm_engine.specs.declared.engine.EngineOf.{EngineOf}
 use Rattle.pcm_play.specs.Channels.{IsPlayReady}
 use Rattle.pcm_engine.specs.Desks.{desk_with}
@@ -33,7 +37,7 @@ device_of engine = seen engine.tables engine.parent.device
 
 -- the engine's books, descriptors and counts
 abbrev pub desk_of : {B : Type 0} → EngineOf B → Desk
-desk_of engine = desk_with engine.parent engine.descriptors.held
+desk_of engine = desk_with engine.parent engine.descriptors
 
 -- the bytes that wait in each ring of a channel that records, by slot
 abbrev pub waiting_in : {B : Type 0} → EngineOf B → List (List ℕ)
@@ -76,6 +80,11 @@ abbrev pub HandsOverPlain : {B : Type 0} → (B → Kept) → Pool → Event →
 HandsOverPlain kept pool event engine handed = (events : List Event) → Stands kept engine pool events
     → HasNoShortage (story_of (device_of engine) pool (events ++ event ∷ []))
     → plain_text (device_of engine) pool (events ++ event ∷ []) ≡ device_text (device_of engine) pool events ++ handed
+
+-- where it is the start of a group, and accepted, all members start as one
+abbrev pub BeginsAsOne : {B : Type 0} → (B → Kept) → Pool → Event → EngineOf B → Result Answer Errno → Type 0
+BeginsAsOne kept pool event engine result = (events : List Event) (fd group : ℕ) → Stands kept engine pool events → event ≡ StartGroup fd group
+    → IsOk result → StartAsOne (device_of engine) group (story_of (device_of engine) pool events) (story_of (device_of engine) pool (events ++ event ∷ []))
 
 -- whatever bytes its channels stand for, the bytes of its reply are those that were kept in the slot of the event
 abbrev pub AnswersKept : {B : Type 0} → (B → Kept) → Event → EngineOf B → List ℕ → Type 0
@@ -132,6 +141,7 @@ pub record AreReady {B : Type 0} (kind : B → Kind) (kept : B → Kept) (engine
   pub books : BooksAreSafe (device_of engine) (desk_of engine)
   pub places : BooksAreHere (device_of engine) (desk_of engine)
   pub records : RecordsAreSafe (device_of engine) (desk_of engine)
+  pub members : MembersWait (device_of engine) (desk_of engine)
   pub rings : RingsHold engine
 
 -- all but the count of steps is as before: channels with their books, rings and chains, descriptors, the device's ring and counts

@@ -39,10 +39,10 @@ pub fn open<B: Feeder>(
     ensures recorders_own { RecordAreOf parent.new.device (record_channels parent.new) }
     ensures output { KeepsOutput parent.old parent.new }
     ensures refused { OnErr result ((parent.new ≡ parent.old) × (descriptors.new ≡ descriptors.old)) }
-    ensures desk { desk_with parent.new descriptors.new.held
-        ≡ (open_turn (desk_with parent.old descriptors.old.held) fd way settings).desk }
+    ensures desk { desk_with parent.new descriptors.new
+        ≡ (open_turn (desk_with parent.old descriptors.old) fd way settings).desk }
     ensures reply { result
-        ≡ (open_turn (desk_with parent.old descriptors.old.held) fd way settings).reply }
+        ≡ (open_turn (desk_with parent.old descriptors.old) fd way settings).reply }
     ensures channels { EachPlayMoves B.kind B.kept tables.now [] 0 parent.old parent.new }
     ensures recorders { EachRecordMoves B.kind B.kept tables.now [] 0 parent.old parent.new }
 {
@@ -61,7 +61,7 @@ pub fn write<B: Feeder>(
     here: Here,
 ) -> Result<Answer, Errno>
     requires fd { fd < DESCRIPTORS }
-    requires apart { HoldApart (desk_with parent.old descriptors.now.held) }
+    requires apart { HoldApart (desk_with parent.old descriptors.now) }
     requires own { PlayAreOf parent.old.device (play_channels parent.old) }
     requires count { All (λ c. c.book.written + length bytes.now < 2 ^ 64) (play_channels parent.old) }
     ensures silent { bytes_due result ≡ 0 }
@@ -84,7 +84,7 @@ fn read<B: Feeder>(
     out: &mut [u8],
 ) -> Result<Answer, Errno>
     requires fd { fd < DESCRIPTORS }
-    requires apart { HoldApart (desk_with parent.old descriptors.now.held) }
+    requires apart { HoldApart (desk_with parent.old descriptors.now) }
     requires recorders_own { RecordAreOf parent.old.device (record_channels parent.old) }
     ensures recorders_own { RecordAreOf parent.new.device (record_channels parent.new) }
     ensures channels { parent.new.channels ≡ parent.old.channels }
@@ -110,7 +110,7 @@ pub fn answer_read<B: Feeder>(
 )
     requires fd { fd < DESCRIPTORS }
     requires few { len ≤ READ_BYTES }
-    requires apart { HoldApart (desk_with parent.old descriptors.now.held) }
+    requires apart { HoldApart (desk_with parent.old descriptors.now) }
     requires recorders_own { RecordAreOf parent.old.device (record_channels parent.old) }
     ensures recorders_own { RecordAreOf parent.new.device (record_channels parent.new) }
     ensures channels { parent.new.channels ≡ parent.old.channels }
@@ -125,8 +125,8 @@ pub fn answer_read<B: Feeder>(
     reply.keep(answer, &bytes);
 }
 
-/// Asks something of the channel that a descriptor holds.
-pub fn ioctl<B: Feeder>(
+/// Asks something of the channel that a descriptor holds, as of one of no group.
+pub fn ask<B: Feeder>(
     parent: &mut ParentOf<B>,
     tables: &Tables,
     descriptors: &Descriptors,
@@ -135,7 +135,7 @@ pub fn ioctl<B: Feeder>(
     here: Here,
 ) -> Result<Answer, Errno>
     requires fd { fd < DESCRIPTORS }
-    requires apart { HoldApart (desk_with parent.old descriptors.now.held) }
+    requires apart { HoldApart (desk_with parent.old descriptors.now) }
     requires served { AreServed B.kind B.kept tables.now parent.old }
     requires here { IsHere here }
     requires at { IsAt tables.now here parent.old }
@@ -158,7 +158,7 @@ pub fn ioctl<B: Feeder>(
     }
 }
 
-/// Closes a descriptor, which others may open then.
+/// Closes a descriptor, which others may open then. Its channel leaves its group.
 pub fn close<B: Feeder>(
     parent: &mut ParentOf<B>,
     descriptors: &mut Descriptors,
@@ -166,7 +166,7 @@ pub fn close<B: Feeder>(
     here: Here,
 ) -> Result<Answer, Errno>
     requires fd { fd < DESCRIPTORS }
-    requires apart { HoldApart (desk_with parent.old descriptors.old.held) }
+    requires apart { HoldApart (desk_with parent.old descriptors.old) }
     requires closable { AreClosable B.kind parent.old }
     requires count { TotalsFit parent.old }
     ensures silent { bytes_due result ≡ 0 }
@@ -181,6 +181,7 @@ pub fn close<B: Feeder>(
 {
     let held = descriptors.holding(fd)?;
     let answer = close_channel(parent, held, here);
+    descriptors.leave(held);
     descriptors.set(fd, None);
     Ok(answer)
 }

@@ -1,26 +1,33 @@
-//! Who holds which channel, and what a descriptor is refused for.
+//! Who holds which channel and who starts with whom, and what a descriptor is refused for.
 
 ghost use Rattle.std.specs.Prelude.{◌≡◌, ◌<◌, None, Some, replicate, slice_index_or, slice_set};
-ghost use Rattle.pcm_engine.specs.Descriptors.{holding, playing_slot, recording_slot, shut};
+ghost use Rattle.pcm_oss.specs.declared.event.TheConstants.{SLOTS};
+ghost use Rattle.pcm_group.specs.Groups.{no_groups};
+ghost use Rattle.pcm_desk.specs.Desk.{leaving, left_by, member_refusal};
+ghost use Rattle.pcm_engine.specs.Descriptors.{holding, is_member_in, playing_slot, recording_slot, shut};
 
 use pcm_desk::{DESCRIPTORS, Held};
-use pcm_oss::{Errno, Way};
+use pcm_group::Groups;
+use pcm_oss::{Errno, Request, SLOTS, Way};
 
-/// What each descriptor holds, if it is open.
+/// What each descriptor holds, if it is open, and which of these channels start together.
 #[derive(Clone, Copy, Debug)]
 pub struct Descriptors {
     held: [Option<Held>; DESCRIPTORS],
+    groups: Groups,
 }
 
 impl Descriptors {
     ghost use Rattle.pcm_desk.specs.declared.limits.TheConstants.{DESCRIPTORS};
 
-    /// All are shut.
+    /// All are shut, and there is no group.
     pub fn all_shut() -> Descriptors
-        ensures { result.held ≡ replicate DESCRIPTORS None }
+        ensures held { result.held ≡ replicate DESCRIPTORS None }
+        ensures groups { result.groups ≡ no_groups }
     {
         Descriptors {
             held: [None; DESCRIPTORS],
+            groups: Groups::new(),
         }
     }
 
@@ -73,8 +80,53 @@ impl Descriptors {
     /// A descriptor holds a channel from now on, or none.
     pub fn set(&mut self, fd: u8, held: Option<Held>)
         requires { fd < DESCRIPTORS }
-        ensures { self.new.held ≡ slice_set self.old.held fd held }
+        ensures { self.new ≡ record self.old { held = slice_set self.old.held fd held } }
     {
         self.held[usize::from(fd)] = held;
+    }
+
+    /// Which channels start together.
+    pub fn groups(&self) -> Groups
+        ensures { result ≡ self.now.groups }
+    {
+        self.groups
+    }
+
+    /// From now on these start together.
+    pub fn regroup(&mut self, groups: Groups)
+        ensures { self.new ≡ record self.old { groups = groups } }
+    {
+        self.groups = groups;
+    }
+
+    /// A channel is a member of no group any more.
+    pub fn leave(&mut self, held: Held)
+        requires { held.slot < SLOTS }
+        ensures { self.new ≡ record self.old { groups = leaving (Some held) self.old.groups } }
+    {
+        self.groups.leave(held.way, held.slot);
+    }
+
+    /// What a request is refused for where the channel is a member: its trigger is its group's.
+    pub fn refusal(&self, held: Held, request: Request) -> Option<Errno>
+        requires { held.slot < SLOTS }
+        ensures { result ≡ member_refusal (is_member_in self.now.groups held) request }
+    {
+        match request {
+            Request::SetTrigger(bits) if self.groups.of(held.way, held.slot) > 0 => {
+                Some(if bits > 3 { Errno::Inval } else { Errno::Busy })
+            }
+            _ => None,
+        }
+    }
+
+    /// A sync leaves the group of its channel.
+    pub fn leave_by(&mut self, held: Held, request: Request)
+        requires { held.slot < SLOTS }
+        ensures { self.new ≡ record self.old { groups = left_by request (Some held) self.old.groups } }
+    {
+        if matches!(request, Request::Sync) {
+            self.leave(held);
+        }
     }
 }

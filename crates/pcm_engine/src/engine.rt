@@ -11,16 +11,18 @@ ghost use Rattle.pcm_vchan.specs.Parents.{play_channels, record_channels, HasBus
 ghost use Rattle.pcm_vchan.specs.Slots.{PlayAreOf, RecordAreOf};
 ghost use Rattle.pcm_desk.proofs.Props.{hold_props};
 ghost use Rattle.pcm_engine.specs.Desks.{desk_with};
+ghost use Rattle.pcm_oss.specs.Replies.{bytes_due};
 ghost use Rattle.pcm_oss.specs.declared.fragments.TheConstants.{RING_BYTES};
 ghost use Rattle.pcm_format.specs.Layouts.{channels_of};
 
-use crate::clients::{answer_read, close, ioctl, open, write};
+use crate::clients::{answer_read, close, open, write};
 use crate::descriptors::Descriptors;
+use crate::grouped::{ioctl, join, start_group};
 use crate::interrupts::interrupt;
 use pcm_desk::Device;
 use pcm_feeder::{Feeder, RacksOf, Tables};
 use pcm_fixed::Fixed;
-use pcm_oss::{Answer, Event, ReplyBuf};
+use pcm_oss::{Answer, Errno, Event, ReplyBuf};
 use pcm_vchan::ParentOf;
 use pcm_wave::Pool;
 use std::alloc::{AllocError, Global};
@@ -35,7 +37,7 @@ pub struct EngineOf<B> {
     steps: u32,
     ghost own: { PlayAreOf parent.device (play_channels parent) },
     ghost recorders_own: { RecordAreOf parent.device (record_channels parent) },
-    ghost apart: { HoldApart (desk_with parent descriptors.held) } by { Prim.hlevel hold_props },
+    ghost apart: { HoldApart (desk_with parent descriptors) } by { Prim.hlevel hold_props },
     ghost counted: { All (λ channel. channel.book.done + channel.book.written ≤ RING_BYTES * steps) (play_channels parent) },
     ghost given: { All (λ channel. channel.book.given ≤ MIX_FRAMES * steps) (play_channels parent) },
     ghost kept: { All (λ channel. channel.book.kept ≤ RING_BYTES * steps) (record_channels parent) },
@@ -51,9 +53,9 @@ impl<B: Feeder> EngineOf<B> {
     ghost use Rattle.pcm_wave.specs.Pools.{IsCaptureIn};
     ghost use Rattle.pcm_desk.specs.Device.{IsInLimits, device_settings};
     ghost use Rattle.pcm_desk.specs.Desk.{after};
-    ghost use Rattle.pcm_desk.specs.Own.{IsIsolated};
+    ghost use Rattle.pcm_desk.specs.Own.{IsIsolated, MembersWait};
     ghost use Rattle.pcm_feeder.specs.Racks.{AreRacks, list_of};
-    ghost use Rattle.pcm_engine.specs.Engines.{device_of, desk_of, AnswersKept, AreReady, BooksAreHere, BooksAreSafe, HandsOver, HandsOverPlain, IsUnchanged, RecordsAreSafe, RepliesAsTold, RingsHold, Stands, StandsForNext, StepCaptures, StepMoves, StepTurns, TakesFront};
+    ghost use Rattle.pcm_engine.specs.Engines.{device_of, desk_of, AnswersKept, AreReady, BeginsAsOne, BooksAreHere, BooksAreSafe, HandsOver, HandsOverPlain, IsUnchanged, RecordsAreSafe, RepliesAsTold, RingsHold, Stands, StandsForNext, StepCaptures, StepMoves, StepTurns, TakesFront};
 
     /// The engine of a device with its filters, before its first event. Its channels pick their stages from the racks, one rack a slot; after
     /// a refusal the racks are dropped. All memory of the engine is taken here.
@@ -124,6 +126,9 @@ impl<B: Feeder> EngineOf<B> {
         // No client sees what others do, but that a slot is taken: no two descriptors hold one, no book looks at another, and a
         // read gets what was kept in its own slot, by its own book.
         ensures apart { HoldApart (desk_of self.new) }
+        ensures members { MembersWait (device_of self.new) (desk_of self.new) }
+        // All members of a group that starts do so at one frame of the mix and one of the device.
+        ensures together { BeginsAsOne B.kept pool.now event.now self.old reply.new.result }
         ensures isolated { IsIsolated (device_of self.old) event.now
             (desk_of self.old) (desk_of self.new) reply.new.result }
         ensures read { AnswersKept B.kept event.now self.old reply.new.bytes }
@@ -174,11 +179,10 @@ impl<B: Feeder> EngineOf<B> {
         let here = self.parent.here();
         let parent = &mut self.parent;
         let tables = &self.tables;
+        let descriptors = &mut self.descriptors;
         match *event {
             Event::Open { fd, way, settings } => {
-                let answer = open(parent, tables, &mut self.descriptors, fd, way, settings);
-                reply.keep(answer, &[]);
-                0
+                tell(reply, open(parent, tables, descriptors, fd, way, settings))
             }
             Event::Write {
                 fd,
@@ -187,28 +191,41 @@ impl<B: Feeder> EngineOf<B> {
                 len,
             } => {
                 let bytes = pool.bytes_at(source, at, len);
-                reply.keep(write(parent, &self.descriptors, fd, bytes, here), &[]);
-                0
+                tell(reply, write(parent, descriptors, fd, bytes, here))
             }
             Event::Read { fd, len } => {
-                answer_read(parent, &self.descriptors, fd, len, reply);
+                answer_read(parent, descriptors, fd, len, reply);
                 0
             }
             Event::Ioctl { fd, request } => {
-                let answer = ioctl(parent, tables, &self.descriptors, fd, request, here);
-                reply.keep(answer, &[]);
-                0
+                tell(reply, ioctl(parent, tables, descriptors, fd, request, here))
             }
-            Event::Close { fd } => {
-                reply.keep(close(parent, &mut self.descriptors, fd, here), &[]);
-                0
+            Event::Join { fd, group } => {
+                tell(reply, join(parent, tables, descriptors, fd, group, here))
             }
+            Event::StartGroup { fd, group } => {
+                tell(
+                    reply,
+                    start_group(parent, tables, descriptors, fd, group, here),
+                )
+            }
+            Event::Close { fd } => tell(reply, close(parent, descriptors, fd, here)),
             Event::Intr { frames } => {
                 reply.keep(Ok(Answer::Number(frames)), &[]);
                 interrupt(parent, tables, pool, frames, &mut self.captured, out)
             }
         }
     }
+}
+
+// Keeps an answer with which no bytes come. No bytes are handed over by what is answered so.
+fn tell(reply: &mut ReplyBuf, answer: Result<Answer, Errno>) -> usize
+    requires { bytes_due answer ≡ 0 }
+    ensures kept { reply.new ≡ record { result = answer; bytes = [] } }
+    ensures none { result ≡ 0 }
+{
+    reply.keep(answer, &[]);
+    0
 }
 
 /// The engine of a run, whose racks hold boxes.

@@ -5,6 +5,7 @@
 mod clients;
 mod descriptors;
 mod engine;
+mod grouped;
 mod interrupts;
 mod laws;
 mod limits;

@@ -5,13 +5,17 @@ use pcm_format::Settings;
 use pcm_wave::Source;
 
 /// Which way sound goes through a descriptor.
-#[derive(Clone, Copy, Debug, PartialEq, Eq)]
+#[derive(Clone, Copy, Debug, Default, PartialEq, Eq)]
 pub enum Way {
     /// From the client to the device.
+    #[default]
     Play,
     /// From the device to the client.
     Record,
 }
+
+/// How many clients of each way a device has at most.
+pub const SLOTS: usize = 16;
 
 /// One step of a run: a client's call, or the device's interrupt.
 #[derive(Clone, Copy, Debug, PartialEq, Eq)]
@@ -38,6 +42,16 @@ pub enum Event {
     Ioctl {
         fd: u8,
         request: Request,
+    },
+    /// A client's channel becomes a member of a group: of a new one by 0, or of one that is there. Members start together.
+    Join {
+        fd: u8,
+        group: u32,
+    },
+    /// A client starts all members of a group.
+    StartGroup {
+        fd: u8,
+        group: u32,
     },
     /// A client closes a descriptor.
     Close {

@@ -8,7 +8,7 @@ mod reply;
 mod request;
 mod volume;
 
-pub use event::{Event, Way};
+pub use event::{Event, SLOTS, Way};
 pub use fragments::{FRAGMENTS, Fragments, RING_BYTES};
 pub use reply::{Answer, Errno, REPLY_BYTES, ReplyBuf};
 pub use request::Request;

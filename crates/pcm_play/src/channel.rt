@@ -9,7 +9,7 @@ ghost use Rattle.pcm_feeder.specs.Racks.{HaveKinds, IsRack};
 ghost use Rattle.pcm_plan.specs.Plans.{rate_in_plan};
 ghost use Rattle.pcm_chain.specs.Chains.{boxes_in, plan_in};
 ghost use Rattle.pcm_desk.specs.Device.{HasRates, seen};
-ghost use Rattle.pcm_desk.specs.PlayBooks.{is_play_free, play_begun, play_fill_of, write_turn};
+ghost use Rattle.pcm_desk.specs.PlayBooks.{is_play_free, is_play_setup, play_begun, play_fill_of, play_is_ready, write_turn};
 ghost use Rattle.pcm_desk.specs.PlaySafe.{PlayIsSafe};
 ghost use Rattle.pcm_desk.proofs.Props.{book_props};
 ghost use Rattle.pcm_path.specs.Paths.{Serves};
@@ -69,6 +69,20 @@ impl<B: Feeder> PlayChannelOf<B> {
         ensures { result ≡ is_play_free self.now.book.state }
     {
         self.book.is_free()
+    }
+
+    /// Whether the channel is open, and nothing of a run is there.
+    pub fn is_at_rest(&self) -> bool
+        ensures { result ≡ is_play_setup self.now.book.state }
+    {
+        self.book.is_setup()
+    }
+
+    /// Whether a run may start at any moment: it waits with a whole frame.
+    pub fn is_ready(&self) -> bool
+        ensures { result ≡ play_is_ready self.now.book }
+    {
+        self.book.is_ready()
     }
 
     /// A new opening begins, whose sound goes through the plan of its settings.

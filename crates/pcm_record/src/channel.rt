@@ -10,7 +10,7 @@ ghost use Rattle.pcm_plan.specs.Plans.{rate_in_plan};
 ghost use Rattle.pcm_chain.specs.Chains.{boxes_in, plan_in};
 ghost use Rattle.pcm_desk.specs.declared.limits.TheConstants.{RING_FRAMES};
 ghost use Rattle.pcm_desk.specs.Device.{HasRates, seen};
-ghost use Rattle.pcm_desk.specs.RecordBooks.{closed, is_record_free, read_turn, record_begun, record_fill_of};
+ghost use Rattle.pcm_desk.specs.RecordBooks.{closed, is_record_free, is_record_setup, read_turn, record_begun, record_fill_of};
 ghost use Rattle.pcm_desk.specs.RecordRequests.{record_ask};
 ghost use Rattle.pcm_desk.specs.RecordSafe.{RecordIsSafe};
 ghost use Rattle.pcm_desk.proofs.Props.{record_props};
@@ -69,6 +69,13 @@ impl<B: Feeder> RecordChannelOf<B> {
         ensures { result ≡ is_record_free self.now.book.state }
     {
         self.book.is_free()
+    }
+
+    /// Whether the channel is open, and nothing of a recording is there.
+    pub fn is_at_rest(&self) -> bool
+        ensures { result ≡ is_record_setup self.now.book.state }
+    {
+        self.book.is_setup()
     }
 
     /// A new opening begins, whose sound comes through the plan of its settings.

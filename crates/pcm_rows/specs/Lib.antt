@@ -23,3 +23,4 @@ pub mod Waves
 pub mod Configurations
 pub mod ConversionRows
 pub mod Verdicts
+pub mod GroupRows

@@ -17,12 +17,14 @@ use Rattle.pcm_desk.specs.Device.{DeviceSeen, block_frames, ring_frames}
 use Rattle.pcm_script.specs.declared.fault.ScriptKind.TheVariants.{Word, Name}
 use Rattle.pcm_script.specs.declared.fault.LineFault.{LineFault}
 use Rattle.pcm_script.specs.declared.line_event.LineEvent.{LineEvent}
-use Rattle.pcm_script.specs.declared.line_event.LineEvent.TheVariants.{Open, Write, Send, Read, Ioctl, Close, Intr}
+use Rattle.pcm_script.specs.declared.line_event.LineEvent.TheVariants.{Open, Write, Send, Read, Ioctl, Join, StartGroup, Close, Intr}
 use Rattle.pcm_script.specs.declared.names.Command.{Command}
 use Rattle.pcm_script.specs.declared.names.Command.TheVariants as commands
+use Rattle.pcm_script.specs.declared.request.Setter.{Setter}
+use Rattle.pcm_script.specs.declared.request.Setter.TheVariants as setters
 use Rattle.pcm_script.specs.Names.{command_named}
 use Rattle.pcm_script.specs.Numbers.{number_in, within, number_within}
-use Rattle.pcm_script.specs.Requests.{as_full, as_plain, request_named}
+use Rattle.pcm_script.specs.Requests.{as_full, as_plain, asked_with, request_named}
 use Rattle.pcm_script.specs.Commands.{descriptor_in, way_in, or_fault, format_in, layout_in, rate_in, short_bytes, bytes_in, argument_in, ending_within, file_in, is_file_named, length_in, size_of, open_line, write_line, send_line, read_line, ioctl_line, close_line, interrupt_line, asked_by, command_line, line_event}
 use Rattle.pcm_script.specs.Answers.{Asks}
 use Rattle.pcm_script.specs.Collecting.{own_bytes}
@@ -39,6 +41,8 @@ IsWithin device files (Write fd bytes) = (fd < DESCRIPTORS) × (length bytes ≤
 IsWithin device files (Send fd file at count) = (fd < DESCRIPTORS) × (file < length files) × (at + count ≤ size_of files file)
 IsWithin device files (Read fd count) = (fd < DESCRIPTORS) × (count ≤ READ_BYTES)
 IsWithin device files (Ioctl fd request) = fd < DESCRIPTORS
+IsWithin device files (Join fd group) = fd < DESCRIPTORS
+IsWithin device files (StartGroup fd group) = fd < DESCRIPTORS
 IsWithin device files (Close fd) = fd < DESCRIPTORS
 IsWithin device files (Intr frames) = HasBlocks device → (0 < frames) × (frames ≤ ring_frames device)
 
@@ -136,6 +140,18 @@ read_line-within device files (d ∷ l ∷ []) =
     (λ fd low. IfOk-then (number_within 0 READ_BYTES l) _ _ (IsWithin device files) (number_within-range 0 READ_BYTES l) (λ count range. (low, range.1)))
 read_line-within device files (d ∷ l ∷ x ∷ more) = tt
 
+-- what is asked with an argument is asked of a descriptor
+asked_with-within : (device : DeviceSeen) (files : List DataFileSeen) (setter : Setter) (fd argument : ℕ) → fd < DESCRIPTORS
+    → IsWithin device files (asked_with setter fd argument)
+asked_with-within device files setters.SetFmt fd argument low = low
+asked_with-within device files setters.Speed fd argument low = low
+asked_with-within device files setters.Channels fd argument low = low
+asked_with-within device files setters.SetFragment fd argument low = low
+asked_with-within device files setters.SetTrigger fd argument low = low
+asked_with-within device files setters.SetPlayVol fd argument low = low
+asked_with-within device files setters.Join fd argument low = low
+asked_with-within device files setters.StartGroup fd argument low = low
+
 ioctl_line-within : (device : DeviceSeen) (files : List DataFileSeen) (arguments : List (List ℕ)) → IfOk (ioctl_line arguments) (IsWithin device files)
 unfolding ioctl_line
 ioctl_line-within device files [] = tt
@@ -148,7 +164,7 @@ ioctl_line-within device files (d ∷ name ∷ a ∷ []) =
     IfOk-after (as_full (request_named name)) _ (IsWithin device files)
     (λ named. IfOk-then (descriptor_in d) _ _ (IsWithin device files) (descriptor-range d)
     (λ fd low. IfOk-after (or_fault named Name) _ (IsWithin device files)
-    (λ setter. IfOk-after (argument_in setter a) _ (IsWithin device files) (λ argument. low))))
+    (λ setter. IfOk-after (argument_in setter a) _ (IsWithin device files) (λ argument. asked_with-within device files setter fd argument low))))
 ioctl_line-within device files (d ∷ name ∷ a ∷ x ∷ more) = tt
 
 close_line-within : (device : DeviceSeen) (files : List DataFileSeen) (arguments : List (List ℕ)) → IfOk (close_line arguments) (IsWithin device files)
@@ -195,6 +211,8 @@ own_bytes-room device files (Write fd bytes) within = within.1
 own_bytes-room device files (Send fd file at count) within = omega arith
 own_bytes-room device files (Read fd count) within = omega arith
 own_bytes-room device files (Ioctl fd request) within = omega arith
+own_bytes-room device files (Join fd group) within = omega arith
+own_bytes-room device files (StartGroup fd group) within = omega arith
 own_bytes-room device files (Close fd) within = omega arith
 own_bytes-room device files (Intr frames) within = omega arith
 

@@ -2,7 +2,7 @@
 use Rattle.std.proofs.Common.{◌≡◌, ℕ, ◌+◌, ◌<◌, ◌≤◌, All, List, length, slice_get, Option, arith, refl, subst}
 use Rattle.std.proofs.lemmas.List.Elements.{All-weaker}
 use Rattle.pcm_oss.specs.declared.event.Event.{Event}
-use Rattle.pcm_oss.specs.declared.event.Event.TheVariants.{Open, Write, Read, Ioctl, Close, Intr}
+use Rattle.pcm_oss.specs.declared.event.Event.TheVariants.{Open, Write, Read, Ioctl, Join, StartGroup, Close, Intr}
 use Rattle.pcm_wave.specs.declared.pool.Pool.{Pool}
 use Rattle.pcm_wave.specs.declared.pool.Source.{Source}
 use Rattle.pcm_wave.specs.declared.pool.Source.TheVariants.{Inline, File}
@@ -23,6 +23,8 @@ Fits-filtered filters device pool (Open fd way settings) fits = fits
 Fits-filtered filters device pool (Write fd source at count) fits = fits
 Fits-filtered filters device pool (Read fd count) fits = fits
 Fits-filtered filters device pool (Ioctl fd request) fits = fits
+Fits-filtered filters device pool (Join fd group) fits = fits
+Fits-filtered filters device pool (StartGroup fd group) fits = fits
 Fits-filtered filters device pool (Close fd) fits = fits
 Fits-filtered filters device pool (Intr frames) fits = fits
 
@@ -50,6 +52,8 @@ Fits-more device few many (Open fd way settings) same more fits = fits
 Fits-more device few many (Write fd source at count) same more fits = (fits.0, fits.1, HasBytes-more few many source at count same more fits.2)
 Fits-more device few many (Read fd count) same more fits = fits
 Fits-more device few many (Ioctl fd request) same more fits = fits
+Fits-more device few many (Join fd group) same more fits = fits
+Fits-more device few many (StartGroup fd group) same more fits = fits
 Fits-more device few many (Close fd) same more fits = fits
 Fits-more device few many (Intr frames) same more fits = fits
 

@@ -26,7 +26,7 @@ use Rattle.pcm_script.specs.declared.request.Setter.TheVariants.{SetFmt}
 use Rattle.pcm_script.specs.Steps.{◌>>=◌}
 use Rattle.pcm_script.specs.Numbers.{number_in, number_within, within}
 use Rattle.pcm_script.specs.Names.{command_named, way_named}
-use Rattle.pcm_script.specs.Requests.{as_full, as_plain, request_named, request_with}
+use Rattle.pcm_script.specs.Requests.{as_full, as_plain, asked_with, request_named}
 
 -- a descriptor
 abbrev pub descriptor_in : List ℕ → Result ℕ ScriptKind
@@ -158,7 +158,7 @@ ioctl_line (d ∷ name ∷ a ∷ []) = do
   fd ← descriptor_in d
   setter ← or_fault named Name
   argument ← argument_in setter a
-  Ok (Ioctl fd (request_with setter argument))
+  Ok (asked_with setter fd argument)
 ioctl_line arguments = Err Count
 
 -- `close D`

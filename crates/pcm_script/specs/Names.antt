@@ -1,4 +1,4 @@
--- The words of a script's language: commands, ways and requests, each with the one word that names it.
+-- The words of a script's language: commands, ways, requests and what is asked of groups, each with the one word that names it.
 use Rattle.std.specs.Prelude.{ℕ, List, [], ◌∷◌, Option, find, codes}
 use Rattle.std.specs.Str.{bytes_eq}
 use Rattle.pcm_oss.specs.declared.event.Way.{Way}
@@ -59,3 +59,11 @@ request_name requests.GetPlayVol = codes "getplayvol"
 request_name requests.Post = codes "post"
 request_name requests.Sync = codes "sync"
 request_name requests.Halt = codes "halt"
+
+-- the word by which a client's channel becomes a member of a group
+abbrev pub join_name : List ℕ
+join_name = codes "syncgroup"
+
+-- the word by which a client starts all members of a group
+abbrev pub start_group_name : List ℕ
+start_group_name = codes "syncstart"

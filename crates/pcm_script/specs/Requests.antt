@@ -1,24 +1,35 @@
--- The requests of a channel, by their names.
+-- What is asked of a channel or of a group, by its name.
 use Rattle.std.specs.Prelude.{ℕ, List, [], ◌∷◌, Option, Some, None, Result, Ok, Err, find}
 use Rattle.std.specs.Str.{bytes_eq}
 use Rattle.pcm_oss.specs.declared.request.Request.{Request}
 use Rattle.pcm_oss.specs.declared.request.Request.TheVariants as requests
 use Rattle.pcm_script.specs.declared.fault.ScriptKind.{ScriptKind}
 use Rattle.pcm_script.specs.declared.fault.ScriptKind.TheVariants.{Count}
+use Rattle.pcm_script.specs.declared.line_event.LineEvent.{LineEvent}
+use Rattle.pcm_script.specs.declared.line_event.LineEvent.TheVariants.{Ioctl, Join, StartGroup}
 use Rattle.pcm_script.specs.declared.request.Named.{Named}
 use Rattle.pcm_script.specs.declared.request.Named.TheVariants.{Plain, Full}
 use Rattle.pcm_script.specs.declared.request.Setter.{Setter}
 use Rattle.pcm_script.specs.declared.request.Setter.TheVariants as setters
-use Rattle.pcm_script.specs.Names.{request_name}
+use Rattle.pcm_script.specs.Names.{join_name, request_name, start_group_name}
 
--- the request with its argument
-abbrev pub request_with : Setter → ℕ → Request
-request_with setters.SetFmt argument = requests.SetFmt argument
-request_with setters.Speed argument = requests.Speed argument
-request_with setters.Channels argument = requests.Channels argument
-request_with setters.SetFragment argument = requests.SetFragment argument
-request_with setters.SetTrigger argument = requests.SetTrigger argument
-request_with setters.SetPlayVol argument = requests.SetPlayVol argument
+-- what a line asks by a name, of a descriptor and with an argument
+abbrev pub asked_with : Setter → ℕ → ℕ → LineEvent
+asked_with setters.SetFmt fd argument = Ioctl fd (requests.SetFmt argument)
+asked_with setters.Speed fd argument = Ioctl fd (requests.Speed argument)
+asked_with setters.Channels fd argument = Ioctl fd (requests.Channels argument)
+asked_with setters.SetFragment fd argument = Ioctl fd (requests.SetFragment argument)
+asked_with setters.SetTrigger fd argument = Ioctl fd (requests.SetTrigger argument)
+asked_with setters.SetPlayVol fd argument = Ioctl fd (requests.SetPlayVol argument)
+asked_with setters.Join fd group = Join fd group
+asked_with setters.StartGroup fd group = StartGroup fd group
+
+-- the name by which a line asks, whatever its argument; a line of another command has none
+abbrev pub name_asked : LineEvent → List ℕ
+name_asked (Ioctl fd request) = request_name request
+name_asked (Join fd group) = join_name
+name_asked (StartGroup fd group) = start_group_name
+name_asked line = []
 
 -- all that a name can stand for
 abbrev pub all_requests : List Named
@@ -43,12 +54,14 @@ all_requests =
     ∷ Plain requests.Post
     ∷ Plain requests.Sync
     ∷ Plain requests.Halt
+    ∷ Full setters.Join
+    ∷ Full setters.StartGroup
     ∷ []
 
 -- the word that names it
 abbrev pub name_in_table : Named → List ℕ
 name_in_table (Plain request) = request_name request
-name_in_table (Full setter) = request_name (request_with setter 0)
+name_in_table (Full setter) = name_asked (asked_with setter 0 0)
 
 -- what a name stands for, if a request has it
 abbrev pub request_named : List ℕ → Option Named

@@ -109,7 +109,9 @@ pub(crate) fn argument_in(setter: Setter, word: &[u8]) -> Result<u32, ScriptKind
         | Setter::Channels
         | Setter::SetFragment
         | Setter::SetTrigger
-        | Setter::SetPlayVol => number_within(0, u32::MAX, word),
+        | Setter::SetPlayVol
+        | Setter::Join
+        | Setter::StartGroup => number_within(0, u32::MAX, word),
     }
 }
 

@@ -215,8 +215,7 @@ fn full_ioctl(d: &[u8], name: &[u8], a: &[u8]) -> Result<LineEvent, ScriptKind>
     let fd = descriptor_in(d)?;
     let setter = named.ok_or(ScriptKind::Name)?;
     let argument = argument_in(setter, a)?;
-    let request = setter.with(argument);
-    Ok(LineEvent::Ioctl { fd, request })
+    Ok(setter.with(fd, argument))
 }
 
 #[tactic(auto, unfolding(crate::specs::Commands::close_line))]

@@ -18,7 +18,7 @@ mod words;
 pub use fault::{Refusal, ScriptFault, ScriptKind};
 pub use limits::TEXT_BYTES;
 pub use line_event::LineEvent;
-pub use names::{Command, request_name, way_name};
+pub use names::{Command, join_name, request_name, start_group_name, way_name};
 pub use number::decimal_in;
 pub use reader::script_of;
 pub use script::{Events, Script};

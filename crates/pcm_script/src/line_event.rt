@@ -3,6 +3,7 @@
 ghost use Rattle.std.specs.Prelude.{◌≡◌, ◌≤◌, length};
 ghost use Rattle.pcm_desk.specs.declared.limits.TheConstants.{WRITE_BYTES};
 
+use crate::names::{join_name, request_name, start_group_name};
 use pcm_format::{Bytes, Settings};
 use pcm_oss::{Event, Request, Way};
 use pcm_wave::Source;
@@ -33,6 +34,14 @@ pub enum LineEvent {
         fd: u8,
         request: Request,
     },
+    Join {
+        fd: u8,
+        group: u32,
+    },
+    StartGroup {
+        fd: u8,
+        group: u32,
+    },
     Close {
         fd: u8,
     },
@@ -43,6 +52,7 @@ pub enum LineEvent {
 
 impl LineEvent {
     ghost use Rattle.pcm_script.specs.Collecting.{event_at, frames_asked, own_bytes};
+    ghost use Rattle.pcm_script.specs.Requests.{name_asked};
 
     // The bytes that the line spells.
     pub(crate) fn bytes(&self) -> &[u8]
@@ -64,19 +74,27 @@ impl LineEvent {
         }
     }
 
+    // The name by which the line asks, whatever its argument.
+    pub(crate) fn name_asked(&self) -> &'static [u8]
+        ensures { result.now ≡ name_asked self.now }
+    {
+        match self {
+            LineEvent::Ioctl { request, .. } => request_name(*request),
+            LineEvent::Join { .. } => join_name(),
+            LineEvent::StartGroup { .. } => start_group_name(),
+            _ => &[],
+        }
+    }
+
     // The event, with a place for its bytes.
     pub(crate) fn event_at(&self, place: u32) -> Event
         requires { length (own_bytes self.now) ≤ WRITE_BYTES }
         ensures { result ≡ event_at place self.now }
     {
-        match self {
-            LineEvent::Open { fd, way, settings } => Event::Open {
-                fd: *fd,
-                way: *way,
-                settings: *settings,
-            },
-            LineEvent::Write { fd, bytes } => Event::Write {
-                fd: *fd,
+        match *self {
+            LineEvent::Open { fd, way, settings } => Event::Open { fd, way, settings },
+            LineEvent::Write { fd, ref bytes } => Event::Write {
+                fd,
                 source: Source::Inline,
                 at: place,
                 len: bytes.as_slice().len() as u32,
@@ -87,21 +105,17 @@ impl LineEvent {
                 at,
                 count,
             } => Event::Write {
-                fd: *fd,
-                source: Source::File(*file),
-                at: *at,
-                len: *count,
+                fd,
+                source: Source::File(file),
+                at,
+                len: count,
             },
-            LineEvent::Read { fd, count } => Event::Read {
-                fd: *fd,
-                len: *count,
-            },
-            LineEvent::Ioctl { fd, request } => Event::Ioctl {
-                fd: *fd,
-                request: *request,
-            },
-            LineEvent::Close { fd } => Event::Close { fd: *fd },
-            LineEvent::Intr { frames } => Event::Intr { frames: *frames },
+            LineEvent::Read { fd, count } => Event::Read { fd, len: count },
+            LineEvent::Ioctl { fd, request } => Event::Ioctl { fd, request },
+            LineEvent::Join { fd, group } => Event::Join { fd, group },
+            LineEvent::StartGroup { fd, group } => Event::StartGroup { fd, group },
+            LineEvent::Close { fd } => Event::Close { fd },
+            LineEvent::Intr { frames } => Event::Intr { frames },
         }
     }
 }

@@ -1,7 +1,7 @@
 //! The words of a script's language, as they are read and as they are written.
 
 ghost use Rattle.std.specs.Prelude.{◌≡◌};
-ghost use Rattle.pcm_script.specs.Names.{request_name, way_name, way_named};
+ghost use Rattle.pcm_script.specs.Names.{join_name, request_name, start_group_name, way_name, way_named};
 
 use pcm_oss::{Request, Way};
 
@@ -103,4 +103,18 @@ pub fn request_name(request: Request) -> &'static [u8]
         Request::Sync => b"sync",
         Request::Halt => b"halt",
     }
+}
+
+/// The word by which a client's channel becomes a member of a group.
+pub fn join_name() -> &'static [u8]
+    ensures { result.now ≡ join_name }
+{
+    b"syncgroup"
+}
+
+/// The word by which a client starts all members of a group.
+pub fn start_group_name() -> &'static [u8]
+    ensures { result.now ≡ start_group_name }
+{
+    b"syncstart"
 }

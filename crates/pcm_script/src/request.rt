@@ -1,9 +1,10 @@
-//! The requests of a channel, by their names.
+//! What is asked of a channel or of a group, by its name.
 
 ghost use Rattle.std.specs.Prelude.{◌≡◌};
-ghost use Rattle.pcm_script.specs.Requests.{as_full, as_plain, name_in_table, request_named, request_with};
+ghost use Rattle.pcm_script.specs.Requests.{as_full, as_plain, asked_with, name_in_table, request_named};
 
 use crate::ScriptKind;
+use crate::line_event::LineEvent;
 use crate::names::request_name;
 use pcm_oss::Request;
 
@@ -12,11 +13,11 @@ use pcm_oss::Request;
 pub(crate) enum Named {
     // A request without an argument.
     Plain(Request),
-    // A request whose argument is told behind its name.
+    // What is asked with an argument, which is told behind its name.
     Full(Setter),
 }
 
-// A request, before its argument is told.
+// What a line asks, before its descriptor and its argument are told.
 #[derive(Clone, Copy)]
 pub(crate) enum Setter {
     SetFmt,
@@ -25,10 +26,12 @@ pub(crate) enum Setter {
     SetFragment,
     SetTrigger,
     SetPlayVol,
+    Join,
+    StartGroup,
 }
 
-// All of them, in the order of `Request`.
-const REQUESTS: [Named; 20] = [
+// All of them, in the order of `Request`, and then what is asked of groups.
+const REQUESTS: [Named; 22] = [
     Named::Full(Setter::SetFmt),
     Named::Full(Setter::Speed),
     Named::Full(Setter::Channels),
@@ -49,6 +52,8 @@ const REQUESTS: [Named; 20] = [
     Named::Plain(Request::Post),
     Named::Plain(Request::Sync),
     Named::Plain(Request::Halt),
+    Named::Full(Setter::Join),
+    Named::Full(Setter::StartGroup),
 ];
 
 impl Named {
@@ -58,24 +63,28 @@ impl Named {
     {
         match self {
             Named::Plain(request) => request_name(request),
-            Named::Full(setter) => request_name(setter.with(0)),
+            Named::Full(setter) => setter.with(0, 0).name_asked(),
         }
     }
 }
 
 impl Setter {
-    // The request with its argument.
-    pub(crate) fn with(self, argument: u32) -> Request
-        ensures { result ≡ request_with self argument }
+    // What a line asks by it, of a descriptor and with an argument.
+    pub(crate) fn with(self, fd: u8, argument: u32) -> LineEvent
+        ensures { result ≡ asked_with self fd argument }
     {
-        match self {
+        let group = argument;
+        let request = match self {
             Setter::SetFmt => Request::SetFmt(argument),
             Setter::Speed => Request::Speed(argument),
             Setter::Channels => Request::Channels(argument),
             Setter::SetFragment => Request::SetFragment(argument),
             Setter::SetTrigger => Request::SetTrigger(argument),
             Setter::SetPlayVol => Request::SetPlayVol(argument),
-        }
+            Setter::Join => return LineEvent::Join { fd, group },
+            Setter::StartGroup => return LineEvent::StartGroup { fd, group },
+        };
+        LineEvent::Ioctl { fd, request }
     }
 }
 

@@ -10,7 +10,7 @@ use Rattle.pcm_desk.specs.declared.here.Here.{Here}
 use Rattle.pcm_desk.specs.declared.play_book.PlayBook.{PlayBook}
 use Rattle.pcm_desk.specs.declared.play_book.PlayState.{PlayState}
 use Rattle.pcm_desk.specs.declared.play_book.PlayState.TheVariants.{Free, Setup, Primed, Running, Draining}
-use Rattle.pcm_desk.specs.PlayBooks.{close_turn, closed_in, drained_in, finished, frames_written, has_given_all, is_over, is_play_free, is_started, play_begun, play_settled}
+use Rattle.pcm_desk.specs.PlayBooks.{close_turn, closed_in, drained_in, finished, frames_written, has_given_all, is_over, is_play_free, is_play_setup, is_started, play_begun, play_settled}
 use Rattle.pcm_desk.specs.PlayRequests.{play_ask, play_roused_in, play_with_trigger}
 use Rattle.pcm_desk.specs.PlaySafe.{PlayIsSafe}
 use Rattle.pcm_desk.proofs.PlayAsking.{Dropping, Ending, Noting, SettingUp, Starting, Stopping, ask-does, noting}
@@ -119,6 +119,19 @@ given-same rate dropping book = record { written = λ h. h; given = λ h. refl; 
 pub given-ask : (rate : Rate) (mix_rate : ℕ) (here : Here) (request : Request) (book : PlayBook) → PlayIsSafe rate book → KeepsGiven rate (asks_drop request) book (play_ask rate mix_rate here request book).book
 given-ask rate mix_rate here request book safe =
     given_left rate (asks_drop request) book (play_ask rate mix_rate here request book).book (ask-leaves rate mix_rate here request book safe) (whole_ask rate mix_rate here request book)
+
+-- a request before a run drops nothing, whatever it is
+setup_stopped : (state : PlayState) → is_play_setup state ≡ true → is_started state ≡ false
+setup_stopped Setup e = refl
+setup_stopped Free e = cc
+setup_stopped Primed e = cc
+setup_stopped Running e = cc
+setup_stopped (Draining closed) e = cc
+
+pub given-rest : (rate : Rate) (mix_rate : ℕ) (here : Here) (request : Request) (book : PlayBook) → PlayIsSafe rate book → is_play_setup book.state ≡ true → KeepsGiven rate false book (play_ask rate mix_rate here request book).book
+given-rest rate mix_rate here request book safe rests =
+    given_left rate false book (play_ask rate mix_rate here request book).book (ask-leaves rate mix_rate here request book safe)
+    (λ s n d. absurd (let not_so : true ≡ false = sym s ∙ setup_stopped book.state rests in cc))
 
 -- a close
 pub given-close : (rate : Rate) (here : Here) (book : PlayBook) → KeepsGiven rate false book (close_turn rate here book)

@@ -4,7 +4,7 @@ use Rattle.std.specs.Prelude.{nat_lt, not, ◌&&◌}
 use Rattle.std.proofs.lemmas.List.{take-take, take_all}
 use Rattle.std.proofs.lemmas.List.FromFn.{length-map-range_with_len, take-map-range_with_len}
 use Rattle.pcm_oss.specs.declared.event.Event.{Event}
-use Rattle.pcm_oss.specs.declared.event.Event.TheVariants.{Open, Write, Read, Ioctl, Close, Intr}
+use Rattle.pcm_oss.specs.declared.event.Event.TheVariants.{Open, Write, Read, Ioctl, Join, StartGroup, Close, Intr}
 use Rattle.pcm_oss.specs.declared.event.Way.{Way}
 use Rattle.pcm_oss.specs.declared.event.Way.TheVariants.{Play, Record}
 use Rattle.pcm_oss.specs.declared.reply.Answer.TheVariants.{Got}
@@ -34,7 +34,7 @@ use Rattle.pcm_sound.specs.Recordings.{Recording, handing, recorded_frames, reco
 use Rattle.pcm_sound.specs.Story.{Story}
 use Rattle.pcm_sound.specs.Valid.{IsRecorded, RecordingIsValid, RecordingsAreValid}
 use Rattle.pcm_sound.proofs.Recordings.{captured-add, recorded-captured}
-use Rattle.pcm_sound.proofs.Recorded.{AllTurned, Turned, all-close, all-ioctl, all-open, all-write, idle-unstarted}
+use Rattle.pcm_sound.proofs.Recorded.{AllTurned, Turned, all-closing, all-join, all-open, all-request, all-start, all-write, idle-unstarted}
 use Rattle.pcm_desk.proofs.Slots.{record_at-with}
 
 -- the bytes of a recording that its book counts
@@ -129,8 +129,10 @@ pub recording-follows : (device : DeviceSeen) (pool : Pool) (story : Story) (eve
 recording-follows device pool story (Open fd way settings) slot fits none v = turned_follows device pool story (after device story.desk (Open fd way settings)).desk slot (all-open device story.desk fd way settings fits.1) v
 recording-follows device pool story (Write fd source at count) slot fits none v = turned_follows device pool story (after device story.desk (Write fd source at count)).desk slot (all-write device (held_by story.desk fd) story.desk count) v
 recording-follows device pool story (Read fd count) slot fits none v = read_follows device pool (held_by story.desk fd) story.desk fd count slot (story.recordings slot)
-recording-follows device pool story (Ioctl fd request) slot fits none v = turned_follows device pool story (after device story.desk (Ioctl fd request)).desk slot (all-ioctl device (held_by story.desk fd) story.desk request) v
-recording-follows device pool story (Close fd) slot fits none v = turned_follows device pool story (after device story.desk (Close fd)).desk slot (all-close device (held_by story.desk fd) story.desk fd) v
+recording-follows device pool story (Ioctl fd request) slot fits none v = turned_follows device pool story (after device story.desk (Ioctl fd request)).desk slot (all-request device (held_by story.desk fd) story.desk request) v
+recording-follows device pool story (Join fd group) slot fits none v = turned_follows device pool story (after device story.desk (Join fd group)).desk slot (all-join device (held_by story.desk fd) story.desk group) v
+recording-follows device pool story (StartGroup fd group) slot fits none v = turned_follows device pool story (after device story.desk (StartGroup fd group)).desk slot (all-start device (held_by story.desk fd) story.desk group) v
+recording-follows device pool story (Close fd) slot fits none v = turned_follows device pool story (after device story.desk (Close fd)).desk slot (all-closing device (held_by story.desk fd) story.desk fd) v
 recording-follows device pool story (Intr n) slot fits none v = absurd (let some = fits.0 in omega arith)
 
 -- ---- an interrupt

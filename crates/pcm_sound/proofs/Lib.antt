@@ -15,3 +15,4 @@ pub mod Recorded
 pub mod Following
 pub mod Pools
 pub mod OwnReplies
+pub mod Together

@@ -1,11 +1,11 @@
 -- What a client is told, the bytes of its reads included, goes by its own events, and by what is captured.
 use Rattle.std.proofs.Common.{◌≡◌, ℕ, ◌+◌, ◌-◌, Bool, true, false, cond, List, [], ◌∷◌, ◌++◌, drop, min, take, Some, Ok, Err, refl, sym, ap, ◌∙◌, subst, arith}
-use Rattle.std.specs.Prelude.{eqb, nat_lt, not, ◌&&◌}
+use Rattle.std.specs.Prelude.{IsErr, eqb, nat_lt, not, ◌&&◌}
 use Rattle.std.proofs.lemmas.Bool.{eqb-true}
 use Rattle.std.proofs.lemmas.List.{append-nil}
 use Rattle.pcm_format.specs.declared.settings.Settings.{Settings}
 use Rattle.pcm_oss.specs.declared.event.Event.{Event}
-use Rattle.pcm_oss.specs.declared.event.Event.TheVariants.{Open, Write, Read, Ioctl, Close, Intr}
+use Rattle.pcm_oss.specs.declared.event.Event.TheVariants.{Open, Write, Read, Ioctl, Join, StartGroup, Close, Intr}
 use Rattle.pcm_oss.specs.declared.event.Way.{Way}
 use Rattle.pcm_oss.specs.declared.event.Way.TheVariants.{Play, Record}
 use Rattle.pcm_oss.specs.declared.reply.Answer.TheVariants.{Got}
@@ -24,12 +24,12 @@ use Rattle.pcm_desk.specs.RecordBooks as records
 use Rattle.pcm_desk.specs.RecordBooks.{captured, is_running, read_turn, record_fill_of}
 use Rattle.pcm_desk.specs.RecordRequests.{record_ask}
 use Rattle.pcm_desk.specs.RecordSafe.{RecordIsSafe}
-use Rattle.pcm_desk.specs.Desk.{by_way, capturing, held_by, record_rate_at}
+use Rattle.pcm_desk.specs.Desk.{after, by_way, capturing, group_of, held_by, record_rate_at}
 use Rattle.pcm_desk.specs.Events.{frames_taken}
-use Rattle.pcm_desk.specs.Own.{Channel, HoldApart, Playing, Recording, channel_at, own_turn}
-use Rattle.pcm_desk.specs.OwnEvents.{Opens, channel_begun, closes, concerns, own_events, unnamed}
+use Rattle.pcm_desk.specs.Own.{Channel, HoldApart, MembersWait, Playing, Recording, channel_at, own_turn, ungrouped}
+use Rattle.pcm_desk.specs.OwnEvents.{JoinsNone, Opens, channel_begun, closes, concerns, joins, own_events, unnamed}
 use Rattle.pcm_desk.proofs.Apart.{apart-after}
-use Rattle.pcm_desk.proofs.OwnEvents.{IsMine, begun-own, mine-turns, other-stays}
+use Rattle.pcm_desk.proofs.OwnEvents.{IsMine, begun-own, mine-turns, opened-none, other-stays, others-go}
 use Rattle.pcm_desk.proofs.RecordAsking.{record-ask-settings}
 use Rattle.pcm_desk.proofs.RecordSafe.{record-safe-ask, record-safe-begun, record-safe-captured, record-safe-closed, record-safe-read}
 use Rattle.pcm_desk.proofs.Turning.{handed-taken}
@@ -50,12 +50,8 @@ read_of count (Recording book) recording = read_bytes count book recording
 
 -- the bytes that an event gets of it
 abbrev own_bytes : Event → Channel → recordings.Recording → List ℕ
-own_bytes (Open fd way settings) channel recording = []
-own_bytes (Write fd source at count) channel recording = []
 own_bytes (Read fd count) channel recording = read_of count channel recording
-own_bytes (Ioctl fd request) channel recording = []
-own_bytes (Close fd) channel recording = []
-own_bytes (Intr n) channel recording = []
+own_bytes _ channel recording = []
 
 -- its recording after an event, from its book before and after
 abbrev next_recording : DeviceSeen → Pool → ℕ → Event → Channel → Channel → recordings.Recording → recordings.Recording
@@ -67,8 +63,8 @@ next_recording device pool handed event (Playing old) new recording = recording
 abbrev own_told : DeviceSeen → Pool → Channel → recordings.Recording → ℕ → List Event → List Reply
 own_told device pool channel recording handed [] = []
 own_told device pool channel recording handed (event ∷ events) =
-    record { result = (own_turn device handed event channel).reply; bytes = own_bytes event channel recording }
-    ∷ own_told device pool (own_turn device handed event channel).book (next_recording device pool handed event channel (own_turn device handed event channel).book recording) (handed + frames_taken event) events
+    record { result = (own_turn device handed ungrouped event channel).reply; bytes = own_bytes event channel recording }
+    ∷ own_told device pool (own_turn device handed ungrouped event channel).book (next_recording device pool handed event channel (own_turn device handed ungrouped event channel).book recording) (handed + frames_taken event) events
 
 -- the recording of what a descriptor holds
 abbrev own_recording : Story → Held → recordings.Recording
@@ -94,6 +90,8 @@ goes_nowhere device pool (Open at way settings) fd book recording n = refl
 goes_nowhere device pool (Write at source from count) fd book recording n = refl
 goes_nowhere device pool (Read at count) fd book recording n = unread book recording
 goes_nowhere device pool (Ioctl at request) fd book recording n = refl
+goes_nowhere device pool (Join at group) fd book recording n = refl
+goes_nowhere device pool (StartGroup at group) fd book recording n = refl
 goes_nowhere device pool (Close at) fd book recording n = refl
 goes_nowhere device pool (Intr frames) fd book recording n = cc
 
@@ -111,6 +109,8 @@ takes_none (Open at way settings) fd n = refl
 takes_none (Write at source from count) fd n = refl
 takes_none (Read at count) fd n = refl
 takes_none (Ioctl at request) fd n = refl
+takes_none (Join at group) fd n = refl
+takes_none (StartGroup at group) fd n = refl
 takes_none (Close at) fd n = refl
 takes_none (Intr frames) fd n = cc
 
@@ -128,6 +128,8 @@ bytes_own device pool story (Write at source from count) fd held n e = refl
 bytes_own device pool story (Read at count) fd held n e =
     ap (λ (k : ℕ). bytes_got device story count (held_by story.desk k)) (eqb-true at fd n) ∙ ap (bytes_got device story count) e ∙ read_own device story count held.way held.slot
 bytes_own device pool story (Ioctl at request) fd held n e = refl
+bytes_own device pool story (Join at group) fd held n e = refl
+bytes_own device pool story (StartGroup at group) fd held n e = refl
 bytes_own device pool story (Close at) fd held n e = refl
 bytes_own device pool story (Intr frames) fd held n e = refl
 
@@ -142,6 +144,10 @@ told_unnamed device pool (Read fd count) (Playing book) recording handed more = 
 told_unnamed device pool (Read fd count) (Recording book) recording handed more = refl
 told_unnamed device pool (Ioctl fd request) (Playing book) recording handed more = refl
 told_unnamed device pool (Ioctl fd request) (Recording book) recording handed more = refl
+told_unnamed device pool (Join fd group) (Playing book) recording handed more = refl
+told_unnamed device pool (Join fd group) (Recording book) recording handed more = refl
+told_unnamed device pool (StartGroup fd group) (Playing book) recording handed more = refl
+told_unnamed device pool (StartGroup fd group) (Recording book) recording handed more = refl
 told_unnamed device pool (Close fd) (Playing book) recording handed more = refl
 told_unnamed device pool (Close fd) (Recording book) recording handed more = refl
 told_unnamed device pool (Intr n) channel recording handed more = refl
@@ -151,12 +157,13 @@ abbrev told_by : DeviceSeen → Pool → Story → Held → List Event → List 
 told_by device pool story held events = own_told device pool (channel_at device story.desk held) (own_recording story held) story.desk.handed events
 
 -- one event, and those behind it
-told_step : (device : DeviceSeen) (pool : Pool) (story : Story) (event : Event) (events : List Event) (fd : ℕ) (held : Held) (own closing : Bool) → concerns fd event ≡ own → closes fd event ≡ closing → HoldApart story.desk → held_by story.desk fd ≡ Some held
+told_step : (device : DeviceSeen) (pool : Pool) (story : Story) (event : Event) (events : List Event) (fd : ℕ) (held : Held) (own closing : Bool) → concerns fd event ≡ own → closes fd event ≡ closing → HoldApart story.desk → held_by story.desk fd ≡ Some held → group_of story.desk held ≡ 0
+    → (joins fd event ≡ true → IsErr (after device story.desk event).reply)
     → let new : Story = told device pool story event in
-    (held_by new.desk fd ≡ Some held → client_replies device pool fd new events ≡ told_by device pool new held (own_events fd events))
+    (closes fd event ≡ false → held_by new.desk fd ≡ Some held → group_of new.desk held ≡ 0 → client_replies device pool fd new events ≡ told_by device pool new held (own_events fd events))
     → cond own (reply_to device story event ∷ cond closing [] (client_replies device pool fd new events)) (client_replies device pool fd new events)
     ≡ told_by device pool story held (cond own (unnamed event ∷ cond closing [] (own_events fd events)) (own_events fd events))
-told_step device pool story event events fd held true closing o c h m rest =
+told_step device pool story event events fd held true closing o c h m a joined rest =
     behind closing c ∙ sym (told_unnamed device pool event channel recording story.desk.handed (cond closing [] (own_events fd events)))
   where
     channel : Channel
@@ -169,14 +176,14 @@ told_step device pool story event events fd held true closing o c h m rest =
     new = told device pool story event
 
     is : IsMine device event held fd story.desk
-    is = mine-turns device event story.desk fd held o h m
+    is = mine-turns device event story.desk fd held o h m a
 
-    first : reply_to device story event ≡ record { result = (own_turn device story.desk.handed event channel).reply; bytes = own_bytes event channel recording }
+    first : reply_to device story event ≡ record { result = (own_turn device story.desk.handed ungrouped event channel).reply; bytes = own_bytes event channel recording }
     first = λ i. record { result = is.reply i; bytes = bytes_own device pool story event fd held o m i }
 
     -- from the story's own channel to the channel by itself
     goes_on : (more : List Event) → told_by device pool new held more
-        ≡ own_told device pool (own_turn device story.desk.handed event channel).book (next_recording device pool story.desk.handed event channel (own_turn device story.desk.handed event channel).book recording) (story.desk.handed + frames_taken event) more
+        ≡ own_told device pool (own_turn device story.desk.handed ungrouped event channel).book (next_recording device pool story.desk.handed event channel (own_turn device story.desk.handed ungrouped event channel).book recording) (story.desk.handed + frames_taken event) more
     goes_on more =
         ap (λ (r : recordings.Recording). own_told device pool (channel_at device new.desk held) r new.desk.handed more) (next_told device pool story event held.way held.slot)
         ∙ ap (λ (n : ℕ). own_told device pool (channel_at device new.desk held) (next_recording device pool story.desk.handed event channel (channel_at device new.desk held) recording) n more) (handed-taken device story.desk event)
@@ -187,14 +194,14 @@ told_step device pool story event events fd held true closing o c h m rest =
     behind true e = ap (λ (r : Reply). r ∷ []) first
     behind false e =
         ap (λ (r : Reply). r ∷ client_replies device pool fd new events) first
-        ∙ ap (λ (list : List Reply). record { result = (own_turn device story.desk.handed event channel).reply; bytes = own_bytes event channel recording } ∷ list) (rest (is.holds e) ∙ goes_on (own_events fd events))
-told_step device pool story event events fd held false closing o c h m rest =
+        ∙ ap (λ (list : List Reply). record { result = (own_turn device story.desk.handed ungrouped event channel).reply; bytes = own_bytes event channel recording } ∷ list) (rest e (is.holds e) is.alone ∙ goes_on (own_events fd events))
+told_step device pool story event events fd held false closing o c h m a joined rest =
     let new : Story = told device pool story event in
     let more : List Event = own_events fd events in
     let channel : Channel = channel_at device story.desk held in
-    let is = other-stays device event story.desk fd held o h m in
+    let is = other-stays device event story.desk fd held o joined h m a in
     let none : new.desk.handed ≡ story.desk.handed = (let taken = handed-taken device story.desk event in let nothing = takes_none event fd o in omega arith) in
-    rest is.holds
+    rest (others-go event fd o) is.holds is.alone
     ∙ ap (λ (r : recordings.Recording). own_told device pool (channel_at device new.desk held) r new.desk.handed more)
     (next_told device pool story event held.way held.slot ∙ ap (λ (c : Channel). next_recording device pool story.desk.handed event channel c (own_recording story held)) is.channel
     ∙ next_same device pool story.desk.handed event fd channel (own_recording story held) o)
@@ -202,12 +209,12 @@ told_step device pool story event events fd held false closing o c h m rest =
     ∙ ap (λ (c : Channel). own_told device pool c (own_recording story held) story.desk.handed more) is.channel
 
 -- What a client is told goes by the book of its channel, its recording and its own events.
-told_own : (device : DeviceSeen) (pool : Pool) (story : Story) (fd : ℕ) (held : Held) (events : List Event) → HoldApart story.desk → held_by story.desk fd ≡ Some held
+told_own : (device : DeviceSeen) (pool : Pool) (story : Story) (fd : ℕ) (held : Held) (events : List Event) → HoldApart story.desk → held_by story.desk fd ≡ Some held → group_of story.desk held ≡ 0 → JoinsNone device fd story.desk events
     → client_replies device pool fd story events ≡ told_by device pool story held (own_events fd events)
-told_own device pool story fd held [] h m = refl
-told_own device pool story fd held (event ∷ events) h m =
-    told_step device pool story event events fd held (concerns fd event) (closes fd event) refl refl h m
-    (λ goes. told_own device pool (told device pool story event) fd held events (apart-after device story.desk event h) goes)
+told_own device pool story fd held [] h m a none = refl
+told_own device pool story fd held (event ∷ events) h m a none =
+    told_step device pool story event events fd held (concerns fd event) (closes fd event) refl refl h m a none.0
+    (λ still goes alone. told_own device pool (told device pool story event) fd held events (apart-after device story.desk event h) goes alone (none.1 still))
 
 -- ---- two recordings
 
@@ -234,7 +241,7 @@ read_settings : (count : ℕ) (book : RecordBook) → (read_turn count book).boo
 read_settings count book = read_in (nat_lt 0 count && eqb (record_fill_of book) 0) count book
 
 -- it stays in order
-safe_own : (device : DeviceSeen) (handed : ℕ) (event : Event) (channel : Channel) → IsSafe device channel → IsSafe device (own_turn device handed event channel).book
+safe_own : (device : DeviceSeen) (handed : ℕ) (event : Event) (channel : Channel) → IsSafe device channel → IsSafe device (own_turn device handed ungrouped event channel).book
 safe_own device handed (Open fd way settings) channel s = s
 safe_own device handed (Write fd source at count) (Playing book) s = tt
 safe_own device handed (Write fd source at count) (Recording book) s = s
@@ -245,6 +252,8 @@ safe_own device handed (Ioctl fd request) (Playing book) s = tt
 safe_own device handed (Ioctl fd request) (Recording book) s =
     let new : RecordBook = (record_ask request book).book in
     record-safe-ask (record_rate_at device book) (record_rate_at device new) request book (λ e. ap (λ (settings : Settings). record_rate_between device settings) (record-ask-settings request book e)) s
+safe_own device handed (Join fd group) channel s = s
+safe_own device handed (StartGroup fd group) channel s = s
 safe_own device handed (Close fd) (Playing book) s = tt
 safe_own device handed (Close fd) (Recording book) s = record-safe-closed (record_rate_at device book) book s
 safe_own device handed (Intr n) (Playing book) s = tt
@@ -264,19 +273,17 @@ read_alike device count (Recording book) one other s same = at (is_running book.
         rw empty refl
 
 bytes_alike : (device : DeviceSeen) (event : Event) (channel : Channel) (one other : recordings.Recording) → IsSafe device channel → (runs channel ≡ true → other ≡ one) → own_bytes event channel other ≡ own_bytes event channel one
-bytes_alike device (Open fd way settings) channel one other s same = refl
-bytes_alike device (Write fd source at count) channel one other s same = refl
 bytes_alike device (Read fd count) channel one other s same = read_alike device count channel one other s same
-bytes_alike device (Ioctl fd request) channel one other s same = refl
-bytes_alike device (Close fd) channel one other s same = refl
-bytes_alike device (Intr n) channel one other s same = refl
+bytes_alike device _ channel one other s same = refl
 
 -- a channel that plays never records
-plays_on : (device : DeviceSeen) (handed : ℕ) (event : Event) (book : PlayBook) → runs (own_turn device handed event (Playing book)).book ≡ false
+plays_on : (device : DeviceSeen) (handed : ℕ) (event : Event) (book : PlayBook) → runs (own_turn device handed ungrouped event (Playing book)).book ≡ false
 plays_on device handed (Open fd way settings) book = refl
 plays_on device handed (Write fd source at count) book = refl
 plays_on device handed (Read fd count) book = refl
 plays_on device handed (Ioctl fd request) book = refl
+plays_on device handed (Join fd group) book = refl
+plays_on device handed (StartGroup fd group) book = refl
 plays_on device handed (Close fd) book = refl
 plays_on device handed (Intr n) book = refl
 
@@ -293,16 +300,16 @@ going_same device pool more handed event old (Recording new) one other frames sa
     at true e is running = ap (going_on device more event old new) (same e) ∙ going-alike device pool more event old new one frames
 
 next_alike : (device : DeviceSeen) (pool more : Pool) (handed : ℕ) (event : Event) (channel : Channel) (one other : recordings.Recording) → capture_frames more ≡ capture_frames pool → (runs channel ≡ true → other ≡ one)
-    → let new : Channel = (own_turn device handed event channel).book in
+    → let new : Channel = (own_turn device handed ungrouped event channel).book in
     runs new ≡ true → next_recording device more handed event channel new other ≡ next_recording device pool handed event channel new one
 next_alike device pool more handed event (Playing book) one other frames same running = absurd (let clash : true ≡ false = sym running ∙ plays_on device handed event book in cc)
-next_alike device pool more handed event (Recording book) one other frames same running = going_same device pool more handed event book (own_turn device handed event (Recording book)).book one other frames same running
+next_alike device pool more handed event (Recording book) one other frames same running = going_same device pool more handed event book (own_turn device handed ungrouped event (Recording book)).book one other frames same running
 
 told_alike : (device : DeviceSeen) (pool more : Pool) (channel : Channel) (one other : recordings.Recording) (handed : ℕ) (events : List Event) → capture_frames more ≡ capture_frames pool → IsSafe device channel → (runs channel ≡ true → other ≡ one)
     → own_told device more channel other handed events ≡ own_told device pool channel one handed events
 told_alike device pool more channel one other handed [] frames s same = refl
 told_alike device pool more channel one other handed (event ∷ events) frames s same =
-    let turn : Turn Channel = own_turn device handed event channel in
+    let turn : Turn Channel = own_turn device handed ungrouped event channel in
     let next : recordings.Recording = next_recording device more handed event channel turn.book other in
     ap (λ (bytes : List ℕ). record { result = turn.reply; bytes = bytes } ∷ own_told device more turn.book next (handed + frames_taken event) events) (bytes_alike device event channel one other s same)
     ∙ ap (λ (list : List Reply). record { result = turn.reply; bytes = own_bytes event channel one } ∷ list)
@@ -320,31 +327,32 @@ begun_idle Play settings = refl
 begun_idle Record settings = refl
 
 -- what an opening is told
-opening_told : (device : DeviceSeen) (pool : Pool) (fd : ℕ) (way : Way) (settings : Settings) (held : Held) (story : Story) (events : List Event) → HoldApart story.desk
-    → Opens device fd way settings held story.desk (told device pool story (Open fd way settings)).desk
+opening_told : (device : DeviceSeen) (pool : Pool) (fd : ℕ) (way : Way) (settings : Settings) (held : Held) (story : Story) (events : List Event) → HoldApart story.desk → MembersWait device story.desk
+    → Opens device fd way settings held story.desk (told device pool story (Open fd way settings)).desk → JoinsNone device fd (told device pool story (Open fd way settings)).desk events
     → client_replies device pool fd (told device pool story (Open fd way settings)) events
     ≡ own_told device pool (channel_begun way settings) (own_recording (told device pool story (Open fd way settings)) held) story.desk.handed (own_events fd events)
-opening_told device pool fd way settings held story events h o =
+opening_told device pool fd way settings held story events h w o none =
     let new : Story = told device pool story (Open fd way settings) in
     let own : List Event = own_events fd events in
     let taken : new.desk.handed ≡ story.desk.handed = (let t = handed-taken device story.desk (Open fd way settings) in omega arith) in
-    told_own device pool new fd held events (apart-after device story.desk (Open fd way settings) h) o.holds
+    told_own device pool new fd held events (apart-after device story.desk (Open fd way settings) h) o.holds (opened-none device fd way settings held story.desk new.desk w o) none
     ∙ ap (λ (c : Channel). own_told device pool c (own_recording new held) new.desk.handed own) (begun-own device fd way settings held story.desk new.desk o)
     ∙ ap (λ (n : ℕ). own_told device pool (channel_begun way settings) (own_recording new held) n own) taken
 
 -- Two openings with the same settings, the same events of their own and the same frames captured are told the same, bytes included.
 pub clients-alike : (device : DeviceSeen) (pool more : Pool) (fd at : ℕ) (way : Way) (settings : Settings) (held theirs : Held) (one other : Story) (events others : List Event) → capture_frames more ≡ capture_frames pool
-    → one.desk.handed ≡ other.desk.handed → HoldApart one.desk → HoldApart other.desk
+    → one.desk.handed ≡ other.desk.handed → HoldApart one.desk → HoldApart other.desk → MembersWait device one.desk → MembersWait device other.desk
     → Opens device fd way settings held one.desk (told device pool one (Open fd way settings)).desk
     → Opens device at way settings theirs other.desk (told device more other (Open at way settings)).desk
+    → JoinsNone device fd (told device pool one (Open fd way settings)).desk events → JoinsNone device at (told device more other (Open at way settings)).desk others
     → own_events fd events ≡ own_events at others
     → client_replies device pool fd (told device pool one (Open fd way settings)) events ≡ client_replies device more at (told device more other (Open at way settings)) others
-clients-alike device pool more fd at way settings held theirs one other events others frames handed h k o p same =
+clients-alike device pool more fd at way settings held theirs one other events others frames handed h k w v o p none never same =
     let mine : recordings.Recording = own_recording (told device pool one (Open fd way settings)) held in
     let its : recordings.Recording = own_recording (told device more other (Open at way settings)) theirs in
-    opening_told device pool fd way settings held one events h o
+    opening_told device pool fd way settings held one events h w o none
     ∙ ap (λ (n : ℕ). own_told device pool (channel_begun way settings) mine n (own_events fd events)) handed
     ∙ ap (own_told device pool (channel_begun way settings) mine other.desk.handed) same
     ∙ sym (told_alike device pool more (channel_begun way settings) mine its other.desk.handed (own_events at others) frames (begun_safe device way settings)
     (λ running. absurd (let clash : true ≡ false = sym running ∙ begun_idle way settings in cc)))
-    ∙ sym (opening_told device more at way settings theirs other others k p)
+    ∙ sym (opening_told device more at way settings theirs other others k v p never)

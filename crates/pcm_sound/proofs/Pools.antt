@@ -5,7 +5,7 @@ use Rattle.std.proofs.lemmas.List.{drop-append-le, length-drop, take-append-le, 
 use Rattle.std.proofs.lemmas.List.Elements.{All-cons, All-head, All-nil, All-tail}
 use Rattle.pcm_format.specs.Frames.{Frame}
 use Rattle.pcm_oss.specs.declared.event.Event.{Event}
-use Rattle.pcm_oss.specs.declared.event.Event.TheVariants.{Open, Write, Read, Ioctl, Close, Intr}
+use Rattle.pcm_oss.specs.declared.event.Event.TheVariants.{Open, Write, Read, Ioctl, Join, StartGroup, Close, Intr}
 use Rattle.pcm_wave.specs.declared.pool.Pool.{Pool}
 use Rattle.pcm_wave.specs.declared.pool.Source.{Source}
 use Rattle.pcm_wave.specs.declared.pool.Source.TheVariants.{Inline, File}
@@ -49,6 +49,8 @@ runs_alike device one other desk (Write fd source at count) slot runs same =
     (bytes_alike one other source at count (new.written - old.written) same (grows_within count old new ((writes-write_on device (held_by desk fd) desk count).slots slot)))
 runs_alike device one other desk (Read fd count) slot runs same = refl
 runs_alike device one other desk (Ioctl fd request) slot runs same = refl
+runs_alike device one other desk (Join fd group) slot runs same = refl
+runs_alike device one other desk (StartGroup fd group) slot runs same = refl
 runs_alike device one other desk (Close fd) slot runs same = refl
 runs_alike device one other desk (Intr n) slot runs same = refl
 
@@ -58,6 +60,8 @@ going-alike device one other (Open fd way settings) old new recording same = ref
 going-alike device one other (Write fd source at count) old new recording same = refl
 going-alike device one other (Read fd count) old new recording same = refl
 going-alike device one other (Ioctl fd request) old new recording same = refl
+going-alike device one other (Join fd group) old new recording same = refl
+going-alike device one other (StartGroup fd group) old new recording same = refl
 going-alike device one other (Close fd) old new recording same = refl
 going-alike device one other (Intr n) old new recording same =
     ap (λ (captured : List Frame). cond (is_running old.state) (record recording {
@@ -124,6 +128,8 @@ longer_brings device one other (Open fd way settings) l fits = tt
 longer_brings device one other (Write fd source at count) l fits = longer_bytes one other source at count l fits.2
 longer_brings device one other (Read fd count) l fits = tt
 longer_brings device one other (Ioctl fd request) l fits = tt
+longer_brings device one other (Join fd group) l fits = tt
+longer_brings device one other (StartGroup fd group) l fits = tt
 longer_brings device one other (Close fd) l fits = tt
 longer_brings device one other (Intr n) l fits = tt
 
@@ -156,5 +162,7 @@ longer-fits device one other (Open fd way settings) l fits = fits
 longer-fits device one other (Write fd source at count) l fits = (fits.0, fits.1, longer_has one other source at count l fits.2)
 longer-fits device one other (Read fd count) l fits = fits
 longer-fits device one other (Ioctl fd request) l fits = fits
+longer-fits device one other (Join fd group) l fits = fits
+longer-fits device one other (StartGroup fd group) l fits = fits
 longer-fits device one other (Close fd) l fits = fits
 longer-fits device one other (Intr n) l fits = fits

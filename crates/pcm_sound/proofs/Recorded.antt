@@ -6,12 +6,14 @@ use Rattle.std.proofs.lemmas.List.Elements.{All-head, All-tail}
 use Rattle.std.proofs.lemmas.List.{append-nil}
 use Rattle.pcm_format.specs.declared.settings.Settings.{Settings}
 use Rattle.pcm_oss.specs.declared.event.Event.{Event}
-use Rattle.pcm_oss.specs.declared.event.Event.TheVariants.{Open, Write, Read, Ioctl, Close, Intr}
+use Rattle.pcm_oss.specs.declared.event.Event.TheVariants.{Open, Write, Read, Ioctl, Join, StartGroup, Close, Intr}
 use Rattle.pcm_oss.specs.declared.event.Way.{Way}
 use Rattle.pcm_oss.specs.declared.event.Way.TheVariants.{Play, Record}
 use Rattle.pcm_oss.specs.declared.reply.Answer.TheVariants.{Got}
 use Rattle.pcm_oss.specs.declared.reply.Errno.TheVariants.{Again, Exist, Inval}
 use Rattle.pcm_oss.specs.declared.request.Request.{Request}
+use Rattle.pcm_oss.specs.declared.request.Request.TheVariants.{SetTrigger}
+use Rattle.pcm_group.proofs.Members.{used-some}
 use Rattle.pcm_wave.specs.declared.pool.Pool.{Pool}
 use Rattle.pcm_wave.specs.Pools.{IsCaptureIn}
 use Rattle.pcm_feeder.specs.Limits.{IsRate}
@@ -27,8 +29,9 @@ use Rattle.pcm_desk.specs.RecordBooks as records
 use Rattle.pcm_desk.specs.RecordBooks.{captures, is_running, read_turn, record_begun, record_fill_of}
 use Rattle.pcm_desk.specs.RecordRequests.{record_ask}
 use Rattle.pcm_desk.specs.RecordSafe.{IsRecordInOrder, IsRecordUnstarted, RecordIsSafe}
-use Rattle.pcm_desk.specs.Desk.{Desk, DeskTurn, after, asking, by_way, close_on, close_play, close_record, desk_here, held_by, interrupt_turn, ioctl_on, least_free_play, least_free_record, open_play, open_record, open_turn, play_turn, read_on, record_at, record_rate_at, record_turn, record_unopened, refusing, turning, with_record, write_on}
+use Rattle.pcm_desk.specs.Desk.{Desk, DeskTurn, after, asking, both_bits, by_way, close_on, close_play, close_record, desk_here, held_by, interrupt_turn, ioctl_on, join_on, left, record_starting, request_on, start_on, least_free_play, least_free_record, open_play, open_record, open_turn, play_turn, read_on, record_at, record_rate_at, record_turn, record_unopened, refusing, turning, with_record, write_on}
 use Rattle.pcm_desk.specs.Events.{Fits, frames_taken}
+use Rattle.pcm_desk.proofs.Grouping.{by-asking, by-joining, by-starting, record_at-started}
 use Rattle.pcm_desk.proofs.RecordAsking.{record-ask-rate, record-ask-settings}
 use Rattle.pcm_desk.proofs.RecordLeaves.{Ends, Stays, record-ask-leaves}
 use Rattle.pcm_desk.proofs.RecordSafe.{can-none, record-safe-ask, record-safe-begun, record-safe-captured, record-safe-closed, record-safe-read, safe-unstarted}
@@ -223,6 +226,32 @@ all-close device held desk fd =
     (λ slot. all-same device desk (close_play device desk fd slot).desk refl)
     (λ slot. all-with device desk slot (records.closed (record_at device desk slot)) (turned-closed device (record_at device desk slot)))
 
+-- ---- groups
+
+-- what is so of a desk's record books is so whoever starts with whom
+pub all-request : (device : DeviceSeen) (held : Option Held) (desk : Desk) (request : Request) → AllTurned device desk (request_on device held desk request).desk
+all-request device held desk request =
+    by-asking device (AllTurned device desk) held desk request (all-same device desk desk refl) (λ groups. all-ioctl device held (record desk { groups = groups }) request)
+
+pub all-join : (device : DeviceSeen) (held : Option Held) (desk : Desk) (group : ℕ) → AllTurned device desk (join_on device held desk group).desk
+all-join device held desk group =
+    by-joining device (λ (t : DeskTurn). AllTurned device desk t.desk) held desk group (λ errno. all-same device desk desk refl) (λ mine number e resting. all-ioctl device (Some mine) desk (SetTrigger 0))
+
+-- the members of a group that record start
+turned_either : (device : DeviceSeen) (b : Bool) (book : RecordBook) → IsGood device book → Turned device book (cond b (record_starting book) book)
+turned_either device true book g = turned-asked device (SetTrigger both_bits) book g
+turned_either device false book g = turned-same device book g.rate g.safe
+
+pub all-start : (device : DeviceSeen) (held : Option Held) (desk : Desk) (group : ℕ) → AllTurned device desk (start_on device held desk group).desk
+all-start device held desk group =
+    by-starting device (λ (t : DeskTurn). AllTurned device desk t.desk) held desk group (λ errno. all-same device desk desk refl)
+    (λ used ready slot g.
+    let old : RecordBook = record_at device desk slot in
+    subst (Turned device old) (sym (record_at-started device desk group slot (used-some desk.groups group used))) (turned_either device (eqb (get_or desk.groups.recording slot 0) group) old g))
+
+pub all-closing : (device : DeviceSeen) (held : Option Held) (desk : Desk) (fd : ℕ) → AllTurned device desk (close_on device held (left held desk) fd).desk
+all-closing device held desk fd = all-close device held (left held desk) fd
+
 -- ---- stories
 
 -- such an event leaves recordings valid
@@ -332,9 +361,13 @@ recordings-told device pool story (Read fd count) d is fits v = λ slot.
     subst (λ (n : ℕ). RecordingIsValid device pool n new ((told device pool story (Read fd count)).recordings slot)) (sym (handed_same device story.desk (Read fd count) refl))
     (read_on_desk device pool (held_by story.desk fd) story.desk fd count slot (story.recordings slot) (v slot))
 recordings-told device pool story (Ioctl fd request) d is fits v =
-    turned-story device pool story (Ioctl fd request) (all-ioctl device (held_by story.desk fd) story.desk request) (handed_same device story.desk (Ioctl fd request) refl) (λ slot. refl) v
+    turned-story device pool story (Ioctl fd request) (all-request device (held_by story.desk fd) story.desk request) (handed_same device story.desk (Ioctl fd request) refl) (λ slot. refl) v
+recordings-told device pool story (Join fd group) d is fits v =
+    turned-story device pool story (Join fd group) (all-join device (held_by story.desk fd) story.desk group) (handed_same device story.desk (Join fd group) refl) (λ slot. refl) v
+recordings-told device pool story (StartGroup fd group) d is fits v =
+    turned-story device pool story (StartGroup fd group) (all-start device (held_by story.desk fd) story.desk group) (handed_same device story.desk (StartGroup fd group) refl) (λ slot. refl) v
 recordings-told device pool story (Close fd) d is fits v =
-    turned-story device pool story (Close fd) (all-close device (held_by story.desk fd) story.desk fd) (handed_same device story.desk (Close fd) refl) (λ slot. refl) v
+    turned-story device pool story (Close fd) (all-closing device (held_by story.desk fd) story.desk fd) (handed_same device story.desk (Close fd) refl) (λ slot. refl) v
 recordings-told device pool story (Intr n) d is fits v = λ slot. captured_slot device pool story.desk n slot (story.recordings slot) d is (v slot)
 
 -- before the first event

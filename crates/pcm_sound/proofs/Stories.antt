@@ -8,10 +8,11 @@ use Rattle.std.proofs.lemmas.List.Elements.{All-head, All-nil, All-tail}
 use Rattle.std.proofs.lemmas.List.Quantifiers.{position-Some}
 use Rattle.pcm_format.specs.declared.settings.Settings.{Settings}
 use Rattle.pcm_oss.specs.declared.event.Event.{Event}
-use Rattle.pcm_oss.specs.declared.event.Event.TheVariants.{Open, Write, Read, Ioctl, Close, Intr}
+use Rattle.pcm_oss.specs.declared.event.Event.TheVariants.{Open, Write, Read, Ioctl, Join, StartGroup, Close, Intr}
 use Rattle.pcm_oss.specs.declared.event.Way.{Way}
 use Rattle.pcm_oss.specs.declared.event.Way.TheVariants.{Play, Record}
 use Rattle.pcm_oss.specs.declared.request.Request.{Request}
+use Rattle.pcm_oss.specs.declared.request.Request.TheVariants.{SetTrigger}
 use Rattle.pcm_wave.specs.declared.pool.Pool.{Pool}
 use Rattle.pcm_oss.specs.declared.reply.Errno.TheVariants.{Exist, Inval}
 use Rattle.pcm_oss.specs.Volumes.{gain_of}
@@ -21,6 +22,8 @@ use Rattle.pcm_wave.specs.Pools.{bytes_at, source_bytes}
 use Rattle.pcm_feeder.specs.declared.stage.Gain.{Gain}
 use Rattle.pcm_rate.specs.declared.rate.Rate.{Rate}
 use Rattle.pcm_feeder.specs.Limits.{IsRate}
+use Rattle.pcm_group.specs.declared.sync_groups.Groups.{Groups}
+use Rattle.pcm_group.proofs.Members.{used-some}
 use Rattle.pcm_desk.specs.declared.play_book.PlayBook.{PlayBook}
 use Rattle.pcm_desk.specs.declared.device.Held.{Held}
 use Rattle.pcm_desk.specs.declared.record_book.RecordBook.{RecordBook}
@@ -31,8 +34,9 @@ use Rattle.pcm_desk.specs.declared.here.Here.{Here}
 use Rattle.pcm_desk.specs.Device.{DeviceSeen, IsDevice, here_at, mix_settings, mixed_for, play_rate_between, play_slots}
 use Rattle.pcm_desk.specs.PlayBooks.{is_draining, is_play_free, is_started, play_begun, write_turn}
 use Rattle.pcm_desk.specs.PlaySafe.{PlayIsHere, PlayIsSafe}
-use Rattle.pcm_desk.specs.Desk.{Desk, DeskTurn, after, asking, by_way, close_on, close_play, close_record, closing, desk_here, held_by, ioctl_on, least_free_play, least_free_record, mixed_by, mixing, open_play, open_record, open_turn, play_at, play_passing, play_rate_at, play_turn, play_unopened, read_on, record_at, record_turn, refusing, settling, turning, with_descriptor, with_play, with_record, write_on}
+use Rattle.pcm_desk.specs.Desk.{Desk, DeskTurn, after, asking, both_bits, by_way, close_on, close_play, close_record, closing, desk_here, group_started, held_by, ioctl_on, join_on, left, least_free_play, least_free_record, mixed_by, mixing, open_play, open_record, open_turn, play_at, play_passing, play_rate_at, play_turn, play_unopened, read_on, record_at, record_turn, refusing, request_on, rests, settling, start_on, turning, with_descriptor, with_play, with_record, write_on}
 use Rattle.pcm_desk.specs.Events.{Fits, frames_taken}
+use Rattle.pcm_desk.proofs.Grouping.{by-asking, by-joining, by-starting, play_at-started}
 use Rattle.pcm_desk.proofs.PlayHere.{here-ask, here-begun, here-close, here-settled, here-write, last-refilled}
 use Rattle.pcm_desk.proofs.PlaySafe.{unstarted, safe-begun, safe-write, safe-close, safe-refilled, safe-settled, settings-refilled, settings-settled}
 use Rattle.pcm_desk.proofs.PlaySafeAsking.{safe-ask}
@@ -46,7 +50,7 @@ use Rattle.pcm_sound.specs.DeviceList.{table_of}
 use Rattle.pcm_sound.specs.Places.{SlotIsPlaced}
 use Rattle.pcm_sound.specs.Valid.{RunIsValid, HasRate, SlotIsValid, StoryIsValid}
 use Rattle.pcm_sound.proofs.Rates.{ask-rate, ask-settings}
-use Rattle.pcm_sound.proofs.Endings.{KeepsGiven, given-ask, given-begun, given-close, given-same}
+use Rattle.pcm_sound.proofs.Endings.{KeepsGiven, given-ask, given-begun, given-close, given-rest, given-same}
 use Rattle.pcm_sound.proofs.Sounding.{sounding-taking, sounding-playing, sounding-marking, last_gain-later}
 use Rattle.pcm_sound.proofs.Slots.{Accepts, WritesSome, IsUntold, writes-nothing, write_turn-writes, untold-same, untold-empty, untold-taking, untold-leaves, untold-passing, valid-marking, valid-mixing}
 use Rattle.pcm_sound.proofs.Places.{placed-left, placed-taken}
@@ -299,6 +303,97 @@ leaves-close_on device mixed held desk fd d rates =
     let closed : RecordBook = records.closed (record_at device desk slot) in
     leaves-descriptor device mixed false desk (with_record desk slot closed) fd None (leaves-record device mixed false desk slot closed))
 
+-- ---- groups
+
+-- who starts with whom has no part in what is left, be it before or after
+leaves-regrouped : (device : DeviceSeen) (mixed : ℕ) (dropping : Bool) (old new : Desk) (before after : Groups) → LeavesSlots device mixed dropping (record old { groups = before }) new → LeavesSlots device mixed dropping old (record new { groups = after })
+leaves-regrouped device mixed dropping old new before after l = record { order = l.order; slots = l.slots; given = l.given; handed_same = l.handed_same; mixed_same = l.mixed_same }
+
+-- a request, which may be refused to a member
+pub leaves-request_on : (device : DeviceSeen) (mixed : ℕ) (held : Option Held) (desk : Desk) (request : Request) → IsDevice device → HaveRates device desk → LeavesSlots device mixed (asks_drop request) desk (request_on device held desk request).desk
+leaves-request_on device mixed held desk request d rates =
+    by-asking device (LeavesSlots device mixed (asks_drop request) desk) held desk request (stays device mixed (asks_drop request) desk)
+    (λ groups.
+    let asked : Desk = (ioctl_on device held (record desk { groups = groups }) request).desk in
+    leaves-regrouped device mixed (asks_drop request) desk asked groups asked.groups (leaves-ioctl_on device mixed held (record desk { groups = groups }) request d rates))
+
+-- a close, which leaves the group first
+pub leaves-closing : (device : DeviceSeen) (mixed : ℕ) (held : Option Held) (desk : Desk) (fd : ℕ) → IsDevice device → HaveRates device desk → LeavesSlots device mixed false desk (close_on device held (left held desk) fd).desk
+leaves-closing device mixed held desk fd d rates =
+    let closed : Desk = (close_on device held (left held desk) fd).desk in
+    leaves-regrouped device mixed false desk closed (left held desk).groups closed.groups (leaves-close_on device mixed held (left held desk) fd d rates)
+
+-- a channel that joins a group is before a run, which nothing drops
+leaves-joined : (device : DeviceSeen) (mixed : ℕ) (way : Way) (slot : ℕ) (desk : Desk) → let held : Held = record { way = way; slot = slot } in rests device desk held ≡ true → IsDevice device → HaveRates device desk
+    → LeavesSlots device mixed false desk (ioctl_on device (Some held) desk (SetTrigger 0)).desk
+leaves-joined device mixed Play slot desk resting d rates =
+    let here : Here = desk_here device desk in
+    let mix_rate : ℕ = (mix_settings device).rate in
+    let book : PlayBook = play_at device desk slot in
+    let rate : Rate = play_rate_at device book in
+    let asked : PlayBook = (asking device here (SetTrigger 0) book).book in
+    leaves-with device mixed false desk slot asked (order-asking device here (SetTrigger 0) book d (rates slot))
+    (λ runs s v. untold-leaves device mixed book asked runs (ask-leaves rate mix_rate here (SetTrigger 0) book s) (ask-rate rate mix_rate here (SetTrigger 0) book v.settings) v)
+    (λ s. given-rest rate mix_rate here (SetTrigger 0) book s resting)
+leaves-joined device mixed Record slot desk resting d rates = leaves-record device mixed false desk slot (record_ask (SetTrigger 0) (record_at device desk slot)).book
+
+pub leaves-join_on : (device : DeviceSeen) (mixed : ℕ) (held : Option Held) (desk : Desk) (group : ℕ) → IsDevice device → HaveRates device desk → LeavesSlots device mixed false desk (join_on device held desk group).desk
+leaves-join_on device mixed held desk group d rates =
+    by-joining device (λ (t : DeskTurn). LeavesSlots device mixed false desk t.desk) held desk group (λ errno. stays device mixed false desk)
+    (λ mine number e resting.
+    let asked : Desk = (ioctl_on device (Some mine) desk (SetTrigger 0)).desk in
+    let l = leaves-joined device mixed mine.way mine.slot desk resting d rates in
+    record { order = l.order; slots = l.slots; given = l.given; handed_same = l.handed_same; mixed_same = l.mixed_same })
+
+-- a book that starts, or stays
+either : {X : Type 0} (P : X → Type 0) (b : Bool) (x y : X) → P x → P y → P (cond b x y)
+either P true x y px py = px
+either P false x y px py = py
+
+-- all members of a group start
+leaves-started : (device : DeviceSeen) (mixed : ℕ) (desk : Desk) (group : ℕ) → 0 < group → IsDevice device → HaveRates device desk → LeavesSlots device mixed false desk (group_started device desk group)
+leaves-started device mixed desk group some d rates = record {
+  order = λ slot o. subst (IsInOrder device here) (sym (play_at-started device desk group slot some))
+      (either (IsInOrder device here) (is_member_of slot) (starts slot) (old slot) (order-asking device here (SetTrigger both_bits) (old slot) d (rates slot) o) o);
+  slots = λ slot runs s v.
+      let Untold : PlayBook → Type 0 = λ new. IsUntold device mixed (old slot) new runs in
+      subst Untold (sym (play_at-started device desk group slot some))
+      (either Untold (is_member_of slot) (starts slot) (old slot)
+      (untold-leaves device mixed (old slot) (starts slot) runs (ask-leaves (rate slot) mix_rate here (SetTrigger both_bits) (old slot) s) (ask-rate (rate slot) mix_rate here (SetTrigger both_bits) (old slot) v.settings) v)
+      (untold-same device mixed (old slot) runs v));
+  given = λ slot s.
+      let Kept : PlayBook → Type 0 = KeepsGivenAt device false (old slot) in
+      subst Kept (sym (play_at-started device desk group slot some))
+      (either Kept (is_member_of slot) (starts slot) (old slot) (given-ask (rate slot) mix_rate here (SetTrigger both_bits) (old slot) s) (given-same (rate slot) false (old slot)));
+  handed_same = refl;
+  mixed_same = refl;
+}
+  where
+    here : Here
+    here = desk_here device desk
+
+    mix_rate : ℕ
+    mix_rate = (mix_settings device).rate
+
+    old : ℕ → PlayBook
+    old slot = play_at device desk slot
+
+    rate : ℕ → Rate
+    rate slot = play_rate_at device (old slot)
+
+    starts : ℕ → PlayBook
+    starts slot = (asking device here (SetTrigger both_bits) (old slot)).book
+
+    is_member_of : ℕ → Bool
+    is_member_of slot = eqb (get_or desk.groups.play slot 0) group
+
+pub leaves-start_on : (device : DeviceSeen) (mixed : ℕ) (held : Option Held) (desk : Desk) (group : ℕ) → IsDevice device → HaveRates device desk → LeavesSlots device mixed false desk (start_on device held desk group).desk
+leaves-start_on device mixed held desk group d rates =
+    by-starting device (λ (t : DeskTurn). LeavesSlots device mixed false desk t.desk) held desk group (λ errno. stays device mixed false desk)
+    (λ used ready. leaves-started device mixed desk group (used-some desk.groups group used) d rates)
+
+-- ---- writes
+
 -- a write leaves each slot's book with some of its bytes, or as it was
 pub record Writes (device : DeviceSeen) (length : ℕ) (old new : Desk) : Type 0 where
   pub slots : (slot : ℕ) → WritesSome length (play_at device old slot) (play_at device new slot)
@@ -440,11 +535,19 @@ keeps-read device pool story fd count v =
 
 keeps-ioctl : (device : DeviceSeen) (pool : Pool) (story : Story) (fd : ℕ) (request : Request) → StoryIsValid device story → Keeps device pool story (Ioctl fd request)
 keeps-ioctl device pool story fd request v =
-    keeps-left device pool story (Ioctl fd request) (leaves-ioctl_on device story.desk.mixed (held_by story.desk fd) story.desk request v.limits (rates_of device story v)) (λ slot. refl) v
+    keeps-left device pool story (Ioctl fd request) (leaves-request_on device story.desk.mixed (held_by story.desk fd) story.desk request v.limits (rates_of device story v)) (λ slot. refl) v
+
+keeps-join : (device : DeviceSeen) (pool : Pool) (story : Story) (fd group : ℕ) → StoryIsValid device story → Keeps device pool story (Join fd group)
+keeps-join device pool story fd group v =
+    keeps-left device pool story (Join fd group) (leaves-join_on device story.desk.mixed (held_by story.desk fd) story.desk group v.limits (rates_of device story v)) (λ slot. refl) v
+
+keeps-start : (device : DeviceSeen) (pool : Pool) (story : Story) (fd group : ℕ) → StoryIsValid device story → Keeps device pool story (StartGroup fd group)
+keeps-start device pool story fd group v =
+    keeps-left device pool story (StartGroup fd group) (leaves-start_on device story.desk.mixed (held_by story.desk fd) story.desk group v.limits (rates_of device story v)) (λ slot. refl) v
 
 keeps-close : (device : DeviceSeen) (pool : Pool) (story : Story) (fd : ℕ) → StoryIsValid device story → Keeps device pool story (Close fd)
 keeps-close device pool story fd v =
-    keeps-left device pool story (Close fd) (leaves-close_on device story.desk.mixed (held_by story.desk fd) story.desk fd v.limits (rates_of device story v)) (λ slot. refl) v
+    keeps-left device pool story (Close fd) (leaves-closing device story.desk.mixed (held_by story.desk fd) story.desk fd v.limits (rates_of device story v)) (λ slot. refl) v
 
 -- such an event leaves the counts of the device
 pub keeps : (device : DeviceSeen) (pool : Pool) (story : Story) (event : Event) → Fits device pool event → frames_taken event ≡ 0 → StoryIsValid device story → Keeps device pool story event
@@ -452,6 +555,8 @@ keeps device pool story (Open fd way settings) fits none v = keeps-open device p
 keeps device pool story (Write fd source at count) fits none v = keeps-write device pool story fd source at count fits.2.within v
 keeps device pool story (Read fd count) fits none v = keeps-read device pool story fd count v
 keeps device pool story (Ioctl fd request) fits none v = keeps-ioctl device pool story fd request v
+keeps device pool story (Join fd group) fits none v = keeps-join device pool story fd group v
+keeps device pool story (StartGroup fd group) fits none v = keeps-start device pool story fd group v
 keeps device pool story (Close fd) fits none v = keeps-close device pool story fd v
 keeps device pool story (Intr n) fits none v = absurd (let some = fits.0 in omega arith)
 
@@ -523,8 +628,11 @@ order-after device pool desk (Write fd source at count) slot d fits rates o =
     (order-write_on device (held_by desk fd) desk count slot d rates o)
 order-after device pool desk (Read fd count) slot d fits rates o = order_left device false desk (read_on device (held_by desk fd) desk count).desk slot (leaves-read_on device 0 (held_by desk fd) desk count) o
 order-after device pool desk (Ioctl fd request) slot d fits rates o =
-    order_left device (asks_drop request) desk (ioctl_on device (held_by desk fd) desk request).desk slot (leaves-ioctl_on device 0 (held_by desk fd) desk request d rates) o
-order-after device pool desk (Close fd) slot d fits rates o = order_left device false desk (close_on device (held_by desk fd) desk fd).desk slot (leaves-close_on device 0 (held_by desk fd) desk fd d rates) o
+    order_left device (asks_drop request) desk (request_on device (held_by desk fd) desk request).desk slot (leaves-request_on device 0 (held_by desk fd) desk request d rates) o
+order-after device pool desk (Join fd group) slot d fits rates o = order_left device false desk (join_on device (held_by desk fd) desk group).desk slot (leaves-join_on device 0 (held_by desk fd) desk group d rates) o
+order-after device pool desk (StartGroup fd group) slot d fits rates o = order_left device false desk (start_on device (held_by desk fd) desk group).desk slot (leaves-start_on device 0 (held_by desk fd) desk group d rates) o
+order-after device pool desk (Close fd) slot d fits rates o =
+    order_left device false desk (close_on device (held_by desk fd) (left (held_by desk fd) desk) fd).desk slot (leaves-closing device 0 (held_by desk fd) desk fd d rates) o
 order-after device pool desk (Intr n) slot d fits rates o = order_passed device desk n slot d rates o
 
 -- a story stays valid through an interrupt
@@ -565,6 +673,8 @@ valid-told device pool story (Open fd way settings) fits v = valid-kept device p
 valid-told device pool story (Write fd source at count) fits v = valid-kept device pool story (Write fd source at count) (keeps-write device pool story fd source at count fits.2.within v) v
 valid-told device pool story (Read fd count) fits v = valid-kept device pool story (Read fd count) (keeps-read device pool story fd count v) v
 valid-told device pool story (Ioctl fd request) fits v = valid-kept device pool story (Ioctl fd request) (keeps-ioctl device pool story fd request v) v
+valid-told device pool story (Join fd group) fits v = valid-kept device pool story (Join fd group) (keeps-join device pool story fd group v) v
+valid-told device pool story (StartGroup fd group) fits v = valid-kept device pool story (StartGroup fd group) (keeps-start device pool story fd group v) v
 valid-told device pool story (Close fd) fits v = valid-kept device pool story (Close fd) (keeps-close device pool story fd v) v
 valid-told device pool story (Intr n) fits v = valid-interrupted device pool story n v
 
@@ -615,6 +725,8 @@ sounding-carrying device pool story (Write fd source at count) gain slot positio
     (written_undrained pool source at count old new ((writes-write_on device (held_by story.desk fd) story.desk count).slots slot))
 sounding-carrying device pool story (Read fd count) gain slot position v h = refl
 sounding-carrying device pool story (Ioctl fd request) gain slot position v h = refl
+sounding-carrying device pool story (Join fd group) gain slot position v h = refl
+sounding-carrying device pool story (StartGroup fd group) gain slot position v h = refl
 sounding-carrying device pool story (Close fd) gain slot position v h = refl
 sounding-carrying device pool story (Intr n) gain slot position v h = sounding-playing device gain story.desk.mixed (mixed_by device story.desk.handed n) position (play_at device story.desk slot) (story.runs slot) h
 

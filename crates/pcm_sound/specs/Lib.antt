@@ -10,5 +10,6 @@ pub mod Plain
 pub mod Places
 pub mod Added
 pub mod Valid
+pub mod Together
 pub mod Pools
 pub mod OwnReplies

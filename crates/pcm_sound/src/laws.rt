@@ -1,19 +1,19 @@
 //! What holds of all recordings, and of all runs without a shortage: the functions here have no work, and their contracts are the laws.
 
-ghost use Rattle.std.specs.Prelude.{◌≡◌, ◌<◌, ◌-◌, ◌^◌, ◌↔◌, ℕ, true, min, List, take, All};
+ghost use Rattle.std.specs.Prelude.{◌≡◌, ◌<◌, ◌-◌, ◌^◌, ◌↔◌, ℕ, true, min, List, take, All, IsOk};
 ghost use Rattle.pcm_format.specs.declared.settings.Settings.{Settings};
 ghost use Rattle.pcm_oss.specs.declared.event.Event.{Event};
-ghost use Rattle.pcm_oss.specs.declared.event.Event.TheVariants.{Open};
+ghost use Rattle.pcm_oss.specs.declared.event.Event.TheVariants.{Open, StartGroup};
 ghost use Rattle.pcm_oss.specs.declared.event.Way.{Way};
 ghost use Rattle.pcm_wave.specs.declared.pool.Pool.{Pool};
 ghost use Rattle.pcm_wave.specs.Pools.{IsCaptureIn, capture_frames};
 ghost use Rattle.pcm_desk.specs.declared.play_book.PlayBook.{PlayBook};
 ghost use Rattle.pcm_desk.specs.declared.device.Held.{Held};
 ghost use Rattle.pcm_desk.specs.Device.{DeviceSeen, IsDevice, device_settings};
-ghost use Rattle.pcm_desk.specs.Desk.{mixing, record_at};
+ghost use Rattle.pcm_desk.specs.Desk.{after, mixing, record_at};
 ghost use Rattle.pcm_desk.specs.Events.{Fits};
-ghost use Rattle.pcm_desk.specs.Own.{HoldApart};
-ghost use Rattle.pcm_desk.specs.OwnEvents.{Opens, own_events};
+ghost use Rattle.pcm_desk.specs.Own.{HoldApart, MembersWait};
+ghost use Rattle.pcm_desk.specs.OwnEvents.{JoinsNone, Opens, own_events};
 ghost use Rattle.pcm_desk.specs.RecordBooks.{is_running};
 ghost use Rattle.pcm_sound.specs.DeviceList.{device_text};
 ghost use Rattle.pcm_sound.specs.OwnReplies.{client_replies};
@@ -23,6 +23,7 @@ ghost use Rattle.pcm_sound.specs.Pools.{AreAlike, IsLonger};
 ghost use Rattle.pcm_sound.specs.Recordings.{recorded_frames};
 ghost use Rattle.pcm_sound.specs.Runs.{piece_of};
 ghost use Rattle.pcm_sound.specs.Story.{Story, story_of, told};
+ghost use Rattle.pcm_sound.specs.Together.{StartAsOne};
 
 /// What all reads of a running recording got, joined, is a prefix of all that is recorded from its start on, as long as no interrupt lost
 /// a frame.
@@ -65,6 +66,16 @@ pub fn what_sounds_alike_has_equal_bytes()
         → AgreeInCommon (device_text device pool events) (device_text device more others) }
 {}
 
+/// Where a start of a group is accepted, each of its members starts: those that play at the frame that is mixed next, and those that record at the
+/// frame that is handed over next.
+pub fn members_start_as_one()
+    ensures { (device : DeviceSeen) (pool : Pool) (events : List Event) (fd group : ℕ) → IsDevice device
+        → All (Fits device pool) events
+        → let story = story_of device pool events in
+        IsOk (after device story.desk (StartGroup fd group)).reply
+        → StartAsOne device group story (told device pool story (StartGroup fd group)) }
+{}
+
 /// An interrupt leaves a run short exactly where it counts an underrun, as long as the count can rise: so answers tell of every shortage.
 pub fn shortages_are_counted()
     ensures { (device : DeviceSeen) (position n : ℕ) (book : PlayBook) → 0 < n → book.underruns < 2 ^ 32 - 1
@@ -83,15 +94,17 @@ pub fn alike_pools_tell_one_story()
 {}
 
 /// Two openings with equal settings, equal events of their own and equal interrupts between them get equal replies, the bytes of reads
-/// included, whatever others do: in one script or in two, as long as the same is captured and as many frames were handed over before.
+/// included, whatever others do: in one script or in two, as long as the same is captured and as many frames were handed over before, and they
+/// join no group.
 pub fn clients_are_told_alike()
     ensures { (device : DeviceSeen) (pool more : Pool) (fd at : ℕ) (way : Way) (settings : Settings) (held theirs : Held)
         (one other : Story) (events others : List Event)
         → capture_frames more ≡ capture_frames pool → one.desk.handed ≡ other.desk.handed
-        → HoldApart one.desk → HoldApart other.desk
+        → HoldApart one.desk → HoldApart other.desk → MembersWait device one.desk → MembersWait device other.desk
         → let new = told device pool one (Open fd way settings) in
         let anew = told device more other (Open at way settings) in
         Opens device fd way settings held one.desk new.desk → Opens device at way settings theirs other.desk anew.desk
+        → JoinsNone device fd new.desk events → JoinsNone device at anew.desk others
         → own_events fd events ≡ own_events at others
         → client_replies device pool fd new events ≡ client_replies device more at anew others }
 {}

@@ -5,7 +5,7 @@
 mod laws;
 
 pub use laws::{
-    alike_pools_tell_one_story, clients_are_told_alike, pieces_stand_in_their_place,
-    reads_get_what_is_recorded, runs_are_heard_from_start_to_end, shortages_are_counted,
-    what_sounds_alike_has_equal_bytes,
+    alike_pools_tell_one_story, clients_are_told_alike, members_start_as_one,
+    pieces_stand_in_their_place, reads_get_what_is_recorded, runs_are_heard_from_start_to_end,
+    shortages_are_counted, what_sounds_alike_has_equal_bytes,
 };

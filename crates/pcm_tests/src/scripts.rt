@@ -23,7 +23,7 @@ fn outcome(alloc: Global, text: &[u8]) -> Outcome {
 // A text, and what is to come of it.
 type Row = (&'static [u8], Outcome);
 
-const TEXTS: [Row; 24] = [
+const TEXTS: [Row; 31] = [
     // Lines and their words.
     (b" \t intr \t 7 \r\n", Ok(1)),
     (b"\r\nintr\r\n\r", Ok(1)),
@@ -42,6 +42,8 @@ const TEXTS: [Row; 24] = [
     (b"close 0x", Err((1, "number"))),
     (b"close -1", Err((1, "number"))),
     (b"ioctl 0 speed 4294967295", Ok(1)),
+    (b"ioctl 0 syncgroup 4294967295", Ok(1)),
+    (b"ioctl 0 syncstart 4294967296", Err((1, "range"))),
     (b"ioctl 0 setfmt 00000000016", Err((1, "name"))),
     // A wrong count of words comes before any other fault, and the words are judged from left to right.
     (b"open x no s16le 2", Err((1, "count"))),
@@ -51,6 +53,11 @@ const TEXTS: [Row; 24] = [
     (b"write 64 0", Err((1, "range"))),
     (b"read 64 x", Err((1, "range"))),
     (b"ioctl x nosuch 1 2", Err((1, "count"))),
+    (b"ioctl x syncgroup", Err((1, "count"))),
+    (b"ioctl x syncstart 1 2", Err((1, "count"))),
+    (b"ioctl 64 syncgroup x", Err((1, "range"))),
+    (b"ioctl 63 syncstart x", Err((1, "number"))),
+    (b"ioctl 0 syncgroups 0", Err((1, "name"))),
 ];
 
 // The first text that comes to something else.
@@ -121,11 +128,14 @@ const TEXT: &[u8] = b"open 4 rec u24be 4 96000\n\
     write 3 0102\n\
     write 3 03\n\
     ioctl 3 setplayvol 0x3264\n\
+    ioctl 4 syncgroup 0\n\
+    ioctl 3 syncgroup 4294967295\n\
+    ioctl 4 syncstart 0x8\n\
     intr\n\
     read 4 4096\n\
     close 3\n";
 
-const EVENTS: [Event; 7] = [
+const EVENTS: [Event; 10] = [
     Event::Open {
         fd: 4,
         way: Way::Record,
@@ -151,6 +161,12 @@ const EVENTS: [Event; 7] = [
         fd: 3,
         request: Request::SetPlayVol(12900),
     },
+    Event::Join { fd: 4, group: 0 },
+    Event::Join {
+        fd: 3,
+        group: 4294967295,
+    },
+    Event::StartGroup { fd: 4, group: 8 },
     Event::Intr { frames: 256 },
     Event::Read { fd: 4, len: 4096 },
     Event::Close { fd: 3 },

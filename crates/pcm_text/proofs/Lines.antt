@@ -15,7 +15,7 @@ use Rattle.pcm_format.specs.declared.settings.TheConstants.{RATE_LEAST, RATE_MOS
 use Rattle.pcm_format.specs.Formats.{format_named, name_of}
 use Rattle.pcm_format.specs.Layouts.{channels_of, layout_of}
 use Rattle.pcm_oss.specs.declared.event.Event.{Event}
-use Rattle.pcm_oss.specs.declared.event.Event.TheVariants.{Open, Write, Read, Ioctl, Close, Intr}
+use Rattle.pcm_oss.specs.declared.event.Event.TheVariants.{Open, Write, Read, Ioctl, Join, StartGroup, Close, Intr}
 use Rattle.pcm_oss.specs.declared.event.Way.{Way}
 use Rattle.pcm_oss.specs.declared.event.Way.TheVariants.{Play, Record}
 use Rattle.pcm_oss.specs.declared.request.Request.{Request}
@@ -31,7 +31,7 @@ use Rattle.pcm_script.specs.declared.names.Command.TheVariants as commands
 use Rattle.pcm_script.specs.Commands.{asked_by, close_line, command_line, interrupt_line, ioctl_line, line_event, open_line, or_fault, read_line, send_line, write_line}
 use Rattle.pcm_script.specs.declared.line_event.LineEvent.TheVariants as lines
 use Rattle.pcm_script.specs.Numbers.{is_decimal_digit, within}
-use Rattle.pcm_script.specs.Names.{command_name, command_named, request_name, way_name, way_named}
+use Rattle.pcm_script.specs.Names.{command_name, command_named, join_name, request_name, start_group_name, way_name, way_named}
 use Rattle.pcm_script.specs.Steps.{◌>>=◌}
 use Rattle.pcm_script.specs.Words.{words_of}
 use Rattle.pcm_script.specs.declared.fault.ScriptKind.TheVariants.{Word}
@@ -193,6 +193,8 @@ arguments-words device pool (Write fd (File place) at count) fits small bytes na
     (small-fd fd fits.0, (one-word (file_name_in (slice_get pool.files place)) (named place fits.2.has).word, (decimal-word at (omega (arith, small.0)), (decimal-word count (omega (arith, small.1)), tt))))
 arguments-words device pool (Read fd count) fits small bytes named = (small-fd fd fits.0, (decimal-word count (omega (arith, fits.1)), tt))
 arguments-words device pool (Ioctl fd request) fits small bytes named = (small-fd fd fits, (request-word request, argument-words request small))
+arguments-words device pool (Join fd group) fits small bytes named = (small-fd fd fits, (one-word join_name refl, (decimal-word group (omega (arith, small)), tt)))
+arguments-words device pool (StartGroup fd group) fits small bytes named = (small-fd fd fits, (one-word start_group_name refl, (decimal-word group (omega (arith, small)), tt)))
 arguments-words device pool (Close fd) fits small bytes named = (small-fd fd fits, tt)
 arguments-words device pool (Intr frames) fits small bytes named = (decimal-word frames (omega (arith, small)), tt)
 
@@ -238,6 +240,15 @@ request-read fd requests.Post low small = rw (decimal-within 0 63 fd (omega arit
 request-read fd requests.Sync low small = rw (decimal-within 0 63 fd (omega arith) (omega arith) (omega arith)) refl
 request-read fd requests.Halt low small = rw (decimal-within 0 63 fd (omega arith) (omega arith) (omega arith)) refl
 
+-- a join and a start are read as what they ask
+join-read : (fd group : ℕ) → fd < 64 → group < 2 ^ 32 → ioctl_line (decimal fd ∷ join_name ∷ decimal group ∷ []) ≡ Ok (lines.Join fd group)
+unfolding ioctl_line
+join-read fd group low small = rw (decimal-within 0 63 fd (omega arith) (omega arith) (omega arith), decimal-within 0 4294967295 group small (omega arith) (omega arith)) refl
+
+start_group-read : (fd group : ℕ) → fd < 64 → group < 2 ^ 32 → ioctl_line (decimal fd ∷ start_group_name ∷ decimal group ∷ []) ≡ Ok (lines.StartGroup fd group)
+unfolding ioctl_line
+start_group-read fd group low small = rw (decimal-within 0 63 fd (omega arith) (omega arith) (omega arith), decimal-within 0 4294967295 group small (omega arith) (omega arith)) refl
+
 -- what the command of an event is read as, with its words
 pub event-read : (device : DeviceSeen) (pool : Pool) (event : Event) → Fits device pool event → HasSmallNumbers event → IsBytes pool.inline_bytes
     → ((place : ℕ) → place < length pool.files → IsFileNamed pool.files place)
@@ -268,6 +279,8 @@ event-read device pool (Write fd (File place) at count) fits small bytes named =
 event-read device pool (Read fd count) fits small bytes named =
     rw (decimal-within 0 63 fd (omega (arith, fits.0)) (omega arith) (omega (arith, fits.0)), decimal-within 0 READ_BYTES count (omega (arith, fits.1)) (omega arith) fits.1) refl
 event-read device pool (Ioctl fd request) fits small bytes named = request-read fd request fits small
+event-read device pool (Join fd group) fits small bytes named = join-read fd group fits small
+event-read device pool (StartGroup fd group) fits small bytes named = start_group-read fd group fits small
 event-read device pool (Close fd) fits small bytes named = rw (decimal-within 0 63 fd (omega (arith, fits)) (omega arith) (omega (arith, fits))) refl
 event-read device pool (Intr frames) fits small bytes named = rw (decimal-within 1 (ring_frames device) frames small fits.0 fits.1) refl
 

@@ -8,7 +8,7 @@ use Rattle.std.proofs.lemmas.List.Sums.{sum_by-cons}
 use Rattle.std.proofs.Math.Nat.{mul-le-mul_right}
 use Rattle.hex.specs.Hex.{IsBytes}
 use Rattle.pcm_oss.specs.declared.event.Event.{Event}
-use Rattle.pcm_oss.specs.declared.event.Event.TheVariants.{Open, Write, Read, Ioctl, Close, Intr}
+use Rattle.pcm_oss.specs.declared.event.Event.TheVariants.{Open, Write, Read, Ioctl, Join, StartGroup, Close, Intr}
 use Rattle.pcm_wave.specs.declared.pool.Pool.{Pool}
 use Rattle.pcm_wave.specs.declared.pool.Source.TheVariants.{Inline, File}
 use Rattle.pcm_wave.specs.DataFiles.{DataFileSeen}
@@ -47,6 +47,8 @@ frames-line_asked pool (Write fd Inline at count) = refl
 frames-line_asked pool (Write fd (File place) at count) = refl
 frames-line_asked pool (Read fd count) = refl
 frames-line_asked pool (Ioctl fd request) = refl
+frames-line_asked pool (Join fd group) = refl
+frames-line_asked pool (StartGroup fd group) = refl
 frames-line_asked pool (Close fd) = refl
 frames-line_asked pool (Intr frames) = refl
 
@@ -135,6 +137,8 @@ event-same device pool other (Write fd Inline at count) front more fits bytes =
 event-same device pool other (Write fd (File place) at count) front more fits bytes = refl
 event-same device pool other (Read fd count) front more fits bytes = refl
 event-same device pool other (Ioctl fd request) front more fits bytes = refl
+event-same device pool other (Join fd group) front more fits bytes = refl
+event-same device pool other (StartGroup fd group) front more fits bytes = refl
 event-same device pool other (Close fd) front more fits bytes = refl
 event-same device pool other (Intr frames) front more fits bytes = refl
 
@@ -173,6 +177,8 @@ found-event device pool (Open fd way settings) fits = tt
 found-event device pool (Write fd source at count) fits = fits.2
 found-event device pool (Read fd count) fits = tt
 found-event device pool (Ioctl fd request) fits = tt
+found-event device pool (Join fd group) fits = tt
+found-event device pool (StartGroup fd group) fits = tt
 found-event device pool (Close fd) fits = tt
 found-event device pool (Intr frames) fits = tt
 

@@ -3,7 +3,7 @@ use Rattle.std.specs.Prelude.{IfSome, ◌≡◌, ℕ, ◌*◌, ◌^◌, ◌<◌,
 use Rattle.std.specs.List.{list_all}
 use Rattle.hex.specs.Hex.{IsBytes}
 use Rattle.pcm_oss.specs.declared.event.Event.{Event}
-use Rattle.pcm_oss.specs.declared.event.Event.TheVariants.{Open, Write, Read, Ioctl, Close, Intr}
+use Rattle.pcm_oss.specs.declared.event.Event.TheVariants.{Open, Write, Read, Ioctl, Join, StartGroup, Close, Intr}
 use Rattle.pcm_wave.specs.declared.pool.Pool.{Pool}
 use Rattle.pcm_wave.specs.declared.pool.Source.TheVariants.{Inline, File}
 use Rattle.pcm_wave.specs.DataFiles.{DataFileSeen}
@@ -28,6 +28,8 @@ line_asked pool (Write fd Inline at count) = lines.Write fd (bytes_at pool Inlin
 line_asked pool (Write fd (File place) at count) = lines.Send fd place at count
 line_asked pool (Read fd count) = lines.Read fd count
 line_asked pool (Ioctl fd request) = lines.Ioctl fd request
+line_asked pool (Join fd group) = lines.Join fd group
+line_asked pool (StartGroup fd group) = lines.StartGroup fd group
 line_asked pool (Close fd) = lines.Close fd
 line_asked pool (Intr frames) = lines.Intr frames
 
@@ -69,6 +71,8 @@ pub record IsFileNamed (files : List DataFileSeen) (place : ℕ) : Type 0 where
 abbrev pub HasSmallNumbers : Event → Type 0
 HasSmallNumbers (Write fd source at count) = (at < 2 ^ 32) × (count < 2 ^ 32)
 HasSmallNumbers (Ioctl fd request) = IfSome (argument_of request) (λ argument. argument < 2 ^ 32)
+HasSmallNumbers (Join fd group) = group < 2 ^ 32
+HasSmallNumbers (StartGroup fd group) = group < 2 ^ 32
 HasSmallNumbers (Intr frames) = frames < 2 ^ 32
 HasSmallNumbers event = Unit {0}
 

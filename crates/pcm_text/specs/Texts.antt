@@ -5,7 +5,7 @@ use Rattle.pcm_format.specs.declared.settings.Settings.{Settings}
 use Rattle.pcm_format.specs.Formats.{name_of}
 use Rattle.pcm_format.specs.Layouts.{channels_of}
 use Rattle.pcm_oss.specs.declared.event.Event.{Event}
-use Rattle.pcm_oss.specs.declared.event.Event.TheVariants.{Open, Write, Read, Ioctl, Close, Intr}
+use Rattle.pcm_oss.specs.declared.event.Event.TheVariants.{Open, Write, Read, Ioctl, Join, StartGroup, Close, Intr}
 use Rattle.pcm_oss.specs.declared.request.Request.{Request}
 use Rattle.pcm_oss.specs.declared.request.Request.TheVariants.{SetFmt, Speed, Channels, SetFragment, SetTrigger, SetPlayVol}
 use Rattle.pcm_wave.specs.declared.pool.Pool.{Pool}
@@ -17,7 +17,7 @@ use Rattle.pcm_script.specs.declared.names.Command.{Command}
 use Rattle.pcm_script.specs.declared.names.Command.TheVariants as commands
 use Rattle.pcm_script.specs.declared.script.Script.{Script}
 use Rattle.pcm_script.specs.Lines.{pool_of}
-use Rattle.pcm_script.specs.Names.{command_name, request_name, way_name}
+use Rattle.pcm_script.specs.Names.{command_name, join_name, request_name, start_group_name, way_name}
 
 -- words, each behind a space
 abbrev pub spaced : List (List ℕ) → List ℕ
@@ -31,6 +31,8 @@ command_for (Write fd Inline at count) = commands.Write
 command_for (Write fd (File place) at count) = commands.Send
 command_for (Read fd count) = commands.Read
 command_for (Ioctl fd request) = commands.Ioctl
+command_for (Join fd group) = commands.Ioctl
+command_for (StartGroup fd group) = commands.Ioctl
 command_for (Close fd) = commands.Close
 command_for (Intr frames) = commands.Intr
 
@@ -65,6 +67,8 @@ arguments_for pool (Write fd Inline at count) = decimal fd ∷ bytes_text (bytes
 arguments_for pool (Write fd (File place) at count) = decimal fd ∷ file_name_in (slice_get pool.files place) ∷ decimal at ∷ decimal count ∷ []
 arguments_for pool (Read fd count) = decimal fd ∷ decimal count ∷ []
 arguments_for pool (Ioctl fd request) = decimal fd ∷ request_name request ∷ argument_words (argument_of request)
+arguments_for pool (Join fd group) = decimal fd ∷ join_name ∷ decimal group ∷ []
+arguments_for pool (StartGroup fd group) = decimal fd ∷ start_group_name ∷ decimal group ∷ []
 arguments_for pool (Close fd) = decimal fd ∷ []
 arguments_for pool (Intr frames) = decimal frames ∷ []
 

@@ -1,7 +1,7 @@
 //! What holds of texts that are written: each function here has no work, and its contract is a law.
 
 ghost use Rattle.std.specs.Prelude.{◌≡◌, ◌∷◌, [], List, Ok, codes};
-ghost use Rattle.pcm_oss.specs.declared.event.Event.TheVariants.{Close, Intr, Ioctl, Open, Read, Write};
+ghost use Rattle.pcm_oss.specs.declared.event.Event.TheVariants.{Close, Intr, Ioctl, Join, Open, Read, StartGroup, Write};
 ghost use Rattle.pcm_oss.specs.declared.event.Way.TheVariants.{Play, Record};
 ghost use Rattle.pcm_oss.specs.declared.request.Request.TheVariants.{SetFmt, SetTrigger, Sync};
 ghost use Rattle.pcm_wave.specs.declared.pool.Source.TheVariants.{Inline};
@@ -36,6 +36,8 @@ pub fn lines_are_written_so()
     ensures format { line_alone (Ioctl 2 (SetFmt 16)) ≡ codes "ioctl 2 setfmt 16\n" }
     ensures greatest { line_alone (Ioctl 2 (SetTrigger 4294967295)) ≡ codes "ioctl 2 settrigger 4294967295\n" }
     ensures sync { line_alone (Ioctl 2 Sync) ≡ codes "ioctl 2 sync\n" }
+    ensures join { line_alone (Join 3 0) ≡ codes "ioctl 3 syncgroup 0\n" }
+    ensures start { line_alone (StartGroup 63 4294967295) ≡ codes "ioctl 63 syncstart 4294967295\n" }
     ensures close { line_alone (Close 9) ≡ codes "close 9\n" }
     ensures interrupt { line_alone (Intr 1024) ≡ codes "intr 1024\n" }
     ensures several { text_for (Close 1 ∷ Intr 4 ∷ []) ≡ codes "close 1\nintr 4\n" }

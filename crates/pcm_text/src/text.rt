@@ -4,13 +4,13 @@ ghost use Rattle.std.specs.Prelude.{◌≡◌, ◌+◌, ◌≤◌, ◌∷◌, �
 ghost use Rattle.std.specs.Fmt.{decimal};
 ghost use Rattle.pcm_report.specs.Lines.{bytes_text};
 ghost use Rattle.pcm_script.specs.Lines.{pool_of};
-ghost use Rattle.pcm_script.specs.Names.{request_name, way_name};
+ghost use Rattle.pcm_script.specs.Names.{join_name, request_name, start_group_name, way_name};
 ghost use Rattle.pcm_text.specs.Texts.{AllFound, FindsBytes, argument_of, argument_words, arguments_for, command_for, settings_words, spaced, text_of};
 
 use crate::words::{push_bytes, push_number, push_word};
 use pcm_format::Settings;
 use pcm_oss::{Event, Request, Way};
-use pcm_script::{Command, Script, request_name, way_name};
+use pcm_script::{Command, Script, join_name, request_name, start_group_name, way_name};
 use pcm_wave::{DataFile, Source};
 use std::alloc::{AllocError, Global};
 
@@ -44,7 +44,7 @@ fn command_for(event: &Event) -> Command
         } => Command::Write,
         Event::Write { .. } => Command::Send,
         Event::Read { .. } => Command::Read,
-        Event::Ioctl { .. } => Command::Ioctl,
+        Event::Ioctl { .. } | Event::Join { .. } | Event::StartGroup { .. } => Command::Ioctl,
         Event::Close { .. } => Command::Close,
         Event::Intr { .. } => Command::Intr,
     }
@@ -77,6 +77,8 @@ fn push_arguments(
         } => push_send(text, fd, files[place].name(), at, len),
         Event::Read { fd, len } => push_read(text, fd, len),
         Event::Ioctl { fd, request } => push_ioctl(text, fd, request),
+        Event::Join { fd, group } => push_grouping(text, fd, join_name(), group),
+        Event::StartGroup { fd, group } => push_grouping(text, fd, start_group_name(), group),
         Event::Close { fd } => push_number(text, u32::from(fd)),
         Event::Intr { frames } => push_number(text, frames),
     }
@@ -150,4 +152,14 @@ fn push_argument(text: &mut Vec<u8>, request: Request) -> Result<(), AllocError>
         | Request::SetPlayVol(argument) => push_number(text, argument),
         _ => Ok(()),
     }
+}
+
+// Writes what is asked of a group, by the word for it.
+fn push_grouping(text: &mut Vec<u8>, fd: u8, word: &[u8], group: u32) -> Result<(), AllocError>
+    ensures { OnOk result (text.new.items
+        ≡ text.old.items ++ spaced (decimal fd ∷ word.now ∷ decimal group ∷ [])) }
+{
+    push_number(text, u32::from(fd))?;
+    push_word(text, word)?;
+    push_number(text, group)
 }

@@ -5,7 +5,8 @@ use Rattle.std.proofs.Props.{props}
 use mathlib.Core.HLevel.{is_prop→PathP}
 use Rattle.pcm_fixed.specs.Fixed.{fixed_len}
 use Rattle.pcm_format.specs.Frames.{Frame, frame_bytes}
-use Rattle.pcm_desk.specs.declared.limits.TheConstants.{RING_FRAMES, SLOTS}
+use Rattle.pcm_desk.specs.declared.limits.TheConstants.{RING_FRAMES}
+use Rattle.pcm_oss.specs.declared.event.TheConstants.{SLOTS}
 use Rattle.std.specs.List.{position_or_len, prefix_len}
 use Rattle.std.proofs.lemmas.List.{append-nil, get_or-map, map-set, length-map, length-set, get_or_default, same_lists, take-take}
 use Rattle.std.proofs.lemmas.Bool.{cases_eq}

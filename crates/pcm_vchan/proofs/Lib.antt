@@ -1,3 +1,4 @@
 pub mod Channels
+pub mod Starting
 pub mod Blocks
 pub mod Handovers

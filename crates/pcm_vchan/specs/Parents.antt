@@ -8,7 +8,8 @@ use Rattle.pcm_oss.specs.declared.reply.Errno.TheVariants.{Busy}
 use Rattle.pcm_feeder.specs.Racks.{HaveKinds}
 use Rattle.pcm_chain.specs.Chains.{boxes_in}
 use Rattle.pcm_desk.specs.declared.device.Device.{Device}
-use Rattle.pcm_desk.specs.declared.limits.TheConstants.{MIX_FRAMES, RING_FRAMES, SLOTS}
+use Rattle.pcm_desk.specs.declared.limits.TheConstants.{MIX_FRAMES, RING_FRAMES}
+use Rattle.pcm_oss.specs.declared.event.TheConstants.{SLOTS}
 use Rattle.pcm_desk.specs.declared.here.Here.{Here}
 use Rattle.pcm_desk.specs.Device.{DeviceSeen, HasRates, mix_frames, mixed_for, passed_for, seen, unfiltered}
 use Rattle.pcm_desk.specs.declared.play_book.PlayBook.{PlayBook}

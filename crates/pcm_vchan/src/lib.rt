@@ -8,5 +8,6 @@ mod mixer;
 mod parent;
 mod recorder;
 mod settler;
+mod starter;
 
 pub use parent::{Parent, ParentOf};

@@ -7,13 +7,18 @@ ghost use Rattle.pcm_format.specs.Frames.{frame_bytes};
 ghost use Rattle.pcm_format.specs.Layouts.{channels_of};
 ghost use Rattle.pcm_feeder.specs.Limits.{IsRate};
 ghost use Rattle.pcm_feeder.specs.Racks.{AreRacks, list_of};
-ghost use Rattle.pcm_desk.specs.declared.limits.TheConstants.{RING_FRAMES, SLOTS};
+ghost use Rattle.pcm_desk.specs.declared.limits.TheConstants.{RING_FRAMES};
+ghost use Rattle.pcm_oss.specs.declared.event.TheConstants.{SLOTS};
 ghost use Rattle.pcm_desk.specs.Device.{passed_for, seen, unfiltered, HasRates};
-ghost use Rattle.pcm_desk.specs.PlayBooks.{is_play_free};
+ghost use Rattle.pcm_group.specs.Groups.{all_in, change_in};
+ghost use Rattle.pcm_desk.specs.Desk.{play_starting, record_starting};
+ghost use Rattle.pcm_desk.specs.Here.{IsHere};
+ghost use Rattle.pcm_desk.specs.PlayBooks.{is_play_free, play_is_ready};
 ghost use Rattle.pcm_desk.specs.RecordBooks.{is_record_free};
 ghost use Rattle.pcm_vchan.specs.Slots.{Each, MaySettle, PlayAreOf, RecordAreOf, Settles};
-ghost use Rattle.pcm_play.specs.Channels.{IsPlayReady, IsPlayUnopened};
+ghost use Rattle.pcm_play.specs.Channels.{IsPlayHere, IsPlayReady, IsPlayUnopened};
 ghost use Rattle.pcm_record.specs.Channels.{IsRecordReady, IsRecordUnopened};
+ghost use Rattle.pcm_vchan.specs.Starts.{EachAt, MayRecord, MayStart, Records, Starts, is_in};
 ghost use Rattle.pcm_vchan.specs.Blocks.{silent_ring};
 ghost use Rattle.pcm_vchan.specs.Handovers.{HasMade, IsPlannedBy};
 
@@ -21,11 +26,13 @@ use crate::bus::BusOf;
 use crate::mixer::silent_ring;
 use crate::recorder::capture_all;
 use crate::settler::settle_all;
-use pcm_desk::{Device, Here, SLOTS};
+use crate::starter::{are_ready, start_playing, start_recording};
+use pcm_desk::{Device, Here};
 use pcm_feeder::{Feeder, RackOf, RacksOf, Tables};
 use pcm_fixed::Fixed;
 use pcm_format::Settings;
-use pcm_oss::{Errno, Way};
+use pcm_group::Groups;
+use pcm_oss::{Errno, SLOTS, Way};
 use pcm_play::PlayChannelOf;
 use pcm_record::RecordChannelOf;
 use pcm_ring::ByteRing;
@@ -57,7 +64,7 @@ pub struct ParentOf<B> {
 
 impl<B: Feeder> ParentOf<B> {
     ghost use Rattle.pcm_oss.specs.declared.event.Way.TheVariants.{Play, Record};
-    ghost use Rattle.pcm_vchan.specs.Parents.{play_channels, record_channels, mixed_in, AreDue, ArePlayUnopened, AreRecordUnopened, AreServed, EachCaptures, EachPasses, EachPlayMoves, HasBus, HasLimits, KeepsOutput, OpensPlay, OpensRecord, BusTurns, here_of};
+    ghost use Rattle.pcm_vchan.specs.Parents.{play_books, play_channels, record_books, record_channels, mixed_in, AreDue, ArePlayUnopened, AreRecordUnopened, AreServed, EachCaptures, EachPasses, EachPlayMoves, EachRecordMoves, HasBus, HasLimits, KeepsOutput, OpensPlay, OpensRecord, BusTurns, TotalsFit, here_of};
     ghost use Rattle.pcm_vchan.specs.Lending.{LendsChannel, LendsRecorder};
 
     /// A device that nobody has opened, whose ring is full of silence. Each slot gets a rack: those that play the first
@@ -82,7 +89,7 @@ impl<B: Feeder> ParentOf<B> {
         ensures mixed { IfOk result (λ made. made.mixed ≡ 0) }
     {
         let mut playing = racks.into_list();
-        let mut recording = playing.split_off(SLOTS as usize)?;
+        let mut recording = playing.split_off(SLOTS)?;
         let bus = BusOf::new(alloc, device, tables, recording.pop().unwrap())?;
         let channels = free_channels(alloc, device, tables, playing)?;
         let recorders = free_recorders(alloc, device, tables, recording)?;
@@ -167,6 +174,58 @@ impl<B: Feeder> ParentOf<B> {
         ensures value { result.now ≡ slice_index_or (record_channels self.old) slot result.now }
     {
         &mut self.recorders[slot]
+    }
+
+    /// Whether each member of a group that plays may start at any moment.
+    pub fn is_group_ready(&self, groups: &Groups, group: u32) -> bool
+        requires some { 0 < group }
+        ensures { result ≡ all_in group play_is_ready groups.now.play (play_books self.now) }
+    {
+        are_ready(&self.channels, groups, group)
+    }
+
+    /// Starts each member of a group, where the mix and the device are.
+    pub fn start_group(&mut self, tables: &Tables, groups: &Groups, group: u32, here: Here)
+        requires some { 0 < group }
+        requires here { IsHere here }
+        requires served { AreServed B.kind B.kept tables.now self.old }
+        requires places { All (IsPlayHere tables.now here) (play_channels self.old) }
+        requires count { TotalsFit self.old }
+        ensures own { PlayAreOf self.new.device (play_channels self.new) }
+        ensures recorders_own { RecordAreOf self.new.device (record_channels self.new) }
+        ensures output { KeepsOutput self.old self.new }
+        ensures books { play_books self.new
+            ≡ change_in group (play_starting (seen tables.now self.old.device) here) groups.now.play (play_books self.old) }
+        ensures records { record_books self.new
+            ≡ change_in group record_starting groups.now.recording (record_books self.old) }
+        ensures channels { EachPlayMoves B.kind B.kept tables.now [] 0 self.old self.new }
+        ensures recorders { EachRecordMoves B.kind B.kept tables.now [] 0 self.old self.new }
+    {
+        self.start_players(tables, groups, group, here);
+        self.start_recorders(tables, groups, group);
+    }
+
+    // Starts each member that plays.
+    fn start_players(&mut self, tables: &Tables, groups: &Groups, group: u32, here: Here)
+        requires here { IsHere here }
+        requires due { All (MayStart B.kind tables.now here) (play_channels self.old) }
+        ensures started { EachAt (λ slot. Starts B.kind B.kept tables.now here (is_in groups.now.play group slot)) (play_channels self.old) (play_channels self.new) }
+        ensures slots { length (play_channels self.new) ≡ length (play_channels self.old) }
+        ensures recorders { self.new.recorders ≡ self.old.recorders }
+        ensures output { KeepsOutput self.old self.new }
+    {
+        start_playing(&mut self.channels, tables, groups, group, here);
+    }
+
+    // Starts each member that records.
+    fn start_recorders(&mut self, tables: &Tables, groups: &Groups, group: u32)
+        requires due { All (MayRecord B.kind tables.now) (record_channels self.old) }
+        ensures started { EachAt (λ slot. Records B.kind B.kept tables.now (is_in groups.now.recording group slot)) (record_channels self.old) (record_channels self.new) }
+        ensures slots { length (record_channels self.new) ≡ length (record_channels self.old) }
+        ensures channels { self.new.channels ≡ self.old.channels }
+        ensures output { KeepsOutput self.old self.new }
+    {
+        start_recording(&mut self.recorders, tables, groups, group);
     }
 
     /// The device's interrupt: hands the oldest `n` frames over, mixes what the next ones need from all channels that play, and gives

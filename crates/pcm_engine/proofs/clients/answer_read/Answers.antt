@@ -13,7 +13,7 @@ there n few = let zeros : List ℕ = replicate 4096 0 in omega (arith, length-ta
 
 pub returns-clause-turn : goal.returns-clause-turn
 returns-clause-turn g c =
-    let desk : Desk = desk_with c.args.parent.now c.args.descriptors.now.held in
+    let desk : Desk = desk_with c.args.parent.now c.args.descriptors.now in
     let asked = there c.args.len c.requires.few in
     record {
       desk = λ filters. c.read-answer.ensures.turn.desk filters ∙ ap (λ (n : ℕ). (read_on (seen filters c.args.parent.now.device) (held_by desk c.args.fd) desk n).desk) asked;
@@ -24,7 +24,7 @@ returns-clause-turn g c =
 
 pub returns-clause-bytes : goal.returns-clause-bytes
 returns-clause-bytes g c = λ filters bytes frames stand.
-    let desk : Desk = desk_with c.args.parent.now c.args.descriptors.now.held in
+    let desk : Desk = desk_with c.args.parent.now c.args.descriptors.now in
     let device : DeviceSeen = seen filters c.args.parent.now.device in
     let within = c.read-answer.ensures.within in
     ap (λ (r : Reply). r.bytes) c.keep.ensures

@@ -1,36 +1,46 @@
 use Rattle.pcm_desk.specs.declared.device.Held.{Held}
-use Rattle.std.proofs.Common.{List, [], Option, None, get_or, sym, ap, ◌∙◌, arith}
+use Rattle.std.proofs.Common.{[], Option, Some, None, set, get_or, sym, ap, ◌∙◌, arith}
 use Rattle.pcm_fixed.proofs.Items.{items-count}
 use Rattle.pcm_desk.specs.Device.{seen}
-use Rattle.pcm_desk.specs.Desk.{Desk, with_descriptor, held_by}
+use Rattle.pcm_desk.specs.Desk.{Desk, close_on, leaving, left, with_descriptor, held_by}
 use Rattle.pcm_play.proofs.Moving.{moves-nothing}
 use Rattle.pcm_record.proofs.Moving as recorders
 use Rattle.pcm_vchan.specs.Parents.{play_channels, record_channels}
+use Rattle.pcm_engine.specs.declared.descriptors.Descriptors.{Descriptors}
 use Rattle.pcm_engine.specs.Desks.{desk_with}
-use Rattle.pcm_engine.proofs.Turning.{closes-held, play-there, record-there, holding-is}
+use Rattle.pcm_engine.proofs.Turning.{closes-held, held-few, play-there, record-there, holding-is}
 use Rattle.pcm_engine.proofs.clients.close.Goals as goal
 
 pub close_channel-answer-requires-clause-play : goal.close_channel-answer-requires-clause-play
 close_channel-answer-requires-clause-play g c =
     let parent = c.args.parent.now in
-    λ is. (let there = play-there parent c.args.descriptors.now.held c.args.fd c.in_ok-held.held c.requires.apart (holding-is (held_by (desk_with parent c.args.descriptors.now.held) c.args.fd) c.in_ok-held.held (sym c.holding.ensures ∙ c.in_ok-held.was)) is in omega (arith, there, items-count parent.channels))
+    λ is. (let there = play-there parent c.args.descriptors.now c.args.fd c.in_ok-held.held c.requires.apart (holding-is (held_by (desk_with parent c.args.descriptors.now) c.args.fd) c.in_ok-held.held (sym c.holding.ensures ∙ c.in_ok-held.was)) is in omega (arith, there, items-count parent.channels))
 
 pub close_channel-answer-requires-clause-recording : goal.close_channel-answer-requires-clause-recording
 close_channel-answer-requires-clause-recording g c =
     let parent = c.args.parent.now in
-    λ is. (let there = record-there parent c.args.descriptors.now.held c.args.fd c.in_ok-held.held c.requires.apart (holding-is (held_by (desk_with parent c.args.descriptors.now.held) c.args.fd) c.in_ok-held.held (sym c.holding.ensures ∙ c.in_ok-held.was)) is in omega (arith, there, items-count parent.recorders))
+    λ is. (let there = record-there parent c.args.descriptors.now c.args.fd c.in_ok-held.held c.requires.apart (holding-is (held_by (desk_with parent c.args.descriptors.now) c.args.fd) c.in_ok-held.held (sym c.holding.ensures ∙ c.in_ok-held.was)) is in omega (arith, there, items-count parent.recorders))
 
 pub returns-clause-desk : goal.returns-clause-desk
 returns-clause-desk g c =
     λ filters ready at.
     let parent = c.args.parent.now in
-    let descriptors = c.args.descriptors.now.held in
+    let descriptors = c.args.descriptors.now in
     let held = c.in_ok-held.held in
     let device = seen filters parent.device in
-    let desk : Desk = desk_with parent descriptors in
-    ap (λ (list : List (Option Held)). desk_with c.close_channel-answer.new.parent list) c.set.ensures
-    ∙ ap (λ (d : Desk). with_descriptor d c.args.fd None) (c.close_channel-answer.ensures.desk filters descriptors ready at)
-    ∙ closes-held device desk c.args.fd (held_by desk c.args.fd) held (holding-is (held_by (desk_with parent c.args.descriptors.now.held) c.args.fd) c.in_ok-held.held (sym c.holding.ensures ∙ c.in_ok-held.was))
+    let parted : Descriptors = record descriptors { groups = leaving (Some held) descriptors.groups } in
+    let shut : Descriptors = record parted { held = set descriptors.held c.args.fd None } in
+    let found = holding-is (held_by (desk_with parent descriptors) c.args.fd) held (sym c.holding.ensures ∙ c.in_ok-held.was) in
+    ap (desk_with c.close_channel-answer.new.parent) (c.set.ensures ∙ ap (λ (d : Descriptors). record d { held = set d.held c.args.fd None }) c.leave.ensures)
+    ∙ ap (λ (d : Desk). with_descriptor d c.args.fd None) (c.close_channel-answer.ensures.desk filters parted ready at)
+    ∙ closes-held device (desk_with parent parted) c.args.fd (held_by (desk_with parent parted) c.args.fd) held found
+    ∙ ap (λ (h : Option Held). (close_on device (held_by (desk_with parent descriptors) c.args.fd) (left h (desk_with parent descriptors)) c.args.fd).desk) (sym found)
+
+pub leave-requires : goal.leave-requires
+leave-requires g c =
+    let parent = c.args.parent.now in
+    let held = c.in_ok-held.held in
+    held-few parent c.args.descriptors.now c.args.fd held c.requires.apart (holding-is (held_by (desk_with parent c.args.descriptors.now) c.args.fd) held (sym c.holding.ensures ∙ c.in_ok-held.was))
 
 pub returns-in_err-held-clause-channels : goal.returns-in_err-held-clause-channels
 returns-in_err-held-clause-channels g c = λ filters slot other there. moves-nothing g.B.Feeder.kind g.B.Feeder.kept filters [] 0 (get_or (play_channels c.args.parent.now) slot other)

@@ -23,23 +23,23 @@ pub recorder-requires : goal.recorder-requires
 recorder-requires g c =
     let parent = c.args.parent.now in
     let held = channel_of Record c.in_ok-slot.slot in
-    let e = recording-is (held_by (desk_with parent c.args.descriptors.now.held) c.args.fd) c.in_ok-slot.slot (sym c.recording.ensures ∙ c.in_ok-slot.was) in
-    let there = record-there parent c.args.descriptors.now.held c.args.fd held c.requires.apart e refl in
+    let e = recording-is (held_by (desk_with parent c.args.descriptors.now) c.args.fd) c.in_ok-slot.slot (sym c.recording.ensures ∙ c.in_ok-slot.was) in
+    let there = record-there parent c.args.descriptors.now c.args.fd held c.requires.apart e refl in
     omega (arith, there, items-count parent.recorders)
 
 pub returns-clause-recorders_own : goal.returns-clause-recorders_own
 returns-clause-recorders_own g c =
     let parent = c.args.parent.now in
     let held = channel_of Record c.in_ok-slot.slot in
-    let e = recording-is (held_by (desk_with parent c.args.descriptors.now.held) c.args.fd) c.in_ok-slot.slot (sym c.recording.ensures ∙ c.in_ok-slot.was) in
-    let there = record-there parent c.args.descriptors.now.held c.args.fd held c.requires.apart e refl in
+    let e = recording-is (held_by (desk_with parent c.args.descriptors.now) c.args.fd) c.in_ok-slot.slot (sym c.recording.ensures ∙ c.in_ok-slot.was) in
+    let there = record-there parent c.args.descriptors.now c.args.fd held c.requires.apart e refl in
     own_set (λ (channel : RecordChannelOf _). channel.path.device) parent.device (record_channels parent) held.slot c.recorder.result.now c.read.new.self there c.recorder.ensures.value c.read.ensures.device c.requires.recorders_own
 
 pub returns-clause-refused : goal.returns-clause-refused
 returns-clause-refused g c =
     let parent = c.args.parent.now in
     let held = channel_of Record c.in_ok-slot.slot in
-    let e = recording-is (held_by (desk_with parent c.args.descriptors.now.held) c.args.fd) c.in_ok-slot.slot (sym c.recording.ensures ∙ c.in_ok-slot.was) in
+    let e = recording-is (held_by (desk_with parent c.args.descriptors.now) c.args.fd) c.in_ok-slot.slot (sym c.recording.ensures ∙ c.in_ok-slot.was) in
     on_err_weaker c.read.result
     (λ same. parent_same _ parent refl refl (item-kept parent.recorders held.slot c.read.new.self c.recorder.result.now (same ∙ c.recorder.ensures.value)) refl refl refl refl refl)
     c.read.ensures.refused
@@ -48,23 +48,23 @@ pub returns-clause-turn : goal.returns-clause-turn
 returns-clause-turn g c =
     let parent = c.args.parent.now in
     let held = channel_of Record c.in_ok-slot.slot in
-    let e = recording-is (held_by (desk_with parent c.args.descriptors.now.held) c.args.fd) c.in_ok-slot.slot (sym c.recording.ensures ∙ c.in_ok-slot.was) in
-    let there = record-there parent c.args.descriptors.now.held c.args.fd held c.requires.apart e refl in
+    let e = recording-is (held_by (desk_with parent c.args.descriptors.now) c.args.fd) c.in_ok-slot.slot (sym c.recording.ensures ∙ c.in_ok-slot.was) in
+    let there = record-there parent c.args.descriptors.now c.args.fd held c.requires.apart e refl in
     record {
       desk = λ filters.
-          desk-recorded (seen filters parent.device) (read_turn (length c.args.out.now)) parent c.args.descriptors.now.held held.slot c.recorder.result.now c.read.new.self there c.recorder.ensures.value c.read.ensures.book
-          ∙ sym (ap (λ (t : DeskTurn). t.desk) (turning-held Record (λ slot. refusing (desk_with parent c.args.descriptors.now.held) Inval) (record_turn (seen filters parent.device) (read_turn (length c.args.out.now)) (desk_with parent c.args.descriptors.now.held)) (held_by (desk_with parent c.args.descriptors.now.held) c.args.fd) held (desk_with parent c.args.descriptors.now.held) e refl));
+          desk-recorded (seen filters parent.device) (read_turn (length c.args.out.now)) parent c.args.descriptors.now held.slot c.recorder.result.now c.read.new.self there c.recorder.ensures.value c.read.ensures.book
+          ∙ sym (ap (λ (t : DeskTurn). t.desk) (turning-held Record (λ slot. refusing (desk_with parent c.args.descriptors.now) Inval) (record_turn (seen filters parent.device) (read_turn (length c.args.out.now)) (desk_with parent c.args.descriptors.now)) (held_by (desk_with parent c.args.descriptors.now) c.args.fd) held (desk_with parent c.args.descriptors.now) e refl));
       reply = λ filters.
-          reply-recorded (seen filters parent.device) (read_turn (length c.args.out.now)) parent c.args.descriptors.now.held held.slot c.recorder.result.now c.read.result there c.recorder.ensures.value c.read.ensures.reply
-          ∙ sym (ap (λ (t : DeskTurn). t.reply) (turning-held Record (λ slot. refusing (desk_with parent c.args.descriptors.now.held) Inval) (record_turn (seen filters parent.device) (read_turn (length c.args.out.now)) (desk_with parent c.args.descriptors.now.held)) (held_by (desk_with parent c.args.descriptors.now.held) c.args.fd) held (desk_with parent c.args.descriptors.now.held) e refl));
+          reply-recorded (seen filters parent.device) (read_turn (length c.args.out.now)) parent c.args.descriptors.now held.slot c.recorder.result.now c.read.result there c.recorder.ensures.value c.read.ensures.reply
+          ∙ sym (ap (λ (t : DeskTurn). t.reply) (turning-held Record (λ slot. refusing (desk_with parent c.args.descriptors.now) Inval) (record_turn (seen filters parent.device) (read_turn (length c.args.out.now)) (desk_with parent c.args.descriptors.now)) (held_by (desk_with parent c.args.descriptors.now) c.args.fd) held (desk_with parent c.args.descriptors.now) e refl));
     }
 
 pub returns-clause-recorders : goal.returns-clause-recorders
 returns-clause-recorders g c = λ filters.
     let parent = c.args.parent.now in
     let held = channel_of Record c.in_ok-slot.slot in
-    let e = recording-is (held_by (desk_with parent c.args.descriptors.now.held) c.args.fd) c.in_ok-slot.slot (sym c.recording.ensures ∙ c.in_ok-slot.was) in
-    let there = record-there parent c.args.descriptors.now.held c.args.fd held c.requires.apart e refl in
+    let e = recording-is (held_by (desk_with parent c.args.descriptors.now) c.args.fd) c.in_ok-slot.slot (sym c.recording.ensures ∙ c.in_ok-slot.was) in
+    let there = record-there parent c.args.descriptors.now c.args.fd held c.requires.apart e refl in
     each_set (RecordMoves g.B.Feeder.kind g.B.Feeder.kept filters [] 0) (record_channels parent) held.slot c.recorder.result.now c.read.new.self there c.recorder.ensures.value (c.read.ensures.moves filters)
     (recorders.moves-nothing g.B.Feeder.kind g.B.Feeder.kept filters [] 0)
 
@@ -72,12 +72,12 @@ pub returns-clause-bytes : goal.returns-clause-bytes
 returns-clause-bytes g c = λ filters bytes frames stand.
     let parent = c.args.parent.now in
     let held = channel_of Record c.in_ok-slot.slot in
-    let e = recording-is (held_by (desk_with parent c.args.descriptors.now.held) c.args.fd) c.in_ok-slot.slot (sym c.recording.ensures ∙ c.in_ok-slot.was) in
-    let there = record-there parent c.args.descriptors.now.held c.args.fd held c.requires.apart e refl in
+    let e = recording-is (held_by (desk_with parent c.args.descriptors.now) c.args.fd) c.in_ok-slot.slot (sym c.recording.ensures ∙ c.in_ok-slot.was) in
+    let there = record-there parent c.args.descriptors.now c.args.fd held c.requires.apart e refl in
     let lent = c.recorder.result.now in
     let book = record_at-channel (record_channels parent) held.slot lent (record_unopened (seen filters parent.device)) there c.recorder.ensures.value in
     let n = length c.args.out.now in
-    let got = bytes_read-held (seen filters parent.device) (desk_with parent c.args.descriptors.now.held) bytes n (held_by (desk_with parent c.args.descriptors.now.held) c.args.fd) held lent.book e refl book in
+    let got = bytes_read-held (seen filters parent.device) (desk_with parent c.args.descriptors.now) bytes n (held_by (desk_with parent c.args.descriptors.now) c.args.fd) held lent.book e refl book in
     let stands = subst (λ (channel : RecordChannelOf _). RecordStands g.B.Feeder.kept filters channel channel.book (bytes held.slot) (frames held.slot)) (sym c.recorder.ensures.value) (stand held.slot lent there) in
     c.read.ensures.bytes filters (bytes held.slot) (frames held.slot) stands
     ∙ ap (λ k. take k (drop lent.book.read (bytes held.slot))) (ap bytes_due c.read.ensures.reply ∙ read-due n lent.book) ∙ sym got

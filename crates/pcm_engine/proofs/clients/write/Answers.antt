@@ -25,16 +25,16 @@ pub play-requires : goal.play-requires
 play-requires g c =
     let parent = c.args.parent.now in
     let held = channel_of Play c.in_ok-slot.slot in
-    let e = playing-is (held_by (desk_with parent c.args.descriptors.now.held) c.args.fd) c.in_ok-slot.slot (sym c.playing.ensures ∙ c.in_ok-slot.was) in
-    let there = play-there parent c.args.descriptors.now.held c.args.fd held c.requires.apart e refl in
+    let e = playing-is (held_by (desk_with parent c.args.descriptors.now) c.args.fd) c.in_ok-slot.slot (sym c.playing.ensures ∙ c.in_ok-slot.was) in
+    let there = play-there parent c.args.descriptors.now c.args.fd held c.requires.apart e refl in
     omega (arith, there, items-count parent.channels)
 
 pub write-requires : goal.write-requires
 write-requires g c =
     let parent = c.args.parent.now in
     let held = channel_of Play c.in_ok-slot.slot in
-    let e = playing-is (held_by (desk_with parent c.args.descriptors.now.held) c.args.fd) c.in_ok-slot.slot (sym c.playing.ensures ∙ c.in_ok-slot.was) in
-    let there = play-there parent c.args.descriptors.now.held c.args.fd held c.requires.apart e refl in
+    let e = playing-is (held_by (desk_with parent c.args.descriptors.now) c.args.fd) c.in_ok-slot.slot (sym c.playing.ensures ∙ c.in_ok-slot.was) in
+    let there = play-there parent c.args.descriptors.now c.args.fd held c.requires.apart e refl in
     record { count = subst (λ (channel : PlayChannelOf _). channel.book.written + length c.args.bytes.now < 18446744073709551616) (sym c.play.ensures.value) (c.requires.count held.slot c.play.result.now there) }
 
 pub returns-clause-silent : goal.returns-clause-silent
@@ -45,15 +45,15 @@ pub returns-clause-own : goal.returns-clause-own
 returns-clause-own g c =
     let parent = c.args.parent.now in
     let held = channel_of Play c.in_ok-slot.slot in
-    let e = playing-is (held_by (desk_with parent c.args.descriptors.now.held) c.args.fd) c.in_ok-slot.slot (sym c.playing.ensures ∙ c.in_ok-slot.was) in
-    let there = play-there parent c.args.descriptors.now.held c.args.fd held c.requires.apart e refl in
+    let e = playing-is (held_by (desk_with parent c.args.descriptors.now) c.args.fd) c.in_ok-slot.slot (sym c.playing.ensures ∙ c.in_ok-slot.was) in
+    let there = play-there parent c.args.descriptors.now c.args.fd held c.requires.apart e refl in
     own_set (λ (channel : PlayChannelOf _). channel.path.device) parent.device (play_channels parent) held.slot c.play.result.now c.write.new.self there c.play.ensures.value c.write.ensures.device c.requires.own
 
 pub returns-clause-refused : goal.returns-clause-refused
 returns-clause-refused g c =
     let parent = c.args.parent.now in
     let held = channel_of Play c.in_ok-slot.slot in
-    let e = playing-is (held_by (desk_with parent c.args.descriptors.now.held) c.args.fd) c.in_ok-slot.slot (sym c.playing.ensures ∙ c.in_ok-slot.was) in
+    let e = playing-is (held_by (desk_with parent c.args.descriptors.now) c.args.fd) c.in_ok-slot.slot (sym c.playing.ensures ∙ c.in_ok-slot.was) in
     on_err_weaker c.write.result
     (λ same. parent_same _ parent refl (item-kept parent.channels held.slot c.write.new.self c.play.result.now (same ∙ c.play.ensures.value)) refl refl refl refl refl refl)
     c.write.ensures.refused
@@ -61,23 +61,23 @@ returns-clause-refused g c =
 pub returns-clause-turn : goal.returns-clause-turn
 returns-clause-turn g c =
     let parent = c.args.parent.now in
-    let desk = desk_with parent c.args.descriptors.now.held in
+    let desk = desk_with parent c.args.descriptors.now in
     let count = length c.args.bytes.now in
     let held = channel_of Play c.in_ok-slot.slot in
     let e = playing-is (held_by desk c.args.fd) c.in_ok-slot.slot (sym c.playing.ensures ∙ c.in_ok-slot.was) in
-    let there = play-there parent c.args.descriptors.now.held c.args.fd held c.requires.apart e refl in
+    let there = play-there parent c.args.descriptors.now c.args.fd held c.requires.apart e refl in
     let turned : (device : DeviceSeen) → DeskTurn = λ device. write_on device (held_by desk c.args.fd) desk count in
     let held_there : (device : DeviceSeen) → turned device ≡ play_turn device (write_turn (desk_here device desk) count) desk held.slot =
     λ device. turning-held Play (play_turn device (write_turn (desk_here device desk) count) desk) (λ slot. refusing desk Inval) (held_by desk c.args.fd) held desk e refl in
     record {
       desk = λ filters at.
           let device = seen filters parent.device in
-          desk-played device (write_turn (desk_here device desk) count) parent c.args.descriptors.now.held held.slot c.play.result.now c.write.new.self there c.play.ensures.value
+          desk-played device (write_turn (desk_here device desk) count) parent c.args.descriptors.now held.slot c.play.result.now c.write.new.self there c.play.ensures.value
           (c.write.ensures.book ∙ ap (λ (here : Here). (write_turn here count c.play.result.now.book).book) at)
           ∙ sym (ap (λ (t : DeskTurn). t.desk) (held_there device));
       reply = λ filters at.
           let device = seen filters parent.device in
-          reply-played device (write_turn (desk_here device desk) count) parent c.args.descriptors.now.held held.slot c.play.result.now c.write.result there c.play.ensures.value
+          reply-played device (write_turn (desk_here device desk) count) parent c.args.descriptors.now held.slot c.play.result.now c.write.result there c.play.ensures.value
           (c.write.ensures.reply ∙ ap (λ (here : Here). (write_turn here count c.play.result.now.book).reply) at)
           ∙ sym (ap (λ (t : DeskTurn). t.reply) (held_there device));
     }
@@ -86,8 +86,8 @@ pub returns-clause-channels : goal.returns-clause-channels
 returns-clause-channels g c = λ filters.
     let parent = c.args.parent.now in
     let held = channel_of Play c.in_ok-slot.slot in
-    let e = playing-is (held_by (desk_with parent c.args.descriptors.now.held) c.args.fd) c.in_ok-slot.slot (sym c.playing.ensures ∙ c.in_ok-slot.was) in
-    let there = play-there parent c.args.descriptors.now.held c.args.fd held c.requires.apart e refl in
+    let e = playing-is (held_by (desk_with parent c.args.descriptors.now) c.args.fd) c.in_ok-slot.slot (sym c.playing.ensures ∙ c.in_ok-slot.was) in
+    let there = play-there parent c.args.descriptors.now c.args.fd held c.requires.apart e refl in
     each_set (PlayMoves g.B.Feeder.kind g.B.Feeder.kept filters c.args.bytes.now 0) (play_channels parent) held.slot c.play.result.now c.write.new.self there c.play.ensures.value (c.write.ensures.moves filters)
     (moves-nothing g.B.Feeder.kind g.B.Feeder.kept filters c.args.bytes.now 0)
 

@@ -39,6 +39,14 @@ pub returns-clause-sync : goal.returns-clause-sync
 unfolding digits encode_with
 returns-clause-sync c = refl
 
+pub returns-clause-join : goal.returns-clause-join
+unfolding digits encode_with
+returns-clause-join c = refl
+
+pub returns-clause-start : goal.returns-clause-start
+unfolding digits encode_with
+returns-clause-start c = refl
+
 pub returns-clause-close : goal.returns-clause-close
 unfolding digits encode_with
 returns-clause-close c = refl

@@ -2,7 +2,7 @@ use Rattle.std.proofs.Common.{rules, All, ℕ, ◌+◌, ◌*◌, List, [], get_o
 use Rattle.pcm_fixed.specs.declared.fixed.Fixed.{Fixed}
 use Rattle.pcm_fixed.specs.Fixed.{fixed_items}
 use Rattle.pcm_oss.specs.declared.event.Event.{Event}
-use Rattle.pcm_oss.specs.declared.event.Event.TheVariants.{Open, Write, Read, Ioctl, Close, Intr}
+use Rattle.pcm_oss.specs.declared.event.Event.TheVariants.{Open, Write, Read, Ioctl, Join, StartGroup, Close, Intr}
 use Rattle.pcm_format.specs.Layouts.{channels_of}
 use Rattle.pcm_oss.specs.declared.fragments.TheConstants.{RING_BYTES}
 use Rattle.pcm_desk.specs.declared.device.Device.{Device}
@@ -54,21 +54,67 @@ invariant_of-self-in-Write g c =
 pub invariant_of-self-in-Ioctl : goal.invariant_of-self-in-Ioctl
 invariant_of-self-in-Ioctl g c =
     let old = c.args.self.now in
-    let new = c.ioctl-answer.new.parent in
-    let same = c.ioctl-answer.ensures.output.slots_same in
-    let output = c.ioctl-answer.ensures.output in
+    let new = c.ioctl.new.parent in
+    let same = c.ioctl.ensures.output.slots_same in
+    let output = c.ioctl.ensures.output in
     record {
-      apart = subst HoldApart (sym c.ioctl-answer.ensures.desk) (apart-after (device_of old) (desk_of old) (Ioctl c.in-Ioctl.fd c.in-Ioctl.request) old.apart);
-      own = c.ioctl-answer.ensures.own;
+      apart = subst HoldApart (sym c.ioctl.ensures.desk) (apart-after (device_of old) (desk_of old) (Ioctl c.in-Ioctl.fd c.in-Ioctl.request) old.apart);
+      own = c.ioctl.ensures.own;
       counted = count-within (λ (c : PlayChannelOf _). c.book.done + c.book.written) RING_BYTES old.steps (play_channels old.parent) (play_channels new) same
-          (λ slot other there. let more = (c.ioctl-answer.ensures.channels slot other there).grown in omega (arith, more)) old.counted;
+          (λ slot other there. let more = (c.ioctl.ensures.channels slot other there).grown in omega (arith, more)) old.counted;
       given = count-within (λ (c : PlayChannelOf _). c.book.given) MIX_FRAMES old.steps (play_channels old.parent) (play_channels new) same
-          (λ slot other there. let more = (c.ioctl-answer.ensures.channels slot other there).given in omega (arith, more)) old.given;
-      recorders_own = c.ioctl-answer.ensures.recorders_own;
+          (λ slot other there. let more = (c.ioctl.ensures.channels slot other there).given in omega (arith, more)) old.given;
+      recorders_own = c.ioctl.ensures.recorders_own;
       kept = count-within (λ (c : RecordChannelOf _). c.book.kept) RING_BYTES old.steps (record_channels old.parent) (record_channels new) output.recorders_same
-          (λ slot other there. (c.ioctl-answer.ensures.recorders slot other there).kept) old.kept;
+          (λ slot other there. (c.ioctl.ensures.recorders slot other there).kept) old.kept;
       captured_within = count-within (λ (c : RecordChannelOf _). c.book.captured) RING_FRAMES old.steps (record_channels old.parent) (record_channels new) output.recorders_same
-          (λ slot other there. let more = (c.ioctl-answer.ensures.recorders slot other there).captured in omega (arith, more)) old.captured_within;
+          (λ slot other there. let more = (c.ioctl.ensures.recorders slot other there).captured in omega (arith, more)) old.captured_within;
+      captured_size = old.captured_size ∙ ap (λ (d : Device). d.ring_frames * channels_of d.settings.layout) (sym output.device_same);
+      mixed_within = omega (arith, output.mixed_same, old.mixed_within);
+      handed_within = omega (arith, output.handed_same, old.handed_within);
+    }
+
+pub invariant_of-self-in-Join : goal.invariant_of-self-in-Join
+invariant_of-self-in-Join g c =
+    let old = c.args.self.now in
+    let new = c.join.new.parent in
+    let same = c.join.ensures.output.slots_same in
+    let output = c.join.ensures.output in
+    record {
+      apart = subst HoldApart (sym c.join.ensures.desk) (apart-after (device_of old) (desk_of old) (Join c.in-Join.fd c.in-Join.group) old.apart);
+      own = c.join.ensures.own;
+      counted = count-within (λ (c : PlayChannelOf _). c.book.done + c.book.written) RING_BYTES old.steps (play_channels old.parent) (play_channels new) same
+          (λ slot other there. let more = (c.join.ensures.channels slot other there).grown in omega (arith, more)) old.counted;
+      given = count-within (λ (c : PlayChannelOf _). c.book.given) MIX_FRAMES old.steps (play_channels old.parent) (play_channels new) same
+          (λ slot other there. let more = (c.join.ensures.channels slot other there).given in omega (arith, more)) old.given;
+      recorders_own = c.join.ensures.recorders_own;
+      kept = count-within (λ (c : RecordChannelOf _). c.book.kept) RING_BYTES old.steps (record_channels old.parent) (record_channels new) output.recorders_same
+          (λ slot other there. (c.join.ensures.recorders slot other there).kept) old.kept;
+      captured_within = count-within (λ (c : RecordChannelOf _). c.book.captured) RING_FRAMES old.steps (record_channels old.parent) (record_channels new) output.recorders_same
+          (λ slot other there. let more = (c.join.ensures.recorders slot other there).captured in omega (arith, more)) old.captured_within;
+      captured_size = old.captured_size ∙ ap (λ (d : Device). d.ring_frames * channels_of d.settings.layout) (sym output.device_same);
+      mixed_within = omega (arith, output.mixed_same, old.mixed_within);
+      handed_within = omega (arith, output.handed_same, old.handed_within);
+    }
+
+pub invariant_of-self-in-StartGroup : goal.invariant_of-self-in-StartGroup
+invariant_of-self-in-StartGroup g c =
+    let old = c.args.self.now in
+    let new = c.start_group.new.parent in
+    let same = c.start_group.ensures.output.slots_same in
+    let output = c.start_group.ensures.output in
+    record {
+      apart = subst HoldApart (sym c.start_group.ensures.desk) (apart-after (device_of old) (desk_of old) (StartGroup c.in-StartGroup.fd c.in-StartGroup.group) old.apart);
+      own = c.start_group.ensures.own;
+      counted = count-within (λ (c : PlayChannelOf _). c.book.done + c.book.written) RING_BYTES old.steps (play_channels old.parent) (play_channels new) same
+          (λ slot other there. let more = (c.start_group.ensures.channels slot other there).grown in omega (arith, more)) old.counted;
+      given = count-within (λ (c : PlayChannelOf _). c.book.given) MIX_FRAMES old.steps (play_channels old.parent) (play_channels new) same
+          (λ slot other there. let more = (c.start_group.ensures.channels slot other there).given in omega (arith, more)) old.given;
+      recorders_own = c.start_group.ensures.recorders_own;
+      kept = count-within (λ (c : RecordChannelOf _). c.book.kept) RING_BYTES old.steps (record_channels old.parent) (record_channels new) output.recorders_same
+          (λ slot other there. (c.start_group.ensures.recorders slot other there).kept) old.kept;
+      captured_within = count-within (λ (c : RecordChannelOf _). c.book.captured) RING_FRAMES old.steps (record_channels old.parent) (record_channels new) output.recorders_same
+          (λ slot other there. let more = (c.start_group.ensures.recorders slot other there).captured in omega (arith, more)) old.captured_within;
       captured_size = old.captured_size ∙ ap (λ (d : Device). d.ring_frames * channels_of d.settings.layout) (sym output.device_same);
       mixed_within = omega (arith, output.mixed_same, old.mixed_within);
       handed_within = omega (arith, output.handed_same, old.handed_within);
@@ -104,22 +150,54 @@ interrupt-requires-clause-due g c =
     }
 
 -- every channel is ready for a call
-pub open-answer-requires-clause-served : goal.open-answer-requires-clause-served
-open-answer-requires-clause-served g c = served g.B.Feeder.kind g.B.Feeder.kept c.args.self.now c.requires.ready
+pub open-requires-clause-served : goal.open-requires-clause-served
+open-requires-clause-served g c = served g.B.Feeder.kind g.B.Feeder.kept c.args.self.now c.requires.ready
 
-pub ioctl-answer-requires-clause-served : goal.ioctl-answer-requires-clause-served
-ioctl-answer-requires-clause-served g c = served g.B.Feeder.kind g.B.Feeder.kept c.args.self.now c.requires.ready
+pub ioctl-requires-clause-served : goal.ioctl-requires-clause-served
+ioctl-requires-clause-served g c = served g.B.Feeder.kind g.B.Feeder.kept c.args.self.now c.requires.ready
 
-pub ioctl-answer-requires-clause-here : goal.ioctl-answer-requires-clause-here
-ioctl-answer-requires-clause-here g c =
+pub join-requires-clause-served : goal.join-requires-clause-served
+join-requires-clause-served g c = served g.B.Feeder.kind g.B.Feeder.kept c.args.self.now c.requires.ready
+
+pub start_group-requires-clause-served : goal.start_group-requires-clause-served
+start_group-requires-clause-served g c = served g.B.Feeder.kind g.B.Feeder.kept c.args.self.now c.requires.ready
+
+pub ioctl-requires-clause-here : goal.ioctl-requires-clause-here
+ioctl-requires-clause-here g c =
     let old = c.args.self.now in
     subst IsHere (sym c.here-here.ensures) (here-within g.B.Feeder.kept old c.requires.ready.limits c.requires.ready.bus c.requires.count)
 
-pub ioctl-answer-requires-clause-at : goal.ioctl-answer-requires-clause-at
-ioctl-answer-requires-clause-at g c = c.here-here.ensures ∙ here-seen g.B.Feeder.kept c.args.self.now c.requires.ready.bus
+pub join-requires-clause-here : goal.join-requires-clause-here
+join-requires-clause-here g c =
+    let old = c.args.self.now in
+    subst IsHere (sym c.here-here.ensures) (here-within g.B.Feeder.kept old c.requires.ready.limits c.requires.ready.bus c.requires.count)
 
-pub ioctl-answer-requires-clause-places : goal.ioctl-answer-requires-clause-places
-ioctl-answer-requires-clause-places g c =
+pub start_group-requires-clause-here : goal.start_group-requires-clause-here
+start_group-requires-clause-here g c =
+    let old = c.args.self.now in
+    subst IsHere (sym c.here-here.ensures) (here-within g.B.Feeder.kept old c.requires.ready.limits c.requires.ready.bus c.requires.count)
+
+pub ioctl-requires-clause-at : goal.ioctl-requires-clause-at
+ioctl-requires-clause-at g c = c.here-here.ensures ∙ here-seen g.B.Feeder.kept c.args.self.now c.requires.ready.bus
+
+pub join-requires-clause-at : goal.join-requires-clause-at
+join-requires-clause-at g c = c.here-here.ensures ∙ here-seen g.B.Feeder.kept c.args.self.now c.requires.ready.bus
+
+pub start_group-requires-clause-at : goal.start_group-requires-clause-at
+start_group-requires-clause-at g c = c.here-here.ensures ∙ here-seen g.B.Feeder.kept c.args.self.now c.requires.ready.bus
+
+pub ioctl-requires-clause-places : goal.ioctl-requires-clause-places
+ioctl-requires-clause-places g c =
+    let old = c.args.self.now in
+    subst (λ (here : Here). All (IsPlayHere old.tables here) (play_channels old.parent)) (sym c.here-here.ensures) (channels-here g.B.Feeder.kept old c.requires.ready.bus c.requires.ready.places)
+
+pub join-requires-clause-places : goal.join-requires-clause-places
+join-requires-clause-places g c =
+    let old = c.args.self.now in
+    subst (λ (here : Here). All (IsPlayHere old.tables here) (play_channels old.parent)) (sym c.here-here.ensures) (channels-here g.B.Feeder.kept old c.requires.ready.bus c.requires.ready.places)
+
+pub start_group-requires-clause-places : goal.start_group-requires-clause-places
+start_group-requires-clause-places g c =
     let old = c.args.self.now in
     subst (λ (here : Here). All (IsPlayHere old.tables here) (play_channels old.parent)) (sym c.here-here.ensures) (channels-here g.B.Feeder.kept old c.requires.ready.bus c.requires.ready.places)
 
@@ -136,7 +214,7 @@ invariant_of-self-in-Intr g c =
     let few = mixes-few old.tables c.in-Intr.frames old.parent c.requires.ready.bus.planned.limits fits.1 in
     let books = play_books_of-passed (device_of old) old.parent.handed c.in-Intr.frames (play_channels old.parent) (play_channels new) same c.interrupt.ensures.books in
     let recorded = record_books_of-captured (device_of old) c.in-Intr.frames (record_channels old.parent) (record_channels new) c.interrupt.ensures.recorders_slots (λ slot other there. (c.interrupt.ensures.recorders slot other there).book) in
-    let desk = desk_with-mixed (device_of old) old.parent new old.descriptors.held c.in-Intr.frames books recorded c.interrupt.ensures.handed c.interrupt.ensures.mixed in
+    let desk = desk_with-mixed (device_of old) old.parent new old.descriptors c.in-Intr.frames books recorded c.interrupt.ensures.handed c.interrupt.ensures.mixed in
     let brought = length-captured old.parent.device.settings.layout c.args.pool.now old.parent.handed c.in-Intr.frames c.requires.captures in
     record {
       apart = subst HoldApart (sym desk) (apart-after (device_of old) (desk_of old) (Intr c.in-Intr.frames) old.apart);
@@ -162,7 +240,7 @@ returns-in-Intr-clause-desk g c =
     let n : ℕ = c.in-Intr.frames in
     let books = play_books_of-passed (device_of old) old.parent.handed n (play_channels old.parent) (play_channels new) c.interrupt.ensures.slots c.interrupt.ensures.books in
     let recorded = record_books_of-captured (device_of old) n (record_channels old.parent) (record_channels new) c.interrupt.ensures.recorders_slots (λ slot other there. (c.interrupt.ensures.recorders slot other there).book) in
-    desk_with-mixed (device_of old) old.parent new old.descriptors.held n books recorded c.interrupt.ensures.handed c.interrupt.ensures.mixed
+    desk_with-mixed (device_of old) old.parent new old.descriptors n books recorded c.interrupt.ensures.handed c.interrupt.ensures.mixed
     ∙ sym (ap (λ (event : Event). (after (device_of old) (desk_of old) event).desk) c.in-Intr.is)
 
 pub returns-in-Write-clause-desk : goal.returns-in-Write-clause-desk
@@ -173,7 +251,7 @@ returns-in-Write-clause-desk g c =
 pub returns-in-Write-clause-reply : goal.returns-in-Write-clause-reply
 returns-in-Write-clause-reply g c =
     let old = c.args.self.now in
-    ap (λ (r : Reply). r.result) c.keep-in-Write.ensures ∙ c.write.ensures.turn.reply old.tables (c.here-here.ensures ∙ here-seen g.B.Feeder.kept old c.requires.ready.bus) ∙ ap (λ (n : ℕ). (write_on (device_of old) (held_by (desk_of old) c.in-Write.fd) (desk_of old) n).reply) c.bytes_at-bytes.ensures.length ∙ sym (ap (λ (event : Event). (after (device_of old) (desk_of old) event).reply) c.in-Write.is)
+    ap (λ (r : Reply). r.result) c.tell-in-Write.ensures.kept ∙ c.write.ensures.turn.reply old.tables (c.here-here.ensures ∙ here-seen g.B.Feeder.kept old c.requires.ready.bus) ∙ ap (λ (n : ℕ). (write_on (device_of old) (held_by (desk_of old) c.in-Write.fd) (desk_of old) n).reply) c.bytes_at-bytes.ensures.length ∙ sym (ap (λ (event : Event). (after (device_of old) (desk_of old) event).reply) c.in-Write.is)
 
 pub returns-in-Write-clause-recorders : goal.returns-in-Write-clause-recorders
 returns-in-Write-clause-recorders g c =
@@ -213,8 +291,20 @@ returns-in-Read-clause-recorders g c =
 pub returns-in-Ioctl-clause-channels : goal.returns-in-Ioctl-clause-channels
 returns-in-Ioctl-clause-channels g c =
     let old = c.args.self.now in
-    subst (λ (event : Event). ChannelsMove g.B.Feeder.kind g.B.Feeder.kept (device_of old) c.args.pool.now old.parent.handed event (play_channels old.parent) (play_channels c.ioctl-answer.new.parent)) (sym c.in-Ioctl.is)
-    (c.ioctl-answer.ensures.channels)
+    subst (λ (event : Event). ChannelsMove g.B.Feeder.kind g.B.Feeder.kept (device_of old) c.args.pool.now old.parent.handed event (play_channels old.parent) (play_channels c.ioctl.new.parent)) (sym c.in-Ioctl.is)
+    (c.ioctl.ensures.channels)
+
+pub returns-in-Join-clause-channels : goal.returns-in-Join-clause-channels
+returns-in-Join-clause-channels g c =
+    let old = c.args.self.now in
+    subst (λ (event : Event). ChannelsMove g.B.Feeder.kind g.B.Feeder.kept (device_of old) c.args.pool.now old.parent.handed event (play_channels old.parent) (play_channels c.join.new.parent)) (sym c.in-Join.is)
+    (c.join.ensures.channels)
+
+pub returns-in-StartGroup-clause-channels : goal.returns-in-StartGroup-clause-channels
+returns-in-StartGroup-clause-channels g c =
+    let old = c.args.self.now in
+    subst (λ (event : Event). ChannelsMove g.B.Feeder.kind g.B.Feeder.kept (device_of old) c.args.pool.now old.parent.handed event (play_channels old.parent) (play_channels c.start_group.new.parent)) (sym c.in-StartGroup.is)
+    (c.start_group.ensures.channels)
 
 pub returns-in-Close-clause-desk : goal.returns-in-Close-clause-desk
 returns-in-Close-clause-desk g c =
@@ -224,7 +314,7 @@ returns-in-Close-clause-desk g c =
 pub returns-in-Close-clause-reply : goal.returns-in-Close-clause-reply
 returns-in-Close-clause-reply g c =
     let old = c.args.self.now in
-    ap (λ (r : Reply). r.result) c.keep-in-Close.ensures ∙ c.close.ensures.reply old.tables ∙ sym (ap (λ (event : Event). (after (device_of old) (desk_of old) event).reply) c.in-Close.is)
+    ap (λ (r : Reply). r.result) c.tell-in-Close.ensures.kept ∙ c.close.ensures.reply old.tables ∙ sym (ap (λ (event : Event). (after (device_of old) (desk_of old) event).reply) c.in-Close.is)
 
 pub returns-in-Close-clause-channels : goal.returns-in-Close-clause-channels
 returns-in-Close-clause-channels g c =
@@ -253,21 +343,21 @@ returns-in-Intr-clause-channels g c =
 pub invariant_of-self : goal.invariant_of-self
 invariant_of-self g c =
     let old = c.args.self.now in
-    let new = c.open-answer.new.parent in
-    let same = c.open-answer.ensures.output.slots_same in
-    let output = c.open-answer.ensures.output in
+    let new = c.open.new.parent in
+    let same = c.open.ensures.output.slots_same in
+    let output = c.open.ensures.output in
     record {
-      own = c.open-answer.ensures.own;
-      apart = subst HoldApart (sym c.open-answer.ensures.desk) (apart-after (device_of old) (desk_of old) (Open c.in-Open.fd c.in-Open.way c.in-Open.settings) old.apart);
+      own = c.open.ensures.own;
+      apart = subst HoldApart (sym c.open.ensures.desk) (apart-after (device_of old) (desk_of old) (Open c.in-Open.fd c.in-Open.way c.in-Open.settings) old.apart);
       counted = count-within (λ (c : PlayChannelOf _). c.book.done + c.book.written) RING_BYTES old.steps (play_channels old.parent) (play_channels new) same
-          (λ slot other there. let more = (c.open-answer.ensures.channels slot other there).grown in omega (arith, more)) old.counted;
+          (λ slot other there. let more = (c.open.ensures.channels slot other there).grown in omega (arith, more)) old.counted;
       given = count-within (λ (c : PlayChannelOf _). c.book.given) MIX_FRAMES old.steps (play_channels old.parent) (play_channels new) same
-          (λ slot other there. let more = (c.open-answer.ensures.channels slot other there).given in omega (arith, more)) old.given;
-      recorders_own = c.open-answer.ensures.recorders_own;
+          (λ slot other there. let more = (c.open.ensures.channels slot other there).given in omega (arith, more)) old.given;
+      recorders_own = c.open.ensures.recorders_own;
       kept = count-within (λ (c : RecordChannelOf _). c.book.kept) RING_BYTES old.steps (record_channels old.parent) (record_channels new) output.recorders_same
-          (λ slot other there. (c.open-answer.ensures.recorders slot other there).kept) old.kept;
+          (λ slot other there. (c.open.ensures.recorders slot other there).kept) old.kept;
       captured_within = count-within (λ (c : RecordChannelOf _). c.book.captured) RING_FRAMES old.steps (record_channels old.parent) (record_channels new) output.recorders_same
-          (λ slot other there. let more = (c.open-answer.ensures.recorders slot other there).captured in omega (arith, more)) old.captured_within;
+          (λ slot other there. let more = (c.open.ensures.recorders slot other there).captured in omega (arith, more)) old.captured_within;
       captured_size = old.captured_size ∙ ap (λ (d : Device). d.ring_frames * channels_of d.settings.layout) (sym output.device_same);
       mixed_within = omega (arith, output.mixed_same, old.mixed_within);
       handed_within = omega (arith, output.handed_same, old.handed_within);
@@ -320,14 +410,14 @@ invariant_of-self-in-Read g c =
 pub returns-in-Open-clause-bus : goal.returns-in-Open-clause-bus
 returns-in-Open-clause-bus g c =
     let old = c.args.self.now in
-    bus-stays g.B.Feeder.kept (device_of old) old.parent c.open-answer.new.parent c.open-answer.ensures.output c.requires.ready.bus
+    bus-stays g.B.Feeder.kept (device_of old) old.parent c.open.new.parent c.open.ensures.output c.requires.ready.bus
 
 pub returns-in-Open-clause-turns : goal.returns-in-Open-clause-turns
 returns-in-Open-clause-turns g c =
     let old = c.args.self.now in
-    let new = c.open-answer.new.parent in
+    let new = c.open.new.parent in
     subst (λ (event : Event). BusMoves g.B.Feeder.kept (device_of old) old.parent.handed event (play_channels old.parent) old.parent.bus.chain new.bus.chain old.parent.ring.bytes new.ring.bytes) (sym c.in-Open.is)
-    (bus-same old.parent new c.open-answer.ensures.output)
+    (bus-same old.parent new c.open.ensures.output)
 
 pub returns-in-Write-clause-bus : goal.returns-in-Write-clause-bus
 returns-in-Write-clause-bus g c =
@@ -356,14 +446,38 @@ returns-in-Read-clause-turns g c =
 pub returns-in-Ioctl-clause-bus : goal.returns-in-Ioctl-clause-bus
 returns-in-Ioctl-clause-bus g c =
     let old = c.args.self.now in
-    bus-stays g.B.Feeder.kept (device_of old) old.parent c.ioctl-answer.new.parent c.ioctl-answer.ensures.output c.requires.ready.bus
+    bus-stays g.B.Feeder.kept (device_of old) old.parent c.ioctl.new.parent c.ioctl.ensures.output c.requires.ready.bus
+
+pub returns-in-Join-clause-bus : goal.returns-in-Join-clause-bus
+returns-in-Join-clause-bus g c =
+    let old = c.args.self.now in
+    bus-stays g.B.Feeder.kept (device_of old) old.parent c.join.new.parent c.join.ensures.output c.requires.ready.bus
+
+pub returns-in-StartGroup-clause-bus : goal.returns-in-StartGroup-clause-bus
+returns-in-StartGroup-clause-bus g c =
+    let old = c.args.self.now in
+    bus-stays g.B.Feeder.kept (device_of old) old.parent c.start_group.new.parent c.start_group.ensures.output c.requires.ready.bus
 
 pub returns-in-Ioctl-clause-turns : goal.returns-in-Ioctl-clause-turns
 returns-in-Ioctl-clause-turns g c =
     let old = c.args.self.now in
-    let new = c.ioctl-answer.new.parent in
+    let new = c.ioctl.new.parent in
     subst (λ (event : Event). BusMoves g.B.Feeder.kept (device_of old) old.parent.handed event (play_channels old.parent) old.parent.bus.chain new.bus.chain old.parent.ring.bytes new.ring.bytes) (sym c.in-Ioctl.is)
-    (bus-same old.parent new c.ioctl-answer.ensures.output)
+    (bus-same old.parent new c.ioctl.ensures.output)
+
+pub returns-in-Join-clause-turns : goal.returns-in-Join-clause-turns
+returns-in-Join-clause-turns g c =
+    let old = c.args.self.now in
+    let new = c.join.new.parent in
+    subst (λ (event : Event). BusMoves g.B.Feeder.kept (device_of old) old.parent.handed event (play_channels old.parent) old.parent.bus.chain new.bus.chain old.parent.ring.bytes new.ring.bytes) (sym c.in-Join.is)
+    (bus-same old.parent new c.join.ensures.output)
+
+pub returns-in-StartGroup-clause-turns : goal.returns-in-StartGroup-clause-turns
+returns-in-StartGroup-clause-turns g c =
+    let old = c.args.self.now in
+    let new = c.start_group.new.parent in
+    subst (λ (event : Event). BusMoves g.B.Feeder.kept (device_of old) old.parent.handed event (play_channels old.parent) old.parent.bus.chain new.bus.chain old.parent.ring.bytes new.ring.bytes) (sym c.in-StartGroup.is)
+    (bus-same old.parent new c.start_group.ensures.output)
 
 pub returns-in-Close-clause-bus : goal.returns-in-Close-clause-bus
 returns-in-Close-clause-bus g c =
@@ -394,8 +508,8 @@ interrupt-requires-clause-mixed g c =
 pub returns-in-Open-clause-channels : goal.returns-in-Open-clause-channels
 returns-in-Open-clause-channels g c =
     let old = c.args.self.now in
-    subst (λ (event : Event). ChannelsMove g.B.Feeder.kind g.B.Feeder.kept (device_of old) c.args.pool.now old.parent.handed event (play_channels old.parent) (play_channels c.open-answer.new.parent)) (sym c.in-Open.is)
-    (c.open-answer.ensures.channels)
+    subst (λ (event : Event). ChannelsMove g.B.Feeder.kind g.B.Feeder.kept (device_of old) c.args.pool.now old.parent.handed event (play_channels old.parent) (play_channels c.open.new.parent)) (sym c.in-Open.is)
+    (c.open.ensures.channels)
 
 pub returns-in-Open-clause-refused : goal.returns-in-Open-clause-refused
 returns-in-Open-clause-refused g c = λ err. record { parent_same = search rules; descriptors_same = search rules }

@@ -2,6 +2,7 @@ use Rattle.pcm_desk.specs.declared.device.Held.{Held}
 use Rattle.std.proofs.Common.{◌≡◌, ◌*◌, List, [], Option, None, Some, get_or, sym, ap, ◌∙◌, subst, arith}
 use Rattle.pcm_desk.specs.declared.play_book.PlayBook.{PlayBook}
 use Rattle.pcm_desk.proofs.Apart.{apart-shut}
+use Rattle.pcm_desk.proofs.Members.{waits-none}
 use Rattle.pcm_sound.proofs.Stories.{get_or-same}
 use Rattle.pcm_desk.specs.declared.device.Device.{Device}
 use Rattle.pcm_desk.specs.declared.record_book.RecordBook.{RecordBook}
@@ -9,6 +10,7 @@ use Rattle.pcm_desk.specs.Desk.{play_unopened}
 use Rattle.pcm_desk.specs.Device.{IsInLimits, here_at, mixed_for, seen}
 use Rattle.pcm_format.specs.Layouts.{channels_of}
 use Rattle.pcm_sound.specs.Story.{story_at_start}
+use Rattle.pcm_engine.specs.Desks.{desk_with}
 use Rattle.pcm_engine.specs.Stands.{RecordersStand}
 use Rattle.pcm_engine.proofs.InOrder.{books-start, ready-all}
 use Rattle.pcm_engine.proofs.Starting.{parent-starts, ready-unopened, record-ready-unopened, record_books_of-unopened, recorders-start}
@@ -21,7 +23,7 @@ invariant_of-result g c =
     let parent = c.in_ok-parent.parent in
     record {
       own = λ slot other there. (c.in_ok-parent.ensures.channels slot other there).device_is ∙ sym c.in_ok-parent.ensures.device;
-      apart = apart-shut _ (λ fd held e. let none : None ≡ Some held = sym (get_or-same 64 fd None) ∙ sym (ap (λ (list : List (Option Held)). get_or list fd None) c.all_shut.ensures) ∙ e in cc);
+      apart = apart-shut _ (λ fd held e. let none : None ≡ Some held = sym (get_or-same 64 fd None) ∙ sym (ap (λ (list : List (Option Held)). get_or list fd None) c.all_shut.ensures.held) ∙ e in cc);
       recorders_own = λ slot other there. (c.in_ok-parent.ensures.recording slot other there).device_is ∙ sym c.in_ok-parent.ensures.device;
       counted = λ slot other there.
           let book = (c.in_ok-parent.ensures.channels slot other there).book in
@@ -53,6 +55,7 @@ returns-clause-ready g c = ready-all g.B.Feeder.kind g.B.Feeder.kept _
     let e = c.in_ok-parent.ensures in
     books-start c.args.tables parent.device (play_channels parent) slot (here_at (seen c.args.tables parent.device) parent.handed)
     (λ at other there. (e.channels at other there).book ∙ ap (λ (d : Device). play_unopened (seen c.args.tables d)) (sym e.device)))
+    (waits-none (seen c.args.tables c.in_ok-parent.parent.device) (desk_with c.in_ok-parent.parent c.all_shut.result) c.all_shut.ensures.groups)
 
 pub returns-clause-stands : goal.returns-clause-stands
 returns-clause-stands g c = λ pool.
@@ -61,6 +64,6 @@ returns-clause-stands g c = λ pool.
     let books = record_books_of-unopened g.B.Feeder.kind g.B.Feeder.kept c.args.tables c.args.device (record_channels parent) e.recorders e.recording in
     let started = recorders-start g.B.Feeder.kind g.B.Feeder.kept c.args.tables c.args.device pool (record_channels parent) c.requires.limits.device_is e.recording in
     record {
-      playing = parent-starts g.B.Feeder.kind g.B.Feeder.kept c.args.tables c.args.device parent c.all_shut.result.held c.requires.limits.device_is c.all_shut.ensures e.device e.slots books e.channels e.made e.ring e.handed e.mixed;
+      playing = parent-starts g.B.Feeder.kind g.B.Feeder.kept c.args.tables c.args.device parent c.all_shut.result c.requires.limits.device_is c.all_shut.ensures.held c.all_shut.ensures.groups e.device e.slots books e.channels e.made e.ring e.handed e.mixed;
       recording = subst (λ (d : Device). RecordersStand g.B.Feeder.kept (seen c.args.tables d) pool (record_channels parent) (story_at_start (seen c.args.tables d))) (sym e.device) started;
     }

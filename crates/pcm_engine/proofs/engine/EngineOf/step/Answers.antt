@@ -10,8 +10,13 @@ use Rattle.pcm_play.specs.Channels.{IsPlayReady}
 use Rattle.pcm_record.specs.Channels.{IsRecordReady}
 use Rattle.pcm_sound.specs.StoryReplies.{bytes_to}
 use Rattle.pcm_desk.specs.Desk.{Desk, after, held_by}
-use Rattle.pcm_desk.specs.Own.{IsIsolated}
-use Rattle.pcm_sound.specs.Story.{story_of, story_at_start}
+use Rattle.pcm_desk.specs.Own.{IsIsolated, MembersWait}
+use Rattle.pcm_desk.proofs.Members.{waits-after}
+use Rattle.pcm_oss.specs.declared.event.Event.TheVariants.{StartGroup}
+use Rattle.pcm_sound.specs.Together.{StartAsOne}
+use Rattle.pcm_sound.proofs.Together.{start-as-one}
+use Rattle.std.specs.Prelude.{IsOk}
+use Rattle.pcm_sound.specs.Story.{story_of, story_at_start, told}
 use Rattle.pcm_sound.specs.DeviceList.{device_body}
 use Rattle.pcm_sound.specs.Valid.{StoryIsValid}
 use Rattle.pcm_sound.proofs.Plain.{plain-body}
@@ -44,7 +49,10 @@ returns-clause-ready g c =
     subst (λ (d : DeviceSeen). BooksAreHere d (desk_of new)) (sym same)
     (subst (BooksAreHere (device_of old)) (sym c.apply.ensures.desk) (λ slot.
     (order-after (device_of old) c.args.pool.now (desk_of old) c.args.event.now slot d c.requires.fits (books-rates old d) (record { counts = c.requires.ready.books slot; place = c.requires.ready.places slot })).place)) in
-    ready-all g.B.Feeder.kind g.B.Feeder.kept new playing recording bus limits places
+    let members : MembersWait (device_of new) (desk_of new) =
+    subst (λ (d : DeviceSeen). MembersWait d (desk_of new)) (sym same)
+    (subst (MembersWait (device_of old)) (sym c.apply.ensures.desk) (waits-after (device_of old) (desk_of old) c.args.event.now old.apart c.requires.ready.members)) in
+    ready-all g.B.Feeder.kind g.B.Feeder.kept new playing recording bus limits places members
 
 pub returns-clause-stands : goal.returns-clause-stands
 returns-clause-stands g c = λ events s.
@@ -126,6 +134,20 @@ returns-clause-records_safe g c = (returns-clause-ready g c).records
 
 pub returns-clause-rings : goal.returns-clause-rings
 returns-clause-rings g c = rings-hold c.apply.new.self
+
+pub returns-clause-members : goal.returns-clause-members
+returns-clause-members g c = (returns-clause-ready g c).members
+
+pub returns-clause-together : goal.returns-clause-together
+returns-clause-together g c = λ events fd group s is ok.
+    let old = c.args.self.now in
+    let device = device_of old in
+    let pool = c.args.pool.now in
+    let story = story_of device pool events in
+    let accepted : IsOk (after device story.desk (StartGroup fd group)).reply =
+    subst IsOk (c.apply.ensures.reply ∙ ap (λ (d : Desk). (after device d c.args.event.now).reply) s.playing.desk_is ∙ ap (λ (event : Event). (after device story.desk event).reply) is) ok in
+    let started = start-as-one device pool story fd group s.playing.valid (subst (MembersWait device) s.playing.desk_is c.requires.ready.members) accepted in
+    subst (StartAsOne device group story) (ap (told device pool story) (sym is) ∙ sym (told_all-push device pool (story_at_start device) events c.args.event.now)) started
 
 pub returns-clause-isolated : goal.returns-clause-isolated
 returns-clause-isolated g c =

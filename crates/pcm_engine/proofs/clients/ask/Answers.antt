@@ -21,7 +21,7 @@ use Rattle.pcm_vchan.specs.Parents.{play_channels, record_channels}
 use Rattle.pcm_oss.specs.Replies.{bytes_due}
 use Rattle.pcm_engine.specs.Desks.{desk_with}
 use Rattle.pcm_engine.proofs.Turning.{desk-played, desk-recorded, own-lent, play-there, record-there, reply-played, reply-recorded, turning-held, holding-is}
-use Rattle.pcm_engine.proofs.clients.ioctl.Goals as goal
+use Rattle.pcm_engine.proofs.clients.ask.Goals as goal
 
 pub returns-in_err-held-clause-channels : goal.returns-in_err-held-clause-channels
 returns-in_err-held-clause-channels g c = λ slot other there. moves-nothing g.B.Feeder.kind g.B.Feeder.kept c.args.tables.now [] 0 (get_or (play_channels c.args.parent.now) slot other)
@@ -33,64 +33,64 @@ pub play-requires : goal.play-requires
 play-requires g c =
     let parent = c.args.parent.now in
     let held = c.in_ok-held.held in
-    let e = holding-is (held_by (desk_with parent c.args.descriptors.now.held) c.args.fd) c.in_ok-held.held (sym c.holding.ensures ∙ c.in_ok-held.was) in
-    let there = play-there parent c.args.descriptors.now.held c.args.fd held c.requires.apart e c.in-Play.is in
+    let e = holding-is (held_by (desk_with parent c.args.descriptors.now) c.args.fd) c.in_ok-held.held (sym c.holding.ensures ∙ c.in_ok-held.was) in
+    let there = play-there parent c.args.descriptors.now c.args.fd held c.requires.apart e c.in-Play.is in
     omega (arith, there, items-count parent.channels)
 
 pub ioctl-requires-clause-kinds : goal.ioctl-requires-clause-kinds
 ioctl-requires-clause-kinds g c =
     let parent = c.args.parent.now in
     let held = c.in_ok-held.held in
-    let e = holding-is (held_by (desk_with parent c.args.descriptors.now.held) c.args.fd) c.in_ok-held.held (sym c.holding.ensures ∙ c.in_ok-held.was) in
-    let there = play-there parent c.args.descriptors.now.held c.args.fd held c.requires.apart e c.in-Play.is in
+    let e = holding-is (held_by (desk_with parent c.args.descriptors.now) c.args.fd) c.in_ok-held.held (sym c.holding.ensures ∙ c.in_ok-held.was) in
+    let there = play-there parent c.args.descriptors.now c.args.fd held c.requires.apart e c.in-Play.is in
     subst (λ (channel : PlayChannelOf _). HaveKinds g.B.Feeder.kind (boxes_in channel.path.chain)) (sym c.play.ensures.value) (c.requires.served.ready held.slot c.play.result.now there).kinds
 
 pub ioctl-requires-clause-planned : goal.ioctl-requires-clause-planned
 ioctl-requires-clause-planned g c =
     let parent = c.args.parent.now in
     let held = c.in_ok-held.held in
-    let e = holding-is (held_by (desk_with parent c.args.descriptors.now.held) c.args.fd) c.in_ok-held.held (sym c.holding.ensures ∙ c.in_ok-held.was) in
-    let there = play-there parent c.args.descriptors.now.held c.args.fd held c.requires.apart e c.in-Play.is in
+    let e = holding-is (held_by (desk_with parent c.args.descriptors.now) c.args.fd) c.in_ok-held.held (sym c.holding.ensures ∙ c.in_ok-held.was) in
+    let there = play-there parent c.args.descriptors.now c.args.fd held c.requires.apart e c.in-Play.is in
     subst (IsPlayPlanned c.args.tables.now) (sym c.play.ensures.value) (c.requires.served.ready held.slot c.play.result.now there).planned
 
 pub ioctl-requires-clause-count : goal.ioctl-requires-clause-count
 ioctl-requires-clause-count g c =
     let parent = c.args.parent.now in
     let held = c.in_ok-held.held in
-    let e = holding-is (held_by (desk_with parent c.args.descriptors.now.held) c.args.fd) c.in_ok-held.held (sym c.holding.ensures ∙ c.in_ok-held.was) in
-    let there = play-there parent c.args.descriptors.now.held c.args.fd held c.requires.apart e c.in-Play.is in
+    let e = holding-is (held_by (desk_with parent c.args.descriptors.now) c.args.fd) c.in_ok-held.held (sym c.holding.ensures ∙ c.in_ok-held.was) in
+    let there = play-there parent c.args.descriptors.now c.args.fd held c.requires.apart e c.in-Play.is in
     subst (λ (channel : PlayChannelOf _). channel.book.done + channel.book.written < 18446744073709551616) (sym c.play.ensures.value) (c.requires.count held.slot c.play.result.now there)
 
 pub ioctl-requires-clause-at : goal.ioctl-requires-clause-at
 ioctl-requires-clause-at g c =
     let parent = c.args.parent.now in
     let held = c.in_ok-held.held in
-    let e = holding-is (held_by (desk_with parent c.args.descriptors.now.held) c.args.fd) c.in_ok-held.held (sym c.holding.ensures ∙ c.in_ok-held.was) in
-    let there = play-there parent c.args.descriptors.now.held c.args.fd held c.requires.apart e c.in-Play.is in
+    let e = holding-is (held_by (desk_with parent c.args.descriptors.now) c.args.fd) c.in_ok-held.held (sym c.holding.ensures ∙ c.in_ok-held.was) in
+    let there = play-there parent c.args.descriptors.now c.args.fd held c.requires.apart e c.in-Play.is in
     subst (IsPlayHere c.args.tables.now c.args.here) (sym c.play.ensures.value) (c.requires.places held.slot c.play.result.now there)
 
 pub recorder-requires : goal.recorder-requires
 recorder-requires g c =
     let parent = c.args.parent.now in
     let held = c.in_ok-held.held in
-    let e = holding-is (held_by (desk_with parent c.args.descriptors.now.held) c.args.fd) c.in_ok-held.held (sym c.holding.ensures ∙ c.in_ok-held.was) in
-    let there = record-there parent c.args.descriptors.now.held c.args.fd held c.requires.apart e c.in-Record.is in
+    let e = holding-is (held_by (desk_with parent c.args.descriptors.now) c.args.fd) c.in_ok-held.held (sym c.holding.ensures ∙ c.in_ok-held.was) in
+    let there = record-there parent c.args.descriptors.now c.args.fd held c.requires.apart e c.in-Record.is in
     omega (arith, there, items-count parent.recorders)
 
 pub ioctl-requires-in-Record-clause-kinds : goal.ioctl-requires-in-Record-clause-kinds
 ioctl-requires-in-Record-clause-kinds g c =
     let parent = c.args.parent.now in
     let held = c.in_ok-held.held in
-    let e = holding-is (held_by (desk_with parent c.args.descriptors.now.held) c.args.fd) c.in_ok-held.held (sym c.holding.ensures ∙ c.in_ok-held.was) in
-    let there = record-there parent c.args.descriptors.now.held c.args.fd held c.requires.apart e c.in-Record.is in
+    let e = holding-is (held_by (desk_with parent c.args.descriptors.now) c.args.fd) c.in_ok-held.held (sym c.holding.ensures ∙ c.in_ok-held.was) in
+    let there = record-there parent c.args.descriptors.now c.args.fd held c.requires.apart e c.in-Record.is in
     subst (λ (channel : RecordChannelOf _). HaveKinds g.B.Feeder.kind (boxes_in channel.path.chain)) (sym c.recorder.ensures.value) (c.requires.served.recorders_ready held.slot c.recorder.result.now there).kinds
 
 pub ioctl-requires-in-Record-clause-planned : goal.ioctl-requires-in-Record-clause-planned
 ioctl-requires-in-Record-clause-planned g c =
     let parent = c.args.parent.now in
     let held = c.in_ok-held.held in
-    let e = holding-is (held_by (desk_with parent c.args.descriptors.now.held) c.args.fd) c.in_ok-held.held (sym c.holding.ensures ∙ c.in_ok-held.was) in
-    let there = record-there parent c.args.descriptors.now.held c.args.fd held c.requires.apart e c.in-Record.is in
+    let e = holding-is (held_by (desk_with parent c.args.descriptors.now) c.args.fd) c.in_ok-held.held (sym c.holding.ensures ∙ c.in_ok-held.was) in
+    let there = record-there parent c.args.descriptors.now c.args.fd held c.requires.apart e c.in-Record.is in
     subst (IsRecordPlanned c.args.tables.now) (sym c.recorder.ensures.value) (c.requires.served.recorders_ready held.slot c.recorder.result.now there).planned
 
 pub returns-in-Play-clause-silent : goal.returns-in-Play-clause-silent
@@ -101,15 +101,15 @@ pub returns-in-Play-clause-own : goal.returns-in-Play-clause-own
 returns-in-Play-clause-own g c =
     let parent = c.args.parent.now in
     let held = c.in_ok-held.held in
-    let e = holding-is (held_by (desk_with parent c.args.descriptors.now.held) c.args.fd) c.in_ok-held.held (sym c.holding.ensures ∙ c.in_ok-held.was) in
-    let there = play-there parent c.args.descriptors.now.held c.args.fd held c.requires.apart e c.in-Play.is in
+    let e = holding-is (held_by (desk_with parent c.args.descriptors.now) c.args.fd) c.in_ok-held.held (sym c.holding.ensures ∙ c.in_ok-held.was) in
+    let there = play-there parent c.args.descriptors.now c.args.fd held c.requires.apart e c.in-Play.is in
     own_set (λ (channel : PlayChannelOf _). channel.path.device) parent.device (play_channels parent) held.slot c.play.result.now c.ioctl.new.self there c.play.ensures.value c.ioctl.ensures.device c.requires.served.own
 
 pub returns-in-Play-clause-refused : goal.returns-in-Play-clause-refused
 returns-in-Play-clause-refused g c =
     let parent = c.args.parent.now in
     let held = c.in_ok-held.held in
-    let e = holding-is (held_by (desk_with parent c.args.descriptors.now.held) c.args.fd) c.in_ok-held.held (sym c.holding.ensures ∙ c.in_ok-held.was) in
+    let e = holding-is (held_by (desk_with parent c.args.descriptors.now) c.args.fd) c.in_ok-held.held (sym c.holding.ensures ∙ c.in_ok-held.was) in
     on_err_weaker c.ioctl.result
     (λ same. parent_same _ parent refl (item-kept parent.channels held.slot c.ioctl.new.self c.play.result.now (same ∙ c.play.ensures.value)) refl refl refl refl refl refl)
     c.ioctl.ensures.refused
@@ -118,32 +118,32 @@ pub returns-in-Play-clause-desk : goal.returns-in-Play-clause-desk
 returns-in-Play-clause-desk g c =
     let parent = c.args.parent.now in
     let held = c.in_ok-held.held in
-    let e = holding-is (held_by (desk_with parent c.args.descriptors.now.held) c.args.fd) c.in_ok-held.held (sym c.holding.ensures ∙ c.in_ok-held.was) in
-    let there = play-there parent c.args.descriptors.now.held c.args.fd held c.requires.apart e c.in-Play.is in
+    let e = holding-is (held_by (desk_with parent c.args.descriptors.now) c.args.fd) c.in_ok-held.held (sym c.holding.ensures ∙ c.in_ok-held.was) in
+    let there = play-there parent c.args.descriptors.now c.args.fd held c.requires.apart e c.in-Play.is in
     let lent = c.play.result.now in
     let own = own-lent parent.device (play_channels parent) held.slot lent there c.play.ensures.value c.requires.served.own in
-    desk-played (seen c.args.tables.now parent.device) (asking (seen c.args.tables.now parent.device) (desk_here (seen c.args.tables.now parent.device) (desk_with parent c.args.descriptors.now.held)) c.args.request) parent c.args.descriptors.now.held held.slot lent c.ioctl.new.self there c.play.ensures.value
+    desk-played (seen c.args.tables.now parent.device) (asking (seen c.args.tables.now parent.device) (desk_here (seen c.args.tables.now parent.device) (desk_with parent c.args.descriptors.now)) c.args.request) parent c.args.descriptors.now held.slot lent c.ioctl.new.self there c.play.ensures.value
     (c.ioctl.ensures.book ∙ ap (λ (d : Device). (asking (seen c.args.tables.now d) c.args.here c.args.request lent.book).book) own ∙ ap (λ (here : Here). (asking (seen c.args.tables.now parent.device) here c.args.request lent.book).book) c.requires.at)
-    ∙ sym (ap (λ (t : DeskTurn). t.desk) (turning-held Play (play_turn (seen c.args.tables.now parent.device) (asking (seen c.args.tables.now parent.device) (desk_here (seen c.args.tables.now parent.device) (desk_with parent c.args.descriptors.now.held)) c.args.request) (desk_with parent c.args.descriptors.now.held)) (record_turn (seen c.args.tables.now parent.device) (record_ask c.args.request) (desk_with parent c.args.descriptors.now.held)) (held_by (desk_with parent c.args.descriptors.now.held) c.args.fd) held (desk_with parent c.args.descriptors.now.held) e c.in-Play.is))
+    ∙ sym (ap (λ (t : DeskTurn). t.desk) (turning-held Play (play_turn (seen c.args.tables.now parent.device) (asking (seen c.args.tables.now parent.device) (desk_here (seen c.args.tables.now parent.device) (desk_with parent c.args.descriptors.now)) c.args.request) (desk_with parent c.args.descriptors.now)) (record_turn (seen c.args.tables.now parent.device) (record_ask c.args.request) (desk_with parent c.args.descriptors.now)) (held_by (desk_with parent c.args.descriptors.now) c.args.fd) held (desk_with parent c.args.descriptors.now) e c.in-Play.is))
 
 pub returns-in-Play-clause-reply : goal.returns-in-Play-clause-reply
 returns-in-Play-clause-reply g c =
     let parent = c.args.parent.now in
     let held = c.in_ok-held.held in
-    let e = holding-is (held_by (desk_with parent c.args.descriptors.now.held) c.args.fd) c.in_ok-held.held (sym c.holding.ensures ∙ c.in_ok-held.was) in
-    let there = play-there parent c.args.descriptors.now.held c.args.fd held c.requires.apart e c.in-Play.is in
+    let e = holding-is (held_by (desk_with parent c.args.descriptors.now) c.args.fd) c.in_ok-held.held (sym c.holding.ensures ∙ c.in_ok-held.was) in
+    let there = play-there parent c.args.descriptors.now c.args.fd held c.requires.apart e c.in-Play.is in
     let lent = c.play.result.now in
     let own = own-lent parent.device (play_channels parent) held.slot lent there c.play.ensures.value c.requires.served.own in
-    reply-played (seen c.args.tables.now parent.device) (asking (seen c.args.tables.now parent.device) (desk_here (seen c.args.tables.now parent.device) (desk_with parent c.args.descriptors.now.held)) c.args.request) parent c.args.descriptors.now.held held.slot lent c.ioctl.result there c.play.ensures.value
+    reply-played (seen c.args.tables.now parent.device) (asking (seen c.args.tables.now parent.device) (desk_here (seen c.args.tables.now parent.device) (desk_with parent c.args.descriptors.now)) c.args.request) parent c.args.descriptors.now held.slot lent c.ioctl.result there c.play.ensures.value
     (c.ioctl.ensures.reply ∙ ap (λ (d : Device). (asking (seen c.args.tables.now d) c.args.here c.args.request lent.book).reply) own ∙ ap (λ (here : Here). (asking (seen c.args.tables.now parent.device) here c.args.request lent.book).reply) c.requires.at)
-    ∙ sym (ap (λ (t : DeskTurn). t.reply) (turning-held Play (play_turn (seen c.args.tables.now parent.device) (asking (seen c.args.tables.now parent.device) (desk_here (seen c.args.tables.now parent.device) (desk_with parent c.args.descriptors.now.held)) c.args.request) (desk_with parent c.args.descriptors.now.held)) (record_turn (seen c.args.tables.now parent.device) (record_ask c.args.request) (desk_with parent c.args.descriptors.now.held)) (held_by (desk_with parent c.args.descriptors.now.held) c.args.fd) held (desk_with parent c.args.descriptors.now.held) e c.in-Play.is))
+    ∙ sym (ap (λ (t : DeskTurn). t.reply) (turning-held Play (play_turn (seen c.args.tables.now parent.device) (asking (seen c.args.tables.now parent.device) (desk_here (seen c.args.tables.now parent.device) (desk_with parent c.args.descriptors.now)) c.args.request) (desk_with parent c.args.descriptors.now)) (record_turn (seen c.args.tables.now parent.device) (record_ask c.args.request) (desk_with parent c.args.descriptors.now)) (held_by (desk_with parent c.args.descriptors.now) c.args.fd) held (desk_with parent c.args.descriptors.now) e c.in-Play.is))
 
 pub returns-in-Play-clause-channels : goal.returns-in-Play-clause-channels
 returns-in-Play-clause-channels g c =
     let parent = c.args.parent.now in
     let held = c.in_ok-held.held in
-    let e = holding-is (held_by (desk_with parent c.args.descriptors.now.held) c.args.fd) c.in_ok-held.held (sym c.holding.ensures ∙ c.in_ok-held.was) in
-    let there = play-there parent c.args.descriptors.now.held c.args.fd held c.requires.apart e c.in-Play.is in
+    let e = holding-is (held_by (desk_with parent c.args.descriptors.now) c.args.fd) c.in_ok-held.held (sym c.holding.ensures ∙ c.in_ok-held.was) in
+    let there = play-there parent c.args.descriptors.now c.args.fd held c.requires.apart e c.in-Play.is in
     each_set (PlayMoves g.B.Feeder.kind g.B.Feeder.kept c.args.tables.now [] 0) (play_channels parent) held.slot c.play.result.now c.ioctl.new.self there c.play.ensures.value c.ioctl.ensures.moves
     (moves-nothing g.B.Feeder.kind g.B.Feeder.kept c.args.tables.now [] 0)
 
@@ -158,15 +158,15 @@ pub returns-in-Record-clause-recorders_own : goal.returns-in-Record-clause-recor
 returns-in-Record-clause-recorders_own g c =
     let parent = c.args.parent.now in
     let held = c.in_ok-held.held in
-    let e = holding-is (held_by (desk_with parent c.args.descriptors.now.held) c.args.fd) c.in_ok-held.held (sym c.holding.ensures ∙ c.in_ok-held.was) in
-    let there = record-there parent c.args.descriptors.now.held c.args.fd held c.requires.apart e c.in-Record.is in
+    let e = holding-is (held_by (desk_with parent c.args.descriptors.now) c.args.fd) c.in_ok-held.held (sym c.holding.ensures ∙ c.in_ok-held.was) in
+    let there = record-there parent c.args.descriptors.now c.args.fd held c.requires.apart e c.in-Record.is in
     own_set (λ (channel : RecordChannelOf _). channel.path.device) parent.device (record_channels parent) held.slot c.recorder.result.now c.ioctl-in-Record.new.self there c.recorder.ensures.value c.ioctl-in-Record.ensures.device c.requires.served.recorders_own
 
 pub returns-in-Record-clause-refused : goal.returns-in-Record-clause-refused
 returns-in-Record-clause-refused g c =
     let parent = c.args.parent.now in
     let held = c.in_ok-held.held in
-    let e = holding-is (held_by (desk_with parent c.args.descriptors.now.held) c.args.fd) c.in_ok-held.held (sym c.holding.ensures ∙ c.in_ok-held.was) in
+    let e = holding-is (held_by (desk_with parent c.args.descriptors.now) c.args.fd) c.in_ok-held.held (sym c.holding.ensures ∙ c.in_ok-held.was) in
     on_err_weaker c.ioctl-in-Record.result
     (λ same. parent_same _ parent refl refl (item-kept parent.recorders held.slot c.ioctl-in-Record.new.self c.recorder.result.now (same ∙ c.recorder.ensures.value)) refl refl refl refl refl)
     c.ioctl-in-Record.ensures.refused
@@ -175,19 +175,19 @@ pub returns-in-Record-clause-desk : goal.returns-in-Record-clause-desk
 returns-in-Record-clause-desk g c =
     let parent = c.args.parent.now in
     let held = c.in_ok-held.held in
-    let e = holding-is (held_by (desk_with parent c.args.descriptors.now.held) c.args.fd) c.in_ok-held.held (sym c.holding.ensures ∙ c.in_ok-held.was) in
-    let there = record-there parent c.args.descriptors.now.held c.args.fd held c.requires.apart e c.in-Record.is in
-    desk-recorded (seen c.args.tables.now parent.device) (record_ask c.args.request) parent c.args.descriptors.now.held held.slot c.recorder.result.now c.ioctl-in-Record.new.self there c.recorder.ensures.value c.ioctl-in-Record.ensures.book
-    ∙ sym (ap (λ (t : DeskTurn). t.desk) (turning-held Record (play_turn (seen c.args.tables.now parent.device) (asking (seen c.args.tables.now parent.device) (desk_here (seen c.args.tables.now parent.device) (desk_with parent c.args.descriptors.now.held)) c.args.request) (desk_with parent c.args.descriptors.now.held)) (record_turn (seen c.args.tables.now parent.device) (record_ask c.args.request) (desk_with parent c.args.descriptors.now.held)) (held_by (desk_with parent c.args.descriptors.now.held) c.args.fd) held (desk_with parent c.args.descriptors.now.held) e c.in-Record.is))
+    let e = holding-is (held_by (desk_with parent c.args.descriptors.now) c.args.fd) c.in_ok-held.held (sym c.holding.ensures ∙ c.in_ok-held.was) in
+    let there = record-there parent c.args.descriptors.now c.args.fd held c.requires.apart e c.in-Record.is in
+    desk-recorded (seen c.args.tables.now parent.device) (record_ask c.args.request) parent c.args.descriptors.now held.slot c.recorder.result.now c.ioctl-in-Record.new.self there c.recorder.ensures.value c.ioctl-in-Record.ensures.book
+    ∙ sym (ap (λ (t : DeskTurn). t.desk) (turning-held Record (play_turn (seen c.args.tables.now parent.device) (asking (seen c.args.tables.now parent.device) (desk_here (seen c.args.tables.now parent.device) (desk_with parent c.args.descriptors.now)) c.args.request) (desk_with parent c.args.descriptors.now)) (record_turn (seen c.args.tables.now parent.device) (record_ask c.args.request) (desk_with parent c.args.descriptors.now)) (held_by (desk_with parent c.args.descriptors.now) c.args.fd) held (desk_with parent c.args.descriptors.now) e c.in-Record.is))
 
 pub returns-in-Record-clause-reply : goal.returns-in-Record-clause-reply
 returns-in-Record-clause-reply g c =
     let parent = c.args.parent.now in
     let held = c.in_ok-held.held in
-    let e = holding-is (held_by (desk_with parent c.args.descriptors.now.held) c.args.fd) c.in_ok-held.held (sym c.holding.ensures ∙ c.in_ok-held.was) in
-    let there = record-there parent c.args.descriptors.now.held c.args.fd held c.requires.apart e c.in-Record.is in
-    reply-recorded (seen c.args.tables.now parent.device) (record_ask c.args.request) parent c.args.descriptors.now.held held.slot c.recorder.result.now c.ioctl-in-Record.result there c.recorder.ensures.value c.ioctl-in-Record.ensures.reply
-    ∙ sym (ap (λ (t : DeskTurn). t.reply) (turning-held Record (play_turn (seen c.args.tables.now parent.device) (asking (seen c.args.tables.now parent.device) (desk_here (seen c.args.tables.now parent.device) (desk_with parent c.args.descriptors.now.held)) c.args.request) (desk_with parent c.args.descriptors.now.held)) (record_turn (seen c.args.tables.now parent.device) (record_ask c.args.request) (desk_with parent c.args.descriptors.now.held)) (held_by (desk_with parent c.args.descriptors.now.held) c.args.fd) held (desk_with parent c.args.descriptors.now.held) e c.in-Record.is))
+    let e = holding-is (held_by (desk_with parent c.args.descriptors.now) c.args.fd) c.in_ok-held.held (sym c.holding.ensures ∙ c.in_ok-held.was) in
+    let there = record-there parent c.args.descriptors.now c.args.fd held c.requires.apart e c.in-Record.is in
+    reply-recorded (seen c.args.tables.now parent.device) (record_ask c.args.request) parent c.args.descriptors.now held.slot c.recorder.result.now c.ioctl-in-Record.result there c.recorder.ensures.value c.ioctl-in-Record.ensures.reply
+    ∙ sym (ap (λ (t : DeskTurn). t.reply) (turning-held Record (play_turn (seen c.args.tables.now parent.device) (asking (seen c.args.tables.now parent.device) (desk_here (seen c.args.tables.now parent.device) (desk_with parent c.args.descriptors.now)) c.args.request) (desk_with parent c.args.descriptors.now)) (record_turn (seen c.args.tables.now parent.device) (record_ask c.args.request) (desk_with parent c.args.descriptors.now)) (held_by (desk_with parent c.args.descriptors.now) c.args.fd) held (desk_with parent c.args.descriptors.now) e c.in-Record.is))
 
 pub returns-in-Record-clause-channels : goal.returns-in-Record-clause-channels
 returns-in-Record-clause-channels g c = λ slot other there. moves-nothing g.B.Feeder.kind g.B.Feeder.kept c.args.tables.now [] 0 (get_or (play_channels c.args.parent.now) slot other)
@@ -196,7 +196,7 @@ pub returns-in-Record-clause-recorders : goal.returns-in-Record-clause-recorders
 returns-in-Record-clause-recorders g c =
     let parent = c.args.parent.now in
     let held = c.in_ok-held.held in
-    let e = holding-is (held_by (desk_with parent c.args.descriptors.now.held) c.args.fd) c.in_ok-held.held (sym c.holding.ensures ∙ c.in_ok-held.was) in
-    let there = record-there parent c.args.descriptors.now.held c.args.fd held c.requires.apart e c.in-Record.is in
+    let e = holding-is (held_by (desk_with parent c.args.descriptors.now) c.args.fd) c.in_ok-held.held (sym c.holding.ensures ∙ c.in_ok-held.was) in
+    let there = record-there parent c.args.descriptors.now c.args.fd held c.requires.apart e c.in-Record.is in
     each_set (RecordMoves g.B.Feeder.kind g.B.Feeder.kept c.args.tables.now [] 0) (record_channels parent) held.slot c.recorder.result.now c.ioctl-in-Record.new.self there c.recorder.ensures.value c.ioctl-in-Record.ensures.moves
     (recorders.moves-nothing g.B.Feeder.kind g.B.Feeder.kept c.args.tables.now [] 0)

@@ -1,0 +1,153 @@
+//! What clients ask that groups have a part in.
+
+ghost use Rattle.std.specs.Prelude.{◌≡◌, ◌<◌, [], All, OnErr};
+ghost use Rattle.pcm_fixed.specs.Fixed.{fixed_len};
+ghost use Rattle.pcm_oss.specs.declared.event.Way.TheVariants.{Play, Record};
+ghost use Rattle.pcm_oss.specs.Replies.{bytes_due};
+ghost use Rattle.pcm_desk.specs.declared.limits.TheConstants.{DESCRIPTORS};
+ghost use Rattle.pcm_desk.specs.Desk.{rests};
+ghost use Rattle.pcm_desk.specs.Device.{DeviceSeen};
+ghost use Rattle.pcm_desk.specs.Here.{IsHere};
+ghost use Rattle.pcm_desk.specs.Own.{HoldApart};
+ghost use Rattle.pcm_play.specs.Channels.{IsPlayHere};
+ghost use Rattle.pcm_vchan.specs.Slots.{PlayAreOf, RecordAreOf};
+ghost use Rattle.pcm_vchan.specs.Parents.{play_channels, record_channels, AreServed, EachPlayMoves, EachRecordMoves, KeepsOutput, TotalsFit};
+ghost use Rattle.pcm_engine.specs.declared.descriptors.Descriptors.{Descriptors};
+ghost use Rattle.pcm_engine.specs.Desks.{desk_with, join_call, request_call, start_call, ChangesBy, IsAt, RepliesBy};
+
+use crate::clients::ask;
+use crate::descriptors::Descriptors;
+use pcm_desk::{Held, Here};
+use pcm_feeder::{Feeder, Tables};
+use pcm_oss::{Answer, Errno, Request, Way};
+use pcm_vchan::ParentOf;
+
+/// Asks something of the channel that a descriptor holds. A sync leaves its group first, and the trigger of a member is refused.
+pub fn ioctl<B: Feeder>(
+    parent: &mut ParentOf<B>,
+    tables: &Tables,
+    descriptors: &mut Descriptors,
+    fd: u8,
+    request: Request,
+    here: Here,
+) -> Result<Answer, Errno>
+    requires fd { fd < DESCRIPTORS }
+    requires apart { HoldApart (desk_with parent.old descriptors.old) }
+    requires served { AreServed B.kind B.kept tables.now parent.old }
+    requires here { IsHere here }
+    requires at { IsAt tables.now here parent.old }
+    requires places { All (IsPlayHere tables.now here) (play_channels parent.old) }
+    requires count { TotalsFit parent.old }
+    ensures silent { bytes_due result ≡ 0 }
+    ensures own { PlayAreOf parent.new.device (play_channels parent.new) }
+    ensures recorders_own { RecordAreOf parent.new.device (record_channels parent.new) }
+    ensures output { KeepsOutput parent.old parent.new }
+    ensures refused { OnErr result ((parent.new ≡ parent.old) × (descriptors.new ≡ descriptors.old)) }
+    ensures desk { ChangesBy tables.now (request_call fd request) parent.old descriptors.old parent.new descriptors.new }
+    ensures reply { RepliesBy tables.now (request_call fd request) parent.old descriptors.old result }
+    ensures channels { EachPlayMoves B.kind B.kept tables.now [] 0 parent.old parent.new }
+    ensures recorders { EachRecordMoves B.kind B.kept tables.now [] 0 parent.old parent.new }
+{
+    let held = descriptors.holding(fd)?;
+    if let Some(errno) = descriptors.refusal(held, request) {
+        return Err(errno);
+    }
+    descriptors.leave_by(held, request);
+    ask(parent, tables, descriptors, fd, request, here)
+}
+
+/// The channel that a descriptor holds joins a group, with its trigger off: a new one by 0. Answers the group's number.
+pub fn join<B: Feeder>(
+    parent: &mut ParentOf<B>,
+    tables: &Tables,
+    descriptors: &mut Descriptors,
+    fd: u8,
+    group: u32,
+    here: Here,
+) -> Result<Answer, Errno>
+    requires fd { fd < DESCRIPTORS }
+    requires apart { HoldApart (desk_with parent.old descriptors.old) }
+    requires served { AreServed B.kind B.kept tables.now parent.old }
+    requires here { IsHere here }
+    requires at { IsAt tables.now here parent.old }
+    requires places { All (IsPlayHere tables.now here) (play_channels parent.old) }
+    requires count { TotalsFit parent.old }
+    ensures silent { bytes_due result ≡ 0 }
+    ensures own { PlayAreOf parent.new.device (play_channels parent.new) }
+    ensures recorders_own { RecordAreOf parent.new.device (record_channels parent.new) }
+    ensures output { KeepsOutput parent.old parent.new }
+    ensures refused { OnErr result ((parent.new ≡ parent.old) × (descriptors.new ≡ descriptors.old)) }
+    ensures desk { ChangesBy tables.now (join_call fd group) parent.old descriptors.old parent.new descriptors.new }
+    ensures reply { RepliesBy tables.now (join_call fd group) parent.old descriptors.old result }
+    ensures channels { EachPlayMoves B.kind B.kept tables.now [] 0 parent.old parent.new }
+    ensures recorders { EachRecordMoves B.kind B.kept tables.now [] 0 parent.old parent.new }
+{
+    let held = descriptors.holding(fd)?;
+    let mut groups = descriptors.groups();
+    let number = groups.join(held.way, held.slot, group)?;
+    if !is_at_rest(parent, held) {
+        return Err(Errno::Busy);
+    }
+    // A channel at rest takes a trigger that is off.
+    let _ = ask(
+        parent,
+        tables,
+        descriptors,
+        fd,
+        Request::SetTrigger(0),
+        here,
+    );
+    descriptors.regroup(groups);
+    Ok(Answer::Number(number))
+}
+
+/// Starts all members of a group at once, each of which must be ready. The group is not in use any more.
+pub fn start_group<B: Feeder>(
+    parent: &mut ParentOf<B>,
+    tables: &Tables,
+    descriptors: &mut Descriptors,
+    fd: u8,
+    group: u32,
+    here: Here,
+) -> Result<Answer, Errno>
+    requires fd { fd < DESCRIPTORS }
+    requires served { AreServed B.kind B.kept tables.now parent.old }
+    requires here { IsHere here }
+    requires at { IsAt tables.now here parent.old }
+    requires places { All (IsPlayHere tables.now here) (play_channels parent.old) }
+    requires count { TotalsFit parent.old }
+    ensures silent { bytes_due result ≡ 0 }
+    ensures own { PlayAreOf parent.new.device (play_channels parent.new) }
+    ensures recorders_own { RecordAreOf parent.new.device (record_channels parent.new) }
+    ensures output { KeepsOutput parent.old parent.new }
+    ensures refused { OnErr result ((parent.new ≡ parent.old) × (descriptors.new ≡ descriptors.old)) }
+    ensures desk { ChangesBy tables.now (start_call fd group) parent.old descriptors.old parent.new descriptors.new }
+    ensures reply { RepliesBy tables.now (start_call fd group) parent.old descriptors.old result }
+    ensures channels { EachPlayMoves B.kind B.kept tables.now [] 0 parent.old parent.new }
+    ensures recorders { EachRecordMoves B.kind B.kept tables.now [] 0 parent.old parent.new }
+{
+    descriptors.holding(fd)?;
+    let mut groups = descriptors.groups();
+    if !groups.is_used(group) {
+        return Err(Errno::Inval);
+    }
+    if !parent.is_group_ready(&groups, group) {
+        return Err(Errno::Busy);
+    }
+    parent.start_group(tables, &groups, group, here);
+    groups.dissolve(group);
+    descriptors.regroup(groups);
+    Ok(Answer::Done)
+}
+
+// Whether nothing of a run or a recording is there.
+fn is_at_rest<B: Feeder>(parent: &ParentOf<B>, held: Held) -> bool
+    requires play { held.way ≡ Play → held.slot < fixed_len parent.now.channels }
+    requires recording { held.way ≡ Record → held.slot < fixed_len parent.now.recorders }
+    ensures { (device : DeviceSeen) (descriptors : Descriptors) → result ≡ rests device (desk_with parent.now descriptors) held }
+{
+    match held.way {
+        Way::Play => parent.channels[held.slot].is_at_rest(),
+        Way::Record => parent.recorders[held.slot].is_at_rest(),
+    }
+}

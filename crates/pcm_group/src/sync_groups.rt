@@ -1,0 +1,178 @@
+//! The group of each slot.
+
+ghost use Rattle.std.specs.Prelude.{◌≡◌, ◌<◌, ◌≤◌, ◌+◌, ◌++◌, ◌==◌, [], ◌∷◌, if◌then◌else◌, length, map};
+ghost use Rattle.arrayvec.specs.ArrayVec.{array_vec_len};
+ghost use Rattle.pcm_oss.specs.declared.event.TheConstants.{SLOTS};
+ghost use Rattle.pcm_group.specs.Groups.{dissolved_in, has_group, slots_with};
+
+use arrayvec::ArrayVec;
+use pcm_oss::{Errno, SLOTS, Way};
+
+/// How many groups there are, which have the numbers from 1 on.
+pub const GROUPS: u32 = 8;
+
+// All groups.
+const NUMBERS: [u32; GROUPS as usize] = [1, 2, 3, 4, 5, 6, 7, 8];
+
+/// How many members a group has at most: every slot of both ways.
+pub const MEMBERS: usize = 32;
+
+/// Which group each slot is in, by way: 0 is none.
+#[derive(Clone, Copy, Debug, PartialEq, Eq)]
+pub struct Groups {
+    pub play: [u32; SLOTS],
+    pub recording: [u32; SLOTS],
+}
+
+impl Groups {
+    ghost use Rattle.pcm_group.specs.Groups.{dissolved, group_at, is_used, groups_joined, joining, least_unused, members_of, no_groups, with_group};
+
+    /// No slot is in a group.
+    pub fn new() -> Groups
+        ensures { result ≡ no_groups }
+    {
+        Groups {
+            play: [0; SLOTS],
+            recording: [0; SLOTS],
+        }
+    }
+
+    /// The group that a slot is in, or 0.
+    pub fn of(&self, way: Way, slot: usize) -> u32
+        requires { slot < SLOTS }
+        ensures { result ≡ group_at self.now way slot }
+    {
+        match way {
+            Way::Play => self.play[slot],
+            Way::Record => self.recording[slot],
+        }
+    }
+
+    /// Whether the group is one of the eight, and some slot is in it.
+    pub fn is_used(&self, group: u32) -> bool
+        ensures { result ≡ is_used self.now group }
+    {
+        0 < group
+            && group <= GROUPS
+            && (has_group(&self.play, group) || has_group(&self.recording, group))
+    }
+
+    /// A slot asks for a group: for the least that no slot is in by 0, else for this one. Returns the group that it is in then. A group
+    /// that is not in use is refused first, and then all that comes too late.
+    pub fn join(&mut self, way: Way, slot: usize, group: u32) -> Result<u32, Errno>
+        requires { slot < SLOTS }
+        ensures answer { result ≡ joining self.old way slot group }
+        ensures groups { self.new ≡ groups_joined self.old way slot result }
+    {
+        let number = self.number_for(way, slot, group)?;
+        self.set(way, slot, number);
+        Ok(number)
+    }
+
+    /// A slot is in no group any more.
+    pub fn leave(&mut self, way: Way, slot: usize)
+        requires { slot < SLOTS }
+        ensures { self.new ≡ with_group self.old way slot 0 }
+    {
+        self.set(way, slot, 0);
+    }
+
+    /// The slots that are in a group: those that play first, and of each way the least first.
+    pub fn members(&self, group: u32) -> ArrayVec<(Way, usize), MEMBERS>
+        ensures { result.items ≡ members_of self.now group }
+    {
+        let mut members = ArrayVec::new();
+        push_members(&mut members, Way::Play, &self.play, group);
+        push_members(&mut members, Way::Record, &self.recording, group);
+        members
+    }
+
+    /// No slot is in this group any more.
+    pub fn dissolve(&mut self, group: u32)
+        ensures { self.new ≡ dissolved group self.old }
+    {
+        dissolve_in(&mut self.play, group);
+        dissolve_in(&mut self.recording, group);
+    }
+
+    // The group that a slot gets which asks for one.
+    fn number_for(&self, way: Way, slot: usize, group: u32) -> Result<u32, Errno>
+        requires { slot < SLOTS }
+        ensures { result ≡ joining self.now way slot group }
+    {
+        if 0 < group && !self.is_used(group) {
+            return Err(Errno::Inval);
+        }
+        if 0 < self.of(way, slot) {
+            return Err(Errno::Busy);
+        }
+        if group == 0 {
+            self.least_unused().ok_or(Errno::Busy)
+        } else {
+            Ok(group)
+        }
+    }
+
+    // The least group that no slot is in.
+    fn least_unused(&self) -> Option<u32>
+        ensures { result ≡ least_unused self.now }
+    {
+        NUMBERS.iter().copied().find(|group| !self.is_used(*group))
+    }
+
+    // A slot is in this group from now on.
+    fn set(&mut self, way: Way, slot: usize, group: u32)
+        requires { slot < SLOTS }
+        ensures { self.new ≡ with_group self.old way slot group }
+    {
+        match way {
+            Way::Play => self.play[slot] = group,
+            Way::Record => self.recording[slot] = group,
+        }
+    }
+}
+
+// Whether some slot is in the group.
+fn has_group(slots: &[u32], group: u32) -> bool
+    ensures { result ≡ has_group group slots.now }
+{
+    slots.iter().any(|&its| its == group)
+}
+
+// Appends the slots of a way that are in the group.
+fn push_members(members: &mut ArrayVec<(Way, usize), MEMBERS>, way: Way, slots: &[u32], group: u32)
+    requires { array_vec_len members.old + length slots.now ≤ MEMBERS }
+    ensures members { members.new.items ≡ members.old.items ++ map (λ slot. (way, slot)) (slots_with group slots.now) }
+    ensures room { array_vec_len members.new ≤ array_vec_len members.old + length slots.now }
+{
+    for slot in 0..slots.len() {
+        push_where(members, slots[slot] == group, (way, slot));
+    }
+}
+
+// Appends a member, if it is one.
+fn push_where(members: &mut ArrayVec<(Way, usize), MEMBERS>, is_one: bool, member: (Way, usize))
+    requires { array_vec_len members.old < MEMBERS }
+    ensures members { members.new.items ≡ members.old.items ++ (if is_one then member ∷ [] else []) }
+    ensures room { array_vec_len members.new ≤ array_vec_len members.old + 1 }
+{
+    if is_one {
+        members.push(member);
+    }
+}
+
+// The slots of a way that are in the group are in none any more.
+fn dissolve_in(slots: &mut [u32], group: u32)
+    ensures { slots.new ≡ dissolved_in group slots.old }
+{
+    for slot in 0..slots.len() {
+        slots[slot] = without(slots[slot], group);
+    }
+}
+
+// A slot's group, or none where it is this one.
+fn without(its: u32, group: u32) -> u32
+    ensures { result ≡ (if its == group then 0 else its) }
+{
+    if its == group { 0 } else { its }
+}
