@@ -4,7 +4,7 @@ ghost use Rattle.std.specs.Prelude.{◌≢◌, Err, IfSome, IsTrue, take};
 ghost use Rattle.pcm_config.specs.Configs.{config_read};
 
 use crate::lines::line_before;
-use crate::mix_rate::has_mix_rate;
+use crate::own_key::has_own_key;
 use pcm_config::{ConfigFault, ConfigKind, ConfigPlace, ConfigRefusal, config_of};
 use std::alloc::Global;
 
@@ -38,10 +38,10 @@ fn is_without(alloc: Global, text: &[u8], refusal: ConfigRefusal) -> Option<bool
     ensures { IfSome result (λ holds. IsTrue holds → config_read text.now ≢ Err refusal) }
 {
     match config_of(alloc, text) {
-        Ok(_) => Some(!has_mix_rate(alloc, text, refusal)),
+        Ok(_) => Some(!has_own_key(alloc, text, refusal)),
         Err(ConfigFault::Refused(told)) => {
             let is_read = told.kind != ConfigKind::Toml && !hides(told, refusal);
-            Some(told != refusal && is_read && !has_mix_rate(alloc, text, refusal))
+            Some(told != refusal && is_read && !has_own_key(alloc, text, refusal))
         }
         Err(ConfigFault::Memory) => None,
     }

@@ -10,7 +10,8 @@ use Rattle.pcm_feeder.specs.Filters.{as_filters}
 use Rattle.pcm_feeder.specs.Limits.{IsRate, IsSection, IsTable, AreFilters}
 use Rattle.pcm_desk.specs.declared.device.Device.{Device}
 use Rattle.pcm_desk.specs.declared.limits.TheConstants.{MIX_FRAMES}
-use Rattle.pcm_desk.specs.Device.{IsInLimits, mix_frames, unfiltered}
+use Rattle.pcm_desk.specs.Device.{IsInLimits, mix_frames, mixed_slots, unfiltered}
+use Rattle.pcm_oss.specs.declared.event.TheConstants.{SLOTS}
 use Rattle.toml.specs.Data.{Members, as_integer}
 use Rattle.pcm_config.specs.declared.config.Config.{Config}
 use Rattle.pcm_config.specs.declared.fault.ConfigKind.TheVariants as kinds
@@ -20,7 +21,7 @@ use Rattle.pcm_config.specs.declared.place.ConfigPlace.TheVariants as places
 use Rattle.pcm_config.specs.Judgements.{required}
 use Rattle.pcm_config.specs.Lookups.{has_only, table_in, value_at}
 use Rattle.pcm_config.specs.Places.{device_places, top_places, vchans_places}
-use Rattle.pcm_config.specs.Rows.{block_row, blocks_row, channels_row, container_row, format_row, in_range, mix_channels_row, mix_rate_row, numbers, play_row, quality_row, rate_row, record_row}
+use Rattle.pcm_config.specs.Rows.{block_row, blocks_row, channels_row, container_row, format_row, in_range, mapped_row, mix_channels_row, mix_rate_row, numbers, play_row, quality_row, rate_row, record_row}
 use Rattle.pcm_config.specs.Values.{AreSlots, IsHardware, capture_in, hardware_in, in_row, mix_in, settings_in, settled, slots_in}
 use Rattle.pcm_config.specs.Files.{files_in}
 use Rattle.pcm_config.specs.Lists.{AreFew, has_no_other, tables_at}
@@ -29,7 +30,7 @@ use Rattle.pcm_config.specs.Tables.{filter_keys, filters_in}
 use Rattle.pcm_config.proofs.Judging.{IsBetween, after-any, after-kept, not-false, passed, range-kept, required-kept}
 use Rattle.pcm_config.proofs.FilterLimits.{filters-kept}
 use Rattle.pcm_config.proofs.SectionLimits.{sections-kept}
-use Rattle.pcm_config.specs.Configs.{HasCapture, IsHeld, can_hold, can_mix, config_read, config_with, device_seen, document_of, document_read, has_capture, tables_read, top_read, values_read, whole_read}
+use Rattle.pcm_config.specs.Configs.{HasCapture, IsHeld, can_hold, can_mix, config_read, config_with, device_seen, document_of, document_read, has_capture, has_slots, tables_read, top_read, values_read, whole_read}
 
 -- a configuration within its limits, which has what it names
 pub record IsKept (config : Config) : Type 0 where
@@ -86,7 +87,8 @@ slots-kept device vchans is =
     after-kept (settled record_row vchans) _ (IsBetween 0 16) AreSlots (number-kept places.VchansRecord 0 16 4 vchans (omega arith, omega arith)) (λ recording r.
     after-kept (settled quality_row vchans) _ (IsBetween 0 4) AreSlots (number-kept places.VchansQuality 0 4 1 vchans (omega arith, omega arith)) (λ quality q.
     after-kept (mix_in device vchans) _ (λ mix. IsRate mix.rate) AreSlots (mix-kept device vchans is) (λ mix m.
-    record { play = p.1; recording = r.1; quality = q.1; mix_rate = m }))))
+    after-kept (settled mapped_row vchans) _ (IsBetween 0 16) AreSlots (number-kept places.VchansMapped 0 16 0 vchans (omega arith, omega arith)) (λ mapped a.
+    record { play = p.1; recording = r.1; quality = q.1; mix_rate = m; mapped = a.1 })))))
 
 -- ---- filters and sections
 
@@ -101,12 +103,23 @@ tables-fit filters sections f s = record { count = f.count; each = f.each; few =
 mix-fits : (device : Device) → can_mix device ≡ true → mix_frames (unfiltered device) ≤ MIX_FRAMES
 mix-fits device passes = grind (arith, nat_tests)
 
-whole-kept : (config : Config) → (mix_frames (unfiltered config.device) ≤ MIX_FRAMES → IsInLimits (device_seen config)) → IfOk (whole_read config) IsKept
+-- the same of the slots of what is mixed
+slots-fit : (device : Device) → has_slots device ≡ true → mixed_slots (unfiltered device) ≤ SLOTS
+slots-fit device passes = grind (arith, nat_tests)
+
+whole-kept : (config : Config)
+    → (mix_frames (unfiltered config.device) ≤ MIX_FRAMES → mixed_slots (unfiltered config.device) ≤ SLOTS → IsInLimits (device_seen config))
+    → IfOk (whole_read config) IsKept
 whole-kept config limits =
     passed (not (can_hold config.container config.device.settings)) _ _ IsKept (λ holds.
     passed (not (has_capture config.files config.capture)) _ _ IsKept (λ has.
     passed (not (can_mix config.device)) _ _ IsKept (λ fits.
-    record { limits = limits (mix-fits config.device (not-false _ fits)); container = not-false _ holds; capture = not-false _ has })))
+    passed (not (has_slots config.device)) _ _ IsKept (λ room.
+    record {
+      limits = limits (mix-fits config.device (not-false _ fits)) (slots-fit config.device (not-false _ room));
+      container = not-false _ holds;
+      capture = not-false _ has;
+    }))))
 
 values-kept : (device vchans table : Members) (tables eq : List Members) → IfOk (values_read device vchans table tables eq) IsKept
 unfolding values_read
@@ -118,7 +131,7 @@ values-kept device vchans table tables eq =
     after-kept (filters_in tables) _ (AreFew FILTERS IsTable) IsKept (filters-kept tables) (λ filters f.
     after-kept (sections_in eq) _ (AreFew SECTIONS IsSection) IsKept (sections-kept eq) (λ sections c.
     whole-kept (config_with hardware capture slots files (as_filters filters sections))
-    (λ fits. record { device_is = record { rate = h.rate; mix_rate = s.mix_rate; filters = tables-fit filters sections f c }; block = h.block; ring = h.ring; ring_most = h.ring_most; mix_most = fits; slots_most = s.play; recorders_most = s.recording; quality = s.quality })))))))
+    (λ fits room. record { device_is = record { rate = h.rate; mix_rate = s.mix_rate; filters = tables-fit filters sections f c }; block = h.block; ring = h.ring; ring_most = h.ring_most; mix_most = fits; slots_most = room; recorders_most = s.recording; quality = s.quality })))))))
 
 tables-kept : (device vchans table : Members) (tables eq : List Members) → IfOk (tables_read device vchans table tables eq) IsKept
 unfolding tables_read

@@ -10,7 +10,7 @@ use Rattle.pcm_format.specs.Frames.{frame_bytes}
 use Rattle.pcm_feeder.specs.Filters.{Filters, as_filters, no_filters}
 use Rattle.pcm_desk.specs.declared.device.Device.{Device}
 use Rattle.pcm_desk.specs.declared.limits.TheConstants.{MIX_FRAMES}
-use Rattle.pcm_desk.specs.Device.{DeviceSeen, IsInLimits, mix_frames, seen, unfiltered}
+use Rattle.pcm_desk.specs.Device.{DeviceSeen, IsInLimits, mix_frames, mixed_slots, seen, unfiltered}
 use Rattle.pcm_desk.specs.Usual.{usual_settings}
 use Rattle.toml.specs.Data.{Members}
 use Rattle.toml.specs.Parse.{parse_document}
@@ -28,6 +28,7 @@ use Rattle.pcm_config.specs.Judgements.{◌>>=◌, refused, required}
 use Rattle.pcm_config.specs.Places.{top_places, device_places, vchans_places}
 use Rattle.pcm_config.specs.Lookups.{has_only, table_in}
 use Rattle.pcm_config.specs.Values.{hardware_in, capture_in, slots_in}
+use Rattle.pcm_oss.specs.declared.event.TheConstants.{SLOTS}
 use Rattle.pcm_wave.specs.Formats.{is_wave_format}
 use Rattle.pcm_config.specs.Files.{files_in, is_named, names_of}
 use Rattle.pcm_config.specs.Lists.{has_no_other, tables_at}
@@ -44,6 +45,7 @@ usual_config = record {
     ring_frames = 1024;
     play_slots = 4;
     record_slots = 4;
+    map_slots = 0;
     quality = 1;
   };
   container = Raw;
@@ -66,6 +68,10 @@ has_capture files (Some name) = is_named files name
 abbrev pub can_mix : Device → Bool
 can_mix device = nat_le (mix_frames (unfiltered device)) MIX_FRAMES
 
+-- whether the mix has a slot for each channel that plays, and behind those for each with a mapped area
+abbrev pub has_slots : Device → Bool
+has_slots device = nat_le (mixed_slots (unfiltered device)) SLOTS
+
 -- all that is settled, put together
 abbrev pub config_with : Hardware → Option (List ℕ) → Slots → List FilePath → Filters → Config
 config_with hardware capture slots files filters = record {
@@ -76,6 +82,7 @@ config_with hardware capture slots files filters = record {
     ring_frames = hardware.ring_frames;
     play_slots = slots.play;
     record_slots = slots.recording;
+    map_slots = slots.mapped;
     quality = slots.quality;
   };
   container = hardware.container;
@@ -84,13 +91,15 @@ config_with hardware capture slots files filters = record {
   tables = filters;
 }
 
--- What is judged of the whole: the form of the file that is played to, then the file that is recorded from, and then
--- how many frames an interrupt mixes, which only a rate of the mix can make too many that isn't the device's.
+-- What is judged of the whole: the form of the file that is played to, then the file that is recorded from, then how
+-- many frames an interrupt mixes, which only a rate of the mix can make too many that isn't the device's, and then how
+-- many channels are mixed, which only those with a mapped area can make too many.
 abbrev pub whole_read : Config → Result Config ConfigRefusal
 whole_read config =
     if not (can_hold config.container config.device.settings) then refused kinds.Container places.DeviceContainer
     else if not (has_capture config.files config.capture) then refused kinds.Capture places.DeviceCapture
     else if not (can_mix config.device) then refused kinds.Range places.VchansRate
+    else if not (has_slots config.device) then refused kinds.Range places.VchansMapped
     else Ok config
 
 -- the files, the filters and the sections, beside what is settled of the device and the channels, and then the whole
@@ -161,6 +170,10 @@ HasCapture config = has_capture config.files config.capture ≡ true
 -- an interrupt mixes no more frames than it may
 abbrev pub FitsMix : Config → Type 0
 FitsMix config = mix_frames (device_seen config) ≤ MIX_FRAMES
+
+-- the mix has a slot for each channel that plays and for each with a mapped area
+abbrev pub HasSlots : Config → Type 0
+HasSlots config = mixed_slots (device_seen config) ≤ SLOTS
 
 -- the files are in the byte order of their names, and no two have one name
 abbrev pub AreInOrder : List FilePath → Type 0

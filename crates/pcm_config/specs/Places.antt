@@ -3,7 +3,7 @@ use Rattle.std.specs.Prelude.{ℕ, List, [], ◌∷◌, codes}
 use Rattle.pcm_config.specs.declared.fault.ConfigKind.{ConfigKind}
 use Rattle.pcm_config.specs.declared.fault.ConfigKind.TheVariants.{Long, Toml, Key, Kind, Range, Name, Count, Missing, Shape, Coef, Container, Capture}
 use Rattle.pcm_config.specs.declared.place.ConfigPlace.{ConfigPlace}
-use Rattle.pcm_config.specs.declared.place.ConfigPlace.TheVariants.{Top, Device, Vchans, Files, Tables, Eq, DeviceFormat, DeviceChannels, DeviceRate, DeviceHwBlock, DeviceHwBlocks, DeviceContainer, DeviceCapture, VchansPlay, VchansRecord, VchansQuality, VchansRate, VchansChannels}
+use Rattle.pcm_config.specs.declared.place.ConfigPlace.TheVariants.{Top, Device, Vchans, Files, Tables, Eq, DeviceFormat, DeviceChannels, DeviceRate, DeviceHwBlock, DeviceHwBlocks, DeviceContainer, DeviceCapture, VchansPlay, VchansRecord, VchansQuality, VchansRate, VchansChannels, VchansMapped}
 
 -- the word that names a kind
 abbrev pub config_kind_word : ConfigKind → List ℕ
@@ -40,6 +40,7 @@ place_word VchansRecord = codes "vchans.record"
 place_word VchansQuality = codes "vchans.quality"
 place_word VchansRate = codes "vchans.rate"
 place_word VchansChannels = codes "vchans.channels"
+place_word VchansMapped = codes "vchans.mapped"
 
 -- the key at which a place stands in its table; the top stands in none
 abbrev pub key_of : ConfigPlace → List ℕ
@@ -61,6 +62,7 @@ key_of VchansRecord = codes "record"
 key_of VchansQuality = codes "quality"
 key_of VchansRate = codes "rate"
 key_of VchansChannels = codes "channels"
+key_of VchansMapped = codes "mapped"
 
 -- what stands at the top of a configuration: three tables, and the arrays of filters and of sections
 abbrev pub top_places : List ConfigPlace
@@ -72,4 +74,4 @@ device_places = DeviceFormat ∷ DeviceChannels ∷ DeviceRate ∷ DeviceHwBlock
 
 -- what may be settled of the channels of clients, and of their mix
 abbrev pub vchans_places : List ConfigPlace
-vchans_places = VchansPlay ∷ VchansRecord ∷ VchansQuality ∷ VchansRate ∷ VchansChannels ∷ []
+vchans_places = VchansPlay ∷ VchansRecord ∷ VchansQuality ∷ VchansRate ∷ VchansChannels ∷ VchansMapped ∷ []

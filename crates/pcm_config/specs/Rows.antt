@@ -13,7 +13,7 @@ use Rattle.pcm_config.specs.declared.config.Container.TheVariants.{Raw, Wav}
 use Rattle.pcm_config.specs.declared.fault.ConfigKind.{ConfigKind}
 use Rattle.pcm_config.specs.declared.fault.ConfigKind.TheVariants.{Range, Name}
 use Rattle.pcm_config.specs.declared.place.ConfigPlace.{ConfigPlace}
-use Rattle.pcm_config.specs.declared.place.ConfigPlace.TheVariants.{DeviceFormat, DeviceChannels, DeviceRate, DeviceHwBlock, DeviceHwBlocks, DeviceContainer, VchansPlay, VchansRecord, VchansQuality, VchansRate, VchansChannels}
+use Rattle.pcm_config.specs.declared.place.ConfigPlace.TheVariants.{DeviceFormat, DeviceChannels, DeviceRate, DeviceHwBlock, DeviceHwBlocks, DeviceContainer, VchansPlay, VchansRecord, VchansQuality, VchansRate, VchansChannels, VchansMapped}
 
 -- a value that is spelled as an A and means a B
 pub record ConfigRow (A B : Type 0) : Type 0 where
@@ -91,3 +91,6 @@ mix_rate_row device = numbers VchansRate 4000 192000 device
 -- and its layout is the device's
 abbrev pub mix_channels_row : Layout → ConfigRow ℤ Layout
 mix_channels_row device = layouts VchansChannels device
+
+abbrev pub mapped_row : ConfigRow ℤ ℕ
+mapped_row = numbers VchansMapped 0 16 0

@@ -13,7 +13,7 @@ use Rattle.pcm_config.specs.declared.place.ConfigPlace.TheVariants.{DeviceCaptur
 use Rattle.pcm_config.specs.declared.slots.Slots.{Slots}
 use Rattle.pcm_config.specs.Judgements.{◌>>=◌, required}
 use Rattle.pcm_config.specs.Lookups.{value_at}
-use Rattle.pcm_config.specs.Rows.{ConfigRow, numbers, format_row, channels_row, rate_row, block_row, blocks_row, container_row, play_row, record_row, quality_row, mix_rate_row, mix_channels_row}
+use Rattle.pcm_config.specs.Rows.{ConfigRow, numbers, format_row, channels_row, rate_row, block_row, blocks_row, container_row, play_row, record_row, quality_row, mix_rate_row, mix_channels_row, mapped_row}
 
 -- what a value means, which must be in its set, or what stands where there is none
 abbrev pub in_row : {A B : Type 0} → ConfigRow A B → Option A → Result B ConfigRefusal
@@ -58,14 +58,16 @@ mix_in device vchans = do
   layout ← settled (mix_channels_row device.layout) vchans
   Ok (record { format = device.format; layout = layout; rate = rate })
 
--- how many channels play and record, how rates are converted, and which frames are mixed over a device with these settings
+-- how many channels play and record, how rates are converted, which frames are mixed over a device with these settings, and how many
+-- channels have a mapped area
 unfoldable pub slots_in : Settings → Members → Result Slots ConfigRefusal
 slots_in device vchans = do
   play ← settled play_row vchans
   recording ← settled record_row vchans
   quality ← settled quality_row vchans
   mix ← mix_in device vchans
-  Ok (record { play = play; recording = recording; quality = quality; mix = mix })
+  mapped ← settled mapped_row vchans
+  Ok (record { play = play; recording = recording; quality = quality; mix = mix; mapped = mapped })
 
 -- a device within the limits of a run
 pub record IsHardware (hardware : Hardware) : Type 0 where
@@ -80,3 +82,4 @@ pub record AreSlots (slots : Slots) : Type 0 where
   pub recording : slots.recording ≤ SLOTS
   pub quality : slots.quality ≤ QUALITY_MOST
   pub mix_rate : IsRate slots.mix.rate
+  pub mapped : slots.mapped ≤ SLOTS

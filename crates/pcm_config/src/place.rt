@@ -41,6 +41,8 @@ pub enum ConfigPlace {
     VchansRate,
     /// The samples of a frame of the mix.
     VchansChannels,
+    /// How many channels have a mapped area.
+    VchansMapped,
 }
 
 impl ConfigPlace {
@@ -69,6 +71,7 @@ impl ConfigPlace {
             ConfigPlace::VchansQuality => "vchans.quality",
             ConfigPlace::VchansRate => "vchans.rate",
             ConfigPlace::VchansChannels => "vchans.channels",
+            ConfigPlace::VchansMapped => "vchans.mapped",
         }
     }
 
@@ -95,6 +98,7 @@ impl ConfigPlace {
             ConfigPlace::VchansQuality => "quality",
             ConfigPlace::VchansRate => "rate",
             ConfigPlace::VchansChannels => "channels",
+            ConfigPlace::VchansMapped => "mapped",
         }
     }
 }

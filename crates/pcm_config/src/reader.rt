@@ -48,12 +48,13 @@ const DEVICE: [ConfigPlace; 7] = [
 ];
 
 // The keys of the table of channels.
-const VCHANS: [ConfigPlace; 5] = [
+const VCHANS: [ConfigPlace; 6] = [
     ConfigPlace::VchansPlay,
     ConfigPlace::VchansRecord,
     ConfigPlace::VchansQuality,
     ConfigPlace::VchansRate,
     ConfigPlace::VchansChannels,
+    ConfigPlace::VchansMapped,
 ];
 
 // The three tables of a configuration, and those of its filters and of its sections.

@@ -37,13 +37,22 @@ const QUALITY: NumberRow = NumberRow {
     usual: 1,
 };
 
-// How many channels play and record, how rates are converted, and which frames are mixed.
+// Channels with a mapped area.
+const MAPPED: NumberRow = NumberRow {
+    place: ConfigPlace::VchansMapped,
+    least: 0,
+    most: SLOTS as u32,
+    usual: 0,
+};
+
+// How many channels play and record, how rates are converted, which frames are mixed, and how many channels have a mapped area.
 #[derive(Clone, Copy)]
 pub(crate) struct Slots {
     pub(crate) play: u32,
     pub(crate) recording: u32,
     pub(crate) quality: u32,
     pub(crate) mix: Settings,
+    pub(crate) mapped: u32,
 }
 
 // What a table settles of the channels of clients over a device with these settings.
@@ -57,10 +66,12 @@ pub(crate) fn slots_in(device: Settings, vchans: Option<&Table>) -> Result<Slots
     let recording = number_in(vchans, RECORDING)?;
     let quality = number_in(vchans, QUALITY)?;
     let mix = mix_in(device, vchans)?;
+    let mapped = number_in(vchans, MAPPED)?;
     Ok(Slots {
         play,
         recording,
         quality,
         mix,
+        mapped,
     })
 }

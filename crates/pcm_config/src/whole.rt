@@ -3,7 +3,7 @@
 ghost use Rattle.std.specs.Prelude.{◌≡◌, IfOk};
 ghost use Rattle.pcm_desk.specs.Device.{HasRates};
 ghost use Rattle.pcm_config.specs.Answers.{Reads};
-ghost use Rattle.pcm_config.specs.Configs.{FitsMix, HasCapture, IsHeld, can_hold, can_mix, config_with, has_capture, whole_read};
+ghost use Rattle.pcm_config.specs.Configs.{FitsMix, HasCapture, HasSlots, IsHeld, can_hold, can_mix, config_with, has_capture, has_slots, whole_read};
 
 use crate::fault::refused;
 use crate::files::is_named;
@@ -13,6 +13,7 @@ use crate::{Config, ConfigFault, ConfigKind, ConfigPlace, Container, FilePath, F
 use pcm_desk::{Device, MIX_FRAMES};
 use pcm_feeder::Tables;
 use pcm_format::Settings;
+use pcm_oss::SLOTS;
 use pcm_wave::is_wave_format;
 
 // All that is settled, put together.
@@ -33,6 +34,7 @@ pub(crate) fn config_with(
             ring_frames: hardware.ring_frames,
             play_slots: slots.play,
             record_slots: slots.recording,
+            map_slots: slots.mapped,
             quality: slots.quality,
         },
         container: hardware.container,
@@ -50,6 +52,7 @@ pub(crate) fn whole_read(config: Config) -> Result<Config, ConfigFault>
     ensures container { IfOk result IsHeld }
     ensures capture { IfOk result HasCapture }
     ensures mix { IfOk result FitsMix }
+    ensures slots { IfOk result HasSlots }
 {
     if !can_hold(config.container, config.device.settings) {
         return Err(refused(ConfigKind::Container, ConfigPlace::DeviceContainer));
@@ -59,6 +62,9 @@ pub(crate) fn whole_read(config: Config) -> Result<Config, ConfigFault>
     }
     if !can_mix(config.device) {
         return Err(refused(ConfigKind::Range, ConfigPlace::VchansRate));
+    }
+    if !has_slots(config.device) {
+        return Err(refused(ConfigKind::Range, ConfigPlace::VchansMapped));
     }
     Ok(config)
 }
@@ -89,4 +95,11 @@ fn can_mix(device: Device) -> bool
     ensures { result ≡ can_mix device }
 {
     device.mix_frames() <= u64::from(MIX_FRAMES)
+}
+
+// Whether the mix has a slot for each channel that plays and for each with a mapped area.
+fn has_slots(device: Device) -> bool
+    ensures { result ≡ has_slots device }
+{
+    u64::from(device.play_slots) + u64::from(device.map_slots) <= SLOTS as u64
 }

@@ -6,9 +6,9 @@ use Rattle.std.proofs.lemmas.List.{get_or-map, get_or_past, get_or-replicate, le
 use Rattle.std.proofs.lemmas.List.Quantifiers.{position-Some}
 use Rattle.pcm_format.specs.declared.settings.Settings.{Settings}
 use Rattle.pcm_oss.specs.declared.event.Event.{Event}
-use Rattle.pcm_oss.specs.declared.event.Event.TheVariants.{Open, Write, Read, Ioctl, Join, StartGroup, Close, Intr}
+use Rattle.pcm_oss.specs.declared.event.Event.TheVariants.{Open, Write, Poke, Read, Ioctl, Join, StartGroup, Close, Intr}
 use Rattle.pcm_oss.specs.declared.event.Way.{Way}
-use Rattle.pcm_oss.specs.declared.event.Way.TheVariants.{Play, Record}
+use Rattle.pcm_oss.specs.declared.event.Way.TheVariants.{Play, Record, Map}
 use Rattle.pcm_oss.specs.declared.reply.Errno.TheVariants.{Exist, Inval}
 use Rattle.pcm_oss.specs.declared.request.Request.{Request}
 use Rattle.pcm_oss.specs.declared.request.Request.TheVariants.{SetTrigger}
@@ -19,6 +19,7 @@ use Rattle.pcm_desk.specs.declared.play_book.PlayBook.{PlayBook}
 use Rattle.pcm_desk.specs.declared.play_book.PlayState.{PlayState}
 use Rattle.pcm_desk.specs.declared.play_book.PlayState.TheVariants.{Free, Setup, Primed, Running, Draining}
 use Rattle.pcm_desk.specs.declared.record_book.RecordBook.{RecordBook}
+use Rattle.pcm_desk.specs.declared.map_book.MapBook.{MapBook}
 use Rattle.pcm_desk.specs.declared.device.Held.{Held}
 use Rattle.pcm_desk.specs.declared.limits.TheConstants.{DESCRIPTORS}
 use Rattle.pcm_desk.specs.Device.{DeviceSeen, mix_settings}
@@ -27,12 +28,15 @@ use Rattle.pcm_desk.specs.PlayBooks.{is_play_free, play_begun, write_turn}
 use Rattle.pcm_desk.specs.RecordBooks as records
 use Rattle.pcm_desk.specs.RecordBooks.{is_record_free, record_begun}
 use Rattle.pcm_desk.specs.RecordRequests.{record_ask}
-use Rattle.pcm_desk.specs.Desk.{Desk, DeskTurn, after, asking, both_bits, by_way, capturing, close_on, close_play, close_record, closing, desk_at_start, desk_here, group_started, held_by, interrupt_turn, ioctl_on, join_on, leaving, left, least_free_play, least_free_record, open_play, open_record, play_at, play_passing, play_rate_at, play_starting, play_turn, play_unopened, read_on, record_at, record_rate_at, record_starting, record_turn, record_unopened, refusing, request_on, start_on, turning, with_play, with_record, write_on}
+use Rattle.pcm_desk.specs.MapBooks.{is_map_free, map_begun, map_closed, poke_turn}
+use Rattle.pcm_desk.specs.MapRequests.{map_ask}
+use Rattle.pcm_desk.specs.Desk.{Desk, DeskTurn, after, asking, both_bits, by_way, capturing, close_map, close_on, close_play, close_record, closing, desk_at_start, desk_here, group_started, held_by, interrupt_turn, ioctl_on, join_on, leaving, left, least_free_map, least_free_play, least_free_record, map_at, map_passing, map_turn, map_unopened, open_map, open_play, open_record, play_at, play_passing, play_rate_at, play_starting, play_turn, play_unopened, poke_on, read_on, record_at, record_rate_at, record_starting, record_turn, record_unopened, refusing, request_on, start_on, turning, with_map, with_play, with_record, write_on}
 use Rattle.pcm_desk.specs.Events.{after_all}
 use Rattle.pcm_desk.specs.Own.{HoldApart, MayBeHeld, is_held, slots_of}
 use Rattle.pcm_desk.proofs.Grouping.{by-asking, by-joining, by-starting}
 use Rattle.pcm_desk.proofs.PlayHolding.{held-ask, held-passing, held-write}
 use Rattle.pcm_desk.proofs.RecordHolding.{record-held-ask, record-held-captured, record-held-read}
+use Rattle.pcm_desk.proofs.MapHolding.{map-held-asked, map-held-passing, map-held-poked}
 
 -- ---- books by slot
 
@@ -89,6 +93,9 @@ IsHeld book = is_held book.state ≡ true
 abbrev IsRecordHeld : RecordBook → Type 0
 IsRecordHeld book = is_record_free book.state ≡ false
 
+abbrev IsMapHeld : MapBook → Type 0
+IsMapHeld book = is_map_free book.state ≡ false
+
 -- the channel with this way and slot
 abbrev channel : Way → ℕ → Held
 channel way slot = record { way = way; slot = slot }
@@ -97,6 +104,7 @@ channel way slot = record { way = way; slot = slot }
 abbrev IsTaken : Desk → Way → ℕ → Type 0
 IsTaken desk Play slot = HasAt IsHeld desk.play slot
 IsTaken desk Record slot = HasAt IsRecordHeld desk.recording slot
+IsTaken desk Map slot = HasAt IsMapHeld desk.mapped slot
 
 -- the channel that a descriptor holds
 abbrev HoldsTaken : Desk → Held → Type 0
@@ -105,6 +113,7 @@ HoldsTaken desk held = IsTaken desk held.way held.slot
 taken_in : (way : Way) (desk : Desk) (slot : ℕ) → slot < slots_of desk way → MayBeHeld desk way slot → IsTaken desk way slot
 taken_in Play desk slot within may = record { within = within; book = may }
 taken_in Record desk slot within may = record { within = within; book = may }
+taken_in Map desk slot within may = record { within = within; book = may }
 
 -- each descriptor holds one
 taken : (desk : Desk) (fd : ℕ) (held : Held) → HoldApart desk → held_by desk fd ≡ Some held → HoldsTaken desk held
@@ -113,10 +122,12 @@ taken desk fd held h e = taken_in held.way desk held.slot (h.within fd held e) (
 within_of : (way : Way) (desk : Desk) (slot : ℕ) → IsTaken desk way slot → slot < slots_of desk way
 within_of Play desk slot t = t.within
 within_of Record desk slot t = t.within
+within_of Map desk slot t = t.within
 
 may_of : (way : Way) (desk : Desk) (slot : ℕ) → IsTaken desk way slot → MayBeHeld desk way slot
 may_of Play desk slot t = t.book
 may_of Record desk slot t = t.book
+may_of Map desk slot t = t.book
 
 -- which is all that descriptors are to hold
 hold_apart : (desk : Desk) → ((fd : ℕ) (held : Held) → held_by desk fd ≡ Some held → HoldsTaken desk held)
@@ -137,19 +148,22 @@ moved desk new same moves h =
 -- ---- an event of a descriptor
 
 -- it goes by the channel that the descriptor holds
-turned_in : (way : Way) (slot : ℕ) (play recording : ℕ → DeskTurn) (desk : Desk) (fd : ℕ) → held_by desk fd ≡ Some (channel way slot)
+turned_in : (way : Way) (slot : ℕ) (play recording mapped : ℕ → DeskTurn) (desk : Desk) (fd : ℕ) → held_by desk fd ≡ Some (channel way slot)
     → ((slot : ℕ) → held_by desk fd ≡ Some (channel Play slot) → HoldApart (play slot).desk)
     → ((slot : ℕ) → held_by desk fd ≡ Some (channel Record slot) → HoldApart (recording slot).desk)
-    → HoldApart (by_way way (play slot) (recording slot)).desk
-turned_in Play slot play recording desk fd e p r = p slot e
-turned_in Record slot play recording desk fd e p r = r slot e
+    → ((slot : ℕ) → held_by desk fd ≡ Some (channel Map slot) → HoldApart (mapped slot).desk)
+    → HoldApart (by_way way (play slot) (recording slot) (mapped slot)).desk
+turned_in Play slot play recording mapped desk fd e p r m = p slot e
+turned_in Record slot play recording mapped desk fd e p r m = r slot e
+turned_in Map slot play recording mapped desk fd e p r m = m slot e
 
-turned : (play recording : ℕ → DeskTurn) (held : Option Held) (desk : Desk) (fd : ℕ) → held_by desk fd ≡ held → HoldApart desk
+turned : (play recording mapped : ℕ → DeskTurn) (held : Option Held) (desk : Desk) (fd : ℕ) → held_by desk fd ≡ held → HoldApart desk
     → ((slot : ℕ) → held_by desk fd ≡ Some (channel Play slot) → HoldApart (play slot).desk)
     → ((slot : ℕ) → held_by desk fd ≡ Some (channel Record slot) → HoldApart (recording slot).desk)
-    → HoldApart (turning play recording held desk).desk
-turned play recording None desk fd e h p r = h
-turned play recording (Some held) desk fd e h p r = turned_in held.way held.slot play recording desk fd e p r
+    → ((slot : ℕ) → held_by desk fd ≡ Some (channel Map slot) → HoldApart (mapped slot).desk)
+    → HoldApart (turning play recording mapped held desk).desk
+turned play recording mapped None desk fd e h p r m = h
+turned play recording mapped (Some held) desk fd e h p r m = turned_in held.way held.slot play recording mapped desk fd e p r m
 
 -- a channel that plays
 play_turned : (device : DeviceSeen) (turn : PlayBook → Turn PlayBook) (desk : Desk) (fd slot : ℕ) → ((book : PlayBook) → IsHeld book → IsHeld (turn book).book) → HoldApart desk
@@ -165,6 +179,7 @@ play_turned device turn desk fd slot keeps h e = moved desk (play_turn device tu
     moves : (way : Way) (other : ℕ) → IsTaken desk way other → IsTaken (with_play desk slot book) way other
     moves Play other has = has_either IsHeld desk.play other slot book is has
     moves Record other has = has
+    moves Map other has = has
 
 -- a channel that records
 record_turned : (device : DeviceSeen) (turn : RecordBook → Turn RecordBook) (desk : Desk) (fd slot : ℕ) → ((book : RecordBook) → IsRecordHeld book → IsRecordHeld (turn book).book) → HoldApart desk
@@ -180,6 +195,23 @@ record_turned device turn desk fd slot keeps h e = moved desk (record_turn devic
     moves : (way : Way) (other : ℕ) → IsTaken desk way other → IsTaken (with_record desk slot book) way other
     moves Play other has = has
     moves Record other has = has_either IsRecordHeld desk.recording other slot book is has
+    moves Map other has = has
+
+-- a mapped channel
+map_turned : (device : DeviceSeen) (turn : MapBook → Turn MapBook) (desk : Desk) (fd slot : ℕ) → ((book : MapBook) → IsMapHeld book → IsMapHeld (turn book).book) → HoldApart desk
+    → held_by desk fd ≡ Some (channel Map slot) → HoldApart (map_turn device turn desk slot).desk
+map_turned device turn desk fd slot keeps h e = moved desk (map_turn device turn desk slot).desk (λ other. refl) moves h
+  where
+    book : MapBook
+    book = (turn (map_at device desk slot)).book
+
+    is : IsMapHeld book
+    is = keeps (map_at device desk slot) (h.taken fd (channel Map slot) e (map_unopened device))
+
+    moves : (way : Way) (other : ℕ) → IsTaken desk way other → IsTaken (with_map desk slot book) way other
+    moves Play other has = has
+    moves Record other has = has
+    moves Map other has = has_either IsMapHeld desk.mapped other slot book is has
 
 -- ---- a descriptor that is set
 
@@ -205,6 +237,7 @@ play_spared slot book descriptors desk other differ has = at other.way other.slo
     at : (way : Way) (k : ℕ) → channel way k ≢ channel Play slot → IsTaken desk way k → IsTaken (record desk { play = set desk.play slot book; descriptors = descriptors }) way k
     at Play k differ has = has_other IsHeld desk.play k slot book (λ same. differ (ap (channel Play) same)) has
     at Record k differ has = has
+    at Map k differ has = has
 
 record_spared : (slot : ℕ) (book : RecordBook) (descriptors : List (Option Held)) (desk : Desk) → Spares desk (record desk { recording = set desk.recording slot book; descriptors = descriptors }) (channel Record slot)
 record_spared slot book descriptors desk other differ has = at other.way other.slot differ has
@@ -212,6 +245,15 @@ record_spared slot book descriptors desk other differ has = at other.way other.s
     at : (way : Way) (k : ℕ) → channel way k ≢ channel Record slot → IsTaken desk way k → IsTaken (record desk { recording = set desk.recording slot book; descriptors = descriptors }) way k
     at Play k differ has = has
     at Record k differ has = has_other IsRecordHeld desk.recording k slot book (λ same. differ (ap (channel Record) same)) has
+    at Map k differ has = has
+
+map_spared : (slot : ℕ) (book : MapBook) (descriptors : List (Option Held)) (desk : Desk) → Spares desk (record desk { mapped = set desk.mapped slot book; descriptors = descriptors }) (channel Map slot)
+map_spared slot book descriptors desk other differ has = at other.way other.slot differ has
+  where
+    at : (way : Way) (k : ℕ) → channel way k ≢ channel Map slot → IsTaken desk way k → IsTaken (record desk { mapped = set desk.mapped slot book; descriptors = descriptors }) way k
+    at Play k differ has = has
+    at Record k differ has = has
+    at Map k differ has = has_other IsMapHeld desk.mapped k slot book (λ same. differ (ap (channel Map) same)) has
 
 -- a descriptor is shut
 shut : (desk new : Desk) (fd : ℕ) (held : Held) → held_by desk fd ≡ Some held → new.descriptors ≡ set desk.descriptors fd None → Spares desk new held → HoldApart desk → HoldApart new
@@ -312,13 +354,30 @@ record_opened (Some slot) desk fd settings e h =
     free : (slot < length desk.recording) × (is_record_free (get_or desk.recording slot book).state ≡ true)
     free = let is = position-Some (λ (book : RecordBook). is_record_free book.state) desk.recording slot book e in (is.0, is.1)
 
+map_opened : (found : Option ℕ) (desk : Desk) (fd : ℕ) (settings : Settings) → least_free_map desk.mapped ≡ found → HoldApart desk → HoldApart (open_map found desk fd settings).desk
+map_opened None desk fd settings e h = h
+map_opened (Some slot) desk fd settings e h =
+    opened desk (open_map (Some slot) desk fd settings).desk fd new refl
+    (has_set IsMapHeld desk.mapped slot book free.0 refl) (λ has. let both : true ≡ false = sym free.1 ∙ has.book book in cc)
+    (map_spared slot book (set desk.descriptors fd (Some new)) desk) h
+  where
+    new : Held
+    new = channel Map slot
+
+    book : MapBook
+    book = map_begun settings
+
+    free : (slot < length desk.mapped) × (is_map_free (get_or desk.mapped slot book).state ≡ true)
+    free = let is = position-Some (λ (book : MapBook). is_map_free book.state) desk.mapped slot book e in (is.0, is.1)
+
 opened_by : (way : Way) (desk : Desk) (fd : ℕ) (settings : Settings) → HoldApart desk
-    → HoldApart (by_way way (open_play (least_free_play desk.play) desk fd settings) (open_record (least_free_record desk.recording) desk fd settings)).desk
+    → HoldApart (by_way way (open_play (least_free_play desk.play) desk fd settings) (open_record (least_free_record desk.recording) desk fd settings) (open_map (least_free_map desk.mapped) desk fd settings)).desk
 opened_by Play desk fd settings h = play_opened (least_free_play desk.play) desk fd settings refl h
 opened_by Record desk fd settings h = record_opened (least_free_record desk.recording) desk fd settings refl h
+opened_by Map desk fd settings h = map_opened (least_free_map desk.mapped) desk fd settings refl h
 
 opened_or : (b : Bool) (way : Way) (desk : Desk) (fd : ℕ) (settings : Settings) → HoldApart desk
-    → HoldApart (cond {A = DeskTurn} b (refusing desk Exist) (by_way way (open_play (least_free_play desk.play) desk fd settings) (open_record (least_free_record desk.recording) desk fd settings))).desk
+    → HoldApart (cond {A = DeskTurn} b (refusing desk Exist) (by_way way (open_play (least_free_play desk.play) desk fd settings) (open_record (least_free_record desk.recording) desk fd settings) (open_map (least_free_map desk.mapped) desk fd settings))).desk
 opened_or true way desk fd settings h = h
 opened_or false way desk fd settings h = opened_by way desk fd settings h
 
@@ -326,27 +385,35 @@ opened_or false way desk fd settings h = opened_by way desk fd settings h
 
 wrote : (device : DeviceSeen) (desk : Desk) (fd count : ℕ) → HoldApart desk → HoldApart (write_on device (held_by desk fd) desk count).desk
 wrote device desk fd count h =
-    turned (play_turn device (write_turn (desk_here device desk) count) desk) (λ slot. refusing desk Inval) (held_by desk fd) desk fd refl h
-    (λ slot e. play_turned device (write_turn (desk_here device desk) count) desk fd slot (held-write (desk_here device desk) count) h e) (λ slot e. h)
+    turned (play_turn device (write_turn (desk_here device desk) count) desk) (λ slot. refusing desk Inval) (λ slot. refusing desk Inval) (held_by desk fd) desk fd refl h
+    (λ slot e. play_turned device (write_turn (desk_here device desk) count) desk fd slot (held-write (desk_here device desk) count) h e) (λ slot e. h) (λ slot e. h)
+
+poked : (device : DeviceSeen) (desk : Desk) (fd offset count : ℕ) → HoldApart desk → HoldApart (poke_on device (held_by desk fd) desk offset count).desk
+poked device desk fd offset count h =
+    turned (λ slot. refusing desk Inval) (λ slot. refusing desk Inval) (map_turn device (poke_turn offset count) desk) (held_by desk fd) desk fd refl h
+    (λ slot e. h) (λ slot e. h) (λ slot e. map_turned device (poke_turn offset count) desk fd slot (map-held-poked offset count) h e)
 
 read : (device : DeviceSeen) (desk : Desk) (fd count : ℕ) → HoldApart desk → HoldApart (read_on device (held_by desk fd) desk count).desk
 read device desk fd count h =
-    turned (λ slot. refusing desk Inval) (record_turn device (records.read_turn count) desk) (held_by desk fd) desk fd refl h
-    (λ slot e. h) (λ slot e. record_turned device (records.read_turn count) desk fd slot (record-held-read count) h e)
+    turned (λ slot. refusing desk Inval) (record_turn device (records.read_turn count) desk) (λ slot. refusing desk Inval) (held_by desk fd) desk fd refl h
+    (λ slot e. h) (λ slot e. record_turned device (records.read_turn count) desk fd slot (record-held-read count) h e) (λ slot e. h)
 
 asked : (device : DeviceSeen) (request : Request) (desk : Desk) (fd : ℕ) → HoldApart desk → HoldApart (ioctl_on device (held_by desk fd) desk request).desk
 asked device request desk fd h =
-    turned (play_turn device (asking device (desk_here device desk) request) desk) (record_turn device (record_ask request) desk) (held_by desk fd) desk fd refl h
+    turned (play_turn device (asking device (desk_here device desk) request) desk) (record_turn device (record_ask request) desk) (map_turn device (map_ask request) desk) (held_by desk fd) desk fd refl h
     (λ slot e. play_turned device (asking device (desk_here device desk) request) desk fd slot (λ book is. held-ask (play_rate_at device book) (mix_settings device).rate (desk_here device desk) request book is) h e)
     (λ slot e. record_turned device (record_ask request) desk fd slot (record-held-ask request) h e)
+    (λ slot e. map_turned device (map_ask request) desk fd slot (map-held-asked request) h e)
 
 closed : (device : DeviceSeen) (desk : Desk) (fd : ℕ) → HoldApart desk → HoldApart (close_on device (held_by desk fd) desk fd).desk
 closed device desk fd h =
-    turned (close_play device desk fd) (close_record device desk fd) (held_by desk fd) desk fd refl h
+    turned (close_play device desk fd) (close_record device desk fd) (close_map device desk fd) (held_by desk fd) desk fd refl h
     (λ slot e. shut desk (close_play device desk fd slot).desk fd (channel Play slot) e refl
     (play_spared slot (closing device (desk_here device desk) (play_at device desk slot)) (set desk.descriptors fd None) desk) h)
     (λ slot e. shut desk (close_record device desk fd slot).desk fd (channel Record slot) e refl
     (record_spared slot (records.closed (record_at device desk slot)) (set desk.descriptors fd None) desk) h)
+    (λ slot e. shut desk (close_map device desk fd slot).desk fd (channel Map slot) e refl
+    (map_spared slot (map_closed (map_at device desk slot)) (set desk.descriptors fd None) desk) h)
 
 -- ---- groups
 
@@ -357,6 +424,7 @@ regrouped desk groups h = record { within = h.within; taken = λ fd held e. may_
     regrouped_in : (way : Way) (slot : ℕ) → IsTaken desk way slot → IsTaken (record desk { groups = groups }) way slot
     regrouped_in Play slot has = has
     regrouped_in Record slot has = has
+    regrouped_in Map slot has = has
 
 requested : (device : DeviceSeen) (request : Request) (desk : Desk) (fd : ℕ) → HoldApart desk → HoldApart (request_on device (held_by desk fd) desk request).desk
 requested device request desk fd h = by-asking device HoldApart (held_by desk fd) desk request h (λ groups. asked device request (record desk { groups = groups }) fd (regrouped desk groups h))
@@ -376,6 +444,7 @@ started device desk held group h =
         has_change IsHeld group (play_starting device (desk_here device desk)) desk.groups.play desk.play slot some
         (λ book is. held-ask (play_rate_at device book) (mix_settings device).rate (desk_here device desk) (SetTrigger both_bits) book is) has
     moves some Record slot has = has_change IsRecordHeld group record_starting desk.groups.recording desk.recording slot some (record-held-ask (SetTrigger both_bits)) has
+    moves some Map slot has = has
 
 -- an interrupt
 passed : (device : DeviceSeen) (n : ℕ) (desk : Desk) → HoldApart desk → HoldApart (interrupt_turn device desk n).desk
@@ -384,11 +453,13 @@ passed device n desk h = moved desk (interrupt_turn device desk n).desk (λ fd. 
     moves : (way : Way) (slot : ℕ) → IsTaken desk way slot → IsTaken (interrupt_turn device desk n).desk way slot
     moves Play slot has = has_map IsHeld (play_passing device desk.handed n) desk.play slot (held-passing device desk.handed n) has
     moves Record slot has = has_map IsRecordHeld (capturing device n) desk.recording slot (λ book is. record-held-captured (record_rate_at device book) n book is) has
+    moves Map slot has = has_map IsMapHeld (map_passing device desk.handed n) desk.mapped slot (map-held-passing device desk.handed n) has
 
 -- Two descriptors hold two channels after every event.
 pub apart-after : (device : DeviceSeen) (desk : Desk) (event : Event) → HoldApart desk → HoldApart (after device desk event).desk
 apart-after device desk (Open fd way settings) h = opened_or (is_some (held_by desk fd)) way desk fd settings h
 apart-after device desk (Write fd source at count) h = wrote device desk fd count h
+apart-after device desk (Poke fd offset at count) h = poked device desk fd offset count h
 apart-after device desk (Read fd count) h = read device desk fd count h
 apart-after device desk (Ioctl fd request) h = requested device request desk fd h
 apart-after device desk (Join fd group) h = joined device desk fd group h

@@ -10,14 +10,14 @@ use Rattle.pcm_oss.specs.declared.reply.Errno.{Errno}
 use Rattle.pcm_oss.specs.declared.reply.Errno.TheVariants.{BadF, Busy, Inval}
 use Rattle.pcm_oss.specs.declared.request.Request.{Request}
 use Rattle.pcm_group.specs.declared.sync_groups.Groups.{Groups}
-use Rattle.pcm_group.specs.Groups.{all_in, change_in, is_used, joining}
+use Rattle.pcm_group.specs.Groups.{all_in, change_in, is_used, joining, may_join}
 use Rattle.pcm_group.proofs.Members.{get_or-change_in, length-change_in}
 use Rattle.pcm_desk.specs.declared.device.Held.{Held}
 use Rattle.pcm_desk.specs.declared.play_book.PlayBook.{PlayBook}
 use Rattle.pcm_desk.specs.declared.record_book.RecordBook.{RecordBook}
 use Rattle.pcm_desk.specs.Device.{DeviceSeen}
 use Rattle.pcm_desk.specs.PlayBooks.{play_is_ready}
-use Rattle.pcm_desk.specs.Desk.{Desk, DeskTurn, desk_here, group_started, ioctl_on, is_member, join_on, join_result, join_turn, left_by, member_refusal, play_at, play_starting, play_unopened, record_at, record_starting, record_unopened, refusing, request_on, request_turn, rests, start_on}
+use Rattle.pcm_desk.specs.Desk.{Desk, DeskTurn, desk_here, group_started, ioctl_on, is_member, join_on, join_result, join_turn, left_by, member_refusal, play_at, play_starting, play_unopened, record_at, record_starting, record_unopened, refusing, request_on, request_turn, rests, start_on, start_turn}
 
 -- ---- the desks that an event may lead to
 
@@ -50,7 +50,7 @@ pub by-starting : (device : DeviceSeen) (D : DeskTurn → Type 0) (held : Option
     → (is_used desk.groups group ≡ true → all_in group play_is_ready desk.groups.play desk.play ≡ true → D (record { desk = group_started device desk group; reply = Ok Done }))
     → D (start_on device held desk group)
 by-starting device D None desk group same starts = same BadF
-by-starting device D (Some held) desk group same starts = used (is_used desk.groups group) refl
+by-starting device D (Some held) desk group same starts = may (may_join held.way)
   where
     ready : (b : Bool) → is_used desk.groups group ≡ true → all_in group play_is_ready desk.groups.play desk.play ≡ b
         → D (cond {A = DeskTurn} (not b) (refusing desk Busy) (record { desk = group_started device desk group; reply = Ok Done }))
@@ -61,6 +61,10 @@ by-starting device D (Some held) desk group same starts = used (is_used desk.gro
         → D (cond {A = DeskTurn} (not b) (refusing desk Inval) (cond {A = DeskTurn} (not (all_in group play_is_ready desk.groups.play desk.play)) (refusing desk Busy) (record { desk = group_started device desk group; reply = Ok Done })))
     used true e = ready (all_in group play_is_ready desk.groups.play desk.play) e refl
     used false e = same Inval
+
+    may : (b : Bool) → D (cond {A = DeskTurn} b (start_turn device desk group) (refusing desk Inval))
+    may true = used (is_used desk.groups group) refl
+    may false = same Inval
 
 -- ---- the books once a group has started
 

@@ -11,6 +11,10 @@ pub mod RecordAsking
 pub mod RecordSafe
 pub mod RecordLeaves
 pub mod RecordHolding
+pub mod MapAsking
+pub mod MapSafe
+pub mod MapLeaves
+pub mod MapHolding
 pub mod Grouping
 pub mod Members
 pub mod Apart

@@ -7,9 +7,9 @@ use Rattle.std.proofs.lemmas.List.{get_or_past, get_or-replicate, length-replica
 use Rattle.std.proofs.lemmas.List.Quantifiers.{position-Some}
 use Rattle.pcm_format.specs.declared.settings.Settings.{Settings}
 use Rattle.pcm_oss.specs.declared.event.Event.{Event}
-use Rattle.pcm_oss.specs.declared.event.Event.TheVariants.{Open, Write, Read, Ioctl, Join, StartGroup, Close, Intr}
+use Rattle.pcm_oss.specs.declared.event.Event.TheVariants.{Open, Write, Poke, Read, Ioctl, Join, StartGroup, Close, Intr}
 use Rattle.pcm_oss.specs.declared.event.Way.{Way}
-use Rattle.pcm_oss.specs.declared.event.Way.TheVariants.{Play, Record}
+use Rattle.pcm_oss.specs.declared.event.Way.TheVariants.{Play, Record, Map}
 use Rattle.pcm_oss.specs.declared.event.TheConstants.{SLOTS}
 use Rattle.pcm_oss.specs.declared.reply.Errno.{Errno}
 use Rattle.pcm_oss.specs.declared.reply.Errno.TheVariants.{Again, Busy, Inval}
@@ -39,12 +39,13 @@ use Rattle.pcm_desk.specs.PlayBooks.{accepting, is_draining, is_play_free, is_pl
 use Rattle.pcm_desk.specs.PlayRequests.{play_ask, play_roused_in}
 use Rattle.pcm_desk.specs.RecordBooks.{captured_in, is_record_free, is_record_setup, record_begun, record_fill_of}
 use Rattle.pcm_desk.specs.RecordRequests.{record_ask, record_roused_in}
-use Rattle.pcm_desk.specs.Desk.{Desk, DeskTurn, after, capturing, desk_at_start, group_of, group_started, held_by, is_member, join_result, least_free_play, least_free_record, leaving, left_by, member_refusal, mixed_by, mixing, open_play, open_record, open_turn, play_at, play_passing, play_rate_at, play_unopened, record_at, record_rate_at, record_unopened, rests}
+use Rattle.pcm_desk.specs.MapBooks.{map_begun}
+use Rattle.pcm_desk.specs.Desk.{Desk, DeskTurn, after, capturing, desk_at_start, group_of, group_started, held_by, is_member, join_result, least_free_play, least_free_record, leaving, left_by, member_refusal, mixed_by, mixing, open_map, open_play, open_record, open_turn, play_at, play_passing, play_rate_at, play_unopened, record_at, record_rate_at, record_unopened, rests}
 use Rattle.pcm_desk.specs.Events.{after_all}
-use Rattle.pcm_desk.specs.Own.{Channel, GoesByDescriptor, GoesByEach, Grouping, HoldApart, MembersWait, Playing, Recording, Waits, channel_at, descriptor_of, grouping_at, groups_after, is_waiting, own_ioctl, own_join, own_request, own_turn, own_write, passing}
+use Rattle.pcm_desk.specs.Own.{Channel, GoesByDescriptor, GoesByEach, Grouping, HoldApart, Mapped, MembersWait, Playing, Recording, Waits, channel_at, descriptor_of, grouping_at, groups_after, is_waiting, own_ioctl, own_join, own_poke, own_request, own_turn, own_write, passing}
 use Rattle.pcm_desk.proofs.Apart.{apart-after, apart-start}
 use Rattle.pcm_desk.proofs.Grouping.{by-starting}
-use Rattle.pcm_desk.proofs.Isolation.{by-descriptor, isolated, named-fd, opened-is, other-play, other-record, other-waits, same-channel}
+use Rattle.pcm_desk.proofs.Isolation.{by-descriptor, isolated, named-fd, opened-is, other-map, other-play, other-record, other-waits, same-channel}
 use Rattle.pcm_desk.proofs.Openings.{Does, Setting, Staying, opening-ask-does}
 use Rattle.pcm_desk.proofs.Turning.{by-opening}
 
@@ -190,28 +191,38 @@ capturing_waits device n record_states.Running book e w = cc
 passed_waits : (device : DeviceSeen) (handed n : ℕ) (channel : Channel) → Waits channel → Waits (passing device handed n channel)
 passed_waits device handed n (Playing book) w = subst PlayWaits (sym (passing_waits device handed n book w)) w
 passed_waits device handed n (Recording book) w = subst RecordWaits (sym (capturing_waits device n book.state book refl w.0)) w
+passed_waits device handed n (Mapped book) w = absurd w
 
 -- ---- an event of its own
 
 wrote_waits : (here : Here) (count : ℕ) (channel : Channel) → Waits channel → Waits (own_write here count channel).book
 wrote_waits here count (Playing book) w = write_waits here count book w
 wrote_waits here count (Recording book) w = w
+wrote_waits here count (Mapped book) w = absurd w
+
+poked_waits : (offset count : ℕ) (channel : Channel) → Waits channel → Waits (own_poke offset count channel).book
+poked_waits offset count (Playing book) w = w
+poked_waits offset count (Recording book) w = w
+poked_waits offset count (Mapped book) w = absurd w
 
 read_waits : (handed count : ℕ) (device : DeviceSeen) (grouping : Grouping) (fd : ℕ) (channel : Channel) → Waits channel → Waits (own_turn device handed grouping (Read fd count) channel).book
 read_waits handed count device grouping fd (Playing book) w = w
 read_waits handed count device grouping fd (Recording book) w =
     let got : ℕ = min count (record_fill_of book) in
     either (λ (turn : Turn RecordBook). RecordWaits turn.book) (nat_lt 0 count && eqb (record_fill_of book) 0) (record { book = book; reply = Err Again }) (record { book = record book { read = book.read + got }; reply = Ok (Got got) }) w w
+read_waits handed count device grouping fd (Mapped book) w = absurd w
 
 asked_waits : (device : DeviceSeen) (here : Here) (request : Request) (channel : Channel) → Leaves request → Waits channel → Waits (own_ioctl device here request channel).book
 asked_waits device here request (Playing book) l w = ask_waits (play_rate_at device book) (mix_settings device).rate here request book l w
 asked_waits device here request (Recording book) l w = record_ask_waits request book l w
+asked_waits device here request (Mapped book) l w = absurd w
 
--- a join sets the trigger off
-joined_waits : (device : DeviceSeen) (desk : Desk) (here : Here) (way : Way) (slot number : ℕ) → let held : Held = record { way = way; slot = slot } in
-    rests device desk held ≡ true → Waits (own_join device here (Ok number) (channel_at device desk held)).book
-joined_waits device desk here Play slot number r = off_waits (play_rate_at device (play_at device desk slot)) (mix_settings device).rate here (play_at device desk slot).state (play_at device desk slot) refl r
-joined_waits device desk here Record slot number r = record_off_waits (record_at device desk slot).state (record_at device desk slot) refl r
+-- a join sets the trigger off, of what is a member then
+joined_waits : (device : DeviceSeen) (desk new : Desk) (here : Here) (way : Way) (slot number : ℕ) → let held : Held = record { way = way; slot = slot } in
+    rests device desk held ≡ true → is_member new held ≡ true → Waits (own_join device here (Ok number) (channel_at device desk held)).book
+joined_waits device desk new here Play slot number r m = off_waits (play_rate_at device (play_at device desk slot)) (mix_settings device).rate here (play_at device desk slot).state (play_at device desk slot) refl r
+joined_waits device desk new here Record slot number r m = record_off_waits (record_at device desk slot).state (record_at device desk slot) refl r
+joined_waits device desk new here Map slot number r m = absurd (let clash : false ≡ true = m in cc)
 
 -- what it leaves of a member, where that is a member still
 own_waits : (device : DeviceSeen) (event : Event) (held : Held) (desk new : Desk) → descriptor_of event ≢ None → new.groups ≡ groups_after event held (grouping_at device desk held) desk.groups → MembersWait device desk → is_member new held ≡ true
@@ -227,7 +238,7 @@ own_waits device event held desk new own is waits member = at event own is
     joining_by : (result : Result ℕ Errno) (resting : Bool) → rests device desk held ≡ resting → new.groups ≡ groups_joined desk.groups held.way held.slot (join_result result resting)
         → Waits (own_join device (here_at device desk.handed) (join_result result resting) (channel_at device desk held)).book
     joining_by (Err errno) resting r same = old (sym same)
-    joining_by (Ok number) true r same = joined_waits device desk (here_at device desk.handed) held.way held.slot number r
+    joining_by (Ok number) true r same = joined_waits device desk new (here_at device desk.handed) held.way held.slot number r member
     joining_by (Ok number) false r same = old (sym same)
 
     requested_by : (request : Request) (b : Bool) → is_member desk held ≡ b → new.groups ≡ left_by request (Some held) desk.groups → Waits (own_request device (here_at device desk.handed) request (member_refusal b request) (channel_at device desk held)).book
@@ -240,6 +251,7 @@ own_waits device event held desk new own is waits member = at event own is
     at : (event : Event) → descriptor_of event ≢ None → new.groups ≡ groups_after event held (grouping_at device desk held) desk.groups → Waits (own_turn device desk.handed (grouping_at device desk held) event (channel_at device desk held)).book
     at (Open fd way settings) own same = old (sym same)
     at (Write fd source from count) own same = wrote_waits (here_at device desk.handed) count (channel_at device desk held) (old (sym same))
+    at (Poke fd offset from count) own same = poked_waits offset count (channel_at device desk held) (old (sym same))
     at (Read fd count) own same = read_waits desk.handed count device (grouping_at device desk held) fd (channel_at device desk held) (old (sym same))
     at (Ioctl fd request) own same = requested_by request (is_member desk held) refl same
     at (Join fd group) own same = joining_by (joining desk.groups held.way held.slot group) (rests device desk held) refl same
@@ -328,6 +340,7 @@ opened-alone device desk fd way settings held waits shut =
     (λ w holds. absurd (let none : None ≡ Some held = sym shut ∙ holds in cc))
     (λ slot found holds. ap (is_member desk) (opened-is desk.descriptors fd (channel_named Play slot) held shut holds) ∙ not_true (is_member desk (channel_named Play slot)) (play_alone device desk slot found waits))
     (λ slot found holds. ap (is_member desk) (opened-is desk.descriptors fd (channel_named Record slot) held shut holds) ∙ not_true (is_member desk (channel_named Record slot)) (record_alone device desk slot found waits))
+    (λ slot found holds. ap (is_member desk) (opened-is desk.descriptors fd (channel_named Map slot) held shut holds))
 
 -- an open
 opening_waits : (device : DeviceSeen) (desk : Desk) (fd : ℕ) (way : Way) (settings : Settings) → MembersWait device desk → MembersWait device (open_turn desk fd way settings).desk
@@ -343,11 +356,17 @@ opening_waits device desk fd way settings waits =
       | inl same ↦ absurd (record_alone device desk slot found waits (ap (is_member desk) (sym same) ∙ member))
       | inr differ ↦ stays_waiting device desk (open_record (Some slot) desk fd settings).desk held waits refl (other-record device desk slot (record_begun settings) held.way held.slot differ) member
     ]))
+    (λ slot found held member. (
+    elim (same-channel held (channel_named Map slot)) [
+      | inl same ↦ absurd (let clash : false ≡ true = ap (is_member desk) (sym same) ∙ member in cc)
+      | inr differ ↦ stays_waiting device desk (open_map (Some slot) desk fd settings).desk held waits refl (other-map device desk slot (map_begun settings) held.way held.slot differ) member
+    ]))
 
 -- of a descriptor that is shut: all but an open is refused
 shut_waits : (device : DeviceSeen) (event : Event) (desk : Desk) (fd : ℕ) → descriptor_of event ≡ Some fd → held_by desk fd ≡ None → MembersWait device desk → MembersWait device (after device desk event).desk
 shut_waits device (Open at way settings) desk fd n e waits = opening_waits device desk at way settings waits
 shut_waits device (Write at source from count) desk fd n e waits = rw (ap (held_by desk) (named-fd at fd n) ∙ e) waits
+shut_waits device (Poke at offset from count) desk fd n e waits = rw (ap (held_by desk) (named-fd at fd n) ∙ e) waits
 shut_waits device (Read at count) desk fd n e waits = rw (ap (held_by desk) (named-fd at fd n) ∙ e) waits
 shut_waits device (Ioctl at request) desk fd n e waits = rw (ap (held_by desk) (named-fd at fd n) ∙ e) waits
 shut_waits device (Join at group) desk fd n e waits = rw (ap (held_by desk) (named-fd at fd n) ∙ e) waits
@@ -376,6 +395,7 @@ started_waits_on device desk group some waits held member = at (eqb (group_of de
 pub waits-after : (device : DeviceSeen) (desk : Desk) (event : Event) → HoldApart desk → MembersWait device desk → MembersWait device (after device desk event).desk
 waits-after device desk (Open fd way settings) h waits = own_event_waits device (Open fd way settings) desk fd (held_by desk fd) refl refl h waits
 waits-after device desk (Write fd source at count) h waits = own_event_waits device (Write fd source at count) desk fd (held_by desk fd) refl refl h waits
+waits-after device desk (Poke fd offset at count) h waits = own_event_waits device (Poke fd offset at count) desk fd (held_by desk fd) refl refl h waits
 waits-after device desk (Read fd count) h waits = own_event_waits device (Read fd count) desk fd (held_by desk fd) refl refl h waits
 waits-after device desk (Ioctl fd request) h waits = own_event_waits device (Ioctl fd request) desk fd (held_by desk fd) refl refl h waits
 waits-after device desk (Join fd group) h waits = own_event_waits device (Join fd group) desk fd (held_by desk fd) refl refl h waits
@@ -403,6 +423,7 @@ none_at_start slot =
 alone_at_start : (way : Way) (slot : ℕ) → group_at no_groups way slot ≡ 0
 alone_at_start Play slot = none_at_start slot
 alone_at_start Record slot = none_at_start slot
+alone_at_start Map slot = refl
 
 -- nor at any desk without a group
 pub waits-none : (device : DeviceSeen) (desk : Desk) → desk.groups ≡ no_groups → MembersWait device desk

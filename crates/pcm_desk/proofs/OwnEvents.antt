@@ -6,7 +6,7 @@ use Rattle.std.proofs.lemmas.Bool.Decides.{nat_tests}
 use Rattle.std.proofs.lemmas.List.Elements.{All-head, All-tail}
 use Rattle.pcm_format.specs.declared.settings.Settings.{Settings}
 use Rattle.pcm_oss.specs.declared.event.Event.{Event}
-use Rattle.pcm_oss.specs.declared.event.Event.TheVariants.{Open, Write, Read, Ioctl, Join, StartGroup, Close, Intr}
+use Rattle.pcm_oss.specs.declared.event.Event.TheVariants.{Open, Write, Poke, Read, Ioctl, Join, StartGroup, Close, Intr}
 use Rattle.pcm_oss.specs.declared.event.Way.{Way}
 use Rattle.pcm_oss.specs.declared.reply.Answer.{Answer}
 use Rattle.pcm_oss.specs.declared.reply.Errno.{Errno}
@@ -19,7 +19,7 @@ use Rattle.pcm_desk.specs.Desk.{Desk, DeskTurn, after, held_by, group_of, is_mem
 use Rattle.pcm_desk.specs.Events.{after_all, frames_taken}
 use Rattle.pcm_desk.specs.declared.turn.Turn.{Turn}
 use Rattle.pcm_desk.specs.Device.{here_at}
-use Rattle.pcm_desk.specs.Own.{Channel, GoesByDescriptor, GoesByEach, Grouping, HoldApart, IsIsolatedBy, MembersWait, Playing, Recording, StartsTogether, channel_at, descriptor_of, grouping_at, groups_after, held_after, own_request, own_turn, ungrouped}
+use Rattle.pcm_desk.specs.Own.{Channel, GoesByDescriptor, GoesByEach, Grouping, HoldApart, IsIsolatedBy, Mapped, MembersWait, Playing, Recording, StartsTogether, channel_at, descriptor_of, grouping_at, groups_after, held_after, own_request, own_turn, ungrouped}
 use Rattle.pcm_desk.specs.OwnEvents.{JoinsNone, Opens, channel_begun, closes, concerns, joins, names, own_after, own_events, own_replies, replies_to, unnamed}
 use Rattle.pcm_desk.proofs.Apart.{apart-after}
 use Rattle.pcm_desk.proofs.Grouping.{by-joining, by-starting, is-this}
@@ -33,12 +33,17 @@ use Rattle.pcm_desk.proofs.Turning.{handed-taken}
 unnamed_same : (device : DeviceSeen) (handed : ℕ) (event : Event) (channel : Channel) → own_turn device handed ungrouped (unnamed event) channel ≡ own_turn device handed ungrouped event channel
 unnamed_same device handed (Write fd source at count) (Playing book) = refl
 unnamed_same device handed (Write fd source at count) (Recording book) = refl
+unnamed_same device handed (Write fd source at count) (Mapped book) = refl
+unnamed_same device handed (Poke fd offset at count) (Playing book) = refl
+unnamed_same device handed (Poke fd offset at count) (Recording book) = refl
+unnamed_same device handed (Poke fd offset at count) (Mapped book) = refl
 unnamed_same device handed _ channel = refl
 
 -- and it takes as many frames
 unnamed_taken : (event : Event) → frames_taken (unnamed event) ≡ frames_taken event
 unnamed_taken (Open fd way settings) = refl
 unnamed_taken (Write fd source at count) = refl
+unnamed_taken (Poke fd offset at count) = refl
 unnamed_taken (Read fd count) = refl
 unnamed_taken (Ioctl fd request) = refl
 unnamed_taken (Join fd group) = refl
@@ -61,6 +66,7 @@ unnamed_after device handed event channel more =
 others_take : (event : Event) (fd : ℕ) → concerns fd event ≡ false → frames_taken event ≡ 0
 others_take (Open at way settings) fd e = refl
 others_take (Write at source from count) fd e = refl
+others_take (Poke at offset from count) fd e = refl
 others_take (Read at count) fd e = refl
 others_take (Ioctl at request) fd e = refl
 others_take (Join at group) fd e = refl
@@ -143,6 +149,7 @@ isolated_by device event desk named n starts h =
     by_kind (StartGroup at group) starts = absurd starts
     by_kind (Open fd way settings) starts = isolated device (Open fd way settings) desk h
     by_kind (Write fd source at count) starts = isolated device (Write fd source at count) desk h
+    by_kind (Poke fd offset at count) starts = isolated device (Poke fd offset at count) desk h
     by_kind (Read fd count) starts = isolated device (Read fd count) desk h
     by_kind (Ioctl fd request) starts = isolated device (Ioctl fd request) desk h
     by_kind (Join fd group) starts = isolated device (Join fd group) desk h
@@ -247,6 +254,7 @@ other-stays device (StartGroup at group) desk fd held e refused h m a =
     started_leaves device desk (after device desk (StartGroup at group)).desk group fd held (after device desk (StartGroup at group)).reply (isolated device (StartGroup at group) desk h) m a (started_some device desk at group)
 other-stays device (Open at way settings) desk fd held e refused h m a = other_by device (Open at way settings) desk fd at held refl (λ same. grind (arith, nat_tests)) h m a
 other-stays device (Write at source from count) desk fd held e refused h m a = other_by device (Write at source from count) desk fd at held refl (λ same. grind (arith, nat_tests)) h m a
+other-stays device (Poke at offset from count) desk fd held e refused h m a = other_by device (Poke at offset from count) desk fd at held refl (λ same. grind (arith, nat_tests)) h m a
 other-stays device (Read at count) desk fd held e refused h m a = other_by device (Read at count) desk fd at held refl (λ same. grind (arith, nat_tests)) h m a
 other-stays device (Ioctl at request) desk fd held e refused h m a = other_by device (Ioctl at request) desk fd at held refl (λ same. grind (arith, nat_tests)) h m a
 other-stays device (Close at) desk fd held e refused h m a = other_by device (Close at) desk fd at held refl (λ same. grind (arith, nat_tests)) h m a
@@ -357,6 +365,7 @@ holds_named device event desk fd at held n h m still =
 holds_still : (device : DeviceSeen) (event : Event) (desk : Desk) (fd : ℕ) (held : Held) → HoldApart desk → held_by desk fd ≡ Some held → closes fd event ≡ false → held_by (after device desk event).desk fd ≡ Some held
 holds_still device (Open at way settings) desk fd held h m still = holds_named device (Open at way settings) desk fd at held refl h m still
 holds_still device (Write at source from count) desk fd held h m still = holds_named device (Write at source from count) desk fd at held refl h m still
+holds_still device (Poke at offset from count) desk fd held h m still = holds_named device (Poke at offset from count) desk fd at held refl h m still
 holds_still device (Read at count) desk fd held h m still = holds_named device (Read at count) desk fd at held refl h m still
 holds_still device (Ioctl at request) desk fd held h m still = holds_named device (Ioctl at request) desk fd at held refl h m still
 holds_still device (Join at group) desk fd held h m still = holds_named device (Join at group) desk fd at held refl h m still

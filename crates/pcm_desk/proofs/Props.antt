@@ -3,7 +3,7 @@
 use Rattle.std.proofs.Props.{props}
 use Rattle.std.specs.Prelude.{ℕ}
 use Rattle.pcm_oss.specs.declared.event.Way.{Way}
-use Rattle.pcm_oss.specs.declared.event.Way.TheVariants.{Play, Record}
+use Rattle.pcm_oss.specs.declared.event.Way.TheVariants.{Play, Record, Map}
 use Rattle.pcm_rate.specs.declared.rate.Rate.{Rate}
 use Rattle.pcm_desk.specs.declared.play_book.PlayBook.{PlayBook}
 use Rattle.pcm_desk.specs.declared.play_book.PlayState.{PlayState}
@@ -14,6 +14,10 @@ use Rattle.pcm_desk.specs.declared.record_book.RecordState.TheVariants as record
 use Rattle.pcm_desk.specs.Desk.{Desk}
 use Rattle.pcm_desk.specs.Own.{HoldApart, MayBeHeld}
 use Rattle.pcm_desk.specs.PlaySafe.{IsPlayInOrder, PlayIsSafe}
+use Rattle.pcm_desk.specs.declared.map_book.MapBook.{MapBook}
+use Rattle.pcm_desk.specs.declared.map_book.MapState.{MapState}
+use Rattle.pcm_desk.specs.declared.map_book.MapState.TheVariants as map_states
+use Rattle.pcm_desk.specs.MapSafe.{IsMapInOrder, MapIsSafe}
 use Rattle.pcm_desk.specs.RecordSafe.{IsRecordInOrder, RecordIsSafe}
 
 pub IsInOrder-prop : (rate : Rate) (state : PlayState) (book : PlayBook) → IsProp (IsPlayInOrder rate state book)
@@ -42,9 +46,22 @@ RecordIsSafe-prop rate book = Prim.hlevel record_order_props
 
 pub ruleset record_props = (RecordIsSafe-prop, props)
 
+pub map-IsInOrder-prop : (state : MapState) (book : MapBook) → IsProp (IsMapInOrder state book)
+map-IsInOrder-prop map_states.Free book = Prim.hlevel props
+map-IsInOrder-prop map_states.Setup book = Prim.hlevel props
+map-IsInOrder-prop map_states.Running book = Prim.hlevel props
+
+pub ruleset map_order_props = (map-IsInOrder-prop, props)
+
+pub MapIsSafe-prop : (rate : Rate) (book : MapBook) → IsProp (MapIsSafe rate book)
+MapIsSafe-prop rate book = Prim.hlevel map_order_props
+
+pub ruleset map_props = (MapIsSafe-prop, props)
+
 pub MayBeHeld-prop : (desk : Desk) (way : Way) (slot : ℕ) → IsProp (MayBeHeld desk way slot)
 MayBeHeld-prop desk Play slot = Prim.hlevel props
 MayBeHeld-prop desk Record slot = Prim.hlevel props
+MayBeHeld-prop desk Map slot = Prim.hlevel props
 
 pub ruleset held_props = (MayBeHeld-prop, props)
 

@@ -1,6 +1,7 @@
 -- What is refused leaves the book as it was, and what a write or a read comes to that isn't.
-use Rattle.std.proofs.Common.{◌≡◌, ℕ, ◌+◌, Bool, true, false, cond, eqb, min, Option, Some, None, Ok, Err, refl, ap}
-use Rattle.std.specs.Prelude.{nat_lt, ◌&&◌, option_map}
+use Rattle.std.proofs.Common.{◌≡◌, ℕ, ◌+◌, ◌≤◌, Bool, true, false, cond, eqb, min, Option, Some, None, Result, Ok, Err, refl, ap, arith}
+use Rattle.std.specs.Prelude.{nat_lt, ◌&&◌, option_map, IsErr}
+use Rattle.std.proofs.lemmas.Bool.Decides.{nat_tests}
 use Rattle.pcm_format.specs.declared.settings.Settings.{Settings}
 use Rattle.pcm_format.specs.Formats.{code_of, format_with_code}
 use Rattle.pcm_format.specs.Layouts.{channels_of, layout_of}
@@ -16,17 +17,20 @@ use Rattle.pcm_desk.specs.declared.here.Here.{Here}
 use Rattle.pcm_desk.specs.declared.play_book.PlayBook.{PlayBook}
 use Rattle.pcm_desk.specs.declared.opening.Opening.{Opening}
 use Rattle.pcm_desk.specs.declared.record_book.RecordBook.{RecordBook}
+use Rattle.pcm_desk.specs.declared.map_book.MapBook.{MapBook}
 use Rattle.pcm_desk.specs.declared.record_requests.TheConstants.{RECORD_BIT}
 use Rattle.pcm_desk.specs.declared.play_requests.TheConstants.{PLAY_BIT}
 use Rattle.pcm_desk.specs.declared.turn.Turn.{Turn}
 use Rattle.pcm_desk.specs.PlayBooks.{accepting, is_draining, is_play_setup, play_free_of, write_turn}
 use Rattle.pcm_desk.specs.Openings as openings
-use Rattle.pcm_desk.specs.Openings.{at_format, at_layout, at_rate, set_fragments, reset_to, telling_of}
+use Rattle.pcm_desk.specs.Openings.{at_format, at_layout, at_rate, ring_bytes, set_fragments, reset_to, telling_of}
 use Rattle.pcm_desk.specs.PlayRequests.{has_play_bit, play_ask, play_triggered}
 use Rattle.pcm_desk.specs.RecordBooks as records
 use Rattle.pcm_desk.specs.RecordBooks.{is_record_setup, record_fill_of}
 use Rattle.pcm_desk.specs.RecordRequests as record_requests
 use Rattle.pcm_desk.specs.RecordRequests.{record_ask, record_triggered}
+use Rattle.pcm_desk.specs.MapBooks.{is_map_setup, poke_turn}
+use Rattle.pcm_desk.specs.MapRequests.{map_ask, map_triggered}
 use Rattle.pcm_desk.specs.BookTurns.{doing, refused, telling}
 
 -- where a turn is refused, the book is this one
@@ -181,3 +185,68 @@ pub read-done : (length : ℕ) (book : RecordBook) (answer : Answer) → (record
 read-done length book answer e =
     let done = got_in (nat_lt 0 length && eqb (record_fill_of book) 0) (min length (record_fill_of book)) book answer e in
     record { got = done.0; is = done.1 }
+
+-- ---- mapped channels
+
+map_common : (request : Request) (book : MapBook) (errno : Errno) → (openings.ask (is_map_setup book.state) PLAY_BIT request book.opening).reply ≡ Err errno
+    → record book { opening = (openings.ask (is_map_setup book.state) PLAY_BIT request book.opening).book } ≡ book
+map_common request book errno e = ap (λ (opening : Opening). record book { opening = opening }) (opening_refused (is_map_setup book.state) PLAY_BIT request book.opening errno e)
+
+map_volume_in : (b : Bool) (volume : ℕ) (book : MapBook) → LeavesRefused book (cond b (telling (Number volume) (record book { volume = volume })) (refused Inval book))
+map_volume_in true volume book errno e = cc
+map_volume_in false volume book errno e = refl
+
+map_set_trigger_in : (wrong : Bool) (bits : ℕ) (book : MapBook) → LeavesRefused book (cond wrong (refused Inval book) (doing (map_triggered (has_play_bit bits) book)))
+map_set_trigger_in true bits book errno e = refl
+map_set_trigger_in false bits book errno e = cc
+
+-- a request
+pub map-ask-refused : (request : Request) (book : MapBook) → LeavesRefused book (map_ask request book)
+map-ask-refused (SetFmt code) book errno e = map_common (SetFmt code) book errno e
+map-ask-refused (Speed speed) book errno e = map_common (Speed speed) book errno e
+map-ask-refused (Channels channels) book errno e = map_common (Channels channels) book errno e
+map-ask-refused (SetFragment arg) book errno e = map_common (SetFragment arg) book errno e
+map-ask-refused (SetTrigger bits) book errno e = map_set_trigger_in (nat_lt 3 bits) bits book errno e
+map-ask-refused (SetPlayVol volume) book errno e = map_volume_in (is_volume volume) volume book errno e
+map-ask-refused GetOSpace book errno e = refl
+map-ask-refused GetISpace book errno e = refl
+map-ask-refused GetIPtr book errno e = refl
+map-ask-refused GetODelay book errno e = refl
+map-ask-refused GetFmts book errno e = cc
+map-ask-refused GetCaps book errno e = cc
+map-ask-refused GetBlkSize book errno e = cc
+map-ask-refused GetOPtr book errno e = cc
+map-ask-refused GetError book errno e = cc
+map-ask-refused GetTrigger book errno e = cc
+map-ask-refused GetPlayVol book errno e = cc
+map-ask-refused Post book errno e = cc
+map-ask-refused Sync book errno e = cc
+map-ask-refused Halt book errno e = cc
+
+-- whatever it is refused for
+leaves_err : {B : Type 0} (old book : B) (reply : Result Answer Errno) → LeavesRefused old (record { book = book; reply = reply }) → IsErr reply → book ≡ old
+leaves_err old book (Ok answer) leaves e = cc
+leaves_err old book (Err errno) leaves e = leaves errno refl
+
+pub map-asked-refused : (request : Request) (book : MapBook) → IsErr (map_ask request book).reply → (map_ask request book).book ≡ book
+map-asked-refused request book e = leaves_err book (map_ask request book).book (map_ask request book).reply (map-ask-refused request book) e
+
+poke_kept_in : (past : Bool) (book : MapBook) → (cond {A = Turn MapBook} past (refused Inval book) (doing book)).book ≡ book
+poke_kept_in true book = refl
+poke_kept_in false book = refl
+
+-- a poke, refused or not, leaves the book
+pub poke-kept : (offset count : ℕ) (book : MapBook) → (poke_turn offset count book).book ≡ book
+poke-kept offset count book = poke_kept_in (nat_lt (ring_bytes book.opening) (offset + count)) book
+
+pub poke-refused : (offset count : ℕ) (book : MapBook) → LeavesRefused book (poke_turn offset count book)
+poke-refused offset count book errno e = poke-kept offset count book
+
+-- a poke that isn't refused ends within the area
+poke_within : (past : Bool) (offset count : ℕ) (book : MapBook) (answer : Answer) → nat_lt (ring_bytes book.opening) (offset + count) ≡ past
+    → (cond {A = Turn MapBook} past (refused Inval book) (doing book)).reply ≡ Ok answer → offset + count ≤ ring_bytes book.opening
+poke_within true offset count book answer is e = cc
+poke_within false offset count book answer is e = grind (arith, nat_tests)
+
+pub poke-done : (offset count : ℕ) (book : MapBook) (answer : Answer) → (poke_turn offset count book).reply ≡ Ok answer → offset + count ≤ ring_bytes book.opening
+poke-done offset count book answer e = poke_within (nat_lt (ring_bytes book.opening) (offset + count)) offset count book answer refl e

@@ -12,6 +12,7 @@ use Rattle.pcm_rate.specs.declared.rate.Rate.{Rate}
 use Rattle.pcm_desk.specs.declared.here.Here.{Here}
 use Rattle.pcm_desk.specs.declared.play_book.PlayBook.{PlayBook}
 use Rattle.pcm_desk.specs.declared.record_book.RecordBook.{RecordBook}
+use Rattle.pcm_desk.specs.declared.map_book.MapBook.{MapBook}
 use Rattle.pcm_desk.specs.declared.record_requests.TheConstants.{RECORD_BIT}
 use Rattle.pcm_desk.specs.declared.play_requests.TheConstants.{PLAY_BIT}
 use Rattle.pcm_desk.specs.declared.turn.Turn.{Turn}
@@ -21,6 +22,9 @@ use Rattle.pcm_desk.specs.RecordBooks as records
 use Rattle.pcm_desk.specs.RecordBooks.{is_record_setup, record_fill_of}
 use Rattle.pcm_desk.specs.RecordRequests as record_requests
 use Rattle.pcm_desk.specs.RecordRequests.{record_ask, record_triggered}
+use Rattle.pcm_desk.specs.Openings.{ring_bytes}
+use Rattle.pcm_desk.specs.MapBooks.{is_map_setup, poke_turn}
+use Rattle.pcm_desk.specs.MapRequests.{map_ask, map_set_volume, map_triggered}
 use Rattle.pcm_desk.specs.BookTurns.{doing, refused, telling}
 use Rattle.pcm_desk.proofs.Openings.{opening-ask-silent}
 
@@ -79,3 +83,31 @@ record-ask-silent (Channels channels) book = opening-ask-silent (is_record_setup
 record-ask-silent (SetFragment arg) book = opening-ask-silent (is_record_setup book.state) RECORD_BIT (SetFragment arg) book.opening
 record-ask-silent (SetTrigger bits) book = record_set_trigger_in (nat_lt 3 bits) bits book
 record-ask-silent _ book = refl
+
+-- ---- mapped channels
+
+poked : (past : Bool) (book : MapBook) → bytes_due (cond {A = Turn MapBook} past (refused Inval book) (doing book)).reply ≡ 0
+poked true book = refl
+poked false book = refl
+
+-- no bytes come with the reply to a poke
+pub poke-silent : (offset count : ℕ) (book : MapBook) → bytes_due (poke_turn offset count book).reply ≡ 0
+poke-silent offset count book = poked (nat_lt (ring_bytes book.opening) (offset + count)) book
+
+map_volume_in : (b : Bool) (volume : ℕ) (book : MapBook) → is_volume volume ≡ b → bytes_due (map_set_volume volume book).reply ≡ 0
+map_volume_in true volume book e = rw e refl
+map_volume_in false volume book e = rw e refl
+
+map_set_trigger_in : (wrong : Bool) (bits : ℕ) (book : MapBook) → bytes_due (cond wrong (refused Inval book) (doing (map_triggered (has_play_bit bits) book))).reply ≡ 0
+map_set_trigger_in true bits book = refl
+map_set_trigger_in false bits book = refl
+
+-- nor with that to a request
+pub map-asked-silent : (request : Request) (book : MapBook) → bytes_due (map_ask request book).reply ≡ 0
+map-asked-silent (SetFmt code) book = opening-ask-silent (is_map_setup book.state) PLAY_BIT (SetFmt code) book.opening
+map-asked-silent (Speed speed) book = opening-ask-silent (is_map_setup book.state) PLAY_BIT (Speed speed) book.opening
+map-asked-silent (Channels channels) book = opening-ask-silent (is_map_setup book.state) PLAY_BIT (Channels channels) book.opening
+map-asked-silent (SetFragment arg) book = opening-ask-silent (is_map_setup book.state) PLAY_BIT (SetFragment arg) book.opening
+map-asked-silent (SetTrigger bits) book = map_set_trigger_in (nat_lt 3 bits) bits book
+map-asked-silent (SetPlayVol volume) book = map_volume_in (is_volume volume) volume book refl
+map-asked-silent _ book = refl

@@ -4,8 +4,9 @@ use Rattle.std.proofs.lemmas.List.{get_or-map, get_or_past, length-map, set_past
 use Rattle.std.proofs.lemmas.Bool.{cases_lt, cases_eq}
 use Rattle.pcm_desk.specs.declared.play_book.PlayBook.{PlayBook}
 use Rattle.pcm_desk.specs.declared.record_book.RecordBook.{RecordBook}
+use Rattle.pcm_desk.specs.declared.map_book.MapBook.{MapBook}
 use Rattle.pcm_desk.specs.Device.{DeviceSeen, mixed_for}
-use Rattle.pcm_desk.specs.Desk.{Desk, capturing, interrupt_turn, mixed_by, mixing, play_at, play_passing, play_unopened, record_at, record_unopened, settling, with_play, with_record}
+use Rattle.pcm_desk.specs.Desk.{Desk, capturing, interrupt_turn, map_at, map_mixing, map_passing, map_unopened, mixed_by, mixing, play_at, play_passing, play_unopened, record_at, record_unopened, settling, with_map, with_play, with_record}
 
 -- the book of a slot after one book was set
 pub play_at-with : (device : DeviceSeen) (desk : Desk) (at slot : ℕ) (book : PlayBook)
@@ -56,4 +57,30 @@ record_at-capturing device desk n slot =
       | inl here ↦ get_or-map (capturing device n) desk.recording slot (record_unopened device) (record_unopened device) here
       | inr past ↦ get_or_past (map (capturing device n) desk.recording) slot (record_unopened device) (omega (arith, length-map desk.recording (capturing device n)))
           ∙ sym (ap (capturing device n) (get_or_past desk.recording slot (record_unopened device) past))
+    ]
+
+-- the mapped book of a slot after one was set
+pub map_at-with : (device : DeviceSeen) (desk : Desk) (at slot : ℕ) (book : MapBook)
+    → ((slot ≡ at) × (map_at device (with_map desk at book) slot ≡ book)) ⊎ (map_at device (with_map desk at book) slot ≡ map_at device desk slot)
+map_at-with device desk at slot book =
+    elim (cases_lt at (length desk.mapped)) [
+      | inl here ↦ elim (cases_eq slot at) [
+        | inl e ↦ inl (e, rw e (get_or-set_same desk.mapped at book (map_unopened device) here))
+        | inr n ↦ inr (get_or-set_other desk.mapped at slot book (map_unopened device) n)
+      ]
+      | inr past ↦ inr (ap (λ books. get_or books slot (map_unopened device)) (set_past desk.mapped at book past))
+    ]
+
+map_passing_in : (device : DeviceSeen) (frames : ℕ) → map_mixing device frames (map_unopened device) ≡ map_unopened device
+map_passing_in device zero = refl
+map_passing_in device (suc frames) = refl
+
+-- the mapped book of a slot after an interrupt
+pub map_at-passing : (device : DeviceSeen) (desk : Desk) (n slot : ℕ) → map_at device (interrupt_turn device desk n).desk slot ≡ map_passing device desk.handed n (map_at device desk slot)
+map_at-passing device desk n slot =
+    let passing : MapBook → MapBook = map_passing device desk.handed n in
+    elim (cases_lt slot (length desk.mapped)) [
+      | inl here ↦ get_or-map passing desk.mapped slot (map_unopened device) (map_unopened device) here
+      | inr past ↦ get_or_past (map passing desk.mapped) slot (map_unopened device) (omega (arith, length-map desk.mapped passing))
+          ∙ sym (ap passing (get_or_past desk.mapped slot (map_unopened device) past) ∙ map_passing_in device (mixed_by device desk.handed n))
     ]

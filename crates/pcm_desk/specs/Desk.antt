@@ -1,10 +1,10 @@
 -- The desk: the books by slot, who holds which and who starts with whom, and how far the device is. An event gives a new desk and a reply.
-use Rattle.std.specs.Prelude.{ℕ, zero, suc, ◌+◌, ◌-◌, Bool, true, not, nat_lt, Option, Some, None, is_some, if◌then◌else◌, List, map, position, replicate, slice_index_or, slice_set, Result, Ok, Err}
+use Rattle.std.specs.Prelude.{ℕ, zero, suc, ◌+◌, ◌-◌, Bool, true, not, nat_lt, Option, Some, None, is_some, if◌then◌else◌, List, length, map, position, replicate, slice_index_or, slice_set, Result, Ok, Err}
 use Rattle.pcm_format.specs.declared.settings.Settings.{Settings}
 use Rattle.pcm_oss.specs.declared.event.Event.{Event}
-use Rattle.pcm_oss.specs.declared.event.Event.TheVariants.{Open, Write, Read, Ioctl, Join, StartGroup, Close, Intr}
+use Rattle.pcm_oss.specs.declared.event.Event.TheVariants.{Open, Write, Poke, Read, Ioctl, Join, StartGroup, Close, Intr}
 use Rattle.pcm_oss.specs.declared.event.Way.{Way}
-use Rattle.pcm_oss.specs.declared.event.Way.TheVariants.{Play, Record}
+use Rattle.pcm_oss.specs.declared.event.Way.TheVariants.{Play, Record, Map}
 use Rattle.pcm_oss.specs.declared.request.Request.{Request}
 use Rattle.pcm_oss.specs.declared.request.Request.TheVariants.{SetTrigger, Sync}
 use Rattle.pcm_oss.specs.declared.reply.Answer.{Answer}
@@ -13,29 +13,35 @@ use Rattle.pcm_oss.specs.declared.reply.Errno.{Errno}
 use Rattle.pcm_oss.specs.declared.reply.Errno.TheVariants.{BadF, Busy, Exist, Inval}
 use Rattle.pcm_rate.specs.declared.rate.Rate.{Rate}
 use Rattle.pcm_group.specs.declared.sync_groups.Groups.{Groups}
-use Rattle.pcm_group.specs.Groups.{all_in, change_in, dissolved, group_at, is_used, joining, no_groups, with_group}
+use Rattle.pcm_group.specs.Groups.{all_in, change_in, dissolved, group_at, is_used, joining, may_join, no_groups, with_group}
 use Rattle.pcm_desk.specs.declared.play_book.PlayBook.{PlayBook}
 use Rattle.pcm_desk.specs.declared.play_book.PlayState.TheVariants.{Free}
 use Rattle.pcm_desk.specs.declared.record_book.RecordBook.{RecordBook}
 use Rattle.pcm_desk.specs.declared.record_book.RecordState.TheVariants as record_states
+use Rattle.pcm_desk.specs.declared.map_book.MapBook.{MapBook}
+use Rattle.pcm_desk.specs.declared.map_book.MapState.TheVariants as map_states
 use Rattle.pcm_desk.specs.declared.device.Held.{Held}
 use Rattle.pcm_desk.specs.declared.here.Here.{Here}
 use Rattle.pcm_desk.specs.declared.limits.TheConstants.{DESCRIPTORS}
 use Rattle.pcm_desk.specs.declared.play_requests.TheConstants.{PLAY_BIT}
 use Rattle.pcm_desk.specs.declared.record_requests.TheConstants.{RECORD_BIT}
-use Rattle.pcm_desk.specs.Device.{DeviceSeen, device_settings, here_at, mix_settings, mixed_for, passed_for, play_slots, play_rate_between, record_rate_between, record_slots}
+use Rattle.pcm_desk.specs.Device.{DeviceSeen, device_settings, here_at, mix_settings, mixed_for, map_slots, passed_for, play_slots, play_rate_between, record_rate_between, record_slots}
 use Rattle.pcm_desk.specs.declared.turn.Turn.{Turn}
 use Rattle.pcm_desk.specs.PlayBooks.{close_turn, is_play_free, is_play_setup, play_begun, play_is_ready, play_settled, refilled, write_turn}
 use Rattle.pcm_desk.specs.PlayRequests.{play_ask}
 use Rattle.pcm_desk.specs.RecordBooks as records
 use Rattle.pcm_desk.specs.RecordBooks.{is_record_free, is_record_setup, record_begun}
 use Rattle.pcm_desk.specs.RecordRequests.{record_ask}
+use Rattle.pcm_desk.specs.MapBooks.{is_map_free, is_map_setup, map_begun, map_closed, map_refilled, poke_turn}
+use Rattle.pcm_desk.specs.MapRequests.{map_ask}
 
 pub record Desk : Type 0 where
   -- by slot: those that play
   pub play : List PlayBook
   -- by slot: those that record
   pub recording : List RecordBook
+  -- by slot: those whose area is mapped
+  pub mapped : List MapBook
   -- by descriptor: the channel that it holds, if it is open
   pub descriptors : List (Option Held)
   -- which channels start together
@@ -58,11 +64,16 @@ play_unopened device = record (play_begun (mix_settings device)) { state = Free 
 abbrev pub record_unopened : DeviceSeen → RecordBook
 record_unopened device = record (record_begun (device_settings device)) { state = record_states.Free }
 
+-- a mapped book that nobody has opened yet
+abbrev pub map_unopened : DeviceSeen → MapBook
+map_unopened device = record (map_begun (mix_settings device)) { state = map_states.Free }
+
 -- before the first event
 abbrev pub desk_at_start : DeviceSeen → Desk
 desk_at_start device = record {
   play = replicate (play_slots device) (play_unopened device);
   recording = replicate (record_slots device) (record_unopened device);
+  mapped = replicate (map_slots device) (map_unopened device);
   descriptors = replicate DESCRIPTORS None;
   groups = no_groups;
   handed = 0;
@@ -93,6 +104,14 @@ least_free_record books = position (λ book. is_record_free book.state) books
 abbrev pub record_at : DeviceSeen → Desk → ℕ → RecordBook
 record_at device desk slot = slice_index_or desk.recording slot (record_unopened device)
 
+-- the least slot for a mapped area that is free
+abbrev pub least_free_map : List MapBook → Option ℕ
+least_free_map books = position (λ book. is_map_free book.state) books
+
+-- the mapped book of a slot
+abbrev pub map_at : DeviceSeen → Desk → ℕ → MapBook
+map_at device desk slot = slice_index_or desk.mapped slot (map_unopened device)
+
 -- after a refusal the desk is the old one
 abbrev pub refusing : Desk → Errno → DeskTurn
 refusing desk errno = record { desk = desk; reply = Err errno }
@@ -103,13 +122,17 @@ with_play desk slot book = record desk { play = slice_set desk.play slot book }
 abbrev pub with_record : Desk → ℕ → RecordBook → Desk
 with_record desk slot book = record desk { recording = slice_set desk.recording slot book }
 
+abbrev pub with_map : Desk → ℕ → MapBook → Desk
+with_map desk slot book = record desk { mapped = slice_set desk.mapped slot book }
+
 abbrev pub with_descriptor : Desk → ℕ → Option Held → Desk
 with_descriptor desk fd held = record desk { descriptors = slice_set desk.descriptors fd held }
 
--- what is so of a channel that plays, or of one that records
-abbrev pub by_way : {X : Type 0} → Way → X → X → X
-by_way Play play recording = play
-by_way Record play recording = recording
+-- what is so of a channel that plays, of one that records, or of a mapped one
+abbrev pub by_way : {X : Type 0} → Way → X → X → X → X
+by_way Play play recording mapped = play
+by_way Record play recording mapped = recording
+by_way Map play recording mapped = mapped
 
 -- an open takes the least free slot of its way
 abbrev pub open_play : Option ℕ → Desk → ℕ → Settings → DeskTurn
@@ -126,11 +149,23 @@ open_record (Some slot) desk fd settings = record {
   reply = Ok (Number slot);
 }
 
+-- the number of a slot, as it is told, beside so many that play: those of mapped areas are numbered behind these
+abbrev pub slot_number : ℕ → Way → ℕ → ℕ
+slot_number slots way slot = by_way way slot slot (slots + slot)
+
+abbrev pub open_map : Option ℕ → Desk → ℕ → Settings → DeskTurn
+open_map None desk fd settings = refusing desk Busy
+open_map (Some slot) desk fd settings = record {
+  desk = with_descriptor (with_map desk slot (map_begun settings)) fd (Some (record { way = Map; slot = slot }));
+  reply = Ok (Number (slot_number (length desk.play) Map slot));
+}
+
 -- an open descriptor is refused first, and then a desk with no free slot
 abbrev pub open_turn : Desk → ℕ → Way → Settings → DeskTurn
 open_turn desk fd way settings =
     if is_some (held_by desk fd) then refusing desk Exist
     else by_way way (open_play (least_free_play desk.play) desk fd settings) (open_record (least_free_record desk.recording) desk fd settings)
+    (open_map (least_free_map desk.mapped) desk fd settings)
 
 -- an event of a channel that plays, whose book alone changes
 abbrev pub play_turn : DeviceSeen → (PlayBook → Turn PlayBook) → Desk → ℕ → DeskTurn
@@ -144,18 +179,31 @@ record_turn device turn desk slot =
     let turned : Turn RecordBook = turn (record_at device desk slot) in
     record { desk = with_record desk slot turned.book; reply = turned.reply }
 
+-- an event of a mapped channel, whose book alone changes
+abbrev pub map_turn : DeviceSeen → (MapBook → Turn MapBook) → Desk → ℕ → DeskTurn
+map_turn device turn desk slot =
+    let turned : Turn MapBook = turn (map_at device desk slot) in
+    record { desk = with_map desk slot turned.book; reply = turned.reply }
+
 -- an event of a descriptor, by the way of the channel that it holds: at its slot
-abbrev pub turning : (ℕ → DeskTurn) → (ℕ → DeskTurn) → Option Held → Desk → DeskTurn
-turning play recording None desk = refusing desk BadF
-turning play recording (Some held) desk = by_way held.way (play held.slot) (recording held.slot)
+abbrev pub turning : (ℕ → DeskTurn) → (ℕ → DeskTurn) → (ℕ → DeskTurn) → Option Held → Desk → DeskTurn
+turning play recording mapped None desk = refusing desk BadF
+turning play recording mapped (Some held) desk = by_way held.way (play held.slot) (recording held.slot) (mapped held.slot)
 
--- a write, which no recording takes
+-- a write, which a channel takes that plays, and no other
 abbrev pub write_on : DeviceSeen → Option Held → Desk → ℕ → DeskTurn
-write_on device held desk length = turning (play_turn device (write_turn (desk_here device desk) length) desk) (λ slot. refusing desk Inval) held desk
+write_on device held desk length =
+    turning (play_turn device (write_turn (desk_here device desk) length) desk) (λ slot. refusing desk Inval) (λ slot. refusing desk Inval) held desk
 
--- a read, which gets nothing of a channel that plays
+-- a read, which gets something of a recording, and of no other
 abbrev pub read_on : DeviceSeen → Option Held → Desk → ℕ → DeskTurn
-read_on device held desk length = turning (λ slot. refusing desk Inval) (record_turn device (records.read_turn length) desk) held desk
+read_on device held desk length =
+    turning (λ slot. refusing desk Inval) (record_turn device (records.read_turn length) desk) (λ slot. refusing desk Inval) held desk
+
+-- a poke, which a mapped area takes, and no other channel
+abbrev pub poke_on : DeviceSeen → Option Held → Desk → ℕ → ℕ → DeskTurn
+poke_on device held desk offset count =
+    turning (λ slot. refusing desk Inval) (λ slot. refusing desk Inval) (map_turn device (poke_turn offset count) desk) held desk
 
 -- the rate between a book and the mix
 abbrev pub play_rate_at : DeviceSeen → PlayBook → Rate
@@ -165,6 +213,10 @@ play_rate_at device book = play_rate_between device book.opening.settings
 abbrev pub record_rate_at : DeviceSeen → RecordBook → Rate
 record_rate_at device book = record_rate_between device book.opening.settings
 
+-- the rate between a mapped book and the mix
+abbrev pub map_rate_at : DeviceSeen → MapBook → Rate
+map_rate_at device book = play_rate_between device book.opening.settings
+
 -- the book after a request, and the reply, where the mix and the device are
 abbrev pub asking : DeviceSeen → Here → Request → PlayBook → Turn PlayBook
 asking device here request book = play_ask (play_rate_at device book) (mix_settings device).rate here request book
@@ -172,7 +224,7 @@ asking device here request book = play_ask (play_rate_at device book) (mix_setti
 -- a request of a channel, as one of no group
 abbrev pub ioctl_on : DeviceSeen → Option Held → Desk → Request → DeskTurn
 ioctl_on device held desk request =
-    turning (play_turn device (asking device (desk_here device desk) request) desk) (record_turn device (record_ask request) desk) held desk
+    turning (play_turn device (asking device (desk_here device desk) request) desk) (record_turn device (record_ask request) desk) (map_turn device (map_ask request) desk) held desk
 
 -- ---- groups
 
@@ -215,6 +267,7 @@ request_on device (Some held) desk request = request_turn device desk held reque
 -- a channel has no bytes of a run: it is in Setup
 abbrev pub rests : DeviceSeen → Desk → Held → Bool
 rests device desk held = by_way held.way (is_play_setup (play_at device desk held.slot).state) (is_record_setup (record_at device desk held.slot).state)
+    (is_map_setup (map_at device desk held.slot).state)
 
 -- what a join comes to: what the groups say, of a channel that rests
 abbrev pub join_result : Result ℕ Errno → Bool → Result ℕ Errno
@@ -260,9 +313,10 @@ start_turn device desk group =
     else if not (all_in group play_is_ready desk.groups.play desk.play) then refusing desk Busy
     else record { desk = group_started device desk group; reply = Ok Done }
 
+-- any channel starts a group but one that joins none
 abbrev pub start_on : DeviceSeen → Option Held → Desk → ℕ → DeskTurn
 start_on device None desk group = refusing desk BadF
-start_on device (Some held) desk group = start_turn device desk group
+start_on device (Some held) desk group = if may_join held.way then start_turn device desk group else refusing desk Inval
 
 -- ---- closes and interrupts
 
@@ -283,8 +337,14 @@ close_record device desk fd slot = record {
   reply = Ok Done;
 }
 
+abbrev pub close_map : DeviceSeen → Desk → ℕ → ℕ → DeskTurn
+close_map device desk fd slot = record {
+  desk = with_descriptor (with_map desk slot (map_closed (map_at device desk slot))) fd None;
+  reply = Ok Done;
+}
+
 abbrev pub close_on : DeviceSeen → Option Held → Desk → ℕ → DeskTurn
-close_on device held desk fd = turning (close_play device desk fd) (close_record device desk fd) held desk
+close_on device held desk fd = turning (close_play device desk fd) (close_record device desk fd) (close_map device desk fd) held desk
 
 -- how many frames an interrupt of n mixes, where so many were handed over before: those that the n need beside what is mixed
 abbrev pub mixed_by : DeviceSeen → ℕ → ℕ → ℕ
@@ -307,12 +367,27 @@ play_passing device handed n book = settling device (handed + n) (mixing device 
 abbrev pub capturing : DeviceSeen → ℕ → RecordBook → RecordBook
 capturing device n book = records.captured (record_rate_at device book) n book
 
+-- a mapped book once so many frames were mixed; where nothing is mixed it stays
+abbrev pub map_mixing : DeviceSeen → ℕ → MapBook → MapBook
+map_mixing device zero book = book
+map_mixing device (suc frames) book = map_refilled (map_rate_at device book) (suc frames) book
+
+-- a mapped book after an interrupt of n frames, where so many were handed over before
+abbrev pub map_passing : DeviceSeen → ℕ → ℕ → MapBook → MapBook
+map_passing device handed n book = map_mixing device (mixed_by device handed n) book
+
 -- an interrupt of n frames hands them over, mixes what stands for them, ends the runs that are over, and captures as many frames
 abbrev pub interrupt_turn : DeviceSeen → Desk → ℕ → DeskTurn
 interrupt_turn device desk n =
     let frames = mixed_by device desk.handed n in
     record {
-      desk = record desk { play = map (play_passing device desk.handed n) desk.play; recording = map (capturing device n) desk.recording; handed = desk.handed + n; mixed = desk.mixed + frames };
+      desk = record desk {
+        play = map (play_passing device desk.handed n) desk.play;
+        recording = map (capturing device n) desk.recording;
+        mapped = map (map_passing device desk.handed n) desk.mapped;
+        handed = desk.handed + n;
+        mixed = desk.mixed + frames;
+      };
       reply = Ok (Number n);
     }
 
@@ -320,6 +395,7 @@ interrupt_turn device desk n =
 abbrev pub after : DeviceSeen → Desk → Event → DeskTurn
 after device desk (Open fd way settings) = open_turn desk fd way settings
 after device desk (Write fd source at length) = write_on device (held_by desk fd) desk length
+after device desk (Poke fd offset at length) = poke_on device (held_by desk fd) desk offset length
 after device desk (Read fd length) = read_on device (held_by desk fd) desk length
 after device desk (Ioctl fd request) = request_on device (held_by desk fd) desk request
 after device desk (Join fd group) = join_on device (held_by desk fd) desk group

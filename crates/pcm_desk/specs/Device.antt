@@ -24,6 +24,8 @@ pub record DeviceSeen : Type 0 where
   pub mix : Settings
   pub slots : ℕ
   pub recorders : ℕ
+  -- those with a mapped area
+  pub maps : ℕ
   pub ring : ℕ
   pub block : ℕ
   pub quality : ℕ
@@ -36,6 +38,7 @@ seen filters device = record {
   mix = device.mix;
   slots = device.play_slots;
   recorders = device.record_slots;
+  maps = device.map_slots;
   ring = device.ring_frames;
   block = device.block_frames;
   quality = device.quality;
@@ -61,6 +64,14 @@ play_slots device = device.slots
 -- how many clients can record at once
 abbrev pub record_slots : DeviceSeen → ℕ
 record_slots device = device.recorders
+
+-- how many clients can have a mapped area at once
+abbrev pub map_slots : DeviceSeen → ℕ
+map_slots device = device.maps
+
+-- how many slots are mixed: those that play, and behind them those of mapped areas
+abbrev pub mixed_slots : DeviceSeen → ℕ
+mixed_slots device = play_slots device + map_slots device
 
 -- the frames of the device's ring
 abbrev pub ring_frames : DeviceSeen → ℕ
@@ -156,6 +167,6 @@ pub record IsInLimits (device : DeviceSeen) : Type 0 where
   pub ring : block_frames device ≤ ring_frames device
   pub ring_most : ring_frames device ≤ RING_FRAMES
   pub mix_most : mix_frames device ≤ MIX_FRAMES
-  pub slots_most : play_slots device ≤ SLOTS
+  pub slots_most : mixed_slots device ≤ SLOTS
   pub recorders_most : record_slots device ≤ SLOTS
   pub quality : quality_of device ≤ QUALITY_MOST

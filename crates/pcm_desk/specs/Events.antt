@@ -2,7 +2,7 @@
 use Rattle.std.specs.Prelude.{ℕ, ◌*◌, ◌<◌, ◌≤◌, List, [], ◌∷◌}
 use Rattle.std.specs.List.{sum_by}
 use Rattle.pcm_oss.specs.declared.event.Event.{Event}
-use Rattle.pcm_oss.specs.declared.event.Event.TheVariants.{Open, Write, Read, Ioctl, Join, StartGroup, Close, Intr}
+use Rattle.pcm_oss.specs.declared.event.Event.TheVariants.{Open, Write, Poke, Read, Ioctl, Join, StartGroup, Close, Intr}
 use Rattle.pcm_wave.specs.declared.pool.Pool.{Pool}
 use Rattle.pcm_wave.specs.declared.pool.Source.{Source}
 use Rattle.pcm_wave.specs.declared.pool.Source.TheVariants.{Inline, File}
@@ -21,6 +21,7 @@ IsWriteOf (File place) count = Unit {0}
 abbrev pub Fits : DeviceSeen → Pool → Event → Type 0
 Fits device pool (Open fd way settings) = (fd < DESCRIPTORS) × IsRate settings.rate
 Fits device pool (Write fd source at count) = (fd < DESCRIPTORS) × IsWriteOf source count × HasBytes pool source at count
+Fits device pool (Poke fd offset at count) = (fd < DESCRIPTORS) × IsWriteOf Inline count × HasBytes pool Inline at count
 Fits device pool (Read fd count) = (fd < DESCRIPTORS) × (count ≤ READ_BYTES)
 Fits device pool (Ioctl fd request) = fd < DESCRIPTORS
 Fits device pool (Join fd group) = fd < DESCRIPTORS

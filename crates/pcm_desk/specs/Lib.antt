@@ -9,6 +9,9 @@ pub mod PlaySafe
 pub mod RecordBooks
 pub mod RecordRequests
 pub mod RecordSafe
+pub mod MapBooks
+pub mod MapRequests
+pub mod MapSafe
 pub mod Desk
 pub mod Own
 pub mod Events

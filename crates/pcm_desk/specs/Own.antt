@@ -1,9 +1,9 @@
 -- What a client is told, and what becomes of its book, is a matter of that book and its own events alone, but for the group that it joins.
 use Rattle.std.specs.Prelude.{◌≡◌, ◌≢◌, ◌<◌, ℕ, Bool, true, false, not, Option, Some, None, Result, Ok, Err, OnErr, OnOk, length, slice_index_or}
 use Rattle.pcm_oss.specs.declared.event.Event.{Event}
-use Rattle.pcm_oss.specs.declared.event.Event.TheVariants.{Open, Write, Read, Ioctl, Join, StartGroup, Close, Intr}
+use Rattle.pcm_oss.specs.declared.event.Event.TheVariants.{Open, Write, Poke, Read, Ioctl, Join, StartGroup, Close, Intr}
 use Rattle.pcm_oss.specs.declared.event.Way.{Way}
-use Rattle.pcm_oss.specs.declared.event.Way.TheVariants.{Play, Record}
+use Rattle.pcm_oss.specs.declared.event.Way.TheVariants.{Play, Record, Map}
 use Rattle.pcm_oss.specs.declared.request.Request.{Request}
 use Rattle.pcm_oss.specs.declared.request.Request.TheVariants.{SetTrigger}
 use Rattle.pcm_oss.specs.declared.reply.Answer.{Answer}
@@ -18,6 +18,7 @@ use Rattle.pcm_desk.specs.declared.play_book.PlayState.TheVariants.{Free, Setup,
 use Rattle.pcm_desk.specs.declared.device.Held.{Held}
 use Rattle.pcm_desk.specs.declared.here.Here.{Here}
 use Rattle.pcm_desk.specs.declared.record_book.RecordBook.{RecordBook}
+use Rattle.pcm_desk.specs.declared.map_book.MapBook.{MapBook}
 use Rattle.pcm_desk.specs.Device.{DeviceSeen, here_at}
 use Rattle.pcm_desk.specs.declared.turn.Turn.{Turn}
 use Rattle.pcm_desk.specs.BookTurns.{doing, refused, telling}
@@ -25,12 +26,15 @@ use Rattle.pcm_desk.specs.PlayBooks.{write_turn}
 use Rattle.pcm_desk.specs.RecordBooks as records
 use Rattle.pcm_desk.specs.RecordBooks.{is_record_free, is_record_setup}
 use Rattle.pcm_desk.specs.RecordRequests.{record_ask}
-use Rattle.pcm_desk.specs.Desk.{Desk, asking, play_at, by_way, capturing, closing, group_of, held_by, is_member, join_result, leaving, left_by, member_refusal, play_passing, play_starting, record_at, record_starting, rests}
+use Rattle.pcm_desk.specs.MapBooks.{is_map_free, map_closed, poke_turn}
+use Rattle.pcm_desk.specs.MapRequests.{map_ask}
+use Rattle.pcm_desk.specs.Desk.{Desk, asking, play_at, by_way, capturing, closing, group_of, held_by, is_member, join_result, leaving, left_by, map_at, map_passing, member_refusal, play_passing, play_starting, record_at, record_starting, rests}
 
 -- The descriptor whose channel an event is of. An interrupt is of all channels, and a start of a group is of its members.
 abbrev pub descriptor_of : Event → Option ℕ
 descriptor_of (Open fd way settings) = Some fd
 descriptor_of (Write fd source at count) = Some fd
+descriptor_of (Poke fd offset at count) = Some fd
 descriptor_of (Read fd count) = Some fd
 descriptor_of (Ioctl fd request) = Some fd
 descriptor_of (Join fd group) = Some fd
@@ -38,33 +42,45 @@ descriptor_of (Close fd) = Some fd
 descriptor_of (StartGroup fd group) = None
 descriptor_of (Intr n) = None
 
--- the book of a channel, of either way
+-- the book of a channel, of whichever way
 pub data Channel : Type 0 where
   Playing : PlayBook → Channel
   Recording : RecordBook → Channel
+  Mapped : MapBook → Channel
 
 -- the book of the channel with this way and slot
 abbrev pub channel_at : DeviceSeen → Desk → Held → Channel
-channel_at device desk held = by_way held.way (Playing (play_at device desk held.slot)) (Recording (record_at device desk held.slot))
+channel_at device desk held = by_way held.way (Playing (play_at device desk held.slot)) (Recording (record_at device desk held.slot)) (Mapped (map_at device desk held.slot))
 
--- a turn of a book that plays, or of one that records
+-- a turn of a book that plays, of one that records, or of a mapped one
 abbrev pub played : Turn PlayBook → Turn Channel
 played turn = record { book = Playing turn.book; reply = turn.reply }
 
 abbrev pub recorded : Turn RecordBook → Turn Channel
 recorded turn = record { book = Recording turn.book; reply = turn.reply }
 
+abbrev pub turned_map : Turn MapBook → Turn Channel
+turned_map turn = record { book = Mapped turn.book; reply = turn.reply }
+
 abbrev pub own_write : Here → ℕ → Channel → Turn Channel
 own_write here count (Playing book) = played (write_turn here count book)
 own_write here count (Recording book) = refused Inval (Recording book)
+own_write here count (Mapped book) = refused Inval (Mapped book)
+
+abbrev pub own_poke : ℕ → ℕ → Channel → Turn Channel
+own_poke offset count (Playing book) = refused Inval (Playing book)
+own_poke offset count (Recording book) = refused Inval (Recording book)
+own_poke offset count (Mapped book) = turned_map (poke_turn offset count book)
 
 abbrev pub own_read : ℕ → Channel → Turn Channel
 own_read count (Playing book) = refused Inval (Playing book)
 own_read count (Recording book) = recorded (records.read_turn count book)
+own_read count (Mapped book) = refused Inval (Mapped book)
 
 abbrev pub own_ioctl : DeviceSeen → Here → Request → Channel → Turn Channel
 own_ioctl device here request (Playing book) = played (asking device here request book)
 own_ioctl device here request (Recording book) = recorded (record_ask request book)
+own_ioctl device here request (Mapped book) = turned_map (map_ask request book)
 
 abbrev pub own_request : DeviceSeen → Here → Request → Option Errno → Channel → Turn Channel
 own_request device here request (Some errno) channel = refused errno channel
@@ -78,11 +94,13 @@ own_join device here (Ok group) channel = telling (Number group) (own_ioctl devi
 abbrev pub closing_own : DeviceSeen → Here → Channel → Channel
 closing_own device here (Playing book) = Playing (closing device here book)
 closing_own device here (Recording book) = Recording (records.closed book)
+closing_own device here (Mapped book) = Mapped (map_closed book)
 
 -- what an interrupt of n leaves, where so many frames were handed over before
 abbrev pub passing : DeviceSeen → ℕ → ℕ → Channel → Channel
 passing device handed n (Playing book) = Playing (play_passing device handed n book)
 passing device handed n (Recording book) = Recording (capturing device n book)
+passing device handed n (Mapped book) = Mapped (map_passing device handed n book)
 
 -- what the groups are to a channel: whether it is a member of one, and what it gets that asks for one
 pub record Grouping : Type 0 where
@@ -104,6 +122,7 @@ ungrouped = record { member = false; joins = λ group. Err Busy }
 abbrev pub own_turn : DeviceSeen → ℕ → Grouping → Event → Channel → Turn Channel
 own_turn device handed grouping (Open fd way settings) channel = refused Exist channel
 own_turn device handed grouping (Write fd source at count) channel = own_write (here_at device handed) count channel
+own_turn device handed grouping (Poke fd offset at count) channel = own_poke offset count channel
 own_turn device handed grouping (Read fd count) channel = own_read count channel
 own_turn device handed grouping (Ioctl fd request) channel =
     own_request device (here_at device handed) request (member_refusal grouping.member request) channel
@@ -120,12 +139,13 @@ is_held state = true
 
 -- how many slots a way has
 abbrev pub slots_of : Desk → Way → ℕ
-slots_of desk way = by_way way (length desk.play) (length desk.recording)
+slots_of desk way = by_way way (length desk.play) (length desk.recording) (length desk.mapped)
 
 -- the channel of a slot may be held
 abbrev pub MayBeHeld : Desk → Way → ℕ → Type 0
 MayBeHeld desk Play slot = (other : PlayBook) → is_held (slice_index_or desk.play slot other).state ≡ true
 MayBeHeld desk Record slot = (other : RecordBook) → is_record_free (slice_index_or desk.recording slot other).state ≡ false
+MayBeHeld desk Map slot = (other : MapBook) → is_map_free (slice_index_or desk.mapped slot other).state ≡ false
 
 -- Each open descriptor holds a slot that is there and a channel that may be held, and no two hold one.
 pub record HoldApart (desk : Desk) : Type 0 where
@@ -174,10 +194,11 @@ pub record GoesByEach (device : DeviceSeen) (event : Event) (old new : Desk) : T
   pub passes : (fd : ℕ) → held_by new fd ≡ held_by old fd
   pub groups : new.groups ≡ old.groups
 
--- a member of a group starts where the mix and the device are
+-- a member of a group starts where the mix and the device are; a mapped channel is a member of none
 abbrev pub starting : DeviceSeen → Here → Channel → Channel
 starting device here (Playing book) = Playing (play_starting device here book)
 starting device here (Recording book) = Recording (record_starting book)
+starting device here (Mapped book) = Mapped book
 
 -- Of a start of a group: where it is accepted its members start, and are in none any more; where it is refused nothing changes. Every
 -- other channel stays, and what every descriptor holds, or that it is shut.
@@ -204,10 +225,11 @@ is_waiting Setup = true
 is_waiting Primed = true
 is_waiting state = false
 
--- a channel waits for the start of its group: it hasn't started, and its trigger is off
+-- A channel waits for the start of its group: it hasn't started, and its trigger is off. A mapped one waits for none.
 abbrev pub Waits : Channel → Type 0
 Waits (Playing book) = (is_waiting book.state ≡ true) × (book.opening.trigger ≡ false)
 Waits (Recording book) = (is_record_setup book.state ≡ true) × (book.opening.trigger ≡ false)
+Waits (Mapped book) = ⊥
 
 -- each member of a group does
 abbrev pub MembersWait : DeviceSeen → Desk → Type 0

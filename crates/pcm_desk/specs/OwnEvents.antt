@@ -2,7 +2,7 @@
 use Rattle.std.specs.Prelude.{◌≡◌, ℕ, ◌+◌, Bool, true, false, ◌==◌, if◌then◌else◌, List, [], ◌∷◌, Option, Some, None, Result, IsErr}
 use Rattle.pcm_format.specs.declared.settings.Settings.{Settings}
 use Rattle.pcm_oss.specs.declared.event.Event.{Event}
-use Rattle.pcm_oss.specs.declared.event.Event.TheVariants.{Open, Write, Read, Ioctl, Join, StartGroup, Close, Intr}
+use Rattle.pcm_oss.specs.declared.event.Event.TheVariants.{Open, Write, Poke, Read, Ioctl, Join, StartGroup, Close, Intr}
 use Rattle.pcm_oss.specs.declared.event.Way.{Way}
 use Rattle.pcm_oss.specs.declared.reply.Answer.{Answer}
 use Rattle.pcm_oss.specs.declared.reply.Errno.{Errno}
@@ -11,10 +11,11 @@ use Rattle.pcm_desk.specs.declared.device.Held.{Held}
 use Rattle.pcm_desk.specs.Device.{DeviceSeen}
 use Rattle.pcm_desk.specs.PlayBooks.{play_begun}
 use Rattle.pcm_desk.specs.RecordBooks.{record_begun}
+use Rattle.pcm_desk.specs.MapBooks.{map_begun}
 use Rattle.pcm_desk.specs.Desk.{Desk, DeskTurn, after, by_way, held_by}
 use Rattle.pcm_desk.specs.declared.turn.Turn.{Turn}
 use Rattle.pcm_desk.specs.Events.{frames_taken}
-use Rattle.pcm_desk.specs.Own.{Channel, Playing, Recording, descriptor_of, own_turn, ungrouped}
+use Rattle.pcm_desk.specs.Own.{Channel, Playing, Recording, Mapped, descriptor_of, own_turn, ungrouped}
 
 -- a descriptor is this one; an event that names none is everyone's
 abbrev pub names : ℕ → Option ℕ → Bool
@@ -37,10 +38,11 @@ abbrev pub closes : ℕ → Event → Bool
 closes fd (Close at) = at == fd
 closes fd _ = false
 
--- An event without the number of its descriptor. Of the bytes of a write only their number counts.
+-- An event without the number of its descriptor. Of the bytes of a write and a poke only their number counts.
 abbrev pub unnamed : Event → Event
 unnamed (Open fd way settings) = Open 0 way settings
 unnamed (Write fd source at count) = Write 0 Inline 0 count
+unnamed (Poke fd offset at count) = Poke 0 offset 0 count
 unnamed (Read fd count) = Read 0 count
 unnamed (Ioctl fd request) = Ioctl 0 request
 unnamed (Join fd group) = Join 0 group
@@ -83,7 +85,7 @@ own_after device handed channel (event ∷ events) =
 
 -- a channel whose opening begins
 abbrev pub channel_begun : Way → Settings → Channel
-channel_begun way settings = by_way way (Playing (play_begun settings)) (Recording (record_begun settings))
+channel_begun way settings = by_way way (Playing (play_begun settings)) (Recording (record_begun settings)) (Mapped (map_begun settings))
 
 -- a descriptor that was shut is opened at a desk, and holds this channel then
 pub record Opens (device : DeviceSeen) (fd : ℕ) (way : Way) (settings : Settings) (held : Held) (old new : Desk) : Type 0 where

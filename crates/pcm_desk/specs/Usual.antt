@@ -9,6 +9,6 @@ use Rattle.pcm_feeder.specs.Filters.{no_filters}
 abbrev pub usual_settings : Settings
 usual_settings = record { format = S16Le; layout = Two; rate = 48000 }
 
--- a ring of four blocks of 256 frames, four channels that play and four that record, converters that draw lines, and no filter
+-- a ring of four blocks of 256 frames, four channels that play and four that record, none with a mapped area, converters that draw lines, and no filter
 abbrev pub usual_device : DeviceSeen
-usual_device = record { settings = usual_settings; mix = usual_settings; slots = 4; recorders = 4; ring = 1024; block = 256; quality = 1; filters = no_filters }
+usual_device = record { settings = usual_settings; mix = usual_settings; slots = 4; recorders = 4; maps = 0; ring = 1024; block = 256; quality = 1; filters = no_filters }

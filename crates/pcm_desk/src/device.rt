@@ -31,6 +31,8 @@ pub struct Device {
     pub play_slots: u32,
     /// How many channels can record at once.
     pub record_slots: u32,
+    /// How many channels can have a mapped area at once.
+    pub map_slots: u32,
     /// How the rates of clients are converted: 0 to `QUALITY_MOST`.
     pub quality: u32,
 }
@@ -40,7 +42,7 @@ impl Device {
     ghost use Rattle.pcm_desk.specs.Usual.{usual_device};
 
     /// The device of a run without a configuration: 16 bits, stereo, 48 kHz, a ring of four blocks of 256 frames,
-    /// four channels that play and four that record, and converters that draw lines.
+    /// four channels that play and four that record, none with a mapped area, and converters that draw lines.
     pub fn usual() -> Device
         ensures value { unfiltered result ≡ usual_device }
         ensures limits { IsInLimits (unfiltered result) }
@@ -57,6 +59,7 @@ impl Device {
             ring_frames: 1024,
             play_slots: 4,
             record_slots: 4,
+            map_slots: 0,
             quality: 1,
         }
     }

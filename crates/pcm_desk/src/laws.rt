@@ -18,6 +18,10 @@ ghost use Rattle.pcm_desk.specs.RecordBooks as records;
 ghost use Rattle.pcm_desk.specs.RecordBooks.{is_record_setup, record_begun};
 ghost use Rattle.pcm_desk.specs.RecordRequests.{record_ask};
 ghost use Rattle.pcm_desk.specs.RecordSafe.{RecordIsSafe};
+ghost use Rattle.pcm_desk.specs.declared.map_book.MapBook.{MapBook};
+ghost use Rattle.pcm_desk.specs.MapBooks.{is_map_setup, map_begun, map_closed, map_refilled, poke_turn};
+ghost use Rattle.pcm_desk.specs.MapRequests.{map_ask};
+ghost use Rattle.pcm_desk.specs.MapSafe.{MapIsSafe};
 ghost use Rattle.pcm_desk.specs.Device.{DeviceSeen, IsInLimits, here_at, mixed_for};
 ghost use Rattle.pcm_desk.specs.declared.device.Held.{Held};
 ghost use Rattle.pcm_desk.specs.Desk.{Desk, after, desk_at_start, held_by, is_member};
@@ -79,6 +83,21 @@ pub fn record_books_stay_in_order()
         → RecordIsSafe rate book → RecordIsSafe rate (records.closed book) }
     ensures captured { (rate : Rate) (n : ℕ) (book : RecordBook)
         → RecordIsSafe rate book → RecordIsSafe rate (records.captured rate n book) }
+{}
+
+/// The counts of a mapped book stay in order through every event, for every rate between its client and the mix.
+pub fn map_books_stay_in_order()
+    ensures begun { (rate : Rate) (settings : Settings) → MapIsSafe rate (map_begun settings) }
+    ensures poked { (rate : Rate) (offset count : ℕ) (book : MapBook)
+        → MapIsSafe rate book → MapIsSafe rate (poke_turn offset count book).book }
+    // A request may change the rate, of a book that has nothing taken.
+    ensures asked { (rate now : Rate) (request : Request) (book : MapBook)
+        → (is_map_setup book.state ≡ false → now ≡ rate)
+        → MapIsSafe rate book → MapIsSafe now (map_ask request book).book }
+    ensures closed { (rate : Rate) (book : MapBook)
+        → MapIsSafe rate book → MapIsSafe rate (map_closed book) }
+    ensures refilled { (rate : Rate) (n : ℕ) (book : MapBook)
+        → MapIsSafe rate book → MapIsSafe rate (map_refilled rate n book) }
 {}
 
 /// Two open descriptors never hold one channel, from the start on and through every event.

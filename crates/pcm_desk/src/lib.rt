@@ -6,6 +6,9 @@ mod device;
 mod here;
 mod laws;
 mod limits;
+mod map_book;
+mod map_events;
+mod map_requests;
 mod opening;
 mod play_book;
 mod play_events;
@@ -19,11 +22,13 @@ pub use device::{Device, Held, OPENING, QUALITY_MOST};
 pub use here::Here;
 pub use laws::{
     books_stay_here, books_stay_in_order, descriptors_hold_apart, devices_hold_what_is_mixed,
-    members_wait_for_their_group, openings_stand_alone, record_books_stay_in_order,
+    map_books_stay_in_order, members_wait_for_their_group, openings_stand_alone,
+    record_books_stay_in_order,
 };
 pub use limits::{
     DESCRIPTORS, DEVICE_BYTES, EVENTS, MIX_FRAMES, READ_BYTES, RING_FRAMES, WRITE_BYTES,
 };
+pub use map_book::{MapBook, MapState};
 pub use opening::{ALL_FORMATS, CAPABILITIES, Opening};
 pub use play_book::{PlayBook, PlayState};
 pub use play_requests::PLAY_BIT;

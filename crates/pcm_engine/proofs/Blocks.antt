@@ -1,6 +1,6 @@
 -- The block that an interrupt mixes, folded over the slots, is the mix of its positions.
-use Rattle.std.proofs.Common.{◌≡◌, ℕ, zero, suc, ◌+◌, ◌*◌, Bool, true, false, cond, eqb, List, [], ◌∷◌, ◌++◌, replicate, fold, ℤ, pos, refl, sym, ap, ◌∙◌, subst, arith, zero-add}
-use Rattle.std.specs.Prelude.{IfSome, ◌&&◌, ◌||◌, not}
+use Rattle.std.proofs.Common.{◌≡◌, ℕ, zero, suc, ◌+◌, ◌*◌, ◌<◌, ◌≤◌, Bool, true, false, cond, eqb, List, [], ◌∷◌, ◌++◌, replicate, fold, ℤ, pos, refl, sym, ap, ◌∙◌, subst, arith, zero-add}
+use Rattle.std.specs.Prelude.{All, IfSome, ◌-◌, ◌&&◌, ◌||◌, nat_lt, not}
 use Rattle.std.specs.List.{range_with_len, flat_map}
 use Rattle.std.proofs.lemmas.Bool.Decides.{nat_tests}
 use Rattle.std.proofs.lemmas.List.{replicate-append-replicate}
@@ -16,23 +16,32 @@ use Rattle.pcm_desk.specs.declared.play_book.PlayBook.{PlayBook}
 use Rattle.pcm_desk.specs.declared.play_book.PlayState.{PlayState}
 use Rattle.pcm_desk.specs.declared.play_book.PlayState.TheVariants.{Free, Setup, Primed, Running, Draining}
 use Rattle.pcm_desk.specs.PlayBooks.{finished, is_over, is_play_free, play_settled, refilled}
-use Rattle.pcm_desk.specs.Device.{DeviceSeen, mix_settings, mixed_for, passed_for, play_slots}
-use Rattle.pcm_desk.specs.Desk.{mixed_by, mixing, play_at, play_passing, play_rate_at}
-use Rattle.pcm_desk.proofs.Slots.{play_at-passing}
-use Rattle.pcm_sound.specs.Gains.{GainSet, book_gain, last_gain}
+use Rattle.pcm_desk.specs.declared.map_book.MapBook.{MapBook}
+use Rattle.pcm_desk.specs.declared.map_book.MapState.{MapState}
+use Rattle.pcm_desk.specs.declared.map_book.MapState.TheVariants as map_states
+use Rattle.pcm_desk.specs.MapBooks.{is_map_free, map_refilled_in}
+use Rattle.pcm_desk.specs.Device.{DeviceSeen, map_slots, mix_settings, mixed_for, mixed_slots, passed_for, play_slots}
+use Rattle.pcm_desk.specs.Desk.{map_at, map_mixing, map_rate_at, mixed_by, mixing, play_at, play_passing, play_rate_at}
+use Rattle.pcm_desk.proofs.Slots.{map_at-passing, play_at-passing}
+use Rattle.pcm_sound.specs.Gains.{GainSet, book_gain, last_gain, map_gain}
 use Rattle.pcm_sound.specs.Runs.{Run, marking, playing, sounding}
-use Rattle.pcm_sound.specs.Story.{Story, told}
+use Rattle.pcm_sound.specs.MapRuns.{map_marking, map_playing}
+use Rattle.pcm_sound.specs.Story.{Story, by_number, mixed_gains, told}
 use Rattle.pcm_sound.specs.Mix.{Table, adding, mix_of}
 use Rattle.pcm_sound.specs.DeviceList.{table_of, silence_in, mix_at}
-use Rattle.pcm_sound.specs.Added.{turned}
-use Rattle.pcm_sound.specs.Valid.{StoryIsValid}
+use Rattle.pcm_sound.specs.Added.{map_turned, turned}
+use Rattle.pcm_sound.specs.Valid.{HasRate, StoryIsValid}
 use Rattle.pcm_sound.proofs.DeviceLists.{IsMixedFrame, mix_of-same, mix_of-more, mix_of-frame, sounding-frame}
+use Rattle.pcm_sound.proofs.MapSlots.{map-mixed}
+use Rattle.pcm_sound.proofs.MapStories.{sounding-map_marking}
+use Rattle.pcm_sound.proofs.MapTurns.{map-turn}
+use Rattle.pcm_sound.proofs.Numbers.{by-number}
 use Rattle.pcm_sound.proofs.Slots.{playing-own}
 use Rattle.pcm_sound.proofs.Sounding.{sounding-marking}
 use Rattle.pcm_sound.proofs.Turns.{turn}
-use Rattle.pcm_vchan.specs.Blocks.{silent_samples, mixed_onto, block_of}
-use Rattle.pcm_engine.specs.Stands.{bytes_counted}
-use Rattle.pcm_engine.proofs.Counted.{counted-newest}
+use Rattle.pcm_vchan.specs.Blocks.{silent_samples, mapped_onto, mixed_onto, block_of}
+use Rattle.pcm_engine.specs.Stands.{bytes_counted, map_bytes_counted}
+use Rattle.pcm_engine.proofs.Counted.{counted-newest, counted-taken}
 
 -- frames of silence, joined
 pub silence-joined : (frame_size a n : ℕ) → flat_map (λ k. replicate frame_size (pos 0)) (range_with_len a n) ≡ replicate (n * frame_size) (pos 0)
@@ -41,25 +50,47 @@ silence-joined frame_size a (suc n) =
     let more : suc n * frame_size ≡ frame_size + n * frame_size = omega arith in
     ap (λ xs. replicate frame_size (pos 0) ++ xs) (silence-joined frame_size (a + 1) n) ∙ replicate-append-replicate frame_size (n * frame_size) (pos 0) ∙ ap (λ k. replicate k (pos 0)) (sym more)
 
+-- the runs of each slot that plays after an interrupt that mixes n frames, and of each mapped one
+abbrev pub next_play : DeviceSeen → Story → ℕ → ℕ → List Run
+next_play device story n slot = playing device story.desk.mixed n (play_at device story.desk slot) (story.runs slot)
+
+abbrev pub next_map : DeviceSeen → Story → ℕ → ℕ → List Run
+next_map device story n slot = map_playing device story.desk.mixed n (map_at device story.desk slot) (story.areas slot) (story.map_runs slot)
+
 -- the table of a story after an interrupt that mixes n frames
 abbrev pub next_table : DeviceSeen → Story → ℕ → Table
 next_table device story n slot position =
-    sounding device (last_gain (story.gains slot) position) (playing device story.desk.mixed n (play_at device story.desk slot) (story.runs slot)) position
+    sounding device (last_gain (mixed_gains device story slot) position) (by_number device (next_play device story n) (next_map device story n) slot) position
 
 next_frames : (device : DeviceSeen) (story : Story) (n : ℕ) → StoryIsValid device story → (slot position : ℕ) → IfSome (next_table device story n slot position) (IsMixedFrame device)
 next_frames device story n v slot position =
-    sounding-frame device (last_gain (story.gains slot) position) (playing device story.desk.mixed n (play_at device story.desk slot) (story.runs slot)) position v.limits
-    (playing-own device story.desk.mixed n (play_at device story.desk slot) (story.runs slot) (v.slots slot).own)
+    sounding-frame device (last_gain (mixed_gains device story slot) position) (by_number device (next_play device story n) (next_map device story n) slot) position v.limits
+    (by-number (All HasRate) device (next_play device story n) (next_map device story n) slot
+    (λ at. playing-own device story.desk.mixed n (play_at device story.desk at) (story.runs at) (v.slots at).own)
+    (λ at. (map-mixed device story.desk.mixed n (map_at device story.desk at) (story.areas at) (story.map_runs at) v.limits (v.maps at)).own))
+
+-- in the slots that play it has what these give
+next_playing : (device : DeviceSeen) (story : Story) (n slot position : ℕ) → slot < play_slots device
+    → next_table device story n slot position ≡ sounding device (last_gain (story.gains slot) position) (next_play device story n slot) position
+next_playing device story n slot position below = let plays : nat_lt slot (play_slots device) ≡ true = grind (arith, nat_tests) in rw plays refl
+
+-- and behind them what the mapped ones give
+next_mapped : (device : DeviceSeen) (story : Story) (n slot position : ℕ)
+    → next_table device story n (play_slots device + slot) position ≡ sounding device (last_gain (story.map_gains slot) position) (next_map device story n slot) position
+next_mapped device story n slot position =
+    let behind : nat_lt (play_slots device + slot) (play_slots device) ≡ false = grind (arith, nat_tests) in
+    let place : play_slots device + slot - play_slots device ≡ slot = omega arith in
+    rw (behind, place) refl
 
 -- the mix of the first slots at its positions
 abbrev pub front_mix : DeviceSeen → Story → ℕ → ℕ → ℕ → Frame
 front_mix device story n slots k = mix_of (bits_of (mix_settings device).format) (silence_in (mix_settings device)) (next_table device story n) slots (story.desk.mixed + k)
 
 -- the block of the first slots is their mix
-fold-front : (device : DeviceSeen) (story : Story) (n j : ℕ) → StoryIsValid device story
+fold-front : (device : DeviceSeen) (story : Story) (n j : ℕ) → j ≤ play_slots device → StoryIsValid device story
     → mixed_onto device n story.desk.play (bytes_counted device story) j (silent_samples (mix_settings device) n) ≡ flat_map (front_mix device story n j) (range_with_len 0 n)
-fold-front device story n zero v = sym (silence-joined (channels_of (mix_settings device).layout) 0 n)
-fold-front device story n (suc j) v =
+fold-front device story n zero few v = sym (silence-joined (channels_of (mix_settings device).layout) 0 n)
+fold-front device story n (suc j) few v =
     let book : PlayBook = play_at device story.desk j in
     let bytes : List ℕ = bytes_counted device story j in
     let onto : List ℤ → ℕ → List ℤ = λ sum slot. turned device n (play_at device story.desk slot) (bytes_counted device story slot) sum in
@@ -72,11 +103,41 @@ fold-front device story n (suc j) v =
     ap (λ m. fold onto (silent_samples (mix_settings device) n) (range_with_len 0 m)) next
     ∙ ap (fold onto (silent_samples (mix_settings device) n)) (range-add 0 j 1 ∙ ap (λ a. range_with_len 0 j ++ a ∷ []) (zero-add j))
     ∙ fold-append onto (silent_samples (mix_settings device) n) (range_with_len 0 j) (j ∷ [])
-    ∙ ap (turned device n book bytes) (fold-front device story n j v)
+    ∙ ap (turned device n book bytes) (fold-front device story n j (omega arith) v)
     ∙ sym added
+    ∙ flat_map-range-same (λ k. adding (bits_of (mix_settings device).format) (sum k) (sounding device (last_gain (story.gains j) (story.desk.mixed + k)) (next_play device story n j) (story.desk.mixed + k)))
+    (λ k. adding (bits_of (mix_settings device).format) (sum k) (next_table device story n j (story.desk.mixed + k))) 0 n
+    (λ k l. ap (adding (bits_of (mix_settings device).format) (sum (0 + k))) (sym (next_playing device story n j (story.desk.mixed + (0 + k)) (omega arith))))
     ∙ flat_map-range-same (λ k. adding (bits_of (mix_settings device).format) (sum k) (next_table device story n j (story.desk.mixed + k))) (front_mix device story n (suc j)) 0 n
     (λ k l. sym (ap (λ slots. mix_of (bits_of (mix_settings device).format) (silence_in (mix_settings device)) (next_table device story n) slots (story.desk.mixed + (0 + k))) next
     ∙ mix_of-more (bits_of (mix_settings device).format) (silence_in (mix_settings device)) (next_table device story n) j (story.desk.mixed + (0 + k))))
+
+-- and so is that with the first mapped slots behind them
+fold-back : (device : DeviceSeen) (story : Story) (n j : ℕ) → StoryIsValid device story → (front : List ℤ) → front ≡ flat_map (front_mix device story n (play_slots device)) (range_with_len 0 n)
+    → mapped_onto device n story.desk.mapped (map_bytes_counted device story) story.areas j front ≡ flat_map (front_mix device story n (play_slots device + j)) (range_with_len 0 n)
+fold-back device story n zero v front is = is ∙ ap (λ slots. flat_map (front_mix device story n slots) (range_with_len 0 n)) (let e : play_slots device ≡ play_slots device + 0 = omega arith in e)
+fold-back device story n (suc j) v front is =
+    let book : MapBook = map_at device story.desk j in
+    let bytes : List ℕ = map_bytes_counted device story j in
+    let area : List ℕ = story.areas j in
+    let bits : ℕ = bits_of (mix_settings device).format in
+    let onto : List ℤ → ℕ → List ℤ = λ sum slot. map_turned device n (map_at device story.desk slot) (map_bytes_counted device story slot) (story.areas slot) sum in
+    let sum : ℕ → Frame = front_mix device story n (play_slots device + j) in
+    let next : suc j ≡ j + 1 = omega arith in
+    let last : play_slots device + suc j ≡ play_slots device + j + 1 = omega arith in
+    let added = map-turn device story.desk.mixed n book (story.map_runs j) (λ k. last_gain (story.map_gains j) (story.desk.mixed + k)) bytes area sum v.limits (v.maps j)
+    (λ on. counted-taken device story.desk.mixed book (story.map_runs j) (v.maps j) on)
+    (λ k l. v.map_gains j (story.desk.mixed + k) (omega arith))
+    (λ k l. mix_of-frame device bits (next_table device story n) (play_slots device + j) (story.desk.mixed + k) (λ slot. next_frames device story n v slot (story.desk.mixed + k))) in
+    ap (λ m. fold onto front (range_with_len 0 m)) next
+    ∙ ap (fold onto front) (range-add 0 j 1 ∙ ap (λ a. range_with_len 0 j ++ a ∷ []) (zero-add j))
+    ∙ fold-append onto front (range_with_len 0 j) (j ∷ [])
+    ∙ ap (map_turned device n book bytes area) (fold-back device story n j v front is)
+    ∙ sym added
+    ∙ flat_map-range-same (λ k. adding bits (sum k) (sounding device (last_gain (story.map_gains j) (story.desk.mixed + k)) (next_map device story n j) (story.desk.mixed + k))) (front_mix device story n (play_slots device + suc j)) 0 n
+    (λ k l. ap (adding bits (sum (0 + k))) (sym (next_mapped device story n j (story.desk.mixed + (0 + k))))
+    ∙ sym (ap (λ slots. mix_of bits (silence_in (mix_settings device)) (next_table device story n) slots (story.desk.mixed + (0 + k))) last
+    ∙ mix_of-more bits (silence_in (mix_settings device)) (next_table device story n) (play_slots device + j) (story.desk.mixed + (0 + k))))
 
 -- ---- gains
 
@@ -133,17 +194,66 @@ gains-kept device pool story n slot =
     (story.gains slot))
     (quiet (is_play_free old.state) (is_play_free new.state) old.volume new.volume q.free q.volume)
 
+-- nor does it set that of a mapped slot
+record QuietMap (old new : MapBook) : Type 0 where
+  free : is_map_free old.state ≡ true → is_map_free new.state ≡ true
+  volume : new.volume ≡ old.volume
+
+quiet_taken : (state : MapState) (rate : Rate) (n : ℕ) (book : MapBook) → QuietMap (record book { state = state }) (map_refilled_in rate state n (record book { state = state }))
+quiet_taken map_states.Free rate n book = record { free = λ e. e; volume = refl }
+quiet_taken map_states.Setup rate n book = record { free = λ e. e; volume = refl }
+quiet_taken map_states.Running rate n book = record { free = λ e. e; volume = refl }
+
+quiet_map : (device : DeviceSeen) (n : ℕ) (book : MapBook) → QuietMap book (map_mixing device n book)
+quiet_map device zero book = record { free = λ e. e; volume = refl }
+quiet_map device (suc n) book = quiet_taken book.state (map_rate_at device book) (suc n) book
+
+map_gains-kept : (device : DeviceSeen) (pool : Pool) (story : Story) (n slot : ℕ)
+    → (told device pool story (Intr n)).map_gains slot ≡ story.map_gains slot
+map_gains-kept device pool story n slot =
+    let old : MapBook = map_at device story.desk slot in
+    let new : MapBook = map_at device (told device pool story (Intr n)).desk slot in
+    let q : QuietMap old new = subst (QuietMap old) (sym (map_at-passing device story.desk n slot)) (quiet_map device (mixed_by device story.desk.handed n) old) in
+    ap (λ (b : Bool). cond b (record { position = story.desk.mixed; gain = map_gain new } ∷ story.map_gains slot)
+    (story.map_gains slot))
+    (quiet (is_map_free old.state) (is_map_free new.state) old.volume new.volume q.free q.volume)
+
 -- what the slots give once an interrupt of n frames is told
+told_play : (device : DeviceSeen) (pool : Pool) (story : Story) (n slot position : ℕ) → let new : Story = told device pool story (Intr n) in
+    sounding device (last_gain (new.gains slot) position) (new.runs slot) position
+    ≡ sounding device (last_gain (story.gains slot) position) (next_play device story (mixed_by device story.desk.handed n) slot) position
+told_play device pool story n slot position =
+    let old : PlayBook = play_at device story.desk slot in
+    let new : PlayBook = play_at device (told device pool story (Intr n)).desk slot in
+    let runs : List Run = next_play device story (mixed_by device story.desk.handed n) slot in
+    ap (λ (gains : List GainSet). sounding device (last_gain gains position)
+    (marking story.desk.mixed (Intr n) old new runs) position) (gains-kept device pool story n slot)
+    ∙ sounding-marking device (last_gain (story.gains slot) position) story.desk.mixed (Intr n) old new runs position
+
+told_map : (device : DeviceSeen) (pool : Pool) (story : Story) (n slot position : ℕ) → let new : Story = told device pool story (Intr n) in
+    sounding device (last_gain (new.map_gains slot) position) (new.map_runs slot) position
+    ≡ sounding device (last_gain (story.map_gains slot) position) (next_map device story (mixed_by device story.desk.handed n) slot) position
+told_map device pool story n slot position =
+    let old : MapBook = map_at device story.desk slot in
+    let new : MapBook = map_at device (told device pool story (Intr n)).desk slot in
+    let runs : List Run = next_map device story (mixed_by device story.desk.handed n) slot in
+    ap (λ (gains : List GainSet). sounding device (last_gain gains position)
+    (map_marking story.desk.mixed old new runs) position) (map_gains-kept device pool story n slot)
+    ∙ sounding-map_marking device (last_gain (story.map_gains slot) position) story.desk.mixed old new runs position
+
 told_table : (device : DeviceSeen) (pool : Pool) (story : Story) (n slot position : ℕ)
     → table_of device (told device pool story (Intr n)) slot position
     ≡ next_table device story (mixed_by device story.desk.handed n) slot position
 told_table device pool story n slot position =
-    let old : PlayBook = play_at device story.desk slot in
-    let new : PlayBook = play_at device (told device pool story (Intr n)).desk slot in
-    let runs : List Run = playing device story.desk.mixed (mixed_by device story.desk.handed n) old (story.runs slot) in
-    ap (λ (gains : List GainSet). sounding device (last_gain gains position)
-    (marking story.desk.mixed (Intr n) old new runs) position) (gains-kept device pool story n slot)
-    ∙ sounding-marking device (last_gain (story.gains slot) position) story.desk.mixed (Intr n) old new runs position
+    let new : Story = told device pool story (Intr n) in
+    let q : ℕ = mixed_by device story.desk.handed n in
+    let at : ℕ = slot - play_slots device in
+    elim (nat_lt slot (play_slots device)) as (λ (b : Bool).
+    sounding device (last_gain (cond b (new.gains slot) (new.map_gains at)) position) (cond b (new.runs slot) (new.map_runs at)) position
+    ≡ sounding device (last_gain (cond b (story.gains slot) (story.map_gains at)) position) (cond b (next_play device story q slot) (next_map device story q at)) position) [
+      | true ↦ told_play device pool story n slot position
+      | false ↦ told_map device pool story n at position
+    ]
 
 -- they are frames of the mix
 pub told-frames : (device : DeviceSeen) (pool : Pool) (story : Story) (n : ℕ) → StoryIsValid device story
@@ -156,8 +266,9 @@ told-frames device pool story n v slot position =
 -- the block that an interrupt of n frames mixes, from the books and the bytes of a story
 abbrev pub story_block : DeviceSeen → Story → ℕ → List ℤ
 story_block device story n =
-    block_of device (mixed_by device story.desk.handed n) story.desk.play (bytes_counted device story)
-    (play_slots device)
+    let q : ℕ = mixed_by device story.desk.handed n in
+    mapped_onto device q story.desk.mapped (map_bytes_counted device story) story.areas (map_slots device)
+    (block_of device q story.desk.play (bytes_counted device story) (play_slots device))
 
 -- it is the mix of its positions
 pub block-mixed : (device : DeviceSeen) (pool : Pool) (story : Story) (n : ℕ) → StoryIsValid device story
@@ -165,13 +276,13 @@ pub block-mixed : (device : DeviceSeen) (pool : Pool) (story : Story) (n : ℕ) 
     ≡ flat_map (mix_at device (table_of device (told device pool story (Intr n))))
     (range_with_len story.desk.mixed (mixed_by device story.desk.handed n))
 block-mixed device pool story n v =
-    let slots : ℕ = play_slots device in
+    let slots : ℕ = mixed_slots device in
     let q : ℕ = mixed_by device story.desk.handed n in
     let position : ℕ = story.desk.mixed in
     let now : Table = table_of device (told device pool story (Intr n)) in
     let next : Table = next_table device story q in
     let none : position + 0 ≡ position = omega arith in
-    fold-front device story q slots v
+    fold-back device story q (map_slots device) v (block_of device q story.desk.play (bytes_counted device story) (play_slots device)) (fold-front device story q (play_slots device) (omega arith) v)
     ∙ flat_map-range-same (front_mix device story q slots) (λ k. mix_at device now (position + k)) 0 q
     (λ k l. sym (mix_of-same (bits_of (mix_settings device).format) (silence_in (mix_settings device)) now next slots
     (position + (0 + k)) (λ slot. told_table device pool story n slot (position + (0 + k)))))

@@ -7,10 +7,12 @@ use Rattle.std.proofs.lemmas.Bool.Decides.{nat_tests}
 use Rattle.pcm_wave.specs.declared.pool.Pool.{Pool}
 use Rattle.pcm_wave.specs.declared.pool.Source.{Source}
 use Rattle.pcm_wave.specs.Pools.{bytes_at, source_bytes}
+use Rattle.pcm_desk.specs.declared.map_book.MapBook.{MapBook}
 use Rattle.pcm_desk.specs.declared.play_book.PlayBook.{PlayBook}
 use Rattle.pcm_desk.specs.Device.{DeviceSeen}
+use Rattle.pcm_desk.specs.MapBooks.{is_map_running, taken_of}
 use Rattle.pcm_sound.specs.Runs.{Run, begun_run, taking, newest_bytes}
-use Rattle.pcm_sound.specs.Valid.{IsNewest, SlotIsValid}
+use Rattle.pcm_sound.specs.Valid.{IsNewest, MapIsNewest, MapIsValid, SlotIsValid}
 
 newest_length : (book : PlayBook) (runs : List Run) → IsNewest book runs → length (newest_bytes runs) ≡ book.written
 newest_length book [] h = absurd h
@@ -29,6 +31,16 @@ pub counted-newest : (device : DeviceSeen) (mixed : ℕ) (book : PlayBook) (runs
 counted-newest device mixed book runs v some =
     let is = newest_length book runs (v.newest some) in
     take_all book.written (newest_bytes runs) (omega arith)
+
+-- those that a mapped book has taken are those of the newest run, where it runs
+newest_taken : (book : MapBook) (runs : List Run) → MapIsNewest book runs → length (newest_bytes runs) ≡ taken_of book
+newest_taken book [] h = absurd h
+newest_taken book (run ∷ runs) h = h.1
+
+pub counted-taken : (device : DeviceSeen) (mixed : ℕ) (book : MapBook) (runs : List Run) → MapIsValid device mixed book runs → is_map_running book.state ≡ true → take (taken_of book) (newest_bytes runs) ≡ newest_bytes runs
+counted-taken device mixed book runs v on =
+    let is = newest_taken book runs (v.newest on) in
+    take_all (taken_of book) (newest_bytes runs) (omega arith)
 
 -- what is not above 0 is 0
 none_above : (n : ℕ) → (0 < n → ⊥) → n ≡ 0

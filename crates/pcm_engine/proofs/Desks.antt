@@ -1,11 +1,9 @@
 -- The descriptors and the counts of an engine, through an event.
-use Rattle.std.proofs.Common.{◌≡◌, ℕ, ◌*◌, ◌+◌, ◌<◌, ◌≤◌, List, length, map, get_or, All, sym, ap, ◌∙◌, subst, arith}
-use Rattle.pcm_desk.specs.declared.play_book.PlayBook.{PlayBook}
-use Rattle.pcm_desk.specs.declared.record_book.RecordBook.{RecordBook}
+use Rattle.std.proofs.Common.{◌≡◌, ℕ, ◌*◌, ◌+◌, ◌<◌, ◌≤◌, List, length, map, get_or, All, sym, ap, subst, arith}
 use Rattle.pcm_desk.specs.Device.{DeviceSeen}
-use Rattle.pcm_desk.specs.Desk.{capturing, interrupt_turn, mixed_by, play_passing}
+use Rattle.pcm_desk.specs.Desk.{capturing, interrupt_turn, map_passing, mixed_by, play_passing}
 use Rattle.pcm_vchan.specs.declared.parent.ParentOf.{ParentOf}
-use Rattle.pcm_vchan.specs.Parents.{play_books, record_books}
+use Rattle.pcm_vchan.specs.Parents.{map_books, play_books, record_books}
 use Rattle.pcm_engine.specs.declared.descriptors.Descriptors.{Descriptors}
 use Rattle.pcm_engine.specs.Desks.{desk_with}
 
@@ -28,12 +26,15 @@ count-stays {X} count limit steps old new same before =
 
 -- the desk after an interrupt
 pub desk_with-mixed : {B : Type 0} (device : DeviceSeen) (old new : ParentOf B) (descriptors : Descriptors) (n : ℕ) → let q : ℕ = mixed_by device old.handed n in
-    play_books new ≡ map (play_passing device old.handed n) (play_books old) → record_books new ≡ map (capturing device n) (record_books old)
+    play_books new ≡ map (play_passing device old.handed n) (play_books old) → record_books new ≡ map (capturing device n) (record_books old) → map_books new ≡ map (map_passing device old.handed n) (map_books old)
     → new.handed ≡ old.handed + n → new.mixed ≡ old.mixed + q
     → desk_with new descriptors ≡ (interrupt_turn device (desk_with old descriptors) n).desk
-desk_with-mixed device old new descriptors n books recorded handed mixed =
-    let q : ℕ = mixed_by device old.handed n in
-    ap (λ (play : List PlayBook). record { play = play; recording = record_books new; descriptors = descriptors.held; groups = descriptors.groups; handed = new.handed; mixed = new.mixed }) books
-    ∙ ap (λ (recording : List RecordBook). record { play = map (play_passing device old.handed n) (play_books old); recording = recording; descriptors = descriptors.held; groups = descriptors.groups; handed = new.handed; mixed = new.mixed }) recorded
-    ∙ ap (λ (h : ℕ). record { play = map (play_passing device old.handed n) (play_books old); recording = map (capturing device n) (record_books old); descriptors = descriptors.held; groups = descriptors.groups; handed = h; mixed = new.mixed }) handed
-    ∙ ap (λ (m : ℕ). record { play = map (play_passing device old.handed n) (play_books old); recording = map (capturing device n) (record_books old); descriptors = descriptors.held; groups = descriptors.groups; handed = old.handed + n; mixed = m }) mixed
+desk_with-mixed device old new descriptors n books recorded taken handed mixed = λ i. record {
+  play = books i;
+  recording = recorded i;
+  mapped = taken i;
+  descriptors = descriptors.held;
+  groups = descriptors.groups;
+  handed = handed i;
+  mixed = mixed i;
+}

@@ -1,16 +1,16 @@
 -- What events come to that groups have a part in, by what each is refused for.
-use Rattle.std.proofs.Common.{◌≡◌, ℕ, Bool, true, false, cond, Option, Some, Result, Ok, Err, ap, ◌∙◌}
+use Rattle.std.proofs.Common.{◌≡◌, ℕ, Bool, true, false, cond, Option, Some, Result, Ok, Err, refl, ap, ◌∙◌}
 use Rattle.std.specs.Prelude.{not}
 use Rattle.std.specs.Result.{IsErr, IsErrAnd}
 use Rattle.pcm_oss.specs.declared.reply.Answer.{Answer}
 use Rattle.pcm_oss.specs.declared.reply.Answer.TheVariants.{Done}
 use Rattle.pcm_oss.specs.declared.reply.Errno.{Errno}
 use Rattle.pcm_oss.specs.declared.reply.Errno.TheVariants.{Busy, Inval}
-use Rattle.pcm_group.specs.Groups.{all_in, is_used, joining}
+use Rattle.pcm_group.specs.Groups.{all_in, is_used, joining, may_join}
 use Rattle.pcm_desk.specs.declared.device.Held.{Held}
 use Rattle.pcm_desk.specs.Device.{DeviceSeen}
 use Rattle.pcm_desk.specs.PlayBooks.{play_is_ready}
-use Rattle.pcm_desk.specs.Desk.{Desk, DeskTurn, group_started, join_on, join_result, join_turn, refusing, rests, start_on}
+use Rattle.pcm_desk.specs.Desk.{Desk, DeskTurn, group_started, join_on, join_result, join_turn, refusing, rests, start_on, start_turn}
 
 -- ---- a join
 
@@ -35,24 +35,29 @@ join-done device desk found held group number e j r = join_rests device desk fou
 
 -- ---- a start
 
-pub start-unused : (device : DeviceSeen) (desk : Desk) (found : Option Held) (held : Held) (group : ℕ) → found ≡ Some held → is_used desk.groups group ≡ false → start_on device found desk group ≡ refusing desk Inval
-start-unused device desk found held group e u =
+-- a start by a channel that joins no group
+pub start-alone : (device : DeviceSeen) (desk : Desk) (found : Option Held) (held : Held) (group : ℕ) → found ≡ Some held → may_join held.way ≡ false → start_on device found desk group ≡ refusing desk Inval
+start-alone device desk found held group e alone =
+    ap (λ (h : Option Held). start_on device h desk group) e ∙ ap (λ (b : Bool). cond {A = DeskTurn} b (start_turn device desk group) (refusing desk Inval)) alone
+
+-- and by another, whether there is such a group and whether its members are ready
+start_tested : (device : DeviceSeen) (desk : Desk) (found : Option Held) (held : Held) (group : ℕ) (used ready : Bool) → found ≡ Some held → may_join held.way ≡ true → is_used desk.groups group ≡ used → all_in group play_is_ready desk.groups.play desk.play ≡ ready
+    → start_on device found desk group ≡ cond {A = DeskTurn} (not used) (refusing desk Inval) (cond {A = DeskTurn} (not ready) (refusing desk Busy) (record { desk = group_started device desk group; reply = Ok Done }))
+start_tested device desk found held group used ready e joins u r =
     ap (λ (h : Option Held). start_on device h desk group) e
+    ∙ ap (λ (b : Bool). cond {A = DeskTurn} b (start_turn device desk group) (refusing desk Inval)) joins
     ∙ ap (λ (b : Bool). cond {A = DeskTurn} (not b) (refusing desk Inval) (cond {A = DeskTurn} (not (all_in group play_is_ready desk.groups.play desk.play)) (refusing desk Busy) (record { desk = group_started device desk group; reply = Ok Done }))) u
+    ∙ ap (λ (b : Bool). cond {A = DeskTurn} (not used) (refusing desk Inval) (cond {A = DeskTurn} (not b) (refusing desk Busy) (record { desk = group_started device desk group; reply = Ok Done }))) r
 
-start_tested : (device : DeviceSeen) (desk : Desk) (found : Option Held) (held : Held) (group : ℕ) (ready : Bool) → found ≡ Some held → is_used desk.groups group ≡ true → all_in group play_is_ready desk.groups.play desk.play ≡ ready
-    → start_on device found desk group ≡ cond {A = DeskTurn} (not ready) (refusing desk Busy) (record { desk = group_started device desk group; reply = Ok Done })
-start_tested device desk found held group ready e u r =
-    ap (λ (h : Option Held). start_on device h desk group) e
-    ∙ ap (λ (b : Bool). cond {A = DeskTurn} (not b) (refusing desk Inval) (cond {A = DeskTurn} (not (all_in group play_is_ready desk.groups.play desk.play)) (refusing desk Busy) (record { desk = group_started device desk group; reply = Ok Done }))) u
-    ∙ ap (λ (b : Bool). cond {A = DeskTurn} (not b) (refusing desk Busy) (record { desk = group_started device desk group; reply = Ok Done })) r
+pub start-unused : (device : DeviceSeen) (desk : Desk) (found : Option Held) (held : Held) (group : ℕ) → found ≡ Some held → may_join held.way ≡ true → is_used desk.groups group ≡ false → start_on device found desk group ≡ refusing desk Inval
+start-unused device desk found held group e joins u = start_tested device desk found held group false (all_in group play_is_ready desk.groups.play desk.play) e joins u refl
 
-pub start-busy : (device : DeviceSeen) (desk : Desk) (found : Option Held) (held : Held) (group : ℕ) → found ≡ Some held → is_used desk.groups group ≡ true → all_in group play_is_ready desk.groups.play desk.play ≡ false → start_on device found desk group ≡ refusing desk Busy
-start-busy device desk found held group e u r = start_tested device desk found held group false e u r
+pub start-busy : (device : DeviceSeen) (desk : Desk) (found : Option Held) (held : Held) (group : ℕ) → found ≡ Some held → may_join held.way ≡ true → is_used desk.groups group ≡ true → all_in group play_is_ready desk.groups.play desk.play ≡ false → start_on device found desk group ≡ refusing desk Busy
+start-busy device desk found held group e joins u r = start_tested device desk found held group true false e joins u r
 
-pub start-done : (device : DeviceSeen) (desk : Desk) (found : Option Held) (held : Held) (group : ℕ) → found ≡ Some held → is_used desk.groups group ≡ true → all_in group play_is_ready desk.groups.play desk.play ≡ true
+pub start-done : (device : DeviceSeen) (desk : Desk) (found : Option Held) (held : Held) (group : ℕ) → found ≡ Some held → may_join held.way ≡ true → is_used desk.groups group ≡ true → all_in group play_is_ready desk.groups.play desk.play ≡ true
     → start_on device found desk group ≡ record { desk = group_started device desk group; reply = Ok Done }
-start-done device desk found held group e u r = start_tested device desk found held group true e u r
+start-done device desk found held group e joins u r = start_tested device desk found held group true true e joins u r
 
 -- ---- what `?` hands on
 

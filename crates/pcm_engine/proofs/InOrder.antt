@@ -10,13 +10,15 @@ use Rattle.pcm_feeder.specs.Kept.{Kept}
 use Rattle.pcm_feeder.specs.Limits.{IsRate}
 use Rattle.pcm_desk.specs.declared.play_book.PlayBook.{PlayBook}
 use Rattle.pcm_desk.specs.declared.device.Device.{Device}
+use Rattle.pcm_desk.specs.declared.map_book.MapBook.{MapBook}
 use Rattle.pcm_desk.specs.declared.record_book.RecordBook.{RecordBook}
 use Rattle.pcm_desk.specs.declared.here.Here.{Here}
 use Rattle.pcm_desk.specs.Here.{IsHere}
 use Rattle.pcm_desk.specs.Device.{DeviceSeen, IsDevice, IsInLimits, passed_for, seen}
-use Rattle.pcm_desk.specs.Desk.{Desk, desk_here, play_at, play_rate_at, record_rate_at, record_unopened, play_unopened}
+use Rattle.pcm_desk.specs.Desk.{Desk, desk_here, map_rate_at, map_unopened, play_at, play_rate_at, record_rate_at, record_unopened, play_unopened}
 use Rattle.pcm_desk.specs.PlaySafe.{PlayIsHere, PlayIsSafe}
 use Rattle.pcm_desk.specs.RecordSafe.{RecordIsSafe}
+use Rattle.pcm_desk.specs.MapSafe.{MapIsSafe}
 use Rattle.pcm_desk.proofs.Passing.{here-is}
 use Rattle.pcm_desk.proofs.PlaySafe.{unstarted}
 use Rattle.pcm_desk.proofs.RecordSafe.{safe-unstarted}
@@ -27,13 +29,16 @@ use Rattle.pcm_play.proofs.Moving.{safe-at}
 use Rattle.pcm_record.specs.declared.channel.RecordChannelOf.{RecordChannelOf}
 use Rattle.pcm_record.specs.Channels.{IsRecordReady}
 use Rattle.pcm_record.proofs.Moving as recorders
-use Rattle.pcm_vchan.specs.Slots.{PlayAreOf, RecordAreOf, play_books_of, record_books_of}
+use Rattle.pcm_map.specs.declared.channel.MapChannelOf.{MapChannelOf}
+use Rattle.pcm_map.specs.Channels.{IsMapReady}
+use Rattle.pcm_map.proofs.Books.{planned-safe}
+use Rattle.pcm_vchan.specs.Slots.{MapAreOf, PlayAreOf, RecordAreOf, map_books_of, play_books_of, record_books_of}
 use Rattle.pcm_vchan.proofs.Channels.{some_channel}
-use Rattle.pcm_vchan.specs.Parents.{AreClosable, AreServed, HasBus, here_of, play_channels, record_channels}
+use Rattle.pcm_vchan.specs.Parents.{AreClosable, AreServed, HasBus, here_of, map_channels, play_channels, record_channels}
 use Rattle.pcm_engine.specs.declared.engine.EngineOf.{EngineOf}
 use Rattle.pcm_engine.specs.declared.limits.TheConstants.{STEPS}
 use Rattle.pcm_desk.specs.Own.{MembersWait}
-use Rattle.pcm_engine.specs.Engines.{AreReady, BooksAreHere, RecordsAreSafe, RingsHold, desk_of, device_of}
+use Rattle.pcm_engine.specs.Engines.{AreReady, BooksAreHere, MapBooksAreSafe, RecordsAreSafe, RingsHold, desk_of, device_of}
 
 -- ---- channels that play
 
@@ -132,6 +137,32 @@ records_safe {B} kind kept filters device desk recorders are own ready slot =
           (record_unopened_safe (seen filters device))
     ])
 
+-- ---- mapped channels
+
+abbrev IsMapSafe : DeviceSeen → MapBook → Type 0
+IsMapSafe device book = MapIsSafe (map_rate_at device book) book
+
+map_own_safe : {B : Type 0} (kind : B → Kind) (kept : B → Kept) (filters : Filters) (device : Device) (channel : MapChannelOf B) → channel.path.device ≡ device → IsMapReady kind kept filters channel → IsMapSafe (seen filters device) channel.book
+map_own_safe kind kept filters device channel own ready =
+    subst (λ (d : Device). IsMapSafe (seen filters d) channel.book) own
+    (planned-safe filters channel ready.planned)
+
+map_unopened_safe : (device : DeviceSeen) → IsMapSafe device (map_unopened device)
+map_unopened_safe device = record { order = refl; taken = refl; fragments = usual-fragments; volume = refl; told = omega arith }
+
+maps_safe : {B : Type 0} (kind : B → Kind) (kept : B → Kept) (filters : Filters) (device : Device) (desk : Desk) (maps : List (MapChannelOf B)) → desk.mapped ≡ map_books_of maps → MapAreOf device maps
+    → All (IsMapReady kind kept filters) maps → MapBooksAreSafe (seen filters device) desk
+maps_safe {B} kind kept filters device desk maps are own ready slot =
+    let none : MapBook = map_unopened (seen filters device) in
+    subst (λ (books : List MapBook). IsMapSafe (seen filters device) (get_or books slot none)) (sym are)
+    (elim (cases_lt slot (length maps)) [
+      | inl there ↦ (let some : MapChannelOf B = some_channel maps slot there in
+          subst (IsMapSafe (seen filters device)) (sym (get_or-map (λ (c : MapChannelOf B). c.book) maps slot some none there))
+          (map_own_safe kind kept filters device (get_or maps slot some) (own slot some there) (ready slot some there)))
+      | inr past ↦ subst (IsMapSafe (seen filters device)) (sym (get_or_past (map_books_of maps) slot none (omega (arith, length-map maps (λ (c : MapChannelOf B). c.book)))))
+          (map_unopened_safe (seen filters device))
+    ])
+
 -- ---- rings
 
 -- what waits is what a book counts, which is no more than its ring holds
@@ -144,29 +175,33 @@ rings-hold engine = record {
 
 -- ---- an engine whose channels are ready
 
-pub ready-all : {B : Type 0} (kind : B → Kind) (kept : B → Kept) (engine : EngineOf B) → All (IsPlayReady kind kept engine.tables) (play_channels engine.parent) → All (IsRecordReady kind kept engine.tables) (record_channels engine.parent)
+pub ready-all : {B : Type 0} (kind : B → Kind) (kept : B → Kept) (engine : EngineOf B) → All (IsPlayReady kind kept engine.tables) (play_channels engine.parent) → All (IsRecordReady kind kept engine.tables) (record_channels engine.parent) → All (IsMapReady kind kept engine.tables) (map_channels engine.parent)
     → HasBus kept (device_of engine) engine.parent → IsInLimits (device_of engine) → BooksAreHere (device_of engine) (desk_of engine) → MembersWait (device_of engine) (desk_of engine) → AreReady kind kept engine
-ready-all kind kept engine playing recording bus limits places members = record {
+ready-all kind kept engine playing recording mapped bus limits places members = record {
   members = members;
   limits = limits;
   places = places;
   playing = playing;
   recording = recording;
+  mapped = mapped;
   bus = bus;
   books = λ slot. books_safe kind kept engine.tables engine.parent.device (play_channels engine.parent) slot engine.own playing;
   records = records_safe kind kept engine.tables engine.parent.device (desk_of engine) (record_channels engine.parent) refl engine.recorders_own recording;
+  maps = maps_safe kind kept engine.tables engine.parent.device (desk_of engine) (map_channels engine.parent) refl engine.maps_own mapped;
   rings = rings-hold engine;
 }
 
 -- they are ready for a call
 pub served : {B : Type 0} (kind : B → Kind) (kept : B → Kept) (engine : EngineOf B) → AreReady kind kept engine → AreServed kind kept engine.tables engine.parent
-served kind kept engine ready = record { own = engine.own; recorders_own = engine.recorders_own; ready = ready.playing; recorders_ready = ready.recording }
+served kind kept engine ready = record { own = engine.own; recorders_own = engine.recorders_own; maps_own = engine.maps_own; ready = ready.playing; recorders_ready = ready.recording; maps_ready = ready.mapped }
 
 -- and may be closed
 pub closable : {B : Type 0} (kind : B → Kind) (kept : B → Kept) (engine : EngineOf B) → AreReady kind kept engine → AreClosable kind engine.parent
 closable kind kept engine ready = record {
   own = engine.own;
   recorders_own = engine.recorders_own;
+  maps_own = engine.maps_own;
   kinds = λ slot other there. (ready.playing slot other there).kinds;
   recorders_kinds = λ slot other there. (ready.recording slot other there).kinds;
+  maps_kinds = λ slot other there. (ready.mapped slot other there).kinds;
 }

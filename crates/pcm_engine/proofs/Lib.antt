@@ -6,6 +6,7 @@ pub mod Turning
 pub mod Grouping
 pub mod Blocks
 pub mod Mixing
+pub mod Mapped
 pub mod Standing
 pub mod Recording
 pub mod Starting

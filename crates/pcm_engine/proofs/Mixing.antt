@@ -22,7 +22,7 @@ use Rattle.pcm_feeder.proofs.Frames.{frames_of-interleaved}
 use Rattle.pcm_plan.specs.Fits.{HaveBits}
 use Rattle.pcm_plan.specs.Through.{recs}
 use Rattle.pcm_mix.proofs.Blocks.{mixed-fits}
-use Rattle.pcm_desk.specs.Device.{DeviceSeen, device_frame_bytes, device_settings, filters_of, full_frame, mix_settings, mixed_for, parent_plan, play_slots, ring_frames}
+use Rattle.pcm_desk.specs.Device.{DeviceSeen, device_frame_bytes, device_settings, filters_of, full_frame, mix_settings, mixed_for, mixed_slots, parent_plan, ring_frames}
 use Rattle.pcm_desk.specs.Desk.{mixed_by}
 use Rattle.pcm_desk.proofs.Ratios.{mixed-behind}
 use Rattle.pcm_sound.specs.Story.{Story, told}
@@ -57,7 +57,7 @@ mix_at-bits : (device : DeviceSeen) (table : Table) (position : ℕ)
 mix_at-bits device table position =
     let from = mix_settings device in
     let bits : ℕ = bits_of from.format in
-    adding_all-bits bits table position (silence_in from) (range_with_len 0 (play_slots device))
+    adding_all-bits bits table position (silence_in from) (range_with_len 0 (mixed_slots device))
     (All-replicate (FitsBits bits) (channels_of from.layout) (pos 0) (silence-fits bits))
 
 -- at 32 bits it has these
@@ -94,7 +94,7 @@ told-channels device pool story n from count v =
     let positions : List ℕ = range_with_len from count in
     All-map (λ (frame : Frame). length frame ≡ channels_of (mix_settings device).layout) (mix_at device now) positions
     (λ k d l. (let position : ℕ = get_or positions k d in
-    mix_of-frame device (bits_of (mix_settings device).format) now (play_slots device) position
+    mix_of-frame device (bits_of (mix_settings device).format) now (mixed_slots device) position
     (λ slot. told-frames device pool story n v slot position)))
 
 -- the block of an interrupt, at 32 bits, is the mix of its positions

@@ -16,7 +16,7 @@ use Rattle.pcm_record.specs.Channels.{RecordStands}
 use Rattle.pcm_engine.specs.declared.engine.EngineOf.{EngineOf}
 use Rattle.pcm_engine.specs.Engines.{Stands, desk_of, device_of}
 use Rattle.pcm_engine.specs.Stands.{PartsStand, RecordersStand, bytes_kept}
-use Rattle.pcm_vchan.specs.Parents.{play_channels, record_channels}
+use Rattle.pcm_vchan.specs.Parents.{map_channels, play_channels, record_channels}
 
 -- channels that record stand for a story with either pool
 recorders_alike : {B : Type 0} (kept : B → Kept) (device : DeviceSeen) (one other : Pool) (recorders : List (RecordChannelOf B)) (story : Story) → capture_frames other ≡ capture_frames one
@@ -34,6 +34,6 @@ stands-alike kept engine one other events alike s =
     let device : DeviceSeen = device_of engine in
     let same : story_of device one events ≡ story_of device other events = sym (story-alike device one other events alike) in
     record {
-      playing = subst (PartsStand kept device (desk_of engine) (play_channels engine.parent) engine.parent.bus.chain engine.parent.ring.bytes) same s.playing;
+      playing = subst (PartsStand kept device (desk_of engine) (play_channels engine.parent) (map_channels engine.parent) engine.parent.bus.chain engine.parent.ring.bytes) same s.playing;
       recording = subst (RecordersStand kept device other (record_channels engine.parent)) same (recorders_alike kept device one other (record_channels engine.parent) (story_of device one events) alike.captured s.recording);
     }

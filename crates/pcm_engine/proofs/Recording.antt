@@ -3,9 +3,9 @@ use Rattle.std.proofs.Common.{◌≡◌, ℕ, ◌<◌, Bool, true, false, List, 
 use Rattle.std.specs.Prelude.{All}
 use Rattle.std.proofs.lemmas.List.{append-nil, get_or-map, take_all}
 use Rattle.pcm_oss.specs.declared.event.Event.{Event}
-use Rattle.pcm_oss.specs.declared.event.Event.TheVariants.{Open, Write, Read, Ioctl, Join, StartGroup, Close, Intr}
+use Rattle.pcm_oss.specs.declared.event.Event.TheVariants.{Open, Write, Poke, Read, Ioctl, Join, StartGroup, Close, Intr}
 use Rattle.pcm_oss.specs.declared.event.Way.{Way}
-use Rattle.pcm_oss.specs.declared.event.Way.TheVariants.{Play, Record}
+use Rattle.pcm_oss.specs.declared.event.Way.TheVariants.{Play, Record, Map}
 use Rattle.pcm_oss.specs.declared.reply.Answer.{Answer}
 use Rattle.pcm_oss.specs.declared.reply.Errno.{Errno}
 use Rattle.pcm_oss.specs.Replies.{Reply}
@@ -26,7 +26,7 @@ use Rattle.pcm_desk.specs.declared.device.Held.{Held}
 use Rattle.pcm_desk.specs.declared.record_book.RecordBook.{RecordBook}
 use Rattle.pcm_desk.specs.Device.{DeviceSeen, IsDevice, device_settings, filters_of, seen}
 use Rattle.pcm_desk.specs.RecordBooks.{is_running, keeping, record_fill_of}
-use Rattle.pcm_desk.specs.Desk.{Desk, after, play_at, by_way, capturing, held_by, record_at, record_rate_at, record_unopened}
+use Rattle.pcm_desk.specs.Desk.{Desk, after, play_at, by_way, capturing, held_by, map_at, record_at, record_rate_at, record_unopened}
 use Rattle.pcm_desk.specs.Events.{Fits, frames_taken}
 use Rattle.pcm_desk.specs.Own as own
 use Rattle.pcm_sound.specs.Given.{recorded_bytes}
@@ -128,6 +128,7 @@ slots_stand : {B : Type 0} (kind : B → Kind) (kept : B → Kept) (device : Dev
     → RecordStands kept (filters_of device) (get_or now slot other) (record_at device (told device pool story event).desk slot) (bytes_kept device (told device pool story event) slot) (frames_captured device pool (told device pool story event) slot)
 slots_stand kind kept device own pool story (Open fd way settings) before now d c fits seen_is are b n same moves s = still kind kept device pool story (Open fd way settings) before now fits refl b n same moves s
 slots_stand kind kept device own pool story (Write fd source at count) before now d c fits seen_is are b n same moves s = still kind kept device pool story (Write fd source at count) before now fits refl b n same moves s
+slots_stand kind kept device own pool story (Poke fd offset at count) before now d c fits seen_is are b n same moves s = still kind kept device pool story (Poke fd offset at count) before now fits refl b n same moves s
 slots_stand kind kept device own pool story (Read fd count) before now d c fits seen_is are b n same moves s = still kind kept device pool story (Read fd count) before now fits refl b n same moves s
 slots_stand kind kept device own pool story (Ioctl fd request) before now d c fits seen_is are b n same moves s = still kind kept device pool story (Ioctl fd request) before now fits refl b n same moves s
 slots_stand kind kept device own pool story (Join fd group) before now d c fits seen_is are b n same moves s = still kind kept device pool story (Join fd group) before now fits refl b n same moves s
@@ -166,6 +167,7 @@ recorders-ready {B = B} kind kept device pool handed event before now same moves
     at : (e : Event) → RecordersMove kind kept device pool handed e before now → All (IsRecordReady kind kept (filters_of device)) now
     at (Open fd way settings) each = plain each
     at (Write fd source place count) each = plain each
+    at (Poke fd offset place count) each = plain each
     at (Read fd count) each = plain each
     at (Ioctl fd request) each = plain each
     at (Join fd group) each = plain each
@@ -195,12 +197,14 @@ read_counted device pool handed count false book recording e v =
 pub answered-told : (device : DeviceSeen) (pool : Pool) (story : Story) (event : Event) → RecordingsAreValid device pool story → bytes_answered device story.desk (bytes_kept device story) event ≡ bytes_to device story event
 answered-told device pool story (Open fd way settings) v = refl
 answered-told device pool story (Write fd source at count) v = refl
+answered-told device pool story (Poke fd offset at count) v = refl
 answered-told device pool story (Read fd count) v = held_at (held_by story.desk fd)
   where
     way_at : (way : Way) (slot : ℕ)
-        → channel_read count (by_way way (own.Playing (play_at device story.desk slot)) (own.Recording (record_at device story.desk slot))) (bytes_kept device story slot)
-        ≡ by_way way [] (read_bytes count (record_at device story.desk slot) (story.recordings slot))
+        → channel_read count (by_way way (own.Playing (play_at device story.desk slot)) (own.Recording (record_at device story.desk slot)) (own.Mapped (map_at device story.desk slot))) (bytes_kept device story slot)
+        ≡ by_way way [] (read_bytes count (record_at device story.desk slot) (story.recordings slot)) []
     way_at Play slot = refl
+    way_at Map slot = refl
     way_at Record slot = read_counted device pool story.desk.handed count (is_running (record_at device story.desk slot).state) (record_at device story.desk slot) (story.recordings slot) refl (v slot)
 
     held_at : (held : Option Held) → bytes_read device story.desk (bytes_kept device story) count held ≡ bytes_got device story count held

@@ -4,12 +4,15 @@ use Rattle.std.proofs.lemmas.List.{append-nil, take-append-le, get_or-map}
 use Rattle.std.proofs.Math.Seq.{take-add}
 use Rattle.std.proofs.Math.Nat.{mul-le-mul_right}
 use Rattle.pcm_oss.specs.declared.event.Event.{Event}
-use Rattle.pcm_oss.specs.declared.event.Event.TheVariants.{Open, Write, Read, Ioctl, Join, StartGroup, Close, Intr}
+use Rattle.pcm_oss.specs.declared.event.Event.TheVariants.{Open, Write, Poke, Read, Ioctl, Join, StartGroup, Close, Intr}
 use Rattle.pcm_wave.specs.declared.pool.Pool.{Pool}
 use Rattle.pcm_feeder.specs.declared.kind.Kind.{Kind}
 use Rattle.pcm_feeder.specs.Kept.{Kept}
+use Rattle.pcm_feeder.specs.Filters.{Filters}
+use Rattle.pcm_desk.specs.declared.device.Device.{Device}
+use Rattle.pcm_desk.specs.declared.map_book.MapBook.{MapBook}
 use Rattle.pcm_desk.specs.declared.play_book.PlayBook.{PlayBook}
-use Rattle.pcm_desk.specs.Device.{DeviceSeen, device_frame_bytes, device_settings, filters_of, parent_plan, play_slots, ring_frames}
+use Rattle.pcm_desk.specs.Device.{DeviceSeen, device_frame_bytes, device_settings, filters_of, map_slots, parent_plan, play_slots, ring_frames, seen}
 use Rattle.pcm_desk.specs.Desk.{Desk, play_at, play_unopened, held_by, after, mixed_by}
 use Rattle.pcm_desk.specs.Events.{Fits, bytes_handed, frames_taken}
 use Rattle.pcm_sound.specs.Runs.{carrying, newest_bytes}
@@ -20,18 +23,20 @@ use Rattle.pcm_sound.proofs.Slots.{newest_bytes-marking, newest_bytes-playing}
 use Rattle.pcm_sound.proofs.Stories.{keeps, valid-told, writes-write_on}
 use Rattle.pcm_sound.proofs.DeviceLists.{length-device_bytes, device_body-bytes, device_bytes-same, device_bytes-interrupt, new_block}
 use Rattle.pcm_play.specs.declared.channel.PlayChannelOf.{PlayChannelOf}
-use Rattle.pcm_vchan.specs.Slots.{play_books_of, AllPlayStand}
+use Rattle.pcm_map.specs.declared.channel.MapChannelOf.{MapChannelOf}
+use Rattle.pcm_vchan.specs.Slots.{map_books_of, play_books_of, AllPlayStand, MapAreOf}
 use Rattle.pcm_play.specs.Channels.{PlayStands}
 use Rattle.pcm_format.specs.Frames.{Frame}
 use Rattle.pcm_feeder.specs.Streams.{interleaved}
 use Rattle.pcm_plan.specs.Through.{recs}
 use Rattle.pcm_chain.specs.declared.chain.ChainOf.{ChainOf}
-use Rattle.pcm_engine.specs.Steps.{BusMoves, bytes_brought, ChannelsMove}
-use Rattle.pcm_vchan.specs.Blocks.{block_bytes, block_of, turned_ring}
+use Rattle.pcm_engine.specs.Steps.{BusMoves, bytes_brought, ChannelsMove, MapsMove}
+use Rattle.pcm_vchan.specs.Blocks.{block_bytes, block_of, mapped_onto, turned_ring, Sources}
 use Rattle.pcm_vchan.specs.Buses.{mixed_at_once}
 use Rattle.pcm_vchan.specs.Handovers.{HasMade, raised_frames}
-use Rattle.pcm_engine.specs.Stands.{bytes_counted, story_frames, PartsStand}
+use Rattle.pcm_engine.specs.Stands.{bytes_counted, map_bytes_counted, story_frames, MapSlotStands, PartsStand}
 use Rattle.pcm_engine.proofs.Counted.{counted-kept, counted-written}
+use Rattle.pcm_engine.proofs.Mapped.{all-map, map-told, map_at-books}
 use Rattle.pcm_engine.proofs.Mixing.{mixed-kept, mixed-on, ring-on}
 
 -- the book of a slot is that of its channel
@@ -39,20 +44,36 @@ pub play_at-books : {B : Type 0} (device : DeviceSeen) (desk : Desk) (channels :
 play_at-books {B = B} device desk channels slot other play there =
     ap (λ (books : List PlayBook). get_or books slot (play_unopened device)) play ∙ get_or-map (λ (c : PlayChannelOf B). c.book) channels slot other (play_unopened device) there
 
--- what a desk, channels and a ring are to each other before and after an event
-pub record Stepped {B : Type 0} (kind : B → Kind) (kept : B → Kept) (device : DeviceSeen) (pool : Pool) (event : Event) (old new : Desk) (before now : List (PlayChannelOf B)) (chain_before chain_now : ChainOf B) (ring_before ring_now : List ℕ) : Type 0 where
-  pub desk : new ≡ (after device old event).desk
-  pub play_before : old.play ≡ play_books_of before
-  pub play_now : new.play ≡ play_books_of now
-  pub slots : length now ≡ length before
-  pub all_slots : length before ≡ play_slots device
-  pub channels : ChannelsMove kind kept device pool old.handed event before now
-  pub bus : BusMoves kept device old.handed event before chain_before chain_now ring_before ring_now
+-- the channels of a device, the chain between its mix and what is handed over, and its ring
+pub record Parts (B : Type 0) : Type 0 where
+  pub channels : List (PlayChannelOf B)
+  pub maps : List (MapChannelOf B)
+  pub chain : ChainOf B
+  pub ring : List ℕ
+
+-- they stand for a story, beside a desk
+abbrev pub StandsFor : {B : Type 0} → (B → Kept) → DeviceSeen → Desk → Parts B → Story → Type 0
+StandsFor kept device desk parts story = PartsStand kept device desk parts.channels parts.maps parts.chain parts.ring story
+
+-- what a desk and such parts are to each other before and after an event, by these filters
+pub record Stepped {B : Type 0} (kind : B → Kind) (kept : B → Kept) (plain : Device) (filters : Filters) (pool : Pool) (event : Event) (old new : Desk) (before now : Parts B) : Type 0 where
+  pub desk : new ≡ (after (seen filters plain) old event).desk
+  pub play_before : old.play ≡ play_books_of before.channels
+  pub play_now : new.play ≡ play_books_of now.channels
+  pub slots : length now.channels ≡ length before.channels
+  pub all_slots : length before.channels ≡ plain.play_slots
+  pub channels : ChannelsMove kind kept (seen filters plain) pool old.handed event before.channels now.channels
+  pub map_before : old.mapped ≡ map_books_of before.maps
+  pub map_now : new.mapped ≡ map_books_of now.maps
+  pub mapped : length now.maps ≡ length before.maps
+  pub all_mapped : length before.maps ≡ plain.map_slots
+  pub own : MapAreOf plain before.maps
+  pub maps : MapsMove kind kept filters plain pool old event before.maps now.maps
+  pub bus : BusMoves kept (seen filters plain) old.handed event before.channels before.maps before.chain now.chain before.ring now.ring
 
 -- the part of a step that is about a story: its own desks stand at both ends
-abbrev StoryStep : {B : Type 0} → (B → Kind) → (B → Kept) → DeviceSeen → Pool → Story → Event → List (PlayChannelOf B) → List (PlayChannelOf B) → ChainOf B → ChainOf B → List ℕ → List ℕ → Type 0
-StoryStep kind kept device pool story event before now chain_before chain_now ring_before ring_now =
-    Stepped kind kept device pool event story.desk (told device pool story event).desk before now chain_before chain_now ring_before ring_now
+abbrev StoryStep : {B : Type 0} → (B → Kind) → (B → Kept) → Device → Filters → Pool → Story → Event → Parts B → Parts B → Type 0
+StoryStep kind kept plain filters pool story event before now = Stepped kind kept plain filters pool event story.desk (told (seen filters plain) pool story event).desk before now
 
 -- ---- channels
 
@@ -84,6 +105,10 @@ counts_told device pool story (Write fd source at count) slot fits v more =
           ∙ counted-written device story.desk.mixed pool source at count w.accepted (play_at device story.desk slot) (play_at device (told device pool story (Write fd source at count)).desk slot).written (story.runs slot)
           (v.slots slot) fits.2.within w.accepts.written w.within;
     }
+counts_told device pool story (Poke fd offset at count) slot fits v more = record {
+  are = marks device pool story (Poke fd offset at count) slot
+      ∙ counted-kept (play_at device story.desk slot) (play_at device (told device pool story (Poke fd offset at count)).desk slot).written (newest_bytes (story.runs slot)) (omega arith);
+}
 counts_told device pool story (Read fd count) slot fits v more = record {
   are = marks device pool story (Read fd count) slot
       ∙ counted-kept (play_at device story.desk slot) (play_at device (told device pool story (Read fd count)).desk slot).written (newest_bytes (story.runs slot)) (omega arith);
@@ -114,112 +139,135 @@ counts_told device pool story (Intr n) slot fits v more =
     }
 
 -- each channel stands for its slot after an event
-slots_stand : {B : Type 0} (kind : B → Kind) (kept : B → Kept) (device : DeviceSeen) (pool : Pool) (story : Story) (event : Event) (before now : List (PlayChannelOf B)) (chain_before chain_now : ChainOf B) (ring_before ring_now : List ℕ)
-    → Fits device pool event → StoryStep kind kept device pool story event before now chain_before chain_now ring_before ring_now → PartsStand kept device story.desk before chain_before ring_before story
-    → (slot : ℕ) (other : PlayChannelOf B) → slot < length now → PlayStands kept (filters_of device) (get_or now slot other) (play_at device (told device pool story event).desk slot) (bytes_counted device (told device pool story event) slot)
-slots_stand kind kept device pool story event before now chain_before chain_now ring_before ring_now fits st s slot other within =
+slots_stand : {B : Type 0} (kind : B → Kind) (kept : B → Kept) (plain : Device) (filters : Filters) (pool : Pool) (story : Story) (event : Event) (before now : Parts B)
+    → Fits (seen filters plain) pool event → StoryStep kind kept plain filters pool story event before now → StandsFor kept (seen filters plain) story.desk before story
+    → (slot : ℕ) (other : PlayChannelOf B) → slot < length now.channels
+    → PlayStands kept filters (get_or now.channels slot other) (play_at (seen filters plain) (told (seen filters plain) pool story event).desk slot) (bytes_counted (seen filters plain) (told (seen filters plain) pool story event) slot)
+slots_stand {B = B} kind kept plain filters pool story event before now fits st s slot other within =
+    let device : DeviceSeen = seen filters plain in
     let same = st.slots in
-    let there : slot < length before = omega arith in
-    let was = play_at-books device story.desk before slot other st.play_before there in
-    let is = play_at-books device (told device pool story event).desk now slot other st.play_now within in
+    let there : slot < length before.channels = omega arith in
+    let was = play_at-books device story.desk before.channels slot other st.play_before there in
+    let is = play_at-books device (told device pool story event).desk now.channels slot other st.play_now within in
     let moves = st.channels slot other there in
-    let stood = subst (λ (b : PlayBook). PlayStands kept (filters_of device) (get_or before slot other) b (bytes_counted device story slot)) was (s.slots slot other there) in
+    let stood = subst (λ (b : PlayBook). PlayStands kept filters (get_or before.channels slot other) b (bytes_counted device story slot)) was (s.slots slot other there) in
     let stands = moves.stands (bytes_counted device story slot) stood in
     let more : (play_at device (told device pool story event).desk slot).written ≤ (play_at device story.desk slot).written + length (bytes_brought pool event) = rw (is, was) moves.written in
     let counts = counts_told device pool story event slot fits s.valid more in
-    subst (PlayStands kept (filters_of device) (get_or now slot other) (play_at device (told device pool story event).desk slot)) (sym counts.are)
-    (subst (λ (b : PlayBook). PlayStands kept (filters_of device) (get_or now slot other) b (take b.written (bytes_counted device story slot ++ bytes_brought pool event))) (sym is) stands)
+    subst (PlayStands kept filters (get_or now.channels slot other) (play_at device (told device pool story event).desk slot)) (sym counts.are)
+    (subst (λ (b : PlayBook). PlayStands kept filters (get_or now.channels slot other) b (take b.written (bytes_counted device story slot ++ bytes_brought pool event))) (sym is) stands)
+
+-- and so does each mapped one
+maps_stand : {B : Type 0} (kind : B → Kind) (kept : B → Kept) (plain : Device) (filters : Filters) (pool : Pool) (story : Story) (event : Event) (before now : Parts B)
+    → Fits (seen filters plain) pool event → StoryStep kind kept plain filters pool story event before now → StandsFor kept (seen filters plain) story.desk before story
+    → (slot : ℕ) (other : MapChannelOf B) → slot < length now.maps → MapSlotStands kept (seen filters plain) (told (seen filters plain) pool story event) slot (get_or now.maps slot other)
+maps_stand kind kept plain filters pool story event before now fits st s slot other within =
+    let device : DeviceSeen = seen filters plain in
+    let same = st.mapped in
+    let there : slot < length before.maps = omega arith in
+    map-told kind kept plain filters pool story event before.maps now.maps slot other fits s.valid (st.own slot other there) there st.maps
+    (map_at-books device story.desk before.maps slot other st.map_before there) (map_at-books device (told device pool story event).desk now.maps slot other st.map_now within)
+    (s.mapped slot other there)
 
 -- each channel stands for its book and the bytes that its slot counts
-all_stand : {B : Type 0} (kept : B → Kept) (device : DeviceSeen) (story : Story) (channels : List (PlayChannelOf B)) (chain : ChainOf B) (ring : List ℕ) → story.desk.play ≡ play_books_of channels → PartsStand kept device story.desk channels chain ring story
-    → AllPlayStand kept (filters_of device) channels (bytes_counted device story)
-all_stand kept device story channels chain ring play s = λ slot other there.
-    subst (λ (b : PlayBook). PlayStands kept (filters_of device) (get_or channels slot other) b (bytes_counted device story slot)) (play_at-books device story.desk channels slot other play there) (s.slots slot other there)
+all_stand : {B : Type 0} (kept : B → Kept) (device : DeviceSeen) (story : Story) (parts : Parts B) → story.desk.play ≡ play_books_of parts.channels → StandsFor kept device story.desk parts story
+    → AllPlayStand kept (filters_of device) parts.channels (bytes_counted device story)
+all_stand kept device story parts play s = λ slot other there.
+    subst (λ (b : PlayBook). PlayStands kept (filters_of device) (get_or parts.channels slot other) b (bytes_counted device story slot)) (play_at-books device story.desk parts.channels slot other play there) (s.slots slot other there)
 
 -- ---- the bus, and the device's ring
 
 -- a chain and a ring stand for a story
-abbrev BusStands : {B : Type 0} → (B → Kept) → DeviceSeen → ChainOf B → List ℕ → Story → Type 0
-BusStands kept device chain ring story =
-    HasMade kept device chain (story_frames device story story.desk.handed) story.desk.handed
-    × (ring ≡ drop (story.desk.handed * device_frame_bytes device) (device_bytes device story))
+abbrev BusStands : {B : Type 0} → (B → Kept) → DeviceSeen → Parts B → Story → Type 0
+BusStands kept device parts story =
+    HasMade kept device parts.chain (story_frames device story story.desk.handed) story.desk.handed
+    × (parts.ring ≡ drop (story.desk.handed * device_frame_bytes device) (device_bytes device story))
 
 -- they stand for it after an event that takes no frames
-bus_kept : {B : Type 0} (kept : B → Kept) (device : DeviceSeen) (pool : Pool) (story : Story) (event : Event) (chain_before chain_now : ChainOf B) (ring_before ring_now : List ℕ) → Fits device pool event → frames_taken event ≡ 0
-    → (chain_now ≡ chain_before) × (ring_now ≡ ring_before) → StoryIsValid device story → BusStands kept device chain_before ring_before story → BusStands kept device chain_now ring_now (told device pool story event)
-bus_kept {B} kept device pool story event chain_before chain_now ring_before ring_now fits none same v is =
+bus_kept : {B : Type 0} (kept : B → Kept) (device : DeviceSeen) (pool : Pool) (story : Story) (event : Event) (before now : Parts B) → Fits device pool event → frames_taken event ≡ 0
+    → (now.chain ≡ before.chain) × (now.ring ≡ before.ring) → StoryIsValid device story → BusStands kept device before story → BusStands kept device now (told device pool story event)
+bus_kept {B} kept device pool story event before now fits none same v is =
     let k = keeps device pool story event fits none v in
     let new : Story = told device pool story event in
     let frames : List Frame = story_frames device story story.desk.handed in (
       subst (λ (chain : ChainOf B). HasMade kept device chain (story_frames device new new.desk.handed) new.desk.handed) (sym same.0)
-          (subst (λ (all : List Frame). HasMade kept device chain_before all new.desk.handed) (sym (mixed-kept device pool story event v k.handed_same))
-          (subst (HasMade kept device chain_before frames) (sym k.handed_same) is.0)),
+          (subst (λ (all : List Frame). HasMade kept device before.chain all new.desk.handed) (sym (mixed-kept device pool story event v k.handed_same))
+          (subst (HasMade kept device before.chain frames) (sym k.handed_same) is.0)),
       same.1 ∙ is.1
           ∙ ap (λ handed. drop (handed * device_frame_bytes device) (device_bytes device story)) (sym k.handed_same)
           ∙ ap (drop (new.desk.handed * device_frame_bytes device)) (sym (device_bytes-same device pool story event v k.handed_same)),
     )
 
 -- the bus and the ring of parts that stand for a story do
-bus_before : {B : Type 0} (kept : B → Kept) (device : DeviceSeen) (story : Story) (channels : List (PlayChannelOf B)) (chain : ChainOf B) (ring : List ℕ) → PartsStand kept device story.desk channels chain ring story → BusStands kept device chain ring story
-bus_before kept device story channels chain ring s = (s.bus, s.ring_is)
+bus_before : {B : Type 0} (kept : B → Kept) (device : DeviceSeen) (story : Story) (parts : Parts B) → StandsFor kept device story.desk parts story → BusStands kept device parts story
+bus_before kept device story parts s = (s.bus, s.ring_is)
 
 -- and they do after an event
-bus_told : {B : Type 0} (kind : B → Kind) (kept : B → Kept) (device : DeviceSeen) (pool : Pool) (story : Story) (event : Event) (before now : List (PlayChannelOf B)) (chain_before chain_now : ChainOf B) (ring_before ring_now : List ℕ)
-    → Fits device pool event → StoryStep kind kept device pool story event before now chain_before chain_now ring_before ring_now → PartsStand kept device story.desk before chain_before ring_before story
-    → BusStands kept device chain_now ring_now (told device pool story event)
-bus_told kind kept device pool story (Open fd way settings) before now chain_before chain_now ring_before ring_now fits st s =
-    bus_kept kept device pool story (Open fd way settings) chain_before chain_now ring_before ring_now fits refl st.bus s.valid (bus_before kept device story before chain_before ring_before s)
-bus_told kind kept device pool story (Write fd source at count) before now chain_before chain_now ring_before ring_now fits st s =
-    bus_kept kept device pool story (Write fd source at count) chain_before chain_now ring_before ring_now fits refl st.bus s.valid (bus_before kept device story before chain_before ring_before s)
-bus_told kind kept device pool story (Read fd count) before now chain_before chain_now ring_before ring_now fits st s =
-    bus_kept kept device pool story (Read fd count) chain_before chain_now ring_before ring_now fits refl st.bus s.valid (bus_before kept device story before chain_before ring_before s)
-bus_told kind kept device pool story (Ioctl fd request) before now chain_before chain_now ring_before ring_now fits st s =
-    bus_kept kept device pool story (Ioctl fd request) chain_before chain_now ring_before ring_now fits refl st.bus s.valid (bus_before kept device story before chain_before ring_before s)
-bus_told kind kept device pool story (Join fd group) before now chain_before chain_now ring_before ring_now fits st s =
-    bus_kept kept device pool story (Join fd group) chain_before chain_now ring_before ring_now fits refl st.bus s.valid (bus_before kept device story before chain_before ring_before s)
-bus_told kind kept device pool story (StartGroup fd group) before now chain_before chain_now ring_before ring_now fits st s =
-    bus_kept kept device pool story (StartGroup fd group) chain_before chain_now ring_before ring_now fits refl st.bus s.valid (bus_before kept device story before chain_before ring_before s)
-bus_told kind kept device pool story (Close fd) before now chain_before chain_now ring_before ring_now fits st s =
-    bus_kept kept device pool story (Close fd) chain_before chain_now ring_before ring_now fits refl st.bus s.valid (bus_before kept device story before chain_before ring_before s)
-bus_told kind kept device pool story (Intr n) before now chain_before chain_now ring_before ring_now fits st s =
+bus_told : {B : Type 0} (kind : B → Kind) (kept : B → Kept) (plain : Device) (filters : Filters) (pool : Pool) (story : Story) (event : Event) (before now : Parts B)
+    → Fits (seen filters plain) pool event → StoryStep kind kept plain filters pool story event before now → StandsFor kept (seen filters plain) story.desk before story
+    → BusStands kept (seen filters plain) now (told (seen filters plain) pool story event)
+bus_told kind kept plain filters pool story (Open fd way settings) before now fits st s =
+    bus_kept kept (seen filters plain) pool story (Open fd way settings) before now fits refl st.bus s.valid (bus_before kept (seen filters plain) story before s)
+bus_told kind kept plain filters pool story (Write fd source at count) before now fits st s =
+    bus_kept kept (seen filters plain) pool story (Write fd source at count) before now fits refl st.bus s.valid (bus_before kept (seen filters plain) story before s)
+bus_told kind kept plain filters pool story (Poke fd offset at count) before now fits st s =
+    bus_kept kept (seen filters plain) pool story (Poke fd offset at count) before now fits refl st.bus s.valid (bus_before kept (seen filters plain) story before s)
+bus_told kind kept plain filters pool story (Read fd count) before now fits st s =
+    bus_kept kept (seen filters plain) pool story (Read fd count) before now fits refl st.bus s.valid (bus_before kept (seen filters plain) story before s)
+bus_told kind kept plain filters pool story (Ioctl fd request) before now fits st s =
+    bus_kept kept (seen filters plain) pool story (Ioctl fd request) before now fits refl st.bus s.valid (bus_before kept (seen filters plain) story before s)
+bus_told kind kept plain filters pool story (Join fd group) before now fits st s =
+    bus_kept kept (seen filters plain) pool story (Join fd group) before now fits refl st.bus s.valid (bus_before kept (seen filters plain) story before s)
+bus_told kind kept plain filters pool story (StartGroup fd group) before now fits st s =
+    bus_kept kept (seen filters plain) pool story (StartGroup fd group) before now fits refl st.bus s.valid (bus_before kept (seen filters plain) story before s)
+bus_told kind kept plain filters pool story (Close fd) before now fits st s =
+    bus_kept kept (seen filters plain) pool story (Close fd) before now fits refl st.bus s.valid (bus_before kept (seen filters plain) story before s)
+bus_told kind kept plain filters pool story (Intr n) before now fits st s =
+    let device : DeviceSeen = seen filters plain in
     let handed : ℕ = story.desk.handed in
     let q : ℕ = mixed_by device handed n in
     let streams : ℕ → List ℕ = bytes_counted device story in
+    let taken : ℕ → List ℕ = map_bytes_counted device story in
+    let sources : Sources = record { played = streams; taken = taken; areas = story.areas } in
     let x : List Frame = story_frames device story handed in
-    let turned = st.bus streams x (all_stand kept device story before chain_before ring_before st.play_before s) s.bus in
-    let all : x ++ mixed_at_once device handed n before streams ≡ story_frames device (told device pool story (Intr n)) (handed + n) =
-    ap (λ (books : List PlayBook). x ++ raised_frames device (block_of device q books streams (length before))) (sym st.play_before)
-    ∙ ap (λ slots. x ++ raised_frames device (block_of device q story.desk.play streams slots)) st.all_slots
+    let turned = st.bus sources x (record { playing = all_stand kept device story before st.play_before s; mapped = all-map kept device story before.maps st.map_before s.mapped }) s.bus in
+    let all : x ++ mixed_at_once device handed n before.channels before.maps sources ≡ story_frames device (told device pool story (Intr n)) (handed + n) =
+    ap (λ (books : List PlayBook). x ++ raised_frames device (mapped_onto device q (map_books_of before.maps) taken story.areas (length before.maps) (block_of device q books streams (length before.channels)))) (sym st.play_before)
+    ∙ ap (λ slots. x ++ raised_frames device (mapped_onto device q (map_books_of before.maps) taken story.areas (length before.maps) (block_of device q story.desk.play streams slots))) st.all_slots
+    ∙ ap (λ (books : List MapBook). x ++ raised_frames device (mapped_onto device q books taken story.areas (length before.maps) (block_of device q story.desk.play streams plain.play_slots))) (sym st.map_before)
+    ∙ ap (λ slots. x ++ raised_frames device (mapped_onto device q story.desk.mapped taken story.areas slots (block_of device q story.desk.play streams plain.play_slots))) st.all_mapped
     ∙ mixed-on device pool story n s.valid in (
-      subst (λ (frames : List Frame). HasMade kept device chain_now frames (handed + n)) all turned.made,
+      subst (λ (frames : List Frame). HasMade kept device now.chain frames (handed + n)) all turned.made,
       turned.ring
-          ∙ ap (λ (frames : List Frame). turned_ring (device_settings device) n (interleaved (recs (parent_plan device) (filters_of device) frames handed n)) ring_before) all
-          ∙ ring-on device pool story n ring_before s.valid fits.1 s.ring_is,
+          ∙ ap (λ (frames : List Frame). turned_ring (device_settings device) n (interleaved (recs (parent_plan device) (filters_of device) frames handed n)) before.ring) all
+          ∙ ring-on device pool story n before.ring s.valid fits.1 s.ring_is,
     )
 
 -- ---- all parts
 
-stands_on : {B : Type 0} (kind : B → Kind) (kept : B → Kept) (device : DeviceSeen) (pool : Pool) (story : Story) (event : Event) (before now : List (PlayChannelOf B)) (chain_before chain_now : ChainOf B) (ring_before ring_now : List ℕ)
-    → Fits device pool event → StoryStep kind kept device pool story event before now chain_before chain_now ring_before ring_now → PartsStand kept device story.desk before chain_before ring_before story
-    → PartsStand kept device (told device pool story event).desk now chain_now ring_now (told device pool story event)
-stands_on kind kept device pool story event before now chain_before chain_now ring_before ring_now fits st s = record {
+stands_on : {B : Type 0} (kind : B → Kind) (kept : B → Kept) (plain : Device) (filters : Filters) (pool : Pool) (story : Story) (event : Event) (before now : Parts B)
+    → Fits (seen filters plain) pool event → StoryStep kind kept plain filters pool story event before now → StandsFor kept (seen filters plain) story.desk before story
+    → StandsFor kept (seen filters plain) (told (seen filters plain) pool story event).desk now (told (seen filters plain) pool story event)
+stands_on kind kept plain filters pool story event before now fits st s = record {
   desk_is = refl;
-  slots = slots_stand kind kept device pool story event before now chain_before chain_now ring_before ring_now fits st s;
-  bus = (bus_told kind kept device pool story event before now chain_before chain_now ring_before ring_now fits st s).0;
-  ring_is = (bus_told kind kept device pool story event before now chain_before chain_now ring_before ring_now fits st s).1;
-  valid = valid-told device pool story event fits s.valid;
+  slots = slots_stand kind kept plain filters pool story event before now fits st s;
+  mapped = maps_stand kind kept plain filters pool story event before now fits st s;
+  bus = (bus_told kind kept plain filters pool story event before now fits st s).0;
+  ring_is = (bus_told kind kept plain filters pool story event before now fits st s).1;
+  valid = valid-told (seen filters plain) pool story event fits s.valid;
 }
 
 -- What stood for a story stands, one step on, for the story with one event more.
-pub stands-told : {B : Type 0} (kind : B → Kind) (kept : B → Kept) (device : DeviceSeen) (pool : Pool) (story : Story) (event : Event) (old new : Desk) (before now : List (PlayChannelOf B)) (chain_before chain_now : ChainOf B) (ring_before ring_now : List ℕ)
-    → Fits device pool event → Stepped kind kept device pool event old new before now chain_before chain_now ring_before ring_now → PartsStand kept device old before chain_before ring_before story
-    → PartsStand kept device new now chain_now ring_now (told device pool story event)
-stands-told kind kept device pool story event old new before now chain_before chain_now ring_before ring_now fits st s =
-    let from_story : Stepped kind kept device pool event story.desk new before now chain_before chain_now ring_before ring_now = subst (λ (d : Desk). Stepped kind kept device pool event d new before now chain_before chain_now ring_before ring_now) s.desk_is st in
+pub stands-told : {B : Type 0} (kind : B → Kind) (kept : B → Kept) (plain : Device) (filters : Filters) (pool : Pool) (story : Story) (event : Event) (old new : Desk) (before now : Parts B)
+    → Fits (seen filters plain) pool event → Stepped kind kept plain filters pool event old new before now → StandsFor kept (seen filters plain) old before story
+    → StandsFor kept (seen filters plain) new now (told (seen filters plain) pool story event)
+stands-told kind kept plain filters pool story event old new before now fits st s =
+    let device : DeviceSeen = seen filters plain in
+    let from_story : Stepped kind kept plain filters pool event story.desk new before now = subst (λ (d : Desk). Stepped kind kept plain filters pool event d new before now) s.desk_is st in
     let same : new ≡ (told device pool story event).desk = from_story.desk in
-    let to_story : StoryStep kind kept device pool story event before now chain_before chain_now ring_before ring_now = subst (λ (d : Desk). Stepped kind kept device pool event story.desk d before now chain_before chain_now ring_before ring_now) same from_story in
-    let stood : PartsStand kept device story.desk before chain_before ring_before story = subst (λ (d : Desk). PartsStand kept device d before chain_before ring_before story) s.desk_is s in
-    subst (λ (d : Desk). PartsStand kept device d now chain_now ring_now (told device pool story event)) (sym same) (stands_on kind kept device pool story event before now chain_before chain_now ring_before ring_now fits to_story stood)
+    let to_story : StoryStep kind kept plain filters pool story event before now = subst (λ (d : Desk). Stepped kind kept plain filters pool event story.desk d before now) same from_story in
+    let stood : StandsFor kept device story.desk before story = subst (λ (d : Desk). StandsFor kept device d before story) s.desk_is s in
+    subst (λ (d : Desk). StandsFor kept device d now (told device pool story event)) (sym same) (stands_on kind kept plain filters pool story event before now fits to_story stood)
 
 -- an event that takes no frames leaves the device's bytes
 body_kept : (device : DeviceSeen) (pool : Pool) (story : Story) (event : Event) (ring : List ℕ) → Fits device pool event → frames_taken event ≡ 0 → StoryIsValid device story
@@ -235,16 +283,17 @@ body_kept device pool story event ring fits none v =
     ∙ ap (λ n. device_body device story ++ take n ring) (sym no_bytes)
 
 -- what an event hands over is the front of the device's ring
-pub body-told : {B : Type 0} (kept : B → Kept) (device : DeviceSeen) (pool : Pool) (story : Story) (event : Event) (desk : Desk) (channels : List (PlayChannelOf B)) (chain : ChainOf B) (ring : List ℕ) → Fits device pool event → PartsStand kept device desk channels chain ring story
-    → device_body device (told device pool story event) ≡ device_body device story ++ take (bytes_handed device event) ring
-body-told kept device pool story (Open fd way settings) desk channels chain ring fits s = body_kept device pool story (Open fd way settings) ring fits refl s.valid
-body-told kept device pool story (Write fd source at count) desk channels chain ring fits s = body_kept device pool story (Write fd source at count) ring fits refl s.valid
-body-told kept device pool story (Read fd count) desk channels chain ring fits s = body_kept device pool story (Read fd count) ring fits refl s.valid
-body-told kept device pool story (Ioctl fd request) desk channels chain ring fits s = body_kept device pool story (Ioctl fd request) ring fits refl s.valid
-body-told kept device pool story (Join fd group) desk channels chain ring fits s = body_kept device pool story (Join fd group) ring fits refl s.valid
-body-told kept device pool story (StartGroup fd group) desk channels chain ring fits s = body_kept device pool story (StartGroup fd group) ring fits refl s.valid
-body-told kept device pool story (Close fd) desk channels chain ring fits s = body_kept device pool story (Close fd) ring fits refl s.valid
-body-told kept device pool story (Intr n) desk channels chain ring fits s =
+pub body-told : {B : Type 0} (kept : B → Kept) (device : DeviceSeen) (pool : Pool) (story : Story) (event : Event) (desk : Desk) (parts : Parts B) → Fits device pool event → StandsFor kept device desk parts story
+    → device_body device (told device pool story event) ≡ device_body device story ++ take (bytes_handed device event) parts.ring
+body-told kept device pool story (Open fd way settings) desk parts fits s = body_kept device pool story (Open fd way settings) parts.ring fits refl s.valid
+body-told kept device pool story (Write fd source at count) desk parts fits s = body_kept device pool story (Write fd source at count) parts.ring fits refl s.valid
+body-told kept device pool story (Poke fd offset at count) desk parts fits s = body_kept device pool story (Poke fd offset at count) parts.ring fits refl s.valid
+body-told kept device pool story (Read fd count) desk parts fits s = body_kept device pool story (Read fd count) parts.ring fits refl s.valid
+body-told kept device pool story (Ioctl fd request) desk parts fits s = body_kept device pool story (Ioctl fd request) parts.ring fits refl s.valid
+body-told kept device pool story (Join fd group) desk parts fits s = body_kept device pool story (Join fd group) parts.ring fits refl s.valid
+body-told kept device pool story (StartGroup fd group) desk parts fits s = body_kept device pool story (StartGroup fd group) parts.ring fits refl s.valid
+body-told kept device pool story (Close fd) desk parts fits s = body_kept device pool story (Close fd) parts.ring fits refl s.valid
+body-told kept device pool story (Intr n) desk parts fits s =
     let z : ℕ = device_frame_bytes device in
     let handed : ℕ = story.desk.handed in
     let bytes : List ℕ = device_bytes device story in

@@ -1,5 +1,5 @@
 -- Free channels and a silent ring stand for the story before the first event.
-use Rattle.std.proofs.Common.{◌≡◌, ℕ, zero, suc, ◌+◌, ◌*◌, ◌<◌, List, [], ◌++◌, length, get_or, take, replicate, Option, None, All, pos, refl, sym, ap, ◌∙◌, subst, arith}
+use Rattle.std.proofs.Common.{◌≡◌, ℕ, zero, suc, ◌+◌, ◌*◌, ◌<◌, List, [], ◌++◌, length, get_or, take, replicate, None, All, pos, refl, sym, ap, ◌∙◌, subst, arith}
 use Rattle.std.specs.List.{flat_map}
 use Rattle.std.proofs.lemmas.List.{get_or-map, get_or-replicate, length-map, length-replicate, same_lists, replicate-append-replicate, append-nil}
 use Rattle.std.proofs.lemmas.List.Concat.{flat_map-append}
@@ -11,14 +11,15 @@ use Rattle.pcm_format.specs.Frames.{frame_bytes}
 use Rattle.pcm_feeder.specs.declared.kind.Kind.{Kind}
 use Rattle.pcm_feeder.specs.Filters.{Filters}
 use Rattle.pcm_feeder.specs.Kept.{Kept}
-use Rattle.pcm_group.specs.declared.sync_groups.Groups.{Groups}
 use Rattle.pcm_group.specs.Groups.{no_groups}
 use Rattle.pcm_desk.specs.declared.play_book.PlayBook.{PlayBook}
 use Rattle.pcm_desk.specs.declared.device.Device.{Device}
-use Rattle.pcm_desk.specs.declared.device.Held.{Held}
 use Rattle.pcm_desk.specs.declared.limits.TheConstants.{DESCRIPTORS}
 use Rattle.pcm_desk.specs.Device.{IsDevice, seen}
-use Rattle.pcm_desk.specs.Desk.{Desk, play_at, desk_at_start, record_at, record_unopened, play_unopened}
+use Rattle.pcm_desk.specs.declared.map_book.MapBook.{MapBook}
+use Rattle.pcm_desk.specs.MapBooks.{taken_of}
+use Rattle.pcm_desk.specs.Desk.{desk_at_start, map_at, map_unopened, play_at, play_unopened, record_at, record_unopened}
+use Rattle.pcm_sound.specs.Areas.{silent_area}
 use Rattle.pcm_sound.specs.Story.{story_at_start}
 use Rattle.pcm_format.specs.Frames.{spelled_frames}
 use Rattle.pcm_sound.specs.DeviceList.{silence_in}
@@ -31,15 +32,16 @@ use Rattle.pcm_play.specs.declared.channel.PlayChannelOf.{PlayChannelOf}
 use Rattle.pcm_vchan.specs.declared.parent.ParentOf.{ParentOf}
 use Rattle.pcm_record.specs.declared.channel.RecordChannelOf.{RecordChannelOf}
 use Rattle.pcm_record.specs.Channels.{IsRecordReady, IsRecordUnopened, RecordStands}
-use Rattle.pcm_vchan.specs.Slots.{play_books_of, record_books_of}
+use Rattle.pcm_map.specs.declared.channel.MapChannelOf.{MapChannelOf}
+use Rattle.pcm_map.specs.Channels.{IsMapReady, IsMapUnopened, MapStands}
+use Rattle.pcm_vchan.specs.Slots.{map_books_of, play_books_of, record_books_of}
 use Rattle.pcm_play.specs.Channels.{PlayStands, IsPlayReady, IsPlayUnopened}
-use Rattle.pcm_chain.specs.declared.chain.ChainOf.{ChainOf}
 use Rattle.pcm_vchan.specs.Blocks.{silent_ring}
 use Rattle.pcm_vchan.specs.Handovers.{HasMade}
 use Rattle.pcm_engine.specs.declared.descriptors.Descriptors.{Descriptors}
 use Rattle.pcm_engine.specs.Desks.{desk_with}
-use Rattle.pcm_vchan.specs.Parents.{play_books, play_channels, record_books}
-use Rattle.pcm_engine.specs.Stands.{bytes_counted, PartsStand, RecordersStand}
+use Rattle.pcm_vchan.specs.Parents.{map_channels, play_channels, record_books}
+use Rattle.pcm_engine.specs.Stands.{bytes_counted, map_bytes_counted, MapSlotStands, PartsStand, RecordersStand}
 use Rattle.pcm_vchan.proofs.Channels.{some_channel}
 
 -- frames of silence are spelled as samples of silence
@@ -68,41 +70,88 @@ play_books_of-play_unopened {B = B} kind kept filters device channels slots each
     let other : PlayChannelOf B = some_channel channels k there in
     get_or-map (λ (c : PlayChannelOf B). c.book) channels k other d there ∙ (each k other there).book ∙ sym (get_or-replicate device.play_slots k (play_unopened (seen filters device)) d (omega arith)))
 
--- free channels and a silent ring stand for the beginning
-pub stands-start : {B : Type 0} (kind : B → Kind) (kept : B → Kept) (filters : Filters) (device : Device) (desk : Desk) (channels : List (PlayChannelOf B)) (descriptors : Descriptors) (chain : ChainOf B) (ring : List ℕ) → IsDevice (seen filters device)
-    → length channels ≡ device.play_slots → All (IsPlayUnopened kind kept filters device) channels
-    → descriptors.held ≡ replicate DESCRIPTORS None → descriptors.groups ≡ no_groups → HasMade kept (seen filters device) chain [] 0 → ring ≡ silent_ring (seen filters device)
-    → (recorders : List RecordBook) → recorders ≡ replicate device.record_slots (record_unopened (seen filters device))
-    → desk ≡ record { play = play_books_of channels; recording = recorders; descriptors = descriptors.held; groups = descriptors.groups; handed = 0; mixed = 0 } → PartsStand kept (seen filters device) desk channels chain ring (story_at_start (seen filters device))
-stands-start kind kept filters device desk channels descriptors chain ring limits slots each closed none_grouped made silent recorders recorded is = record {
-  desk_is = is ∙ ap (λ (play : List PlayBook). record { play = play; recording = recorders; descriptors = descriptors.held; groups = descriptors.groups; handed = 0; mixed = 0 }) (play_books_of-play_unopened kind kept filters device channels slots each)
-      ∙ ap (λ (r : List RecordBook). record { play = replicate device.play_slots (play_unopened (seen filters device)); recording = r; descriptors = descriptors.held; groups = descriptors.groups; handed = 0; mixed = 0 }) recorded
-      ∙ ap (λ (d : List (Option Held)). record { play = replicate device.play_slots (play_unopened (seen filters device)); recording = replicate device.record_slots (record_unopened (seen filters device)); descriptors = d; groups = descriptors.groups; handed = 0; mixed = 0 }) closed
-      ∙ ap (λ (g : Groups). record { play = replicate device.play_slots (play_unopened (seen filters device)); recording = replicate device.record_slots (record_unopened (seen filters device)); descriptors = replicate DESCRIPTORS None; groups = g; handed = 0; mixed = 0 }) none_grouped;
+-- ---- mapped channels
+
+-- those that nobody has opened are ready
+pub map-ready-unopened : {B : Type 0} (kind : B → Kind) (kept : B → Kept) (filters : Filters) (device : Device) (maps : List (MapChannelOf B)) → All (IsMapUnopened kind kept filters device) maps → All (IsMapReady kind kept filters) maps
+map-ready-unopened kind kept filters device maps each = λ slot other there.
+    let u = each slot other there in
+    record { kinds = u.kinds; planned = u.planned; stands = record { bytes = []; stands = u.stands } }
+
+-- their books
+pub map_books_of-unopened : {B : Type 0} (kind : B → Kind) (kept : B → Kept) (filters : Filters) (device : Device) (maps : List (MapChannelOf B)) → length maps ≡ device.map_slots → All (IsMapUnopened kind kept filters device) maps
+    → map_books_of maps ≡ replicate device.map_slots (map_unopened (seen filters device))
+map_books_of-unopened {B = B} kind kept filters device maps slots each =
+    same_lists (map_books_of maps) (replicate device.map_slots (map_unopened (seen filters device)))
+    (length-map maps (λ (c : MapChannelOf B). c.book) ∙ slots ∙ sym (length-replicate device.map_slots (map_unopened (seen filters device))))
+    (λ k d within.
+    let there : k < length maps = omega (arith, length-map maps (λ (c : MapChannelOf B). c.book)) in
+    let other : MapChannelOf B = some_channel maps k there in
+    get_or-map (λ (c : MapChannelOf B). c.book) maps k other d there ∙ (each k other there).book ∙ sym (get_or-replicate device.map_slots k (map_unopened (seen filters device)) d (omega arith)))
+
+-- they stand for the beginning
+map_starts : {B : Type 0} (kind : B → Kind) (kept : B → Kept) (filters : Filters) (device : Device) (slot : ℕ) (channel : MapChannelOf B) → IsMapUnopened kind kept filters device channel
+    → MapSlotStands kept (seen filters device) (story_at_start (seen filters device)) slot channel
+map_starts kind kept filters device slot channel u =
+    let opened : map_unopened (seen filters device) ≡ map_at (seen filters device) (desk_at_start (seen filters device)) slot = sym (get_or-same device.map_slots slot (map_unopened (seen filters device))) in
+    let none : taken_of (map_unopened (seen filters device)) ≡ 0 = omega arith in
+    let nothing : [] ≡ map_bytes_counted (seen filters device) (story_at_start (seen filters device)) slot = sym (ap (λ (n : ℕ). take n []) none) ∙ ap (λ (b : MapBook). take (taken_of b) []) opened in
+    record {
+      stands = subst (MapStands kept filters channel (map_at (seen filters device) (desk_at_start (seen filters device)) slot)) nothing
+          (subst (λ (b : MapBook). MapStands kept filters channel b []) (u.book ∙ opened) u.stands);
+      area = u.area ∙ ap (λ (b : MapBook). silent_area b.opening) u.book;
+    }
+
+-- ---- a parent
+
+-- what is known of one that nobody has opened, by filters, beside its descriptors
+pub record IsUnopened {B : Type 0} (kind : B → Kind) (kept : B → Kept) (filters : Filters) (device : Device) (parent : ParentOf B) (descriptors : Descriptors) : Type 0 where
+  pub device_is : parent.device ≡ device
+  pub slots : length (play_channels parent) ≡ device.play_slots
+  pub channels : All (IsPlayUnopened kind kept filters device) (play_channels parent)
+  pub recorders : record_books parent ≡ replicate device.record_slots (record_unopened (seen filters device))
+  pub mapped : length (map_channels parent) ≡ device.map_slots
+  pub maps : All (IsMapUnopened kind kept filters device) (map_channels parent)
+  pub shut : descriptors.held ≡ replicate DESCRIPTORS None
+  pub groups : descriptors.groups ≡ no_groups
+  pub made : HasMade kept (seen filters device) parent.bus.chain [] 0
+  pub ring : parent.ring.bytes ≡ silent_ring (seen filters device)
+  pub handed : parent.handed ≡ 0
+  pub mixed : parent.mixed ≡ 0
+
+-- its desk is that of the beginning
+unopened_desk : {B : Type 0} (kind : B → Kind) (kept : B → Kept) (filters : Filters) (device : Device) (parent : ParentOf B) (descriptors : Descriptors) → IsUnopened kind kept filters device parent descriptors → desk_with parent descriptors ≡ desk_at_start (seen filters device)
+unopened_desk kind kept filters device parent descriptors u =
+    let play = play_books_of-play_unopened kind kept filters device (play_channels parent) u.slots u.channels in
+    let mapped = map_books_of-unopened kind kept filters device (map_channels parent) u.mapped u.maps in
+    λ i. record { play = play i; recording = u.recorders i; mapped = mapped i; descriptors = u.shut i; groups = u.groups i; handed = u.handed i; mixed = u.mixed i }
+
+unopened_stands : {B : Type 0} (kind : B → Kind) (kept : B → Kept) (filters : Filters) (device : Device) (parent : ParentOf B) (descriptors : Descriptors) → IsDevice (seen filters device) → IsUnopened kind kept filters device parent descriptors
+    → PartsStand kept (seen filters device) (desk_with parent descriptors) (play_channels parent) (map_channels parent) parent.bus.chain parent.ring.bytes (story_at_start (seen filters device))
+unopened_stands kind kept filters device parent descriptors limits unopened = record {
+  desk_is = unopened_desk kind kept filters device parent descriptors unopened;
   slots = λ slot other there.
       let opened : play_unopened (seen filters device) ≡ play_at (seen filters device) (desk_at_start (seen filters device)) slot = sym (get_or-same device.play_slots slot (play_unopened (seen filters device))) in
       let nothing : [] ≡ bytes_counted (seen filters device) (story_at_start (seen filters device)) slot = ap (λ (b : PlayBook). take b.written []) opened in
-      subst (PlayStands kept filters (get_or channels slot other) (play_at (seen filters device) (desk_at_start (seen filters device)) slot)) nothing
-      (subst (λ (b : PlayBook). PlayStands kept filters (get_or channels slot other) b []) ((each slot other there).book ∙ opened) (each slot other there).stands);
-  bus = made;
+      let u = unopened.channels slot other there in
+      subst (PlayStands kept filters (get_or (play_channels parent) slot other) (play_at (seen filters device) (desk_at_start (seen filters device)) slot)) nothing
+      (subst (λ (b : PlayBook). PlayStands kept filters (get_or (play_channels parent) slot other) b []) (u.book ∙ opened) u.stands);
+  mapped = λ slot other there. map_starts kind kept filters device slot (get_or (map_channels parent) slot other) (unopened.maps slot other there);
+  bus = unopened.made;
   ring_is = (
       let none : 0 * frame_bytes device.settings ≡ 0 = omega arith in
-      silent ∙ sym (spelled-silence device.settings.format device.settings device.ring_frames)
+      unopened.ring ∙ sym (spelled-silence device.settings.format device.settings device.ring_frames)
       ∙ ap (spelled_frames device.settings.format) (sym (append-nil (replicate device.ring_frames (silence_in device.settings))))
       ∙ rw none refl);
   valid = valid-start (seen filters device) limits;
 }
 
--- a parent that nobody has opened, and no descriptor, stand for the beginning
-pub parent-starts : {B : Type 0} (kind : B → Kind) (kept : B → Kept) (filters : Filters) (device : Device) (parent : ParentOf B) (descriptors : Descriptors) → IsDevice (seen filters device) → descriptors.held ≡ replicate DESCRIPTORS None → descriptors.groups ≡ no_groups → parent.device ≡ device
-    → length (play_channels parent) ≡ device.play_slots → record_books parent ≡ replicate device.record_slots (record_unopened (seen filters device))
-    → All (IsPlayUnopened kind kept filters device) (play_channels parent) → HasMade kept (seen filters device) parent.bus.chain [] 0 → parent.ring.bytes ≡ silent_ring (seen filters device) → parent.handed ≡ 0 → parent.mixed ≡ 0
-    → PartsStand kept (seen filters parent.device) (desk_with parent descriptors) (play_channels parent) parent.bus.chain parent.ring.bytes (story_at_start (seen filters parent.device))
-parent-starts kind kept filters device parent descriptors limits closed none_grouped is slots recorded each made silent handed mixed =
-    subst (λ (d : Device). PartsStand kept (seen filters d) (desk_with parent descriptors) (play_channels parent) parent.bus.chain parent.ring.bytes (story_at_start (seen filters d))) (sym is)
-    (stands-start kind kept filters device (desk_with parent descriptors) (play_channels parent) descriptors parent.bus.chain parent.ring.bytes limits slots each closed none_grouped made silent (record_books parent) recorded
-    (ap (λ (h : ℕ). record { play = play_books parent; recording = record_books parent; descriptors = descriptors.held; groups = descriptors.groups; handed = h; mixed = parent.mixed }) handed
-    ∙ ap (λ (m : ℕ). record { play = play_books parent; recording = record_books parent; descriptors = descriptors.held; groups = descriptors.groups; handed = 0; mixed = m }) mixed))
+-- so it stands for the beginning
+pub parent-starts : {B : Type 0} (kind : B → Kind) (kept : B → Kept) (filters : Filters) (device : Device) (parent : ParentOf B) (descriptors : Descriptors) → IsDevice (seen filters device) → IsUnopened kind kept filters device parent descriptors
+    → PartsStand kept (seen filters parent.device) (desk_with parent descriptors) (play_channels parent) (map_channels parent) parent.bus.chain parent.ring.bytes (story_at_start (seen filters parent.device))
+parent-starts kind kept filters device parent descriptors limits unopened =
+    subst (λ (d : Device). PartsStand kept (seen filters d) (desk_with parent descriptors) (play_channels parent) (map_channels parent) parent.bus.chain parent.ring.bytes (story_at_start (seen filters d))) (sym unopened.device_is)
+    (unopened_stands kind kept filters device parent descriptors limits unopened)
 
 -- ---- channels that record
 

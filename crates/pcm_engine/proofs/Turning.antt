@@ -1,40 +1,48 @@
 -- What becomes of a desk whose parent lent one channel.
-use Rattle.std.proofs.Common.{Ok, Err, ◌≡◌, ℕ, ◌<◌, List, length, set, get_or, min, take, drop, Option, Some, None, Result, refl, sym, ap, ◌∙◌, subst, arith}
+use Rattle.std.proofs.Common.{Ok, Err, ◌≡◌, ◌+◌, ℕ, ◌<◌, false, cond, eqb, List, length, set, get_or, min, take, drop, Option, Some, None, Result, refl, sym, ap, ◌∙◌, subst, arith}
+use Rattle.std.specs.Prelude.{IsOk, is_some}
 use Rattle.std.proofs.lemmas.List.{length-map}
 use Rattle.pcm_oss.specs.declared.event.Way.{Way}
 use Rattle.pcm_oss.specs.declared.event.TheConstants.{SLOTS}
 use Rattle.pcm_fixed.proofs.Items.{items-count}
-use Rattle.pcm_oss.specs.declared.event.Way.TheVariants.{Play, Record}
+use Rattle.pcm_oss.specs.declared.event.Way.TheVariants.{Play, Record, Map}
 use Rattle.pcm_oss.specs.declared.reply.Answer.{Answer}
+use Rattle.pcm_oss.specs.declared.reply.Answer.TheVariants.{Number}
 use Rattle.pcm_oss.specs.declared.reply.Errno.{Errno}
-use Rattle.pcm_oss.specs.declared.reply.Errno.TheVariants.{BadF, Inval}
+use Rattle.pcm_oss.specs.declared.reply.Errno.TheVariants.{BadF, Exist, Inval}
+use Rattle.pcm_format.specs.declared.settings.Settings.{Settings}
 use Rattle.pcm_desk.specs.declared.play_book.PlayBook.{PlayBook}
 use Rattle.pcm_desk.specs.declared.device.Device.{Device}
 use Rattle.pcm_desk.specs.declared.device.Held.{Held}
 use Rattle.pcm_desk.specs.declared.record_book.RecordBook.{RecordBook}
 use Rattle.pcm_desk.specs.Device.{DeviceSeen}
 use Rattle.pcm_desk.specs.declared.turn.Turn.{Turn}
+use Rattle.pcm_desk.specs.declared.map_book.MapBook.{MapBook}
+use Rattle.pcm_desk.specs.MapBooks.{is_map_free, map_closed}
 use Rattle.pcm_desk.specs.RecordBooks.{closed, record_fill_of}
-use Rattle.pcm_desk.specs.Desk.{Desk, DeskTurn, play_at, by_way, close_on, close_play, close_record, closing, desk_here, held_by, play_turn, record_at, record_turn, record_unopened, refusing, turning, play_unopened, with_play, with_descriptor, with_record}
-use Rattle.pcm_desk.specs.Own.{HoldApart, Playing, Recording, slots_of}
+use Rattle.pcm_desk.specs.Desk.{Desk, DeskTurn, play_at, by_way, close_map, close_on, close_play, close_record, closing, desk_here, held_by, least_free_map, least_free_play, least_free_record, map_at, map_turn, map_unopened, open_map, open_play, open_record, open_turn, play_turn, record_at, record_turn, record_unopened, refusing, slot_number, turning, play_unopened, with_map, with_play, with_descriptor, with_record}
+use Rattle.pcm_desk.specs.Own.{HoldApart, Mapped, MayBeHeld, Playing, Recording, slots_of}
+use Rattle.pcm_sound.specs.Areas.{holds_map}
 use Rattle.pcm_play.specs.declared.channel.PlayChannelOf.{PlayChannelOf}
 use Rattle.pcm_record.specs.declared.channel.RecordChannelOf.{RecordChannelOf}
+use Rattle.pcm_map.specs.declared.channel.MapChannelOf.{MapChannelOf}
 use Rattle.pcm_vchan.specs.declared.parent.ParentOf.{ParentOf}
-use Rattle.pcm_vchan.specs.Slots.{PlayAreOf, RecordAreOf}
-use Rattle.pcm_vchan.specs.Parents.{play_books, play_channels, record_channels, record_books}
-use Rattle.pcm_vchan.specs.Lending.{with_channel, with_recorder}
-use Rattle.pcm_vchan.proofs.Channels.{play_at-channel, play_books_of-set, record_at-channel, record_books_of-set}
+use Rattle.pcm_vchan.specs.Slots.{MapAreOf, PlayAreOf, RecordAreOf}
+use Rattle.pcm_vchan.specs.Parents.{map_books, map_channels, play_books, play_channels, record_channels, record_books, slot_or_busy}
+use Rattle.pcm_vchan.specs.Lending.{with_channel, with_map_channel, with_recorder}
+use Rattle.pcm_vchan.proofs.Channels.{map_at-channel, map_books_of-set, play_at-channel, play_books_of-set, record_at-channel, record_books_of-set}
 use Rattle.pcm_engine.specs.declared.descriptors.Descriptors.{Descriptors}
-use Rattle.pcm_engine.specs.Descriptors.{holding, playing_slot, recording_slot}
+use Rattle.pcm_engine.specs.Descriptors.{holding, mapped_slot, playing_slot, recording_slot, shut}
 use Rattle.pcm_engine.specs.Desks.{desk_with}
 use Rattle.pcm_engine.specs.Steps.{bytes_read, channel_read}
 
 -- ---- where a descriptor's channel is
 
 -- an event of a descriptor that holds a channel of some way
-pub turning-held : (way : Way) (play recording : ℕ → DeskTurn) (found : Option Held) (held : Held) (desk : Desk) → found ≡ Some held → held.way ≡ way → turning play recording found desk ≡ by_way way (play held.slot) (recording held.slot)
-turning-held way play recording found held desk e is =
-    ap (λ (h : Option Held). turning play recording h desk) e ∙ ap (λ (w : Way). by_way w (play held.slot) (recording held.slot)) is
+pub turning-held : (way : Way) (play recording mapped : ℕ → DeskTurn) (found : Option Held) (held : Held) (desk : Desk) → found ≡ Some held → held.way ≡ way
+    → turning play recording mapped found desk ≡ by_way way (play held.slot) (recording held.slot) (mapped held.slot)
+turning-held way play recording mapped found held desk e is =
+    ap (λ (h : Option Held). turning play recording mapped h desk) e ∙ ap (λ (w : Way). by_way w (play held.slot) (recording held.slot) (mapped held.slot)) is
 
 -- what a descriptor is refused for, and what it holds where it isn't
 pub holding-is : (found : Option Held) (held : Held) → holding found ≡ Ok held → found ≡ Some held
@@ -45,13 +53,13 @@ holding-is (Some h) held e = let same : Ok h ≡ Ok held = e in ap (λ (r : Resu
     some_of (Ok x) = Some x
     some_of (Err errno) = None
 
-pub holding-not : (play recording : ℕ → DeskTurn) (found : Option Held) (desk : Desk) (errno : Errno) → holding found ≡ Err errno → turning play recording found desk ≡ refusing desk errno
-holding-not play recording None desk errno e = ap (λ (r : Result Held Errno). refusing desk (errno_of r)) e
+pub holding-not : (play recording mapped : ℕ → DeskTurn) (found : Option Held) (desk : Desk) (errno : Errno) → holding found ≡ Err errno → turning play recording mapped found desk ≡ refusing desk errno
+holding-not play recording mapped None desk errno e = ap (λ (r : Result Held Errno). refusing desk (errno_of r)) e
   where
     errno_of : Result Held Errno → Errno
     errno_of (Ok x) = BadF
     errno_of (Err why) = why
-holding-not play recording (Some held) desk errno e = cc
+holding-not play recording mapped (Some held) desk errno e = cc
 
 -- a channel of this way and slot
 abbrev pub channel_of : Way → ℕ → Held
@@ -65,37 +73,59 @@ abbrev why_of : Result ℕ Errno → Errno
 why_of (Ok slot) = BadF
 why_of (Err errno) = errno
 
-playing_way : (way : Way) (at slot : ℕ) → by_way {X = Result ℕ Errno} way (Ok at) (Err Inval) ≡ Ok slot → channel_of way at ≡ channel_of Play slot
+playing_way : (way : Way) (at slot : ℕ) → by_way {X = Result ℕ Errno} way (Ok at) (Err Inval) (Err Inval) ≡ Ok slot → channel_of way at ≡ channel_of Play slot
 playing_way Play at slot e = ap (channel_of Play) (ap slot_in e)
 playing_way Record at slot e = cc
+playing_way Map at slot e = cc
 
 pub playing-is : (found : Option Held) (slot : ℕ) → playing_slot found ≡ Ok slot → found ≡ Some (channel_of Play slot)
 playing-is None slot e = cc
 playing-is (Some held) slot e = ap (λ (h : Held). Some h) (playing_way held.way held.slot slot e)
 
-playing_not_way : (way : Way) (at : ℕ) (play : ℕ → DeskTurn) (desk : Desk) (errno : Errno) → by_way {X = Result ℕ Errno} way (Ok at) (Err Inval) ≡ Err errno → by_way way (play at) (refusing desk Inval) ≡ refusing desk errno
+playing_not_way : (way : Way) (at : ℕ) (play : ℕ → DeskTurn) (desk : Desk) (errno : Errno) → by_way {X = Result ℕ Errno} way (Ok at) (Err Inval) (Err Inval) ≡ Err errno → by_way way (play at) (refusing desk Inval) (refusing desk Inval) ≡ refusing desk errno
 playing_not_way Play at play desk errno e = cc
 playing_not_way Record at play desk errno e = ap (λ (r : Result ℕ Errno). refusing desk (why_of r)) e
+playing_not_way Map at play desk errno e = ap (λ (r : Result ℕ Errno). refusing desk (why_of r)) e
 
-pub playing-not : (play : ℕ → DeskTurn) (found : Option Held) (desk : Desk) (errno : Errno) → playing_slot found ≡ Err errno → turning play (λ slot. refusing desk Inval) found desk ≡ refusing desk errno
+pub playing-not : (play : ℕ → DeskTurn) (found : Option Held) (desk : Desk) (errno : Errno) → playing_slot found ≡ Err errno → turning play (λ slot. refusing desk Inval) (λ slot. refusing desk Inval) found desk ≡ refusing desk errno
 playing-not play None desk errno e = ap (λ (r : Result ℕ Errno). refusing desk (why_of r)) e
 playing-not play (Some held) desk errno e = playing_not_way held.way held.slot play desk errno e
 
-recording_way : (way : Way) (at slot : ℕ) → by_way {X = Result ℕ Errno} way (Err Inval) (Ok at) ≡ Ok slot → channel_of way at ≡ channel_of Record slot
+recording_way : (way : Way) (at slot : ℕ) → by_way {X = Result ℕ Errno} way (Err Inval) (Ok at) (Err Inval) ≡ Ok slot → channel_of way at ≡ channel_of Record slot
 recording_way Play at slot e = cc
+recording_way Map at slot e = cc
 recording_way Record at slot e = ap (channel_of Record) (ap slot_in e)
 
 pub recording-is : (found : Option Held) (slot : ℕ) → recording_slot found ≡ Ok slot → found ≡ Some (channel_of Record slot)
 recording-is None slot e = cc
 recording-is (Some held) slot e = ap (λ (h : Held). Some h) (recording_way held.way held.slot slot e)
 
-recording_not_way : (way : Way) (at : ℕ) (recording : ℕ → DeskTurn) (desk : Desk) (errno : Errno) → by_way {X = Result ℕ Errno} way (Err Inval) (Ok at) ≡ Err errno → by_way way (refusing desk Inval) (recording at) ≡ refusing desk errno
+recording_not_way : (way : Way) (at : ℕ) (recording : ℕ → DeskTurn) (desk : Desk) (errno : Errno) → by_way {X = Result ℕ Errno} way (Err Inval) (Ok at) (Err Inval) ≡ Err errno → by_way way (refusing desk Inval) (recording at) (refusing desk Inval) ≡ refusing desk errno
 recording_not_way Play at recording desk errno e = ap (λ (r : Result ℕ Errno). refusing desk (why_of r)) e
 recording_not_way Record at recording desk errno e = cc
+recording_not_way Map at recording desk errno e = ap (λ (r : Result ℕ Errno). refusing desk (why_of r)) e
 
-pub recording-not : (recording : ℕ → DeskTurn) (found : Option Held) (desk : Desk) (errno : Errno) → recording_slot found ≡ Err errno → turning (λ slot. refusing desk Inval) recording found desk ≡ refusing desk errno
+pub recording-not : (recording : ℕ → DeskTurn) (found : Option Held) (desk : Desk) (errno : Errno) → recording_slot found ≡ Err errno → turning (λ slot. refusing desk Inval) recording (λ slot. refusing desk Inval) found desk ≡ refusing desk errno
 recording-not recording None desk errno e = ap (λ (r : Result ℕ Errno). refusing desk (why_of r)) e
 recording-not recording (Some held) desk errno e = recording_not_way held.way held.slot recording desk errno e
+
+mapped_way : (way : Way) (at slot : ℕ) → by_way {X = Result ℕ Errno} way (Err Inval) (Err Inval) (Ok at) ≡ Ok slot → channel_of way at ≡ channel_of Map slot
+mapped_way Play at slot e = cc
+mapped_way Record at slot e = cc
+mapped_way Map at slot e = ap (channel_of Map) (ap slot_in e)
+
+pub mapped-is : (found : Option Held) (slot : ℕ) → mapped_slot found ≡ Ok slot → found ≡ Some (channel_of Map slot)
+mapped-is None slot e = cc
+mapped-is (Some held) slot e = ap (λ (h : Held). Some h) (mapped_way held.way held.slot slot e)
+
+mapped_not_way : (way : Way) (at : ℕ) (mapped : ℕ → DeskTurn) (desk : Desk) (errno : Errno) → by_way {X = Result ℕ Errno} way (Err Inval) (Err Inval) (Ok at) ≡ Err errno → by_way way (refusing desk Inval) (refusing desk Inval) (mapped at) ≡ refusing desk errno
+mapped_not_way Play at mapped desk errno e = ap (λ (r : Result ℕ Errno). refusing desk (why_of r)) e
+mapped_not_way Record at mapped desk errno e = ap (λ (r : Result ℕ Errno). refusing desk (why_of r)) e
+mapped_not_way Map at mapped desk errno e = cc
+
+pub mapped-not : (mapped : ℕ → DeskTurn) (found : Option Held) (desk : Desk) (errno : Errno) → mapped_slot found ≡ Err errno → turning (λ slot. refusing desk Inval) (λ slot. refusing desk Inval) mapped found desk ≡ refusing desk errno
+mapped-not mapped None desk errno e = ap (λ (r : Result ℕ Errno). refusing desk (why_of r)) e
+mapped-not mapped (Some held) desk errno e = mapped_not_way held.way held.slot mapped desk errno e
 
 slot_there : {B : Type 0} (way : Way) (parent : ParentOf B) (descriptors : Descriptors) (fd : ℕ) (held : Held) → HoldApart (desk_with parent descriptors) → held_by (desk_with parent descriptors) fd ≡ Some held → held.way ≡ way
     → held.slot < slots_of (desk_with parent descriptors) way
@@ -113,12 +143,19 @@ record-there {B = B} parent descriptors fd held h e is =
     let there = slot_there Record parent descriptors fd held h e is in
     omega (arith, length-map (record_channels parent) (λ (c : RecordChannelOf B). c.book))
 
+pub map-there : {B : Type 0} (parent : ParentOf B) (descriptors : Descriptors) (fd : ℕ) (held : Held) → HoldApart (desk_with parent descriptors) → held_by (desk_with parent descriptors) fd ≡ Some held → held.way ≡ Map
+    → held.slot < length (map_channels parent)
+map-there {B = B} parent descriptors fd held h e is =
+    let there = slot_there Map parent descriptors fd held h e is in
+    omega (arith, length-map (map_channels parent) (λ (c : MapChannelOf B). c.book))
+
 -- there are few slots of each way
 pub held-few : {B : Type 0} (parent : ParentOf B) (descriptors : Descriptors) (fd : ℕ) (held : Held) → HoldApart (desk_with parent descriptors) → held_by (desk_with parent descriptors) fd ≡ Some held → held.slot < SLOTS
 held-few parent descriptors fd held h e = at held.way refl
   where
     at : (way : Way) → held.way ≡ way → held.slot < SLOTS
     at Play is = let there = play-there parent descriptors fd held h e is in omega (arith, there, items-count parent.channels, parent.slots, parent.slots_within)
+    at Map is = let there = map-there parent descriptors fd held h e is in omega (arith, there, items-count parent.maps, parent.maps_count, parent.slots_within)
     at Record is = let there = record-there parent descriptors fd held h e is in omega (arith, there, items-count parent.recorders, parent.recorders_count, parent.recorders_within)
 
 -- ---- channels that play
@@ -137,7 +174,7 @@ pub desk-played : {B : Type 0} (device : DeviceSeen) (turn : PlayBook → Turn P
     → slot < length (play_channels parent) → lent ≡ get_or (play_channels parent) slot lent → new.book ≡ (turn lent.book).book
     → desk_with (with_channel parent slot new) descriptors ≡ (play_turn device turn (desk_with parent descriptors) slot).desk
 desk-played device turn parent descriptors slot lent new there is changed =
-    ap (λ (play : List PlayBook). record { play = play; recording = record_books parent; descriptors = descriptors.held; groups = descriptors.groups; handed = parent.handed; mixed = parent.mixed })
+    ap (λ (play : List PlayBook). record { play = play; recording = record_books parent; mapped = map_books parent; descriptors = descriptors.held; groups = descriptors.groups; handed = parent.handed; mixed = parent.mixed })
     (books-lent (λ (book : PlayBook). (turn book).book) parent slot lent new (play_unopened device) there is changed)
 
 -- and the reply
@@ -156,7 +193,7 @@ pub desk-recorded : {B : Type 0} (device : DeviceSeen) (turn : RecordBook → Tu
     → slot < length (record_channels parent) → lent ≡ get_or (record_channels parent) slot lent → new.book ≡ (turn lent.book).book
     → desk_with (with_recorder parent slot new) descriptors ≡ (record_turn device turn (desk_with parent descriptors) slot).desk
 desk-recorded device turn parent descriptors slot lent new there is changed =
-    ap (λ (recording : List RecordBook). record { play = play_books parent; recording = recording; descriptors = descriptors.held; groups = descriptors.groups; handed = parent.handed; mixed = parent.mixed })
+    ap (λ (recording : List RecordBook). record { play = play_books parent; recording = recording; mapped = map_books parent; descriptors = descriptors.held; groups = descriptors.groups; handed = parent.handed; mixed = parent.mixed })
     (record_books_of-set (λ (book : RecordBook). (turn book).book) (record_channels parent) slot lent new (record_unopened device) there is changed)
 
 pub reply-recorded : {B : Type 0} (device : DeviceSeen) (turn : RecordBook → Turn RecordBook) (parent : ParentOf B) (descriptors : Descriptors) (slot : ℕ) (lent : RecordChannelOf B) (answer : Result Answer Errno)
@@ -165,27 +202,95 @@ pub reply-recorded : {B : Type 0} (device : DeviceSeen) (turn : RecordBook → T
 reply-recorded device turn parent descriptors slot lent answer there is answered =
     answered ∙ ap (λ (book : RecordBook). (turn book).reply) (record_at-channel (record_channels parent) slot lent (record_unopened device) there is)
 
+-- ---- mapped channels
+
+pub own-lent_map : {B : Type 0} (device : Device) (channels : List (MapChannelOf B)) (slot : ℕ) (lent : MapChannelOf B) → slot < length channels → lent ≡ get_or channels slot lent → MapAreOf device channels → lent.path.device ≡ device
+own-lent_map {B = B} device channels slot lent there is own = ap (λ (channel : MapChannelOf B). channel.path.device) is ∙ own slot lent there
+
+pub desk-mapped : {B : Type 0} (device : DeviceSeen) (turn : MapBook → Turn MapBook) (parent : ParentOf B) (descriptors : Descriptors) (slot : ℕ) (lent new : MapChannelOf B)
+    → slot < length (map_channels parent) → lent ≡ get_or (map_channels parent) slot lent → new.book ≡ (turn lent.book).book
+    → desk_with (with_map_channel parent slot new) descriptors ≡ (map_turn device turn (desk_with parent descriptors) slot).desk
+desk-mapped device turn parent descriptors slot lent new there is changed =
+    ap (λ (mapped : List MapBook). record { play = play_books parent; recording = record_books parent; mapped = mapped; descriptors = descriptors.held; groups = descriptors.groups; handed = parent.handed; mixed = parent.mixed })
+    (map_books_of-set (λ (book : MapBook). (turn book).book) (map_channels parent) slot lent new (map_unopened device) there is changed)
+
+pub reply-mapped : {B : Type 0} (device : DeviceSeen) (turn : MapBook → Turn MapBook) (parent : ParentOf B) (descriptors : Descriptors) (slot : ℕ) (lent : MapChannelOf B) (answer : Result Answer Errno)
+    → slot < length (map_channels parent) → lent ≡ get_or (map_channels parent) slot lent → answer ≡ (turn lent.book).reply
+    → answer ≡ (map_turn device turn (desk_with parent descriptors) slot).reply
+reply-mapped device turn parent descriptors slot lent answer there is answered =
+    answered ∙ ap (λ (book : MapBook). (turn book).reply) (map_at-channel (map_channels parent) slot lent (map_unopened device) there is)
+
+-- one that a descriptor holds isn't free
+pub map-unfree : {B : Type 0} (parent : ParentOf B) (descriptors : Descriptors) (fd : ℕ) (held : Held) (lent : MapChannelOf B) → HoldApart (desk_with parent descriptors) → held_by (desk_with parent descriptors) fd ≡ Some held → held.way ≡ Map
+    → held.slot < length (map_channels parent) → lent ≡ get_or (map_channels parent) held.slot lent → is_map_free lent.book.state ≡ false
+map-unfree parent descriptors fd held lent h e is there lent_is =
+    let taken = subst (λ (w : Way). MayBeHeld (desk_with parent descriptors) w held.slot) is (h.taken fd held e) in
+    ap (λ (b : MapBook). is_map_free b.state) (map_at-channel (map_channels parent) held.slot lent lent.book there lent_is) ∙ taken lent.book
+
+-- a descriptor that is refused as it holds none
+unmapped_way : (way : Way) (at slot : ℕ) (errno : Errno) → by_way {X = Result ℕ Errno} way (Err Inval) (Err Inval) (Ok at) ≡ Err errno → by_way way false false (eqb at slot) ≡ false
+unmapped_way Play at slot errno e = refl
+unmapped_way Record at slot errno e = refl
+unmapped_way Map at slot errno e = cc
+
+pub unmapped : (found : Option Held) (errno : Errno) → mapped_slot found ≡ Err errno → (slot : ℕ) → holds_map found slot ≡ false
+unmapped None errno e slot = refl
+unmapped (Some held) errno e slot = unmapped_way held.way held.slot slot errno e
+
+-- ---- an open
+
+-- a descriptor that may be opened holds nothing
+pub shut-none : (found : Option Held) → IsOk (shut found) → found ≡ None
+shut-none None ok = refl
+shut-none (Some held) ok = cc
+
+-- the slot that is taken is the least free one
+pub slot-found : (least : Option ℕ) (slot : ℕ) → slot_or_busy least ≡ Ok slot → least ≡ Some slot
+slot-found None slot e = cc
+slot-found (Some least) slot e = ap (λ (r : Result ℕ Errno). Some (slot_in r)) e
+
+-- its number is told
+pub opened-number : (way : Way) (desk : Desk) (fd : ℕ) (settings : Settings) (slots slot : ℕ) → held_by desk fd ≡ None → slots ≡ length desk.play
+    → by_way way (least_free_play desk.play) (least_free_record desk.recording) (least_free_map desk.mapped) ≡ Some slot
+    → Ok (Number (slot_number slots way slot)) ≡ (open_turn desk fd way settings).reply
+opened-number way desk fd settings slots slot none count least =
+    at way least ∙ sym (ap (λ (found : Option Held). (cond {A = DeskTurn} (is_some found) (refusing desk Exist) opened).reply) none)
+  where
+    opened : DeskTurn
+    opened = by_way way (open_play (least_free_play desk.play) desk fd settings) (open_record (least_free_record desk.recording) desk fd settings) (open_map (least_free_map desk.mapped) desk fd settings)
+
+    at : (w : Way) → by_way w (least_free_play desk.play) (least_free_record desk.recording) (least_free_map desk.mapped) ≡ Some slot
+        → Ok (Number (slot_number slots w slot))
+        ≡ (by_way w (open_play (least_free_play desk.play) desk fd settings) (open_record (least_free_record desk.recording) desk fd settings) (open_map (least_free_map desk.mapped) desk fd settings)).reply
+    at Play e = sym (ap (λ (found : Option ℕ). (open_play found desk fd settings).reply) e)
+    at Record e = sym (ap (λ (found : Option ℕ). (open_record found desk fd settings).reply) e)
+    at Map e = ap (λ n. Ok (Number (n + slot))) count ∙ sym (ap (λ (found : Option ℕ). (open_map found desk fd settings).reply) e)
+
 -- what a read gets of a descriptor that holds a channel which records
 pub bytes_read-held : (device : DeviceSeen) (desk : Desk) (bytes : ℕ → List ℕ) (count : ℕ) (found : Option Held) (held : Held) (book : RecordBook) → found ≡ Some held → held.way ≡ Record → book ≡ record_at device desk held.slot
     → bytes_read device desk bytes count found ≡ take (min count (record_fill_of book)) (drop book.read (bytes held.slot))
 bytes_read-held device desk bytes count found held book e is same =
     ap (bytes_read device desk bytes count) e
-    ∙ ap (λ (w : Way). channel_read count (by_way w (Playing (play_at device desk held.slot)) (Recording (record_at device desk held.slot))) (bytes held.slot)) is
+    ∙ ap (λ (w : Way). channel_read count (by_way w (Playing (play_at device desk held.slot)) (Recording (record_at device desk held.slot)) (Mapped (map_at device desk held.slot))) (bytes held.slot)) is
     ∙ ap (λ (b : RecordBook). take (min count (record_fill_of b)) (drop b.read (bytes held.slot))) (sym same)
 
 -- what holds for each way holds
-pub either-way : {X : Type 0} (way : Way) → (way ≡ Play → X) → (way ≡ Record → X) → X
-either-way Play play recording = play refl
-either-way Record play recording = recording refl
+pub either-way : {X : Type 0} (way : Way) → (way ≡ Play → X) → (way ≡ Record → X) → (way ≡ Map → X) → X
+either-way Play play recording mapped = play refl
+either-way Record play recording mapped = recording refl
+either-way Map play recording mapped = mapped refl
 
--- a close of a channel of either way, which shuts its descriptor
+-- a close of a channel of whichever way, which shuts its descriptor
 pub closes-held : (device : DeviceSeen) (desk : Desk) (fd : ℕ) (found : Option Held) (held : Held) → found ≡ Some held
-    → with_descriptor (by_way held.way (with_play desk held.slot (closing device (desk_here device desk) (play_at device desk held.slot))) (with_record desk held.slot (closed (record_at device desk held.slot)))) fd None
+    → with_descriptor (by_way held.way (with_play desk held.slot (closing device (desk_here device desk) (play_at device desk held.slot))) (with_record desk held.slot (closed (record_at device desk held.slot)))
+    (with_map desk held.slot (map_closed (map_at device desk held.slot)))) fd None
     ≡ (close_on device found desk fd).desk
 closes-held device desk fd found held e = at held.way ∙ sym (ap (λ (h : Option Held). (close_on device h desk fd).desk) e)
   where
     at : (way : Way)
-        → with_descriptor (by_way way (with_play desk held.slot (closing device (desk_here device desk) (play_at device desk held.slot))) (with_record desk held.slot (closed (record_at device desk held.slot)))) fd None
-        ≡ (by_way way (close_play device desk fd held.slot) (close_record device desk fd held.slot)).desk
+        → with_descriptor (by_way way (with_play desk held.slot (closing device (desk_here device desk) (play_at device desk held.slot))) (with_record desk held.slot (closed (record_at device desk held.slot)))
+        (with_map desk held.slot (map_closed (map_at device desk held.slot)))) fd None
+        ≡ (by_way way (close_play device desk fd held.slot) (close_record device desk fd held.slot) (close_map device desk fd held.slot)).desk
     at Play = refl
     at Record = refl
+    at Map = refl

@@ -5,7 +5,7 @@ use Rattle.std.proofs.lemmas.Bool.{cases_lt}
 use Rattle.std.proofs.lemmas.List.{get_or-map, length-map, take_all}
 use Rattle.pcm_format.specs.Frames.{Frame}
 use Rattle.pcm_oss.specs.declared.event.Way.{Way}
-use Rattle.pcm_oss.specs.declared.event.Way.TheVariants.{Play, Record}
+use Rattle.pcm_oss.specs.declared.event.Way.TheVariants.{Play, Record, Map}
 use Rattle.pcm_feeder.specs.declared.kind.Kind.{Kind}
 use Rattle.pcm_feeder.specs.Filters.{Filters}
 use Rattle.pcm_feeder.specs.Kept.{Kept}
@@ -72,8 +72,9 @@ rings recorders = map (λ channel. channel.path.ring.bytes) recorders
 read_held : {B : Type 0} (kept : B → Kept) (filters : Filters) (device : DeviceSeen) (desk : Desk) (recorders : List (RecordChannelOf B)) (bytes : ℕ → List ℕ) (frames : ℕ → List Frame) (count : ℕ) (way : Way) (slot : ℕ)
     → desk.recording ≡ record_books_of recorders → AllRecordStand kept filters recorders bytes frames → slot < slots_of desk way
     → let held : Held = record { way = way; slot = slot } in
-    channel_read count (channel_at device desk held) (bytes slot) ≡ by_way way [] (take count (get_or (rings recorders) slot []))
+    channel_read count (channel_at device desk held) (bytes slot) ≡ by_way way [] (take count (get_or (rings recorders) slot [])) []
 read_held kept filters device desk recorders bytes frames count Play slot are stand there = refl
+read_held kept filters device desk recorders bytes frames count Map slot are stand there = refl
 read_held {B} kept filters device desk recorders bytes frames count Record slot are stand there =
     let here : slot < length recorders = omega (arith, there, ap (λ (l : List RecordBook). length l) are, length-map recorders (λ (c : RecordChannelOf B). c.book)) in
     let channel : RecordChannelOf B = get_or recorders slot (some_channel recorders slot here) in

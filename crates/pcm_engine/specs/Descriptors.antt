@@ -24,9 +24,14 @@ is_member_in groups held = nat_lt 0 (group_at groups held.way held.slot)
 -- one that plays, in this slot
 abbrev pub playing_slot : Option Held → Result ℕ Errno
 playing_slot None = Err BadF
-playing_slot (Some held) = by_way held.way (Ok held.slot) (Err Inval)
+playing_slot (Some held) = by_way held.way (Ok held.slot) (Err Inval) (Err Inval)
 
 -- one that records
 abbrev pub recording_slot : Option Held → Result ℕ Errno
 recording_slot None = Err BadF
-recording_slot (Some held) = by_way held.way (Err Inval) (Ok held.slot)
+recording_slot (Some held) = by_way held.way (Err Inval) (Ok held.slot) (Err Inval)
+
+-- a mapped one
+abbrev pub mapped_slot : Option Held → Result ℕ Errno
+mapped_slot None = Err BadF
+mapped_slot (Some held) = by_way held.way (Err Inval) (Err Inval) (Ok held.slot)

@@ -1,5 +1,5 @@
 -- What a parent and descriptors are to the rules: a desk. And what a call of a client makes of it.
-use Rattle.std.specs.Prelude.{◌≡◌, ℕ, List, All, Result, take}
+use Rattle.std.specs.Prelude.{◌≡◌, ℕ, if◌then◌else◌, List, All, Result, take}
 use Rattle.pcm_format.specs.Frames.{Frame}
 use Rattle.pcm_feeder.specs.declared.kind.Kind.{Kind}
 use Rattle.pcm_feeder.specs.Filters.{Filters}
@@ -11,11 +11,13 @@ use Rattle.pcm_oss.specs.Replies.{bytes_due}
 use Rattle.pcm_desk.specs.declared.device.Held.{Held}
 use Rattle.pcm_desk.specs.declared.here.Here.{Here}
 use Rattle.pcm_desk.specs.Device.{DeviceSeen, here_at, seen}
-use Rattle.pcm_desk.specs.Desk.{Desk, DeskTurn, by_way, close_on, closing, desk_here, held_by, ioctl_on, join_on, left, play_at, read_on, record_at, request_on, start_on, with_play, with_record, write_on}
+use Rattle.pcm_desk.specs.Desk.{Desk, DeskTurn, by_way, close_on, closing, desk_here, held_by, ioctl_on, join_on, left, map_at, play_at, poke_on, read_on, record_at, request_on, start_on, with_map, with_play, with_record, write_on}
 use Rattle.pcm_desk.specs.RecordBooks.{closed}
+use Rattle.pcm_desk.specs.MapBooks.{map_closed}
+use Rattle.pcm_sound.specs.Areas.{holds_map, poked}
 use Rattle.pcm_play.specs.Channels.{IsPlayReady}
 use Rattle.pcm_vchan.specs.declared.parent.ParentOf.{ParentOf}
-use Rattle.pcm_vchan.specs.Parents.{play_books, play_channels, record_books, record_channels}
+use Rattle.pcm_vchan.specs.Parents.{map_books, play_books, play_channels, record_books, record_channels}
 use Rattle.pcm_vchan.specs.Slots.{AllRecordStand}
 use Rattle.pcm_engine.specs.declared.descriptors.Descriptors.{Descriptors}
 use Rattle.pcm_engine.specs.Steps.{bytes_read}
@@ -25,6 +27,7 @@ abbrev pub desk_with : {B : Type 0} → ParentOf B → Descriptors → Desk
 desk_with parent descriptors = record {
   play = play_books parent;
   recording = record_books parent;
+  mapped = map_books parent;
   descriptors = descriptors.held;
   groups = descriptors.groups;
   handed = parent.handed;
@@ -36,6 +39,14 @@ desk_with parent descriptors = record {
 -- a write of so many bytes
 abbrev pub write_call : ℕ → ℕ → DeviceSeen → Desk → DeskTurn
 write_call fd count device desk = write_on device (held_by desk fd) desk count
+
+-- a poke of so many, from an offset on
+abbrev pub poke_call : ℕ → ℕ → ℕ → DeviceSeen → Desk → DeskTurn
+poke_call fd offset count device desk = poke_on device (held_by desk fd) desk offset count
+
+-- what it writes into the area of each slot
+abbrev pub poked_by : ℕ → ℕ → List ℕ → Desk → ℕ → List ℕ → List ℕ
+poked_by fd offset bytes desk slot area = if holds_map (held_by desk fd) slot then poked offset bytes area else area
 
 -- a read of at most so many
 abbrev pub read_call : ℕ → ℕ → DeviceSeen → Desk → DeskTurn
@@ -59,11 +70,12 @@ start_call fd group device desk = start_on device (held_by desk fd) desk group
 abbrev pub close_call : ℕ → DeviceSeen → Desk → DeskTurn
 close_call fd device desk = close_on device (held_by desk fd) (left (held_by desk fd) desk) fd
 
--- the desk once a channel of either way was closed, whose descriptor is open still
+-- the desk once a channel of whichever way was closed, whose descriptor is open still
 abbrev pub closed_held : DeviceSeen → Desk → Held → Desk
 closed_held device desk held = by_way held.way
     (with_play desk held.slot (closing device (desk_here device desk) (play_at device desk held.slot)))
     (with_record desk held.slot (closed (record_at device desk held.slot)))
+    (with_map desk held.slot (map_closed (map_at device desk held.slot)))
 
 -- ---- what a call makes of parent and descriptors
 

@@ -13,10 +13,11 @@ use Rattle.pcm_desk.specs.Device.{DeviceSeen, IsInLimits, device_frame_bytes, ri
 use Rattle.pcm_desk.specs.Openings.{ring_bytes}
 use Rattle.pcm_desk.specs.PlaySafe.{PlayIsHere, PlayIsSafe}
 use Rattle.pcm_desk.specs.RecordSafe.{RecordIsSafe}
-use Rattle.pcm_desk.specs.Desk.{Desk, desk_here, held_by, play_at, play_rate_at, record_at, record_rate_at}
+use Rattle.pcm_desk.specs.MapSafe.{MapIsSafe}
+use Rattle.pcm_desk.specs.Desk.{Desk, desk_here, held_by, map_at, map_rate_at, play_at, play_rate_at, record_at, record_rate_at}
 use Rattle.pcm_desk.specs.Events.{Fits}
 use Rattle.pcm_sound.specs.DeviceList.{device_text}
-use Rattle.pcm_sound.specs.Plain.{HasNoShortage, plain_text}
+use Rattle.pcm_sound.specs.Plain.{HasNoShortage, IsInPlace, IsUnbroken, plain_text}
 use Rattle.pcm_sound.specs.Pools.{AreAlike, IsLonger}
 use Rattle.pcm_sound.specs.Story.{story_of}
 use Rattle.pcm_sound.specs.StoryReplies.{reply_to}
@@ -26,9 +27,10 @@ use Rattle.pcm_engine.specs.declared.engine.EngineOf.{EngineOf}
 use Rattle.pcm_play.specs.Channels.{IsPlayReady}
 use Rattle.pcm_engine.specs.Desks.{desk_with}
 use Rattle.pcm_record.specs.Channels.{IsRecordReady}
+use Rattle.pcm_map.specs.Channels.{IsMapReady}
 use Rattle.pcm_engine.specs.Stands.{PartsStand, RecordersStand}
-use Rattle.pcm_engine.specs.Steps.{BusMoves, ChannelsMove, RecordersMove, bytes_answered, front_taken}
-use Rattle.pcm_vchan.specs.Parents.{HasBus, play_channels, record_channels}
+use Rattle.pcm_engine.specs.Steps.{BusMoves, ChannelsMove, MapsMove, RecordersMove, bytes_answered, front_taken}
+use Rattle.pcm_vchan.specs.Parents.{HasBus, map_channels, play_channels, record_channels}
 use Rattle.pcm_vchan.specs.Slots.{AllRecordStand}
 
 -- the engine's device, beside the filters of its run
@@ -45,7 +47,7 @@ waiting_in engine = map (λ channel. channel.path.ring.bytes) (record_channels e
 
 -- the engine stands for a list of events, whose bytes are found in a pool
 pub record Stands {B : Type 0} (kept : B → Kept) (engine : EngineOf B) (pool : Pool) (events : List Event) : Type 0 where
-  pub playing : PartsStand kept (device_of engine) (desk_of engine) (play_channels engine.parent) engine.parent.bus.chain engine.parent.ring.bytes (story_of (device_of engine) pool events)
+  pub playing : PartsStand kept (device_of engine) (desk_of engine) (play_channels engine.parent) (map_channels engine.parent) engine.parent.bus.chain engine.parent.ring.bytes (story_of (device_of engine) pool events)
   pub recording : RecordersStand kept (device_of engine) pool (record_channels engine.parent) (story_of (device_of engine) pool events)
 
 -- what it stands for with one pool, it stands for with every pool that is the same to those events
@@ -86,6 +88,12 @@ abbrev pub BeginsAsOne : {B : Type 0} → (B → Kept) → Pool → Event → En
 BeginsAsOne kept pool event engine result = (events : List Event) (fd group : ℕ) → Stands kept engine pool events → event ≡ StartGroup fd group
     → IsOk result → StartAsOne (device_of engine) group (story_of (device_of engine) pool events) (story_of (device_of engine) pool (events ++ event ∷ []))
 
+-- no mapped run is ever short: its pieces stand in their place, whatever happened
+abbrev pub MappedStandInPlace : {B : Type 0} → (B → Kept) → Pool → Event → EngineOf B → Type 0
+MappedStandInPlace kept pool event engine = (events : List Event) (slot : ℕ) → Stands kept engine pool events
+    → let story = story_of (device_of engine) pool (events ++ event ∷ []) in
+    All (λ run. IsUnbroken run × IsInPlace (device_of engine) story.desk.mixed run) (story.map_runs slot)
+
 -- whatever bytes its channels stand for, the bytes of its reply are those that were kept in the slot of the event
 abbrev pub AnswersKept : {B : Type 0} → (B → Kept) → Event → EngineOf B → List ℕ → Type 0
 AnswersKept kept event engine got = (bytes : ℕ → List ℕ) (frames : ℕ → List Frame) → AllRecordStand kept engine.tables (record_channels engine.parent) bytes frames
@@ -106,10 +114,15 @@ abbrev pub StepCaptures : {B : Type 0} → (B → Kind) → (B → Kept) → Poo
 StepCaptures kind kept pool event old new =
     RecordersMove kind kept (device_of old) pool old.parent.handed event (record_channels old.parent) (record_channels new.parent)
 
+-- and of the mapped ones
+abbrev pub StepMaps : {B : Type 0} → (B → Kind) → (B → Kept) → Pool → Event → EngineOf B → EngineOf B → Type 0
+StepMaps kind kept pool event old new =
+    MapsMove kind kept old.tables old.parent.device pool (desk_of old) event (map_channels old.parent) (map_channels new.parent)
+
 -- and of its bus and the device's ring, whatever bytes its channels stand for
 abbrev pub StepTurns : {B : Type 0} → (B → Kept) → Event → EngineOf B → EngineOf B → Type 0
 StepTurns kept event old new =
-    BusMoves kept (device_of old) old.parent.handed event (play_channels old.parent) old.parent.bus.chain new.parent.bus.chain old.parent.ring.bytes new.parent.ring.bytes
+    BusMoves kept (device_of old) old.parent.handed event (play_channels old.parent) (map_channels old.parent) old.parent.bus.chain new.parent.bus.chain old.parent.ring.bytes new.parent.ring.bytes
 
 -- ---- what holds of every engine
 
@@ -125,6 +138,10 @@ BooksAreHere device desk = (slot : ℕ) → PlayIsHere (play_rate_at device (pla
 abbrev pub RecordsAreSafe : DeviceSeen → Desk → Type 0
 RecordsAreSafe device desk = (slot : ℕ) → RecordIsSafe (record_rate_at device (record_at device desk slot)) (record_at device desk slot)
 
+-- the book of each mapped slot is in order
+abbrev pub MapBooksAreSafe : DeviceSeen → Desk → Type 0
+MapBooksAreSafe device desk = (slot : ℕ) → MapIsSafe (map_rate_at device (map_at device desk slot)) (map_at device desk slot)
+
 -- No ring passes its size: that of a channel has room for the fragments of its book, and the device's is always full.
 pub record RingsHold {B : Type 0} (engine : EngineOf B) : Type 0 where
   pub playing : All (λ channel. length channel.path.ring.bytes ≤ ring_bytes channel.book.opening) (play_channels engine.parent)
@@ -137,10 +154,12 @@ pub record AreReady {B : Type 0} (kind : B → Kind) (kept : B → Kept) (engine
   pub limits : IsInLimits (device_of engine)
   pub playing : All (IsPlayReady kind kept engine.tables) (play_channels engine.parent)
   pub recording : All (IsRecordReady kind kept engine.tables) (record_channels engine.parent)
+  pub mapped : All (IsMapReady kind kept engine.tables) (map_channels engine.parent)
   pub bus : HasBus kept (device_of engine) engine.parent
   pub books : BooksAreSafe (device_of engine) (desk_of engine)
   pub places : BooksAreHere (device_of engine) (desk_of engine)
   pub records : RecordsAreSafe (device_of engine) (desk_of engine)
+  pub maps : MapBooksAreSafe (device_of engine) (desk_of engine)
   pub members : MembersWait (device_of engine) (desk_of engine)
   pub rings : RingsHold engine
 

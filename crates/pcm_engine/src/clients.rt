@@ -4,16 +4,17 @@ ghost use Rattle.std.specs.Prelude.{◌≡◌, ◌+◌, ◌^◌, ◌<◌, ◌≤
 ghost use Rattle.pcm_fixed.specs.Fixed.{fixed_len};
 ghost use Rattle.pcm_feeder.specs.Filters.{Filters};
 ghost use Rattle.pcm_feeder.specs.Limits.{IsRate};
-ghost use Rattle.pcm_oss.specs.declared.event.Way.TheVariants.{Play, Record};
+ghost use Rattle.pcm_oss.specs.declared.event.Way.TheVariants.{Play, Record, Map};
 ghost use Rattle.pcm_oss.specs.Replies.{bytes_due};
+ghost use Rattle.pcm_oss.specs.declared.event.TheConstants.{SLOTS};
 ghost use Rattle.pcm_desk.specs.declared.limits.TheConstants.{DESCRIPTORS, READ_BYTES};
-ghost use Rattle.pcm_desk.specs.Desk.{open_turn};
+ghost use Rattle.pcm_desk.specs.Desk.{open_turn, slot_number};
 ghost use Rattle.pcm_desk.specs.Own.{HoldApart};
 ghost use Rattle.pcm_desk.specs.Here.{IsHere};
 ghost use Rattle.pcm_play.specs.Channels.{IsPlayHere};
-ghost use Rattle.pcm_vchan.specs.Slots.{PlayAreOf, RecordAreOf};
-ghost use Rattle.pcm_vchan.specs.Parents.{play_channels, record_channels, AreClosable, AreServed, EachPlayMoves, EachRecordMoves, KeepsOutput, TotalsFit};
-ghost use Rattle.pcm_engine.specs.Desks.{front_due, close_call, desk_with, ioctl_call, read_call, write_call, Closes, ClosesHeld, IsAt, ReadsKept, Replies, RepliesBy, TakesTurn, TakesTurnAt, TurnsBy};
+ghost use Rattle.pcm_vchan.specs.Slots.{MapAreOf, PlayAreOf, RecordAreOf};
+ghost use Rattle.pcm_vchan.specs.Parents.{map_channels, play_channels, record_channels, untouched, AreClosable, AreServed, EachMapKeeps, EachPlayMoves, EachRecordMoves, GivenFit, KeepsOutput, TotalsFit};
+ghost use Rattle.pcm_engine.specs.Desks.{front_due, close_call, desk_with, ioctl_call, poke_call, poked_by, read_call, write_call, Closes, ClosesHeld, IsAt, ReadsKept, Replies, RepliesBy, TakesTurn, TakesTurnAt, TurnsBy};
 
 use crate::descriptors::Descriptors;
 use pcm_desk::{Held, Here};
@@ -37,6 +38,7 @@ pub fn open<B: Feeder>(
     ensures silent { bytes_due result ≡ 0 }
     ensures own { PlayAreOf parent.new.device (play_channels parent.new) }
     ensures recorders_own { RecordAreOf parent.new.device (record_channels parent.new) }
+    ensures maps_own { MapAreOf parent.new.device (map_channels parent.new) }
     ensures output { KeepsOutput parent.old parent.new }
     ensures refused { OnErr result ((parent.new ≡ parent.old) × (descriptors.new ≡ descriptors.old)) }
     ensures desk { desk_with parent.new descriptors.new
@@ -45,11 +47,23 @@ pub fn open<B: Feeder>(
         ≡ (open_turn (desk_with parent.old descriptors.old) fd way settings).reply }
     ensures channels { EachPlayMoves B.kind B.kept tables.now [] 0 parent.old parent.new }
     ensures recorders { EachRecordMoves B.kind B.kept tables.now [] 0 parent.old parent.new }
+    ensures maps { EachMapKeeps B.kind B.kept tables.now untouched parent.old parent.new }
 {
     descriptors.shut(fd)?;
     let slot = parent.open_slot(tables, way, settings)?;
     descriptors.set(fd, Some(Held { way, slot }));
-    Ok(Answer::Number(slot as u32))
+    Ok(Answer::Number(number_of(parent, way, slot)))
+}
+
+// The number of a slot, as a client is told it: mapped ones are numbered behind those that play.
+fn number_of<B: Feeder>(parent: &ParentOf<B>, way: Way, slot: usize) -> u32
+    requires { slot < SLOTS }
+    ensures { result ≡ slot_number (length (play_channels parent.now)) way slot }
+{
+    match way {
+        Way::Play | Way::Record => slot as u32,
+        Way::Map => parent.device.play_slots + slot as u32,
+    }
 }
 
 /// Writes to the channel that a descriptor holds, where the mix and the device are. One that records takes no bytes.
@@ -67,6 +81,7 @@ pub fn write<B: Feeder>(
     ensures silent { bytes_due result ≡ 0 }
     ensures own { PlayAreOf parent.new.device (play_channels parent.new) }
     ensures recorders { parent.new.recorders ≡ parent.old.recorders }
+    ensures maps { parent.new.maps ≡ parent.old.maps }
     ensures output { KeepsOutput parent.old parent.new }
     ensures refused { OnErr result (parent.new ≡ parent.old) }
     ensures turn { TakesTurnAt here (write_call fd (length bytes.now)) parent.old parent.new descriptors.now result }
@@ -74,6 +89,31 @@ pub fn write<B: Feeder>(
 {
     let slot = descriptors.playing(fd)?;
     parent.play(slot).write(bytes, here)
+}
+
+/// Writes into the area of the channel that a descriptor holds, from its byte `offset` on. Only a mapped one has an area.
+pub fn poke<B: Feeder>(
+    parent: &mut ParentOf<B>,
+    descriptors: &Descriptors,
+    fd: u8,
+    offset: u32,
+    bytes: &[u8],
+) -> Result<Answer, Errno>
+    requires fd { fd < DESCRIPTORS }
+    requires apart { HoldApart (desk_with parent.old descriptors.now) }
+    requires maps_own { MapAreOf parent.old.device (map_channels parent.old) }
+    ensures silent { bytes_due result ≡ 0 }
+    ensures maps_own { MapAreOf parent.new.device (map_channels parent.new) }
+    ensures channels { parent.new.channels ≡ parent.old.channels }
+    ensures recorders { parent.new.recorders ≡ parent.old.recorders }
+    ensures output { KeepsOutput parent.old parent.new }
+    ensures refused { OnErr result (parent.new ≡ parent.old) }
+    ensures turn { TakesTurn (poke_call fd offset (length bytes.now)) parent.old parent.new descriptors.now result }
+    ensures maps { (filters : Filters) → EachMapKeeps B.kind B.kept filters
+        (poked_by fd offset bytes.now (desk_with parent.old descriptors.now)) parent.old parent.new }
+{
+    let slot = descriptors.mapped(fd)?;
+    parent.mapped(slot).poke(offset, bytes)
 }
 
 // Reads from the channel that a descriptor holds, into the front of `out`. One that plays has nothing to read.
@@ -88,6 +128,7 @@ fn read<B: Feeder>(
     requires recorders_own { RecordAreOf parent.old.device (record_channels parent.old) }
     ensures recorders_own { RecordAreOf parent.new.device (record_channels parent.new) }
     ensures channels { parent.new.channels ≡ parent.old.channels }
+    ensures maps { parent.new.maps ≡ parent.old.maps }
     ensures output { KeepsOutput parent.old parent.new }
     ensures refused { OnErr result (parent.new ≡ parent.old) }
     ensures turn { TakesTurn (read_call fd (length out.old)) parent.old parent.new descriptors.now result }
@@ -114,6 +155,7 @@ pub fn answer_read<B: Feeder>(
     requires recorders_own { RecordAreOf parent.old.device (record_channels parent.old) }
     ensures recorders_own { RecordAreOf parent.new.device (record_channels parent.new) }
     ensures channels { parent.new.channels ≡ parent.old.channels }
+    ensures maps { parent.new.maps ≡ parent.old.maps }
     ensures output { KeepsOutput parent.old parent.new }
     ensures refused { IsErr reply.new.result → parent.new ≡ parent.old }
     ensures turn { TakesTurn (read_call fd len) parent.old parent.new descriptors.now reply.new.result }
@@ -141,20 +183,24 @@ pub fn ask<B: Feeder>(
     requires at { IsAt tables.now here parent.old }
     requires places { All (IsPlayHere tables.now here) (play_channels parent.old) }
     requires count { TotalsFit parent.old }
+    requires given { GivenFit parent.old }
     ensures silent { bytes_due result ≡ 0 }
     ensures own { PlayAreOf parent.new.device (play_channels parent.new) }
     ensures recorders_own { RecordAreOf parent.new.device (record_channels parent.new) }
+    ensures maps_own { MapAreOf parent.new.device (map_channels parent.new) }
     ensures output { KeepsOutput parent.old parent.new }
     ensures refused { OnErr result (parent.new ≡ parent.old) }
     ensures desk { TurnsBy tables.now (ioctl_call fd request) parent.old parent.new descriptors.now }
     ensures reply { RepliesBy tables.now (ioctl_call fd request) parent.old descriptors.now result }
     ensures channels { EachPlayMoves B.kind B.kept tables.now [] 0 parent.old parent.new }
     ensures recorders { EachRecordMoves B.kind B.kept tables.now [] 0 parent.old parent.new }
+    ensures maps { EachMapKeeps B.kind B.kept tables.now untouched parent.old parent.new }
 {
     let held = descriptors.holding(fd)?;
     match held.way {
         Way::Play => parent.play(held.slot).ioctl(tables, request, here),
         Way::Record => parent.recorder(held.slot).ioctl(tables, request),
+        Way::Map => parent.mapped(held.slot).ioctl(tables, request),
     }
 }
 
@@ -172,12 +218,14 @@ pub fn close<B: Feeder>(
     ensures silent { bytes_due result ≡ 0 }
     ensures own { PlayAreOf parent.new.device (play_channels parent.new) }
     ensures recorders_own { RecordAreOf parent.new.device (record_channels parent.new) }
+    ensures maps_own { MapAreOf parent.new.device (map_channels parent.new) }
     ensures output { KeepsOutput parent.old parent.new }
     ensures refused { OnErr result ((parent.new ≡ parent.old) × (descriptors.new ≡ descriptors.old)) }
     ensures desk { Closes B.kind B.kept here fd parent.old descriptors.old parent.new descriptors.new }
     ensures reply { Replies (close_call fd) parent.old descriptors.old result }
     ensures channels { (filters : Filters) → EachPlayMoves B.kind B.kept filters [] 0 parent.old parent.new }
     ensures recorders { (filters : Filters) → EachRecordMoves B.kind B.kept filters [] 0 parent.old parent.new }
+    ensures maps { (filters : Filters) → EachMapKeeps B.kind B.kept filters untouched parent.old parent.new }
 {
     let held = descriptors.holding(fd)?;
     let answer = close_channel(parent, held, here);
@@ -186,19 +234,22 @@ pub fn close<B: Feeder>(
     Ok(answer)
 }
 
-// Closes a channel of either way.
+// Closes a channel of whichever way.
 fn close_channel<B: Feeder>(parent: &mut ParentOf<B>, held: Held, here: Here) -> Answer
     requires play { held.way ≡ Play → held.slot < fixed_len parent.old.channels }
     requires recording { held.way ≡ Record → held.slot < fixed_len parent.old.recorders }
+    requires mapped { held.way ≡ Map → held.slot < fixed_len parent.old.maps }
     requires closable { AreClosable B.kind parent.old }
     requires count { TotalsFit parent.old }
     ensures answer { result ≡ Answer.Done }
     ensures own { PlayAreOf parent.new.device (play_channels parent.new) }
     ensures recorders_own { RecordAreOf parent.new.device (record_channels parent.new) }
+    ensures maps_own { MapAreOf parent.new.device (map_channels parent.new) }
     ensures output { KeepsOutput parent.old parent.new }
     ensures desk { ClosesHeld B.kind B.kept here held parent.old parent.new }
     ensures channels { (filters : Filters) → EachPlayMoves B.kind B.kept filters [] 0 parent.old parent.new }
     ensures recorders { (filters : Filters) → EachRecordMoves B.kind B.kept filters [] 0 parent.old parent.new }
+    ensures maps { (filters : Filters) → EachMapKeeps B.kind B.kept filters untouched parent.old parent.new }
 {
     match held.way {
         Way::Play => {
@@ -207,6 +258,10 @@ fn close_channel<B: Feeder>(parent: &mut ParentOf<B>, held: Held, here: Here) ->
         }
         Way::Record => {
             parent.recorder(held.slot).close();
+            Answer::Done
+        }
+        Way::Map => {
+            parent.mapped(held.slot).close();
             Answer::Done
         }
     }

@@ -4,7 +4,7 @@ ghost use Rattle.std.specs.Prelude.{◌≡◌, ◌<◌, None, Some, replicate, s
 ghost use Rattle.pcm_oss.specs.declared.event.TheConstants.{SLOTS};
 ghost use Rattle.pcm_group.specs.Groups.{no_groups};
 ghost use Rattle.pcm_desk.specs.Desk.{leaving, left_by, member_refusal};
-ghost use Rattle.pcm_engine.specs.Descriptors.{holding, is_member_in, playing_slot, recording_slot, shut};
+ghost use Rattle.pcm_engine.specs.Descriptors.{holding, is_member_in, mapped_slot, playing_slot, recording_slot, shut};
 
 use pcm_desk::{DESCRIPTORS, Held};
 use pcm_group::Groups;
@@ -61,7 +61,7 @@ impl Descriptors {
         let held = self.holding(fd)?;
         match held.way {
             Way::Play => Ok(held.slot),
-            Way::Record => Err(Errno::Inval),
+            Way::Record | Way::Map => Err(Errno::Inval),
         }
     }
 
@@ -72,8 +72,20 @@ impl Descriptors {
     {
         let held = self.holding(fd)?;
         match held.way {
-            Way::Play => Err(Errno::Inval),
             Way::Record => Ok(held.slot),
+            Way::Play | Way::Map => Err(Errno::Inval),
+        }
+    }
+
+    /// The slot of the channel that a descriptor holds, whose area is mapped.
+    pub fn mapped(&self, fd: u8) -> Result<usize, Errno>
+        requires { fd < DESCRIPTORS }
+        ensures { result ≡ mapped_slot (slice_index_or self.now.held fd None) }
+    {
+        let held = self.holding(fd)?;
+        match held.way {
+            Way::Map => Ok(held.slot),
+            Way::Play | Way::Record => Err(Errno::Inval),
         }
     }
 

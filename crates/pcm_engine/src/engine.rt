@@ -7,15 +7,15 @@ ghost use Rattle.pcm_engine.specs.declared.limits.TheConstants.{STEPS};
 ghost use Rattle.pcm_desk.specs.Events.{Fits, bytes_handed};
 ghost use Rattle.pcm_desk.specs.Device.{seen};
 ghost use Rattle.pcm_desk.specs.Own.{HoldApart};
-ghost use Rattle.pcm_vchan.specs.Parents.{play_channels, record_channels, HasBus};
-ghost use Rattle.pcm_vchan.specs.Slots.{PlayAreOf, RecordAreOf};
+ghost use Rattle.pcm_vchan.specs.Parents.{map_channels, play_channels, record_channels, HasBus};
+ghost use Rattle.pcm_vchan.specs.Slots.{MapAreOf, PlayAreOf, RecordAreOf};
 ghost use Rattle.pcm_desk.proofs.Props.{hold_props};
 ghost use Rattle.pcm_engine.specs.Desks.{desk_with};
 ghost use Rattle.pcm_oss.specs.Replies.{bytes_due};
 ghost use Rattle.pcm_oss.specs.declared.fragments.TheConstants.{RING_BYTES};
 ghost use Rattle.pcm_format.specs.Layouts.{channels_of};
 
-use crate::clients::{answer_read, close, open, write};
+use crate::clients::{answer_read, close, open, poke, write};
 use crate::descriptors::Descriptors;
 use crate::grouped::{ioctl, join, start_group};
 use crate::interrupts::interrupt;
@@ -24,7 +24,7 @@ use pcm_feeder::{Feeder, RacksOf, Tables};
 use pcm_fixed::Fixed;
 use pcm_oss::{Answer, Errno, Event, ReplyBuf};
 use pcm_vchan::ParentOf;
-use pcm_wave::Pool;
+use pcm_wave::{Pool, Source};
 use std::alloc::{AllocError, Global};
 
 /// The descriptors of clients, and the parent whose channels they hold.
@@ -37,9 +37,11 @@ pub struct EngineOf<B> {
     steps: u32,
     ghost own: { PlayAreOf parent.device (play_channels parent) },
     ghost recorders_own: { RecordAreOf parent.device (record_channels parent) },
+    ghost maps_own: { MapAreOf parent.device (map_channels parent) },
     ghost apart: { HoldApart (desk_with parent descriptors) } by { Prim.hlevel hold_props },
     ghost counted: { All (λ channel. channel.book.done + channel.book.written ≤ RING_BYTES * steps) (play_channels parent) },
     ghost given: { All (λ channel. channel.book.given ≤ MIX_FRAMES * steps) (play_channels parent) },
+    ghost maps_given: { All (λ channel. channel.book.given ≤ MIX_FRAMES * steps) (map_channels parent) },
     ghost kept: { All (λ channel. channel.book.kept ≤ RING_BYTES * steps) (record_channels parent) },
     ghost captured_within: { All (λ channel. channel.book.captured ≤ RING_FRAMES * steps) (record_channels parent) },
     ghost captured_size: { fixed_len captured ≡ parent.device.ring_frames * channels_of parent.device.settings.layout },
@@ -55,7 +57,7 @@ impl<B: Feeder> EngineOf<B> {
     ghost use Rattle.pcm_desk.specs.Desk.{after};
     ghost use Rattle.pcm_desk.specs.Own.{IsIsolated, MembersWait};
     ghost use Rattle.pcm_feeder.specs.Racks.{AreRacks, list_of};
-    ghost use Rattle.pcm_engine.specs.Engines.{device_of, desk_of, AnswersKept, AreReady, BeginsAsOne, BooksAreHere, BooksAreSafe, HandsOver, HandsOverPlain, IsUnchanged, RecordsAreSafe, RepliesAsTold, RingsHold, Stands, StandsForNext, StepCaptures, StepMoves, StepTurns, TakesFront};
+    ghost use Rattle.pcm_engine.specs.Engines.{device_of, desk_of, AnswersKept, AreReady, BeginsAsOne, BooksAreHere, BooksAreSafe, HandsOver, HandsOverPlain, IsUnchanged, MapBooksAreSafe, MappedStandInPlace, RecordsAreSafe, RepliesAsTold, RingsHold, Stands, StandsForNext, StepCaptures, StepMaps, StepMoves, StepTurns, TakesFront};
 
     /// The engine of a device with its filters, before its first event. Its channels pick their stages from the racks, one rack a slot; after
     /// a refusal the racks are dropped. All memory of the engine is taken here.
@@ -111,6 +113,7 @@ impl<B: Feeder> EngineOf<B> {
             ≡ (after (device_of self.old) (desk_of self.old) event.now).reply }
         ensures safe { BooksAreSafe (device_of self.new) (desk_of self.new) }
         ensures records_safe { RecordsAreSafe (device_of self.new) (desk_of self.new) }
+        ensures maps_safe { MapBooksAreSafe (device_of self.new) (desk_of self.new) }
         ensures places { BooksAreHere (device_of self.new) (desk_of self.new) }
         ensures rings { RingsHold self.new }
 
@@ -120,6 +123,9 @@ impl<B: Feeder> EngineOf<B> {
         ensures bytes { HandsOver B.kept pool.now event.now self.old (take result out.new) }
         // Without a shortage they are those of the runs from their starts to their ends: no count has a part in them.
         ensures plain { HandsOverPlain B.kept pool.now event.now self.old (take result out.new) }
+
+        // A mapped channel is never short, whatever happens.
+        ensures mapped { MappedStandInPlace B.kept pool.now event.now self.old }
 
         ensures refused { IsErr reply.new.result → IsUnchanged self.old self.new }
 
@@ -160,6 +166,8 @@ impl<B: Feeder> EngineOf<B> {
             ≡ length (play_channels self.old.parent) }
         ensures recorders_slots { length (record_channels self.new.parent)
             ≡ length (record_channels self.old.parent) }
+        ensures maps_slots { length (map_channels self.new.parent)
+            ≡ length (map_channels self.old.parent) }
         ensures steps { self.new.steps ≡ self.old.steps + 1 }
         ensures desk { desk_of self.new
             ≡ (after (device_of self.old) (desk_of self.old) event.now).desk }
@@ -169,6 +177,7 @@ impl<B: Feeder> EngineOf<B> {
         ensures refused { IsErr reply.new.result → IsUnchanged self.old self.new }
         ensures channels { StepMoves B.kind B.kept pool.now event.now self.old self.new }
         ensures recorders { StepCaptures B.kind B.kept pool.now event.now self.old self.new }
+        ensures maps { StepMaps B.kind B.kept pool.now event.now self.old self.new }
         ensures bus { HasBus B.kept (device_of self.old) self.new.parent }
         ensures turns { StepTurns B.kept event.now self.old self.new }
         ensures count { result ≡ bytes_handed (device_of self.old) event.now }
@@ -192,6 +201,15 @@ impl<B: Feeder> EngineOf<B> {
             } => {
                 let bytes = pool.bytes_at(source, at, len);
                 tell(reply, write(parent, descriptors, fd, bytes, here))
+            }
+            Event::Poke {
+                fd,
+                offset,
+                at,
+                len,
+            } => {
+                let bytes = pool.bytes_at(Source::Inline, at, len);
+                tell(reply, poke(parent, descriptors, fd, offset, bytes))
             }
             Event::Read { fd, len } => {
                 answer_read(parent, descriptors, fd, len, reply);

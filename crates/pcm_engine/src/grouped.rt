@@ -2,7 +2,7 @@
 
 ghost use Rattle.std.specs.Prelude.{◌≡◌, ◌<◌, [], All, OnErr};
 ghost use Rattle.pcm_fixed.specs.Fixed.{fixed_len};
-ghost use Rattle.pcm_oss.specs.declared.event.Way.TheVariants.{Play, Record};
+ghost use Rattle.pcm_oss.specs.declared.event.Way.TheVariants.{Play, Record, Map};
 ghost use Rattle.pcm_oss.specs.Replies.{bytes_due};
 ghost use Rattle.pcm_desk.specs.declared.limits.TheConstants.{DESCRIPTORS};
 ghost use Rattle.pcm_desk.specs.Desk.{rests};
@@ -10,8 +10,8 @@ ghost use Rattle.pcm_desk.specs.Device.{DeviceSeen};
 ghost use Rattle.pcm_desk.specs.Here.{IsHere};
 ghost use Rattle.pcm_desk.specs.Own.{HoldApart};
 ghost use Rattle.pcm_play.specs.Channels.{IsPlayHere};
-ghost use Rattle.pcm_vchan.specs.Slots.{PlayAreOf, RecordAreOf};
-ghost use Rattle.pcm_vchan.specs.Parents.{play_channels, record_channels, AreServed, EachPlayMoves, EachRecordMoves, KeepsOutput, TotalsFit};
+ghost use Rattle.pcm_vchan.specs.Slots.{MapAreOf, PlayAreOf, RecordAreOf};
+ghost use Rattle.pcm_vchan.specs.Parents.{map_channels, play_channels, record_channels, untouched, AreServed, EachMapKeeps, EachPlayMoves, EachRecordMoves, GivenFit, KeepsOutput, TotalsFit};
 ghost use Rattle.pcm_engine.specs.declared.descriptors.Descriptors.{Descriptors};
 ghost use Rattle.pcm_engine.specs.Desks.{desk_with, join_call, request_call, start_call, ChangesBy, IsAt, RepliesBy};
 
@@ -19,6 +19,7 @@ use crate::clients::ask;
 use crate::descriptors::Descriptors;
 use pcm_desk::{Held, Here};
 use pcm_feeder::{Feeder, Tables};
+use pcm_group::may_join;
 use pcm_oss::{Answer, Errno, Request, Way};
 use pcm_vchan::ParentOf;
 
@@ -38,15 +39,18 @@ pub fn ioctl<B: Feeder>(
     requires at { IsAt tables.now here parent.old }
     requires places { All (IsPlayHere tables.now here) (play_channels parent.old) }
     requires count { TotalsFit parent.old }
+    requires given { GivenFit parent.old }
     ensures silent { bytes_due result ≡ 0 }
     ensures own { PlayAreOf parent.new.device (play_channels parent.new) }
     ensures recorders_own { RecordAreOf parent.new.device (record_channels parent.new) }
+    ensures maps_own { MapAreOf parent.new.device (map_channels parent.new) }
     ensures output { KeepsOutput parent.old parent.new }
     ensures refused { OnErr result ((parent.new ≡ parent.old) × (descriptors.new ≡ descriptors.old)) }
     ensures desk { ChangesBy tables.now (request_call fd request) parent.old descriptors.old parent.new descriptors.new }
     ensures reply { RepliesBy tables.now (request_call fd request) parent.old descriptors.old result }
     ensures channels { EachPlayMoves B.kind B.kept tables.now [] 0 parent.old parent.new }
     ensures recorders { EachRecordMoves B.kind B.kept tables.now [] 0 parent.old parent.new }
+    ensures maps { EachMapKeeps B.kind B.kept tables.now untouched parent.old parent.new }
 {
     let held = descriptors.holding(fd)?;
     if let Some(errno) = descriptors.refusal(held, request) {
@@ -72,15 +76,18 @@ pub fn join<B: Feeder>(
     requires at { IsAt tables.now here parent.old }
     requires places { All (IsPlayHere tables.now here) (play_channels parent.old) }
     requires count { TotalsFit parent.old }
+    requires given { GivenFit parent.old }
     ensures silent { bytes_due result ≡ 0 }
     ensures own { PlayAreOf parent.new.device (play_channels parent.new) }
     ensures recorders_own { RecordAreOf parent.new.device (record_channels parent.new) }
+    ensures maps_own { MapAreOf parent.new.device (map_channels parent.new) }
     ensures output { KeepsOutput parent.old parent.new }
     ensures refused { OnErr result ((parent.new ≡ parent.old) × (descriptors.new ≡ descriptors.old)) }
     ensures desk { ChangesBy tables.now (join_call fd group) parent.old descriptors.old parent.new descriptors.new }
     ensures reply { RepliesBy tables.now (join_call fd group) parent.old descriptors.old result }
     ensures channels { EachPlayMoves B.kind B.kept tables.now [] 0 parent.old parent.new }
     ensures recorders { EachRecordMoves B.kind B.kept tables.now [] 0 parent.old parent.new }
+    ensures maps { EachMapKeeps B.kind B.kept tables.now untouched parent.old parent.new }
 {
     let held = descriptors.holding(fd)?;
     let mut groups = descriptors.groups();
@@ -116,19 +123,22 @@ pub fn start_group<B: Feeder>(
     requires at { IsAt tables.now here parent.old }
     requires places { All (IsPlayHere tables.now here) (play_channels parent.old) }
     requires count { TotalsFit parent.old }
+    requires given { GivenFit parent.old }
     ensures silent { bytes_due result ≡ 0 }
     ensures own { PlayAreOf parent.new.device (play_channels parent.new) }
     ensures recorders_own { RecordAreOf parent.new.device (record_channels parent.new) }
+    ensures maps_own { MapAreOf parent.new.device (map_channels parent.new) }
     ensures output { KeepsOutput parent.old parent.new }
     ensures refused { OnErr result ((parent.new ≡ parent.old) × (descriptors.new ≡ descriptors.old)) }
     ensures desk { ChangesBy tables.now (start_call fd group) parent.old descriptors.old parent.new descriptors.new }
     ensures reply { RepliesBy tables.now (start_call fd group) parent.old descriptors.old result }
     ensures channels { EachPlayMoves B.kind B.kept tables.now [] 0 parent.old parent.new }
     ensures recorders { EachRecordMoves B.kind B.kept tables.now [] 0 parent.old parent.new }
+    ensures maps { EachMapKeeps B.kind B.kept tables.now untouched parent.old parent.new }
 {
-    descriptors.holding(fd)?;
+    let held = descriptors.holding(fd)?;
     let mut groups = descriptors.groups();
-    if !groups.is_used(group) {
+    if !may_join(held.way) || !groups.is_used(group) {
         return Err(Errno::Inval);
     }
     if !parent.is_group_ready(&groups, group) {
@@ -144,10 +154,12 @@ pub fn start_group<B: Feeder>(
 fn is_at_rest<B: Feeder>(parent: &ParentOf<B>, held: Held) -> bool
     requires play { held.way ≡ Play → held.slot < fixed_len parent.now.channels }
     requires recording { held.way ≡ Record → held.slot < fixed_len parent.now.recorders }
+    requires mapped { held.way ≡ Map → held.slot < fixed_len parent.now.maps }
     ensures { (device : DeviceSeen) (descriptors : Descriptors) → result ≡ rests device (desk_with parent.now descriptors) held }
 {
     match held.way {
         Way::Play => parent.channels[held.slot].is_at_rest(),
         Way::Record => parent.recorders[held.slot].is_at_rest(),
+        Way::Map => parent.maps[held.slot].is_at_rest(),
     }
 }

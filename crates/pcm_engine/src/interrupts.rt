@@ -5,8 +5,8 @@ ghost use Rattle.pcm_format.specs.Frames.{frame_bytes};
 ghost use Rattle.pcm_format.specs.Layouts.{channels_of};
 ghost use Rattle.pcm_wave.specs.Pools.{IsCaptureIn};
 ghost use Rattle.pcm_desk.specs.Device.{seen};
-ghost use Rattle.pcm_vchan.specs.Parents.{mixed_in, play_channels, record_channels, AreDue, BusTurns, EachPasses, EachPlayMoves, HasBus};
-ghost use Rattle.pcm_vchan.specs.Slots.{PlayAreOf, RecordAreOf};
+ghost use Rattle.pcm_vchan.specs.Parents.{map_channels, mixed_in, play_channels, record_channels, AreDue, BusTurns, EachMapPlays, EachPasses, EachPlayMoves, HasBus};
+ghost use Rattle.pcm_vchan.specs.Slots.{MapAreOf, PlayAreOf, RecordAreOf};
 ghost use Rattle.pcm_engine.specs.Steps.{CapturesPool};
 
 use pcm_feeder::{Feeder, Tables};
@@ -40,6 +40,9 @@ pub fn interrupt<B: Feeder>(
         (mixed_in tables.now frames parent.old) parent.old parent.new }
     ensures books { EachPasses tables.now frames parent.old parent.new }
     ensures recorders { CapturesPool B.kind B.kept tables.now pool.now frames parent.old parent.new }
+    ensures maps_own { MapAreOf parent.new.device (map_channels parent.new) }
+    ensures maps_slots { length (map_channels parent.new) ≡ length (map_channels parent.old) }
+    ensures maps { EachMapPlays B.kind B.kept tables.now frames parent.old parent.new }
     ensures handed { parent.new.handed ≡ parent.old.handed + frames }
     ensures mixed { parent.new.mixed ≡ parent.old.mixed + mixed_in tables.now frames parent.old }
     ensures count { result ≡ frames * frame_bytes parent.old.device.settings }

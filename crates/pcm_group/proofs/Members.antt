@@ -7,7 +7,7 @@ use Rattle.std.proofs.lemmas.Bool.{and_parts, cases_lt}
 use Rattle.std.proofs.lemmas.Bool.Decides.{nat_tests}
 use Rattle.std.proofs.lemmas.List.{append_assoc, get_or_past, map-append, set_past}
 use Rattle.pcm_oss.specs.declared.event.Way.{Way}
-use Rattle.pcm_oss.specs.declared.event.Way.TheVariants.{Play, Record}
+use Rattle.pcm_oss.specs.declared.event.Way.TheVariants.{Play, Record, Map}
 use Rattle.pcm_group.specs.declared.sync_groups.Groups.{Groups}
 use Rattle.pcm_group.specs.Groups.{all_in, change_in, dissolved, dissolved_in, group_at, is_used, with_group}
 
@@ -48,11 +48,20 @@ none_there slots slot =
 pub group-left : (groups : Groups) (way : Way) (slot : ℕ) → group_at (with_group groups way slot 0) way slot ≡ 0
 group-left groups Play slot = none_there groups.play slot
 group-left groups Record slot = none_there groups.recording slot
+group-left groups Map slot = refl
 
 pub group-other : (groups : Groups) (way other : Way) (slot at group : ℕ) → (way ≡ other → slot ≡ at → ⊥) → group_at (with_group groups other at group) way slot ≡ group_at groups way slot
 group-other groups Play Play slot at group differ = other_stays groups.play at slot group (λ same. differ refl same)
 group-other groups Play Record slot at group differ = refl
 group-other groups Record Play slot at group differ = refl
+group-other groups Play Map slot at group differ = refl
+group-other groups Record Map slot at group differ = refl
+group-other groups Map other slot at group differ = none other
+  where
+    none : (other : Way) → group_at (with_group groups other at group) Map slot ≡ group_at groups Map slot
+    none Play = refl
+    none Record = refl
+    none Map = refl
 group-other groups Record Record slot at group differ = other_stays groups.recording at slot group (λ same. differ refl same)
 
 -- once a group is dissolved a slot has its own, or none where it was in that one
@@ -68,6 +77,7 @@ dissolved_at group (its ∷ slots) (suc slot) = dissolved_at group slots slot
 pub group-dissolved : (group : ℕ) (groups : Groups) (way : Way) (slot : ℕ) → group_at (dissolved group groups) way slot ≡ cond (eqb (group_at groups way slot) group) 0 (group_at groups way slot)
 group-dissolved group groups Play slot = dissolved_at group groups.play slot
 group-dissolved group groups Record slot = dissolved_at group groups.recording slot
+group-dissolved group groups Map slot = dissolved_at group [] slot
 
 -- ---- what each slot has
 

@@ -1,8 +1,8 @@
 -- Groups of slots: which slot is in which, what a slot gets that asks for one, and whose members a group has.
-use Rattle.std.specs.Prelude.{ℕ, Bool, true, not, ◌&&◌, ◌||◌, nat_lt, nat_le, ◌==◌, if◌then◌else◌, List, ◌∷◌, ◌++◌, map, filter, find, length, replicate, slice_index_or, slice_set, Option, Some, None, Result, Ok, Err}
+use Rattle.std.specs.Prelude.{ℕ, Bool, true, false, not, ◌&&◌, ◌||◌, nat_lt, nat_le, ◌==◌, if◌then◌else◌, List, [], ◌∷◌, ◌++◌, map, filter, find, length, replicate, slice_index_or, slice_set, Option, Some, None, Result, Ok, Err}
 use Rattle.std.specs.List.{list_any, range_with_len}
 use Rattle.pcm_oss.specs.declared.event.Way.{Way}
-use Rattle.pcm_oss.specs.declared.event.Way.TheVariants.{Play, Record}
+use Rattle.pcm_oss.specs.declared.event.Way.TheVariants.{Play, Record, Map}
 use Rattle.pcm_oss.specs.declared.event.TheConstants.{SLOTS}
 use Rattle.pcm_oss.specs.declared.reply.Errno.{Errno}
 use Rattle.pcm_oss.specs.declared.reply.Errno.TheVariants.{Busy, Inval}
@@ -13,10 +13,16 @@ use Rattle.pcm_group.specs.declared.sync_groups.TheConstants.{GROUPS}
 abbrev pub no_groups : Groups
 no_groups = record { play = replicate SLOTS 0; recording = replicate SLOTS 0 }
 
+-- a channel of a mapped area is in no group
+abbrev pub may_join : Way → Bool
+may_join Map = false
+may_join way = true
+
 -- the group of each slot of a way, where 0 is none
 abbrev pub groups_of : Groups → Way → List ℕ
 groups_of groups Play = groups.play
 groups_of groups Record = groups.recording
+groups_of groups Map = []
 
 -- the group of a slot
 abbrev pub group_at : Groups → Way → ℕ → ℕ
@@ -26,6 +32,7 @@ group_at groups way slot = slice_index_or (groups_of groups way) slot 0
 abbrev pub with_group : Groups → Way → ℕ → ℕ → Groups
 with_group groups Play slot group = record groups { play = slice_set groups.play slot group }
 with_group groups Record slot group = record groups { recording = slice_set groups.recording slot group }
+with_group groups Map slot group = groups
 
 -- some slot has the group
 abbrev pub has_group : ℕ → List ℕ → Bool
@@ -45,10 +52,10 @@ abbrev pub group_or_busy : Option ℕ → Result ℕ Errno
 group_or_busy None = Err Busy
 group_or_busy (Some group) = Ok group
 
--- What a slot gets that asks for a group: one that nobody is in isn't there, and a slot that has one gets no other. 0 asks for a new one.
+-- What a slot gets that asks for a group: a way that joins none gets none; a group that nobody is in isn't there, and a slot that has one gets no other. 0 asks for a new one.
 abbrev pub joining : Groups → Way → ℕ → ℕ → Result ℕ Errno
 joining groups way slot group =
-    if nat_lt 0 group && not (is_used groups group) then Err Inval
+    if not (may_join way) || nat_lt 0 group && not (is_used groups group) then Err Inval
     else if nat_lt 0 (group_at groups way slot) then Err Busy
     else if group == 0 then group_or_busy (least_unused groups)
     else Ok group

@@ -3,7 +3,7 @@
 ghost use Rattle.std.specs.Prelude.{◌≡◌, ◌<◌, ◌≤◌, ◌+◌, ◌++◌, ◌==◌, [], ◌∷◌, if◌then◌else◌, length, map};
 ghost use Rattle.arrayvec.specs.ArrayVec.{array_vec_len};
 ghost use Rattle.pcm_oss.specs.declared.event.TheConstants.{SLOTS};
-ghost use Rattle.pcm_group.specs.Groups.{dissolved_in, has_group, slots_with};
+ghost use Rattle.pcm_group.specs.Groups.{dissolved_in, has_group, may_join, slots_with};
 
 use arrayvec::ArrayVec;
 use pcm_oss::{Errno, SLOTS, Way};
@@ -37,7 +37,7 @@ impl Groups {
         }
     }
 
-    /// The group that a slot is in, or 0.
+    /// The group that a slot is in, or 0. A channel of a mapped area is in none.
     pub fn of(&self, way: Way, slot: usize) -> u32
         requires { slot < SLOTS }
         ensures { result ≡ group_at self.now way slot }
@@ -45,6 +45,7 @@ impl Groups {
         match way {
             Way::Play => self.play[slot],
             Way::Record => self.recording[slot],
+            Way::Map => 0,
         }
     }
 
@@ -57,8 +58,8 @@ impl Groups {
             && (has_group(&self.play, group) || has_group(&self.recording, group))
     }
 
-    /// A slot asks for a group: for the least that no slot is in by 0, else for this one. Returns the group that it is in then. A group
-    /// that is not in use is refused first, and then all that comes too late.
+    /// A slot asks for a group: for the least that no slot is in by 0, else for this one. Returns the group that it is in then. A way that
+    /// joins none and a group that is not in use are refused first, and then all that comes too late.
     pub fn join(&mut self, way: Way, slot: usize, group: u32) -> Result<u32, Errno>
         requires { slot < SLOTS }
         ensures answer { result ≡ joining self.old way slot group }
@@ -100,7 +101,7 @@ impl Groups {
         requires { slot < SLOTS }
         ensures { result ≡ joining self.now way slot group }
     {
-        if 0 < group && !self.is_used(group) {
+        if !may_join(way) || 0 < group && !self.is_used(group) {
             return Err(Errno::Inval);
         }
         if 0 < self.of(way, slot) {
@@ -128,8 +129,16 @@ impl Groups {
         match way {
             Way::Play => self.play[slot] = group,
             Way::Record => self.recording[slot] = group,
+            Way::Map => {}
         }
     }
+}
+
+/// Whether a channel of this way may be in a group: one of a mapped area may not.
+pub fn may_join(way: Way) -> bool
+    ensures { result ≡ may_join way }
+{
+    !matches!(way, Way::Map)
 }
 
 // Whether some slot is in the group.

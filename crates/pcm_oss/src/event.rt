@@ -12,6 +12,8 @@ pub enum Way {
     Play,
     /// From the device to the client.
     Record,
+    /// From an area, in which the client writes anywhere at any time, to the device.
+    Map,
 }
 
 /// How many clients of each way a device has at most.
@@ -30,6 +32,13 @@ pub enum Event {
     Write {
         fd: u8,
         source: Source,
+        at: u32,
+        len: u32,
+    },
+    /// A client writes `len` bytes of its lines, from their byte `at` on, into its area, from the area's byte `offset` on.
+    Poke {
+        fd: u8,
+        offset: u32,
         at: u32,
         len: u32,
     },

@@ -1,10 +1,14 @@
 -- What stays of a path from one call to the next.
-use Rattle.std.proofs.Common.{◌≡◌, ℕ, List, sym, ap, ◌∙◌, subst}
+use Rattle.std.proofs.Common.{◌≡◌, ℕ, ℤ, ◌*◌, List, length, take, drop, sym, ap, ◌∙◌, subst}
+use Rattle.std.proofs.lemmas.List.{take_at}
+use Rattle.pcm_format.specs.Frames.{Frame}
 use Rattle.pcm_format.specs.declared.settings.Settings.{Settings}
 use Rattle.pcm_ring.specs.Ring.{Ring}
 use Rattle.pcm_rate.specs.Rates.{IsRatio}
 use Rattle.pcm_feeder.specs.Filters.{Filters}
 use Rattle.pcm_feeder.specs.Limits.{IsRate}
+use Rattle.pcm_feeder.specs.Streams.{HaveChannels, interleaved, written}
+use Rattle.pcm_feeder.proofs.Frames.{length-interleaved}
 use Rattle.pcm_oss.specs.declared.event.Way.{Way}
 use Rattle.pcm_oss.specs.Fragments.{ring_size}
 use Rattle.pcm_plan.specs.Plans.{PlanSeen, rate_in_plan}
@@ -39,3 +43,8 @@ planned-as way filters was now old new device plan settings p = record {
 -- the device of a path that serves an opening, with the filters of its plan
 pub device-served : {B : Type 0} (way : Way) (filters : Filters) (opening : Opening) (settings : Settings) (path : PathOf B) → Serves opening path → IsPlanned way filters settings path → IsDevice (seen filters path.device)
 device-served way filters opening settings path s p = device-is filters path.device s.device p.limits
+
+-- what stands at the front of a buffer that a path's frames were written to
+pub front-written : (c n : ℕ) (list : List Frame) (old : List ℤ) → HaveChannels c list → length list ≡ n → take (n * c) (written list old) ≡ interleaved list
+front-written c n list old have count =
+    take_at (interleaved list) (drop (length (interleaved list)) old) (n * c) (length-interleaved c list have ∙ ap (λ k. k * c) count)

@@ -1,6 +1,9 @@
 -- The path of a channel: what it serves, by which plan, and when nothing is in it.
-use Rattle.std.specs.Prelude.{◌≡◌, []}
+use Rattle.std.specs.Prelude.{◌≡◌, ℕ, ◌*◌, ℤ, List, [], length, All}
+use Rattle.pcm_num.specs.Limit.{FitsBits}
 use Rattle.pcm_format.specs.declared.settings.Settings.{Settings}
+use Rattle.pcm_format.specs.Formats.{bits_of}
+use Rattle.pcm_format.specs.Layouts.{channels_of}
 use Rattle.pcm_rate.specs.Rates.{IsRatio}
 use Rattle.pcm_feeder.specs.Filters.{Filters}
 use Rattle.pcm_feeder.specs.Kept.{Kept}
@@ -10,6 +13,7 @@ use Rattle.pcm_oss.specs.declared.fragments.TheConstants.{RING_BYTES}
 use Rattle.pcm_plan.specs.Plans.{rate_in_plan}
 use Rattle.pcm_chain.specs.Chains.{plan_in, ChainStands}
 use Rattle.pcm_chain.specs.Pushes.{HasRecorded}
+use Rattle.pcm_desk.specs.declared.device.Device.{Device}
 use Rattle.pcm_desk.specs.declared.opening.Opening.{Opening}
 use Rattle.pcm_desk.specs.Device.{HasRates, seen}
 use Rattle.pcm_desk.specs.Openings.{ring_bytes}
@@ -36,3 +40,9 @@ pub record IsEmpty {B : Type 0} (kept : B → Kept) (path : PathOf B) : Type 0 w
   pub ring : path.ring.bytes ≡ []
   pub begins : (filters : Filters) → ChainStands kept filters path.chain [] 0 0
   pub records : (filters : Filters) → HasRecorded kept filters path.chain []
+
+-- buffers for a block of so many frames of a device's mix: one that holds the frames of a channel, and one whose samples have its bits
+pub record HoldBlock (device : Device) (n : ℕ) (frames sum : List ℤ) : Type 0 where
+  pub frames_whole : length frames ≡ n * channels_of device.mix.layout
+  pub sum_whole : length sum ≡ n * channels_of device.mix.layout
+  pub fits : All (FitsBits (bits_of device.mix.format)) sum

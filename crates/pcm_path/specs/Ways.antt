@@ -1,11 +1,12 @@
 -- Which plan lies between a client and the device, by the way of its channel.
 use Rattle.pcm_format.specs.declared.settings.Settings.{Settings}
 use Rattle.pcm_oss.specs.declared.event.Way.{Way}
-use Rattle.pcm_oss.specs.declared.event.Way.TheVariants.{Play, Record}
+use Rattle.pcm_oss.specs.declared.event.Way.TheVariants.{Play, Record, Map}
 use Rattle.pcm_plan.specs.Plans.{PlanSeen}
 use Rattle.pcm_desk.specs.Device.{DeviceSeen, play_plan_between, record_plan_between}
 
--- from one that plays to the mix, or from the device to one that records
+-- from one that plays to the mix, so from a mapped area, or from the device to one that records
 abbrev pub plan_between : Way → DeviceSeen → Settings → PlanSeen
 plan_between Play device settings = play_plan_between device settings
 plan_between Record device settings = record_plan_between device settings
+plan_between Map device settings = play_plan_between device settings

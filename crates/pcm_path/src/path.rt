@@ -82,7 +82,7 @@ impl<B: Feeder> PathOf<B> {
     }
 }
 
-// The plan from a client that plays to the mix, or from the device to one that records.
+// The plan from a client that plays or has a mapped area to the mix, or from the device to one that records.
 fn plan_of(way: Way, tables: &Tables, device: &Device, client: &Settings) -> Plan
     requires device { HasRates device.now }
     requires client { IsRate client.now.rate }
@@ -91,7 +91,7 @@ fn plan_of(way: Way, tables: &Tables, device: &Device, client: &Settings) -> Pla
     ensures ratio { IsRatio (rate_in_plan result) }
 {
     match way {
-        Way::Play => plan_play(client, &device.mix, device.quality, tables),
+        Way::Play | Way::Map => plan_play(client, &device.mix, device.quality, tables),
         Way::Record => plan_record(client, &device.settings, device.quality, tables),
     }
 }

@@ -1,4 +1,3 @@
-pub mod Frames
 pub mod Refills
 pub mod Stands
 pub mod Moving

@@ -39,7 +39,7 @@ use Rattle.pcm_feeder.specs.Limits.{IsRate}
 use Rattle.pcm_format.specs.declared.settings.Settings.{Settings}
 use Rattle.pcm_play.specs.declared.channel.PlayChannelOf.{PlayChannelOf}
 use Rattle.pcm_play.specs.Channels.{IsPlayHere, PlayStands, IsPlayPlanned, PlayMoves}
-use Rattle.pcm_play.proofs.Frames.{frames-front}
+use Rattle.pcm_sound.proofs.Sounding.{frames-front}
 use Rattle.pcm_play.proofs.Stands.{stands-taking, stands-empty, stands-state, nothing-more}
 
 -- a channel that stays stands for what it stood for

@@ -37,10 +37,10 @@ use Rattle.pcm_play.specs.declared.channel.PlayChannelOf.{PlayChannelOf}
 use Rattle.pcm_play.specs.Channels.{PlayStands, IsPlayPlanned, PlayMoves}
 use Rattle.pcm_chain.proofs.Waiting.{frames-waiting}
 use Rattle.pcm_oss.specs.declared.event.Way.TheVariants.{Play}
-use Rattle.pcm_path.proofs.Paths.{planned-as}
+use Rattle.pcm_path.proofs.Paths.{front-written, planned-as}
 use Rattle.pcm_play.proofs.Moving.{safe-at}
 use Rattle.pcm_play.proofs.Stands.{nothing-more, stands-pulled}
-use Rattle.pcm_play.proofs.Refills.{Goes, PullsAsCounted, giving-none, refilled-goes, mixing-some, eaten-written, length-eaten, length-waiting, pulls-counted, front-written}
+use Rattle.pcm_play.proofs.Refills.{Goes, PullsAsCounted, giving-none, refilled-goes, mixing-some, eaten-written, length-eaten, length-waiting, pulls-counted}
 
 -- what a pull of a channel's chain says of its frames, once the run's bytes are known
 pub record PullsRun {B : Type 0} (kept : B → Kept) (device : DeviceSeen) (gain : Gain) (n : ℕ) (book : PlayBook) (bytes : List ℕ) (new : ChainOf B) (pulled : Pulled) (out_old out_new : List ℤ) : Type 0 where

@@ -1,13 +1,11 @@
 -- What an interrupt leaves of a channel: how far a pull of its chain goes is what its book counts.
-use Rattle.std.proofs.Common.{◌≡◌, ℕ, zero, suc, ◌+◌, ◌-◌, ◌*◌, ◌<◌, ◌≤◌, true, false, cond, min, List, length, take, drop, ℤ, refl, sym, ap, ◌∙◌, arith, length-take, length-drop}
-use Rattle.std.proofs.lemmas.List.{take_at}
+use Rattle.std.proofs.Common.{◌≡◌, ℕ, zero, suc, ◌+◌, ◌-◌, ◌<◌, ◌≤◌, true, false, cond, min, List, length, take, drop, refl, sym, ap, ◌∙◌, arith, length-take, length-drop}
 use Rattle.pcm_format.specs.declared.settings.Settings.{Settings}
-use Rattle.pcm_format.specs.Frames.{Frame, frames, whole_frames}
+use Rattle.pcm_format.specs.Frames.{frames, whole_frames}
 use Rattle.pcm_format.proofs.Streams.{length-frames}
 use Rattle.pcm_rate.specs.declared.rate.Rate.{Rate}
 use Rattle.pcm_rate.specs.Rates.{can, len}
-use Rattle.pcm_feeder.specs.Streams.{interleaved, written, HaveChannels}
-use Rattle.pcm_feeder.proofs.Frames.{length-interleaved}
+use Rattle.pcm_feeder.specs.Streams.{written}
 use Rattle.pcm_chain.specs.declared.chain.Pulled.{Pulled}
 use Rattle.pcm_chain.specs.Pulls.{PullsAsFar}
 use Rattle.pcm_desk.specs.declared.play_book.PlayBook.{PlayBook}
@@ -106,10 +104,3 @@ pulls-counted rate n book pulled eaten waiting started within e w far =
       given = far.given ∙ ap (λ k. min n (k - book.given)) reach;
       eaten = omega (arith, went);
     }
-
--- ---- blocks
-
--- what stands at the front of a buffer that frames were written to
-pub front-written : (c n : ℕ) (list : List Frame) (old : List ℤ) → HaveChannels c list → length list ≡ n → take (n * c) (written list old) ≡ interleaved list
-front-written c n list old have count =
-    take_at (interleaved list) (drop (length (interleaved list)) old) (n * c) (length-interleaved c list have ∙ ap (λ k. k * c) count)

@@ -1,9 +1,6 @@
 -- A channel that plays: what it stands for, and what an event changes of it.
-use Rattle.std.specs.Prelude.{◌≡◌, ℕ, ◌+◌, ◌*◌, ◌<◌, ◌≤◌, true, ℤ, List, [], ◌++◌, length, take, drop, All}
-use Rattle.pcm_num.specs.Limit.{FitsBits}
-use Rattle.pcm_format.specs.Formats.{bits_of}
+use Rattle.std.specs.Prelude.{◌≡◌, ℕ, ◌+◌, ◌*◌, ◌<◌, ◌≤◌, true, ℤ, List, [], ◌++◌, length, take, drop}
 use Rattle.pcm_format.specs.Frames.{frame_bytes, frames}
-use Rattle.pcm_format.specs.Layouts.{channels_of}
 use Rattle.pcm_feeder.specs.declared.kind.Kind.{Kind}
 use Rattle.pcm_feeder.specs.Filters.{Filters}
 use Rattle.pcm_feeder.specs.Kept.{Kept}
@@ -50,12 +47,6 @@ pub record IsPlayReady {B : Type 0} (kind : B → Kind) (kept : B → Kept) (fil
   pub kinds : HaveKinds kind (boxes_in channel.path.chain)
   pub planned : IsPlayPlanned filters channel
   pub stands : PlayStandsForSome kept filters channel
-
--- buffers for a block of so many frames of a device's mix: one that holds the frames of a channel, and one whose samples have its bits
-pub record HoldBlock (device : Device) (n : ℕ) (frames sum : List ℤ) : Type 0 where
-  pub frames_whole : length frames ≡ n * channels_of device.mix.layout
-  pub sum_whole : length sum ≡ n * channels_of device.mix.layout
-  pub fits : All (FitsBits (bits_of device.mix.format)) sum
 
 -- whatever bytes a channel stands for, it adds what the rules say of them to a block of so many frames
 abbrev pub AddsTo : {B : Type 0} → (B → Kept) → Filters → Device → ℕ → List ℤ → List ℤ → PlayChannelOf B → Type 0

@@ -12,7 +12,7 @@ ghost use Rattle.pcm_desk.specs.Device.{HasRates, seen};
 ghost use Rattle.pcm_desk.specs.PlayBooks.{is_play_free, is_play_setup, play_begun, play_fill_of, play_is_ready, write_turn};
 ghost use Rattle.pcm_desk.specs.PlaySafe.{PlayIsSafe};
 ghost use Rattle.pcm_desk.proofs.Props.{book_props};
-ghost use Rattle.pcm_path.specs.Paths.{Serves};
+ghost use Rattle.pcm_path.specs.Paths.{HoldBlock, Serves};
 ghost use Rattle.std.proofs.Props.{props};
 ghost use Rattle.pcm_desk.specs.Desk.{asking, mixing, play_unopened};
 ghost use Rattle.pcm_desk.specs.Here.{IsHere};
@@ -38,7 +38,7 @@ pub struct PlayChannelOf<B> {
 
 impl<B: Feeder> PlayChannelOf<B> {
     ghost use Rattle.pcm_feeder.specs.Filters.{Filters};
-    ghost use Rattle.pcm_play.specs.Channels.{AddsTo, ClosesBook, HoldBlock, IsPlayHere, IsPlayPlanned, IsPlayReady, PlayMoves, PlayStands, SettlesBook};
+    ghost use Rattle.pcm_play.specs.Channels.{AddsTo, ClosesBook, IsPlayHere, IsPlayPlanned, IsPlayReady, PlayMoves, PlayStands, SettlesBook};
 
     /// A channel of a device that nobody has opened.
     pub fn new(

@@ -4,7 +4,7 @@ use Rattle.pcm_fixed.specs.Fixed.{fixed_len}
 use Rattle.std.proofs.Math.Nat.{mul-le-mul_right}
 use Rattle.std.proofs.lemmas.List.{take_more}
 use Rattle.pcm_oss.specs.declared.event.Event.{Event}
-use Rattle.pcm_oss.specs.declared.event.Event.TheVariants.{Open, Write, Read, Ioctl, Join, StartGroup, Close, Intr}
+use Rattle.pcm_oss.specs.declared.event.Event.TheVariants.{Open, Write, Poke, Read, Ioctl, Join, StartGroup, Close, Intr}
 use Rattle.pcm_wave.specs.declared.pool.Pool.{Pool}
 use Rattle.pcm_oss.specs.Replies.{Reply}
 use Rattle.pcm_desk.specs.Device.{DeviceSeen, device_frame_bytes}
@@ -118,6 +118,7 @@ taken-push most (first ∷ events) event = taken-push (max most (frames_taken fi
 pub takes-none : (event : Event) → ((frames : ℕ) → event ≡ Intr frames → ⊥) → frames_taken event ≡ 0
 takes-none (Open fd way settings) not = refl
 takes-none (Write fd source at count) not = refl
+takes-none (Poke fd offset at count) not = refl
 takes-none (Read fd count) not = refl
 takes-none (Ioctl fd request) not = refl
 takes-none (Join fd group) not = refl

@@ -1,8 +1,9 @@
 -- Runs without a shortage, and scripts that sound alike: slot by slot, since nothing is ever heard of those behind the first.
-use Rattle.std.proofs.Common.{◌≡◌, ℕ, zero, suc, Bool, false, cond, [], ◌∷◌, Some, None, All, refl, ap, arith}
-use Rattle.std.specs.Prelude.{◌≢◌}
+use Rattle.std.proofs.Common.{◌≡◌, ◌-◌, ℕ, zero, suc, Bool, true, false, cond, [], ◌∷◌, Some, None, All, refl, ap, arith}
+use Rattle.std.specs.Prelude.{◌≢◌, nat_lt}
 use Rattle.std.proofs.lemmas.Bool.Decides.{nat_tests}
 use Rattle.std.proofs.lemmas.List.Elements.{All-from_recursion, All-nil}
+use Rattle.pcm_desk.specs.Device.{play_slots}
 use Rattle.pcm_sound.specs.Gains.{last_gain}
 use Rattle.pcm_sound.specs.Plain.{HasNoShortage, IsUnbroken, SoundAlike, Span, is_within, span_at, spans_of}
 use Rattle.pcm_sound.specs.Runs.{Piece}
@@ -44,10 +45,27 @@ brief-unbroken = by_four (λ slot. All IsUnbroken (brief.runs slot))
 
 -- ---- the same is heard
 
+-- what two stories give by number, where no channel is mapped: that of the slots that play
+abbrev Alike : Story → Story → Bool → ℕ → Type 0
+Alike one other plays slot =
+    spans_of small_device 6 (cond plays (one.runs slot) (one.map_runs (slot - 4))) ≡ spans_of small_device 6 (cond plays (other.runs slot) (other.map_runs (slot - 4)))
+
+-- and so are their gains at a position, where they are heard
+abbrev AlikeAt : Story → Story → ℕ → Bool → ℕ → Type 0
+AlikeAt one other position plays slot =
+    span_at (spans_of small_device 6 (cond plays (one.runs slot) (one.map_runs (slot - 4)))) position ≢ None
+    → last_gain (cond plays (one.gains slot) (one.map_gains (slot - 4))) position ≡ last_gain (cond plays (other.gains slot) (other.map_gains (slot - 4))) position
+
 pub brief-alike : SoundAlike small_device 6 whole brief
 brief-alike = record {
-  spans = by_four (λ slot. spans_of small_device 6 (whole.runs slot) ≡ spans_of small_device 6 (brief.runs slot)) refl refl refl refl (λ slot. refl);
-  gains = λ slot position heard. by_four (λ other. last_gain (whole.gains other) position ≡ last_gain (brief.gains other) position) refl refl refl refl (λ other. refl) slot;
+  spans = λ slot. elim (nat_lt slot (play_slots small_device)) as (λ (plays : Bool). Alike whole brief plays slot) [
+    | true ↦ by_four (Alike whole brief true) refl refl refl refl (λ slot. refl) slot
+    | false ↦ refl
+  ];
+  gains = λ slot position. elim (nat_lt slot (play_slots small_device)) as (λ (plays : Bool). AlikeAt whole brief position plays slot) [
+    | true ↦ by_four (AlikeAt whole brief position true) (λ heard. refl) (λ heard. refl) (λ heard. refl) (λ heard. refl) (λ other heard. refl) slot
+    | false ↦ λ heard. refl
+  ];
 }
 
 -- its only span
@@ -66,8 +84,12 @@ behind_first = by_four (λ position. span_at (spans_of small_device 6 (whole.run
 
 pub behind-alike : SoundAlike small_device 6 whole behind
 behind-alike = record {
-  spans = by_four (λ slot. spans_of small_device 6 (whole.runs slot) ≡ spans_of small_device 6 (behind.runs slot)) refl refl refl refl (λ slot. refl);
-  gains = λ slot position heard.
-      by_four (λ other. span_at (spans_of small_device 6 (whole.runs other)) position ≢ None → last_gain (whole.gains other) position ≡ last_gain (behind.gains other) position)
-      (behind_first position) (λ not. refl) (λ not. refl) (λ not. refl) (λ other not. refl) slot heard;
+  spans = λ slot. elim (nat_lt slot (play_slots small_device)) as (λ (plays : Bool). Alike whole behind plays slot) [
+    | true ↦ by_four (Alike whole behind true) refl refl refl refl (λ slot. refl) slot
+    | false ↦ refl
+  ];
+  gains = λ slot position. elim (nat_lt slot (play_slots small_device)) as (λ (plays : Bool). AlikeAt whole behind position plays slot) [
+    | true ↦ by_four (AlikeAt whole behind position true) (behind_first position) (λ not. refl) (λ not. refl) (λ not. refl) (λ other not. refl) slot
+    | false ↦ λ heard. refl
+  ];
 }

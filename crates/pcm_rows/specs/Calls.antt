@@ -28,7 +28,7 @@ use Rattle.pcm_rows.specs.Stages.{half_right}
 
 -- a ring of four frames, where a row looks at single frames
 abbrev pub small_device : DeviceSeen
-small_device = record { settings = usual_settings; mix = usual_settings; slots = 4; recorders = 4; ring = 4; block = 2; quality = 1; filters = no_filters }
+small_device = record { settings = usual_settings; mix = usual_settings; slots = 4; recorders = 4; maps = 0; ring = 4; block = 2; quality = 1; filters = no_filters }
 
 -- a device that mixes and hands over in these settings
 abbrev pub device_in : Settings → DeviceSeen → DeviceSeen

@@ -30,11 +30,12 @@ whole_text = joined (
     ∷ codes "container = \"wav\""
     ∷ codes "capture = \"room\""
     ∷ codes "[vchans]"
-    ∷ codes "play = 16"
+    ∷ codes "play = 12"
     ∷ codes "record = 0"
     ∷ codes "quality = 4"
     ∷ codes "rate = 22050"
     ∷ codes "channels = 1"
+    ∷ codes "mapped = 4"
     ∷ codes "[files]"
     ∷ codes "room = \"in.wav\""
     ∷ codes "a_1 = \"/\""
@@ -55,8 +56,9 @@ whole_config = record {
     mix = record { format = S24Le; layout = One; rate = 22050 };
     block_frames = 128;
     ring_frames = 256;
-    play_slots = 16;
+    play_slots = 12;
     record_slots = 0;
+    map_slots = 4;
     quality = 4;
   };
   tables = no_filters;

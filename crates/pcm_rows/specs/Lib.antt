@@ -24,3 +24,4 @@ pub mod Configurations
 pub mod ConversionRows
 pub mod Verdicts
 pub mod GroupRows
+pub mod MappedRows

@@ -3,7 +3,7 @@
 
 ghost use Rattle.std.specs.Prelude.{◌≡◌, ◌++◌, codes, Ok, [], ◌∷◌};
 ghost use Rattle.pcm_config.specs.declared.fault.ConfigKind.TheVariants.{Capture, Coef, Container, Count, Key, Kind, Missing, Name, Range, Shape, Toml};
-ghost use Rattle.pcm_config.specs.declared.place.ConfigPlace.TheVariants.{Device, DeviceCapture, DeviceChannels, DeviceContainer, DeviceFormat, DeviceHwBlock, DeviceHwBlocks, DeviceRate, Eq, Files, Tables, Top, Vchans, VchansChannels, VchansPlay, VchansQuality, VchansRate, VchansRecord};
+ghost use Rattle.pcm_config.specs.declared.place.ConfigPlace.TheVariants.{Device, DeviceCapture, DeviceChannels, DeviceContainer, DeviceFormat, DeviceHwBlock, DeviceHwBlocks, DeviceRate, Eq, Files, Tables, Top, Vchans, VchansChannels, VchansMapped, VchansPlay, VchansQuality, VchansRate, VchansRecord};
 ghost use Rattle.pcm_config.specs.Configs.{config_read, usual_config};
 ghost use Rattle.pcm_config.specs.Judgements.{refused};
 ghost use Rattle.pcm_rows.specs.Calls.{times};
@@ -137,6 +137,9 @@ pub fn numbers_of_the_channels()
     ensures rate_most { config_in "vchans.rate = 192001" ≡ refused Range VchansRate }
     ensures three { config_in "vchans.channels = 3" ≡ refused Range VchansChannels }
     ensures negative { config_in "vchans.channels = -1" ≡ refused Range VchansChannels }
+    ensures mapped_least { config_in "vchans.mapped = -1" ≡ refused Range VchansMapped }
+    ensures mapped_most { config_in "vchans.mapped = 17" ≡ refused Range VchansMapped }
+    ensures mixed_most { config_in "vchans.mapped = 13" ≡ refused Range VchansMapped }
 {}
 
 /// An interrupt mixes at most 262144 frames: 131072 * 95988 / 48000 and 33 are as many, and a rate more

@@ -17,7 +17,7 @@ use Rattle.pcm_desk.specs.Device.{DeviceSeen, block_frames, ring_frames}
 use Rattle.pcm_script.specs.declared.fault.ScriptKind.TheVariants.{Word, Name}
 use Rattle.pcm_script.specs.declared.fault.LineFault.{LineFault}
 use Rattle.pcm_script.specs.declared.line_event.LineEvent.{LineEvent}
-use Rattle.pcm_script.specs.declared.line_event.LineEvent.TheVariants.{Open, Write, Send, Read, Ioctl, Join, StartGroup, Close, Intr}
+use Rattle.pcm_script.specs.declared.line_event.LineEvent.TheVariants.{Open, Write, Send, Poke, Read, Ioctl, Join, StartGroup, Close, Intr}
 use Rattle.pcm_script.specs.declared.names.Command.{Command}
 use Rattle.pcm_script.specs.declared.names.Command.TheVariants as commands
 use Rattle.pcm_script.specs.declared.request.Setter.{Setter}
@@ -25,7 +25,7 @@ use Rattle.pcm_script.specs.declared.request.Setter.TheVariants as setters
 use Rattle.pcm_script.specs.Names.{command_named}
 use Rattle.pcm_script.specs.Numbers.{number_in, within, number_within}
 use Rattle.pcm_script.specs.Requests.{as_full, as_plain, asked_with, request_named}
-use Rattle.pcm_script.specs.Commands.{descriptor_in, way_in, or_fault, format_in, layout_in, rate_in, short_bytes, bytes_in, argument_in, ending_within, file_in, is_file_named, length_in, size_of, open_line, write_line, send_line, read_line, ioctl_line, close_line, interrupt_line, asked_by, command_line, line_event}
+use Rattle.pcm_script.specs.Commands.{descriptor_in, way_in, or_fault, format_in, layout_in, rate_in, short_bytes, bytes_in, argument_in, ending_within, file_in, is_file_named, length_in, size_of, open_line, write_line, most_offset, send_line, poke_line, read_line, ioctl_line, close_line, interrupt_line, asked_by, command_line, line_event}
 use Rattle.pcm_script.specs.Answers.{Asks}
 use Rattle.pcm_script.specs.Collecting.{own_bytes}
 use Rattle.pcm_script.proofs.Judgements.{IfOk-then, IfOk-after, IfOk-either}
@@ -39,6 +39,7 @@ abbrev pub IsWithin : DeviceSeen → List DataFileSeen → LineEvent → Type 0
 IsWithin device files (Open fd way settings) = (fd < DESCRIPTORS) × IsRate settings.rate
 IsWithin device files (Write fd bytes) = (fd < DESCRIPTORS) × (length bytes ≤ WRITE_BYTES)
 IsWithin device files (Send fd file at count) = (fd < DESCRIPTORS) × (file < length files) × (at + count ≤ size_of files file)
+IsWithin device files (Poke fd offset bytes) = (fd < DESCRIPTORS) × (length bytes ≤ WRITE_BYTES)
 IsWithin device files (Read fd count) = (fd < DESCRIPTORS) × (count ≤ READ_BYTES)
 IsWithin device files (Ioctl fd request) = fd < DESCRIPTORS
 IsWithin device files (Join fd group) = fd < DESCRIPTORS
@@ -131,6 +132,17 @@ send_line-within device files (d ∷ f ∷ o ∷ l ∷ []) =
     (λ count room. (low, there, room)))))
 send_line-within device files (d ∷ f ∷ o ∷ l ∷ x ∷ more) = tt
 
+poke_line-within : (device : DeviceSeen) (files : List DataFileSeen) (arguments : List (List ℕ)) → IfOk (poke_line arguments) (IsWithin device files)
+unfolding poke_line
+poke_line-within device files [] = tt
+poke_line-within device files (d ∷ []) = tt
+poke_line-within device files (d ∷ o ∷ []) = tt
+poke_line-within device files (d ∷ o ∷ h ∷ []) =
+    IfOk-then (descriptor_in d) _ _ (IsWithin device files) (descriptor-range d)
+    (λ fd low. IfOk-after (number_within 0 most_offset o) _ (IsWithin device files)
+    (λ offset. IfOk-then (bytes_in h) _ _ (IsWithin device files) (bytes_in-room h) (λ bytes short. (low, short))))
+poke_line-within device files (d ∷ o ∷ h ∷ x ∷ more) = tt
+
 read_line-within : (device : DeviceSeen) (files : List DataFileSeen) (arguments : List (List ℕ)) → IfOk (read_line arguments) (IsWithin device files)
 unfolding read_line
 read_line-within device files [] = tt
@@ -185,6 +197,7 @@ asked_by-within : (device : DeviceSeen) (files : List DataFileSeen) (command : C
 asked_by-within device files commands.Open arguments = open_line-within device files arguments
 asked_by-within device files commands.Write arguments = write_line-within device files arguments
 asked_by-within device files commands.Send arguments = send_line-within device files arguments
+asked_by-within device files commands.Poke arguments = poke_line-within device files arguments
 asked_by-within device files commands.Read arguments = read_line-within device files arguments
 asked_by-within device files commands.Ioctl arguments = ioctl_line-within device files arguments
 asked_by-within device files commands.Close arguments = close_line-within device files arguments
@@ -209,6 +222,7 @@ own_bytes-room : (device : DeviceSeen) (files : List DataFileSeen) (line : LineE
 own_bytes-room device files (Open fd way settings) within = omega arith
 own_bytes-room device files (Write fd bytes) within = within.1
 own_bytes-room device files (Send fd file at count) within = omega arith
+own_bytes-room device files (Poke fd offset bytes) within = within.1
 own_bytes-room device files (Read fd count) within = omega arith
 own_bytes-room device files (Ioctl fd request) within = omega arith
 own_bytes-room device files (Join fd group) within = omega arith

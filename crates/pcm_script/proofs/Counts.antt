@@ -2,7 +2,7 @@
 use Rattle.std.proofs.Common.{◌≡◌, ◌≢◌, ℕ, List, [], ◌∷◌, length, Err, refl}
 use Rattle.pcm_script.specs.declared.fault.ScriptKind.TheVariants.{Count}
 use Rattle.pcm_wave.specs.DataFiles.{DataFileSeen}
-use Rattle.pcm_script.specs.Commands.{open_line, send_line, read_line, ioctl_line, close_line}
+use Rattle.pcm_script.specs.Commands.{open_line, send_line, poke_line, read_line, ioctl_line, close_line}
 
 -- an open has two arguments or five
 pub open_line-count : (arguments : List (List ℕ)) → length arguments ≢ 2 → length arguments ≢ 5 → open_line arguments ≡ Err Count
@@ -23,6 +23,14 @@ send_line-count files (d ∷ f ∷ []) other = refl
 send_line-count files (d ∷ f ∷ o ∷ []) other = refl
 send_line-count files (d ∷ f ∷ o ∷ l ∷ []) other = absurd (other refl)
 send_line-count files (d ∷ f ∷ o ∷ l ∷ x ∷ more) other = refl
+
+pub poke_line-count : (arguments : List (List ℕ)) → length arguments ≢ 3 → poke_line arguments ≡ Err Count
+unfolding poke_line
+poke_line-count [] other = refl
+poke_line-count (d ∷ []) other = refl
+poke_line-count (d ∷ o ∷ []) other = refl
+poke_line-count (d ∷ o ∷ h ∷ []) other = absurd (other refl)
+poke_line-count (d ∷ o ∷ h ∷ x ∷ more) other = refl
 
 pub read_line-count : (arguments : List (List ℕ)) → length arguments ≢ 2 → read_line arguments ≡ Err Count
 unfolding read_line

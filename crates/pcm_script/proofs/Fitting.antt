@@ -2,7 +2,7 @@
 use Rattle.std.proofs.Common.{◌≡◌, ℕ, ◌+◌, ◌<◌, ◌≤◌, All, List, length, slice_get, Option, arith, refl, subst}
 use Rattle.std.proofs.lemmas.List.Elements.{All-weaker}
 use Rattle.pcm_oss.specs.declared.event.Event.{Event}
-use Rattle.pcm_oss.specs.declared.event.Event.TheVariants.{Open, Write, Read, Ioctl, Join, StartGroup, Close, Intr}
+use Rattle.pcm_oss.specs.declared.event.Event.TheVariants.{Open, Write, Poke, Read, Ioctl, Join, StartGroup, Close, Intr}
 use Rattle.pcm_wave.specs.declared.pool.Pool.{Pool}
 use Rattle.pcm_wave.specs.declared.pool.Source.{Source}
 use Rattle.pcm_wave.specs.declared.pool.Source.TheVariants.{Inline, File}
@@ -21,6 +21,7 @@ use Rattle.pcm_script.specs.Lines.{AllFit, pool_of}
 pub Fits-filtered : (filters : Filters) (device : Device) (pool : Pool) (event : Event) → Fits (unfiltered device) pool event → Fits (seen filters device) pool event
 Fits-filtered filters device pool (Open fd way settings) fits = fits
 Fits-filtered filters device pool (Write fd source at count) fits = fits
+Fits-filtered filters device pool (Poke fd offset at count) fits = fits
 Fits-filtered filters device pool (Read fd count) fits = fits
 Fits-filtered filters device pool (Ioctl fd request) fits = fits
 Fits-filtered filters device pool (Join fd group) fits = fits
@@ -50,6 +51,7 @@ pub Fits-more : (device : DeviceSeen) (few many : Pool) (event : Event) → few.
     → Fits device few event → Fits device many event
 Fits-more device few many (Open fd way settings) same more fits = fits
 Fits-more device few many (Write fd source at count) same more fits = (fits.0, fits.1, HasBytes-more few many source at count same more fits.2)
+Fits-more device few many (Poke fd offset at count) same more fits = (fits.0, fits.1, HasBytes-more few many Inline at count same more fits.2)
 Fits-more device few many (Read fd count) same more fits = fits
 Fits-more device few many (Ioctl fd request) same more fits = fits
 Fits-more device few many (Join fd group) same more fits = fits

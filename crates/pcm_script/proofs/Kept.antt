@@ -14,7 +14,7 @@ use Rattle.pcm_script.specs.declared.fault.ScriptKind.{ScriptKind}
 use Rattle.pcm_script.specs.declared.fault.ScriptKind.TheVariants.{Long}
 use Rattle.pcm_script.specs.declared.limits.TheConstants.{TEXT_BYTES}
 use Rattle.pcm_script.specs.declared.line_event.LineEvent.{LineEvent}
-use Rattle.pcm_script.specs.declared.line_event.LineEvent.TheVariants.{Open, Write, Send, Read, Ioctl, Join, StartGroup, Close, Intr}
+use Rattle.pcm_script.specs.declared.line_event.LineEvent.TheVariants.{Open, Write, Send, Poke, Read, Ioctl, Join, StartGroup, Close, Intr}
 use Rattle.pcm_script.specs.declared.script.Script.{Script}
 use Rattle.pcm_script.specs.Words.{lines_of, words_of}
 use Rattle.pcm_script.specs.Commands.{line_event}
@@ -39,6 +39,8 @@ event_at-fits device files script (Open fd way settings) blocks within = within
 event_at-fits device files script (Write fd bytes) blocks within =
     (within.0, within.1, record { has = tt; within = omega (arith, length-append script.inline_bytes bytes) })
 event_at-fits device files script (Send fd file at count) blocks within = (within.0, tt, record { has = within.1; within = within.2 })
+event_at-fits device files script (Poke fd offset bytes) blocks within =
+    (within.0, within.1, record { has = tt; within = omega (arith, length-append script.inline_bytes bytes) })
 event_at-fits device files script (Read fd count) blocks within = within
 event_at-fits device files script (Ioctl fd request) blocks within = within
 event_at-fits device files script (Join fd group) blocks within = within
@@ -51,6 +53,7 @@ frames_taken-event_at : (place : ℕ) (line : LineEvent) → frames_taken (event
 frames_taken-event_at place (Open fd way settings) = refl
 frames_taken-event_at place (Write fd bytes) = refl
 frames_taken-event_at place (Send fd file at count) = refl
+frames_taken-event_at place (Poke fd offset bytes) = refl
 frames_taken-event_at place (Read fd count) = refl
 frames_taken-event_at place (Ioctl fd request) = refl
 frames_taken-event_at place (Join fd group) = refl

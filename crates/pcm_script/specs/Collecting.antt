@@ -10,7 +10,7 @@ use Rattle.pcm_desk.specs.Events.{frames_taken}
 use Rattle.pcm_script.specs.declared.fault.ScriptKind.{ScriptKind}
 use Rattle.pcm_script.specs.declared.fault.ScriptKind.TheVariants.{Long}
 use Rattle.pcm_script.specs.declared.line_event.LineEvent.{LineEvent}
-use Rattle.pcm_script.specs.declared.line_event.LineEvent.TheVariants.{Open, Write, Send, Read, Ioctl, Join, StartGroup, Close, Intr}
+use Rattle.pcm_script.specs.declared.line_event.LineEvent.TheVariants.{Open, Write, Send, Poke, Read, Ioctl, Join, StartGroup, Close, Intr}
 use Rattle.pcm_script.specs.declared.script.Script.{Script}
 use Rattle.pcm_script.specs.Commands.{line_event}
 use Rattle.pcm_script.specs.Words.{words_of}
@@ -18,6 +18,7 @@ use Rattle.pcm_script.specs.Words.{words_of}
 -- the bytes that a line names
 abbrev pub own_bytes : LineEvent → List ℕ
 own_bytes (Write fd bytes) = bytes
+own_bytes (Poke fd offset bytes) = bytes
 own_bytes event = []
 
 -- the event of a line whose own bytes stand at a place; to send is to write what stands in a file
@@ -25,6 +26,7 @@ abbrev pub event_at : ℕ → LineEvent → Event
 event_at place (Open fd way settings) = events.Open fd way settings
 event_at place (Write fd bytes) = events.Write fd Inline place (length bytes)
 event_at place (Send fd file at count) = events.Write fd (File file) at count
+event_at place (Poke fd offset bytes) = events.Poke fd offset place (length bytes)
 event_at place (Read fd count) = events.Read fd count
 event_at place (Ioctl fd request) = events.Ioctl fd request
 event_at place (Join fd group) = events.Join fd group

@@ -18,7 +18,7 @@ use Rattle.pcm_desk.specs.Device.{DeviceSeen, block_frames, ring_frames}
 use Rattle.pcm_script.specs.declared.fault.ScriptKind.{ScriptKind}
 use Rattle.pcm_script.specs.declared.fault.ScriptKind.TheVariants.{Word, Count, Name, Hex, Range}
 use Rattle.pcm_script.specs.declared.line_event.LineEvent.{LineEvent}
-use Rattle.pcm_script.specs.declared.line_event.LineEvent.TheVariants.{Open, Write, Send, Read, Ioctl, Close, Intr}
+use Rattle.pcm_script.specs.declared.line_event.LineEvent.TheVariants.{Open, Write, Send, Poke, Read, Ioctl, Close, Intr}
 use Rattle.pcm_script.specs.declared.names.Command.{Command}
 use Rattle.pcm_script.specs.declared.names.Command.TheVariants as commands
 use Rattle.pcm_script.specs.declared.request.Setter.{Setter}
@@ -59,7 +59,7 @@ abbrev pub short_bytes : Result (List ℕ) FromHexError → Result (List ℕ) Sc
 short_bytes (Ok bytes) = if nat_le (length bytes) WRITE_BYTES then Ok bytes else Err Hex
 short_bytes (Err fault) = Err Hex
 
--- the bytes of a write: `-` is none
+-- the bytes of a write or a poke: `-` is none
 abbrev pub bytes_in : List ℕ → Result (List ℕ) ScriptKind
 bytes_in word = if bytes_eq word (codes "-") then Ok [] else short_bytes (decode_of word)
 
@@ -138,6 +138,19 @@ send_line files (d ∷ f ∷ o ∷ l ∷ []) = do
   Ok (Send fd file at count)
 send_line files arguments = Err Count
 
+-- the greatest offset of a poke
+abbrev pub most_offset : ℕ
+most_offset = 4294967295
+
+-- `poke D OFFSET HEX`
+unfoldable pub poke_line : List (List ℕ) → Result LineEvent ScriptKind
+poke_line (d ∷ o ∷ h ∷ []) = do
+  fd ← descriptor_in d
+  offset ← number_within 0 most_offset o
+  bytes ← bytes_in h
+  Ok (Poke fd offset bytes)
+poke_line arguments = Err Count
+
 -- `read D LENGTH`
 unfoldable pub read_line : List (List ℕ) → Result LineEvent ScriptKind
 read_line (d ∷ l ∷ []) = do
@@ -181,6 +194,7 @@ abbrev pub asked_by : DeviceSeen → List DataFileSeen → Command → List (Lis
 asked_by device files commands.Open arguments = open_line arguments
 asked_by device files commands.Write arguments = write_line arguments
 asked_by device files commands.Send arguments = send_line files arguments
+asked_by device files commands.Poke arguments = poke_line arguments
 asked_by device files commands.Read arguments = read_line arguments
 asked_by device files commands.Ioctl arguments = ioctl_line arguments
 asked_by device files commands.Close arguments = close_line arguments

@@ -2,24 +2,25 @@
 use Rattle.std.specs.Prelude.{ℕ, List, [], ◌∷◌, Option, find, codes}
 use Rattle.std.specs.Str.{bytes_eq}
 use Rattle.pcm_oss.specs.declared.event.Way.{Way}
-use Rattle.pcm_oss.specs.declared.event.Way.TheVariants.{Play, Record}
+use Rattle.pcm_oss.specs.declared.event.Way.TheVariants.{Play, Record, Map}
 use Rattle.pcm_oss.specs.declared.request.Request.{Request}
 use Rattle.pcm_oss.specs.declared.request.Request.TheVariants as requests
 use Rattle.pcm_script.specs.declared.names.Command.{Command}
-use Rattle.pcm_script.specs.declared.names.Command.TheVariants.{Open, Write, Send, Read, Ioctl, Close, Intr}
+use Rattle.pcm_script.specs.declared.names.Command.TheVariants.{Open, Write, Send, Poke, Read, Ioctl, Close, Intr}
 
 -- the word that names a command
 abbrev pub command_name : Command → List ℕ
 command_name Open = codes "open"
 command_name Write = codes "write"
 command_name Send = codes "send"
+command_name Poke = codes "poke"
 command_name Read = codes "read"
 command_name Ioctl = codes "ioctl"
 command_name Close = codes "close"
 command_name Intr = codes "intr"
 
 abbrev pub all_commands : List Command
-all_commands = Open ∷ Write ∷ Send ∷ Read ∷ Ioctl ∷ Close ∷ Intr ∷ []
+all_commands = Open ∷ Write ∷ Send ∷ Poke ∷ Read ∷ Ioctl ∷ Close ∷ Intr ∷ []
 
 -- the command that a word names
 abbrev pub command_named : List ℕ → Option Command
@@ -29,9 +30,10 @@ command_named word = find (λ command. bytes_eq (command_name command) word) all
 abbrev pub way_name : Way → List ℕ
 way_name Play = codes "play"
 way_name Record = codes "rec"
+way_name Map = codes "map"
 
 abbrev pub all_ways : List Way
-all_ways = Play ∷ Record ∷ []
+all_ways = Play ∷ Record ∷ Map ∷ []
 
 -- the way that a word names
 abbrev pub way_named : List ℕ → Option Way

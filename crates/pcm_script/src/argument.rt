@@ -126,7 +126,7 @@ fn code_in(word: &[u8]) -> Result<u32, ScriptKind>
     u32::try_from(code).ok().ok_or(ScriptKind::Range)
 }
 
-// The bytes of a write.
+// The bytes of a write or a poke.
 pub(crate) fn bytes_in(alloc: Global, word: &[u8]) -> Result<Vec<u8>, LineFault>
     ensures { Gives (λ bytes. bytes.items) result (bytes_in word.now) }
 {

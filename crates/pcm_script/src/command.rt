@@ -3,7 +3,7 @@
 ghost use Rattle.std.specs.Prelude.{◌≡◌, ◌∷◌, []};
 ghost use Rattle.pcm_desk.specs.Device.{unfiltered};
 ghost use Rattle.pcm_script.specs.Answers.{Asks};
-ghost use Rattle.pcm_script.specs.Commands.{asked_by, close_line, command_line, interrupt_line, ioctl_line, line_event, open_line, read_line, send_line, write_line};
+ghost use Rattle.pcm_script.specs.Commands.{asked_by, close_line, command_line, interrupt_line, ioctl_line, line_event, open_line, poke_line, read_line, send_line, write_line};
 ghost use Rattle.pcm_script.specs.Words.{lent};
 
 use crate::ScriptKind;
@@ -67,6 +67,7 @@ fn asked_by(
         Command::Open => Ok(open_line(arguments)?),
         Command::Write => write_line(alloc, arguments),
         Command::Send => Ok(send_line(files, arguments)?),
+        Command::Poke => poke_line(alloc, arguments),
         Command::Read => Ok(read_line(arguments)?),
         Command::Ioctl => Ok(ioctl_line(arguments)?),
         Command::Close => Ok(close_line(arguments)?),
@@ -162,6 +163,27 @@ fn full_send(
         at: at as u32,
         count: count as u32,
     })
+}
+
+#[tactic(auto, unfolding(crate::specs::Commands::poke_line))]
+fn poke_line(alloc: Global, arguments: &[&[u8]]) -> Result<LineEvent, LineFault>
+    ensures { Asks result (poke_line (lent arguments.now)) }
+{
+    let [d, o, h] = arguments else {
+        return Err(LineFault::Refused(ScriptKind::Count));
+    };
+    full_poke(alloc, d, o, h)
+}
+
+// A poke that names a descriptor, a place of its area, and bytes.
+#[tactic(auto, unfolding(crate::specs::Commands::poke_line))]
+fn full_poke(alloc: Global, d: &[u8], o: &[u8], h: &[u8]) -> Result<LineEvent, LineFault>
+    ensures { Asks result (poke_line (d.now ∷ o.now ∷ h.now ∷ [])) }
+{
+    let fd = descriptor_in(d)?;
+    let offset = number_within(0, u32::MAX, o)?;
+    let bytes = Bytes::new(bytes_in(alloc, h)?);
+    Ok(LineEvent::Poke { fd, offset, bytes })
 }
 
 #[tactic(auto, unfolding(crate::specs::Commands::read_line))]

@@ -16,7 +16,7 @@ pub enum ScriptKind {
     Number,
     /// A direction, a format, a file or a request isn't one.
     Name,
-    /// The bytes of a write are no pairs of hexadecimal digits, or too many.
+    /// The bytes of a write or a poke are no pairs of hexadecimal digits, or too many.
     Hex,
     /// A number is outside its set.
     Range,

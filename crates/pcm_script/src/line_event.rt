@@ -26,6 +26,11 @@ pub enum LineEvent {
         at: u32,
         count: u32,
     },
+    Poke {
+        fd: u8,
+        offset: u32,
+        bytes: Bytes,
+    },
     Read {
         fd: u8,
         count: u32,
@@ -59,7 +64,7 @@ impl LineEvent {
         ensures { result.now ≡ own_bytes self.now }
     {
         match self {
-            LineEvent::Write { bytes, .. } => bytes.as_slice(),
+            LineEvent::Write { bytes, .. } | LineEvent::Poke { bytes, .. } => bytes.as_slice(),
             _ => &[],
         }
     }
@@ -109,6 +114,16 @@ impl LineEvent {
                 source: Source::File(file),
                 at,
                 len: count,
+            },
+            LineEvent::Poke {
+                fd,
+                offset,
+                ref bytes,
+            } => Event::Poke {
+                fd,
+                offset,
+                at: place,
+                len: bytes.as_slice().len() as u32,
             },
             LineEvent::Read { fd, count } => Event::Read { fd, len: count },
             LineEvent::Ioctl { fd, request } => Event::Ioctl { fd, request },

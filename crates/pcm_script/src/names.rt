@@ -11,6 +11,7 @@ pub enum Command {
     Open,
     Write,
     Send,
+    Poke,
     Read,
     Ioctl,
     Close,
@@ -18,10 +19,11 @@ pub enum Command {
 }
 
 // All commands, in the order of the language's table.
-const COMMANDS: [Command; 7] = [
+const COMMANDS: [Command; 8] = [
     Command::Open,
     Command::Write,
     Command::Send,
+    Command::Poke,
     Command::Read,
     Command::Ioctl,
     Command::Close,
@@ -39,6 +41,7 @@ impl Command {
             Command::Open => b"open",
             Command::Write => b"write",
             Command::Send => b"send",
+            Command::Poke => b"poke",
             Command::Read => b"read",
             Command::Ioctl => b"ioctl",
             Command::Close => b"close",
@@ -57,8 +60,8 @@ impl Command {
     }
 }
 
-// Both ways.
-const WAYS: [Way; 2] = [Way::Play, Way::Record];
+// All ways.
+const WAYS: [Way; 3] = [Way::Play, Way::Record, Way::Map];
 
 /// The word that names a way.
 pub fn way_name(way: Way) -> &'static [u8]
@@ -67,6 +70,7 @@ pub fn way_name(way: Way) -> &'static [u8]
     match way {
         Way::Play => b"play",
         Way::Record => b"rec",
+        Way::Map => b"map",
     }
 }
 

@@ -7,7 +7,7 @@ use pcm_sequence::Sequence;
 /// A list of events.
 pub type Events = Sequence<Event>;
 
-/// The events of a text, the bytes that its writes name, and the frames of all its interrupts.
+/// The events of a text, the bytes that its writes and pokes name, and the frames of all its interrupts.
 #[derive(Debug, Drop)]
 pub struct Script {
     pub events: Events,

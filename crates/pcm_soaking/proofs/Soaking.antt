@@ -4,7 +4,7 @@ use Rattle.pcm_fixed.specs.Fixed.{fixed_len}
 use Rattle.std.proofs.Math.Nat.{mul-le-mul_right}
 use Rattle.std.proofs.lemmas.List.Sums.{sum_by-append}
 use Rattle.pcm_oss.specs.declared.event.Event.{Event}
-use Rattle.pcm_oss.specs.declared.event.Event.TheVariants.{Open, Write, Read, Ioctl, Join, StartGroup, Close, Intr}
+use Rattle.pcm_oss.specs.declared.event.Event.TheVariants.{Open, Write, Poke, Read, Ioctl, Join, StartGroup, Close, Intr}
 use Rattle.pcm_oss.specs.Replies.{Reply}
 use Rattle.pcm_wave.specs.declared.pool.Pool.{Pool}
 use Rattle.pcm_desk.specs.Device.{DeviceSeen, device_frame_bytes}
@@ -76,6 +76,7 @@ IsWithin-more few many tally more within = record {
 handed-one : (device : DeviceSeen) (pool : Pool) (event : Event) → Fits device pool event → bytes_handed device event ≤ ring_room device
 handed-one device pool (Open fd way settings) fits = omega arith
 handed-one device pool (Write fd source at count) fits = omega arith
+handed-one device pool (Poke fd offset at count) fits = omega arith
 handed-one device pool (Read fd count) fits = omega arith
 handed-one device pool (Ioctl fd request) fits = omega arith
 handed-one device pool (Join fd group) fits = omega arith

@@ -27,7 +27,7 @@ use Rattle.pcm_feeder.specs.Streams.{HaveChannels, interleaved}
 use Rattle.pcm_rate.proofs.Counts.{can-greatest}
 use Rattle.pcm_feeder.specs.Limits.{IsRate}
 use Rattle.pcm_mix.proofs.Blocks.{length-mixed}
-use Rattle.pcm_desk.specs.Device.{DeviceSeen, IsDevice, device_frame_bytes, device_settings, filters_of, full_frame, mix_settings, mixed_for, parent_plan, parent_rate, play_plan_between, play_slots, ring_frames}
+use Rattle.pcm_desk.specs.Device.{DeviceSeen, IsDevice, device_frame_bytes, device_settings, filters_of, full_frame, mix_settings, mixed_for, parent_plan, mixed_slots, parent_rate, play_plan_between, ring_frames}
 use Rattle.pcm_desk.specs.Desk.{mixed_by}
 use Rattle.pcm_plan.specs.Plans.{PlanSeen}
 use Rattle.pcm_plan.specs.Through.{recs}
@@ -36,10 +36,11 @@ use Rattle.pcm_desk.proofs.Ratios.{mixed-behind, parent-plan-fits, parent-ratio,
 use Rattle.pcm_sound.specs.Given.{given_frame}
 use Rattle.pcm_sound.specs.Gains.{last_gain}
 use Rattle.pcm_sound.specs.Runs.{Run, Piece, covers, run_frames, piece_frame, first_of, sounding}
-use Rattle.pcm_sound.specs.Story.{Story, told}
+use Rattle.pcm_sound.specs.Story.{Story, mixed_gains, mixed_runs, told}
 use Rattle.pcm_sound.specs.Mix.{Table, adding, mix_of}
 use Rattle.pcm_sound.specs.DeviceList.{table_of, silence_in, mix_at, mixed_frames, device_frames, device_list, device_bytes, device_body}
 use Rattle.pcm_sound.specs.Valid.{HasRate, StoryIsValid}
+use Rattle.pcm_sound.proofs.Numbers.{by-number}
 use Rattle.pcm_sound.proofs.Stories.{table_of-told}
 
 fold-same : {A B : Type 0} (f g : B → A → B) (start : B) (xs : List A) → ((b : B) (x : A) → f b x ≡ g b x) → fold f start xs ≡ fold g start xs
@@ -61,7 +62,7 @@ mix_of-more bits silent table slots position =
 pub mixed_frames-same : (device : DeviceSeen) (a b : Table) (count : ℕ) → ((slot position : ℕ) → position < count → a slot position ≡ b slot position) → mixed_frames device (mix_at device a) count ≡ mixed_frames device (mix_at device b) count
 mixed_frames-same device a b count h =
     map-range-same (λ position. full_frame device (mix_at device a position)) (λ position. full_frame device (mix_at device b position)) count
-    (λ position l. ap (full_frame device) (mix_of-same (bits_of (mix_settings device).format) (silence_in (mix_settings device)) a b (play_slots device) position (λ slot. h slot position l)))
+    (λ position l. ap (full_frame device) (mix_of-same (bits_of (mix_settings device).format) (silence_in (mix_settings device)) a b (mixed_slots device) position (λ slot. h slot position l)))
 
 -- the frames that were mixed stay as they were, and so does what was made of them
 pub device_list-same : (device : DeviceSeen) (a b : Table) (handed : ℕ) → ((slot position : ℕ) → position < mixed_for device handed → a slot position ≡ b slot position) → device_list device a handed ≡ device_list device b handed
@@ -164,7 +165,7 @@ mixed_frames-frames device table count g =
     All-map (IsMixedFrame device) (λ position. full_frame device (mix_at device table position)) (range_with_len 0 count)
     (λ k d l. (let position : ℕ = get_or (range_with_len 0 count) k d in
     length-map (mix_at device table position) (at_full (bits_of (mix_settings device).format))
-    ∙ mix_of-frame device (bits_of (mix_settings device).format) table (play_slots device) position (λ slot. g slot position)))
+    ∙ mix_of-frame device (bits_of (mix_settings device).format) table (mixed_slots device) position (λ slot. g slot position)))
 
 -- and what is made of them those of the device
 pub device_list-frames : (device : DeviceSeen) (table : Table) (handed : ℕ) → IsDevice device → ((slot position : ℕ) → IfSome (table slot position) (IsMixedFrame device)) → All (IsDeviceFrame device) (device_list device table handed)
@@ -215,7 +216,9 @@ spelled_frames-joined format (frame ∷ list) =
     ∙ sym (flat_map-append (spelled format) frame (interleaved list))
 
 pub table-frames : (device : DeviceSeen) (story : Story) → StoryIsValid device story → (slot position : ℕ) → IfSome (table_of device story slot position) (IsMixedFrame device)
-table-frames device story v slot position = sounding-frame device (last_gain (story.gains slot) position) (story.runs slot) position v.limits (v.slots slot).own
+table-frames device story v slot position =
+    sounding-frame device (last_gain (mixed_gains device story slot) position) (mixed_runs device story slot) position v.limits
+    (by-number (All HasRate) device story.runs story.map_runs slot (λ at. (v.slots at).own) (λ at. (v.maps at).own))
 
 -- how long they are
 pub length-device_bytes : (device : DeviceSeen) (story : Story) → StoryIsValid device story → length (device_bytes device story) ≡ ((ring_frames device) + story.desk.handed) * device_frame_bytes device

@@ -4,9 +4,9 @@ use Rattle.std.specs.Prelude.{nat_lt, not, ◌&&◌}
 use Rattle.std.proofs.lemmas.List.{take-take, take_all}
 use Rattle.std.proofs.lemmas.List.FromFn.{length-map-range_with_len, take-map-range_with_len}
 use Rattle.pcm_oss.specs.declared.event.Event.{Event}
-use Rattle.pcm_oss.specs.declared.event.Event.TheVariants.{Open, Write, Read, Ioctl, Join, StartGroup, Close, Intr}
+use Rattle.pcm_oss.specs.declared.event.Event.TheVariants.{Open, Write, Poke, Read, Ioctl, Join, StartGroup, Close, Intr}
 use Rattle.pcm_oss.specs.declared.event.Way.{Way}
-use Rattle.pcm_oss.specs.declared.event.Way.TheVariants.{Play, Record}
+use Rattle.pcm_oss.specs.declared.event.Way.TheVariants.{Play, Record, Map}
 use Rattle.pcm_oss.specs.declared.reply.Answer.TheVariants.{Got}
 use Rattle.pcm_oss.specs.declared.reply.Errno.TheVariants.{Again, Inval}
 use Rattle.pcm_wave.specs.declared.pool.Pool.{Pool}
@@ -34,7 +34,7 @@ use Rattle.pcm_sound.specs.Recordings.{Recording, handing, recorded_frames, reco
 use Rattle.pcm_sound.specs.Story.{Story}
 use Rattle.pcm_sound.specs.Valid.{IsRecorded, RecordingIsValid, RecordingsAreValid}
 use Rattle.pcm_sound.proofs.Recordings.{captured-add, recorded-captured}
-use Rattle.pcm_sound.proofs.Recorded.{AllTurned, Turned, all-closing, all-join, all-open, all-request, all-start, all-write, idle-unstarted}
+use Rattle.pcm_sound.proofs.Recorded.{AllTurned, Turned, all-closing, all-join, all-open, all-poke, all-request, all-start, all-write, idle-unstarted}
 use Rattle.pcm_desk.proofs.Slots.{record_at-with}
 
 -- the bytes of a recording that its book counts
@@ -113,9 +113,10 @@ read_at device pool desk fd count at slot recording =
 read_follows : (device : DeviceSeen) (pool : Pool) (held : Option Held) (desk : Desk) (fd count slot : ℕ) (recording : Recording) → FollowsAt device pool desk (Read fd count) (read_on device held desk count).desk slot recording
 read_follows device pool None desk fd count slot recording = follows-read device pool desk.handed (record_at device desk slot).read (record_at device desk slot) recording
 read_follows device pool (Some held) desk fd count slot recording =
-    elim held.way as (λ (way : Way). FollowsAt device pool desk (Read fd count) (by_way way (refusing desk Inval) (record_turn device (read_turn count) desk held.slot)).desk slot recording) [
+    elim held.way as (λ (way : Way). FollowsAt device pool desk (Read fd count) (by_way way (refusing desk Inval) (record_turn device (read_turn count) desk held.slot) (refusing desk Inval)).desk slot recording) [
       | Play ↦ follows-read device pool desk.handed (record_at device desk slot).read (record_at device desk slot) recording
       | Record ↦ read_at device pool desk fd count held.slot slot recording
+      | Map ↦ follows-read device pool desk.handed (record_at device desk slot).read (record_at device desk slot) recording
     ]
 
 turned_follows : (device : DeviceSeen) (pool : Pool) (story : Story) (new : Desk) (slot : ℕ) → AllTurned device story.desk new → RecordingsAreValid device pool story
@@ -128,6 +129,7 @@ pub recording-follows : (device : DeviceSeen) (pool : Pool) (story : Story) (eve
     → FollowsAt device pool story.desk event (after device story.desk event).desk slot (story.recordings slot)
 recording-follows device pool story (Open fd way settings) slot fits none v = turned_follows device pool story (after device story.desk (Open fd way settings)).desk slot (all-open device story.desk fd way settings fits.1) v
 recording-follows device pool story (Write fd source at count) slot fits none v = turned_follows device pool story (after device story.desk (Write fd source at count)).desk slot (all-write device (held_by story.desk fd) story.desk count) v
+recording-follows device pool story (Poke fd offset at count) slot fits none v = turned_follows device pool story (after device story.desk (Poke fd offset at count)).desk slot (all-poke device (held_by story.desk fd) story.desk offset count) v
 recording-follows device pool story (Read fd count) slot fits none v = read_follows device pool (held_by story.desk fd) story.desk fd count slot (story.recordings slot)
 recording-follows device pool story (Ioctl fd request) slot fits none v = turned_follows device pool story (after device story.desk (Ioctl fd request)).desk slot (all-request device (held_by story.desk fd) story.desk request) v
 recording-follows device pool story (Join fd group) slot fits none v = turned_follows device pool story (after device story.desk (Join fd group)).desk slot (all-join device (held_by story.desk fd) story.desk group) v

@@ -11,15 +11,17 @@ use Rattle.pcm_rate.specs.Rates.{len}
 use Rattle.pcm_feeder.specs.declared.stage.Gain.{Gain}
 use Rattle.pcm_desk.specs.declared.play_book.PlayBook.{PlayBook}
 use Rattle.pcm_desk.specs.Device.{DeviceSeen, IsDevice, play_plan_between, play_rate_between}
+use Rattle.pcm_desk.specs.declared.map_book.MapBook.{MapBook}
 use Rattle.pcm_desk.specs.PlayBooks.{is_started}
+use Rattle.pcm_desk.specs.MapBooks.{is_map_running}
 use Rattle.pcm_desk.specs.PlaySafe.{PlayIsSafe}
 use Rattle.pcm_desk.specs.Desk.{play_rate_at}
 use Rattle.pcm_desk.proofs.Ratios.{ratio-between}
 use Rattle.pcm_sound.specs.Given.{given_frame}
 use Rattle.pcm_sound.specs.Runs.{Piece, Run, covers, first_of, piece_frame, run_frames, sounding}
 use Rattle.pcm_sound.specs.Plain.{IsInPlace, IsUnbroken, Span, drop_end, is_within, lasting, place_of, run_end, span_at, span_frame, span_of, spans_of}
-use Rattle.pcm_sound.specs.Places.{FollowFrom, IsCounted, IsOver, IsOverFrom, SlotIsPlaced}
-use Rattle.pcm_sound.specs.Valid.{IsNewest, SlotIsValid}
+use Rattle.pcm_sound.specs.Places.{FollowFrom, IsCounted, IsGoingMap, IsOver, IsOverFrom, SlotIsPlaced}
+use Rattle.pcm_sound.specs.Valid.{IsNewest, MapIsValid, SlotIsValid}
 use Rattle.pcm_sound.proofs.Places.{given-lasts, lasts-newest}
 
 -- ---- pieces that follow each other
@@ -160,6 +162,36 @@ runs-heard device mixed book [] d safe v p = All-nil (RunIsHeard device mixed)
 runs-heard device mixed book (run ∷ runs) d safe v p =
     All-cons (RunIsHeard device mixed) run runs (newest_heard (nat_lt 0 book.written) device mixed book run runs refl d safe v p)
     (All-weaker (IsOver device mixed) (RunIsHeard device mixed) (λ r over. over_heard device mixed r over) runs p.0)
+
+-- ---- runs of mapped slots
+
+-- the newest run of a mapped book that goes on ends where it is mixed
+map_end : (drained : Bool) (dropped : Option ℕ) (start lasts given mixed : ℕ) → drained ≡ false → dropped ≡ None → start + given ≡ mixed
+    → min (cond drained (start + lasts) mixed) (min (drop_end mixed dropped) mixed) ≡ start + given
+map_end true dropped start lasts given mixed e d next = cc
+map_end false (Some position) start lasts given mixed e d next = cc
+map_end false None start lasts given mixed e d next = omega arith
+
+going_map : (device : DeviceSeen) (mixed : ℕ) (book : MapBook) (run : Run) → run.drained ≡ false → IsGoingMap mixed book run → RunIsHeard device mixed run
+going_map device mixed book run more g = λ unbroken.
+    let next = g.next in
+    subst (λ (start : Option ℕ). HeardFrom device mixed run start) (sym g.started) (record {
+      count = book.given;
+      follow = g.follow;
+      past = omega arith;
+      end = map_end run.drained run.dropped g.start (lasting device run) book.given mixed more g.dropped next;
+    })
+
+map_newest_heard : (running : Bool) (device : DeviceSeen) (mixed : ℕ) (book : MapBook) (run : Run) (runs : List Run) → is_map_running book.state ≡ running → MapIsValid device mixed book (run ∷ runs) → RunIsHeard device mixed run
+map_newest_heard true device mixed book run runs e v = going_map device mixed book run (v.newest e).2 (v.placed.2 e)
+map_newest_heard false device mixed book run runs e v = over_heard device mixed run (v.placed.1 e)
+
+-- each run of a mapped slot is heard so
+pub map-runs-heard : (device : DeviceSeen) (mixed : ℕ) (book : MapBook) (runs : List Run) → MapIsValid device mixed book runs → All (RunIsHeard device mixed) runs
+map-runs-heard device mixed book [] v = All-nil (RunIsHeard device mixed)
+map-runs-heard device mixed book (run ∷ runs) v =
+    All-cons (RunIsHeard device mixed) run runs (map_newest_heard (is_map_running book.state) device mixed book run runs refl v)
+    (All-weaker (IsOver device mixed) (RunIsHeard device mixed) (λ r over. over_heard device mixed r over) runs v.placed.0)
 
 -- ---- spans
 

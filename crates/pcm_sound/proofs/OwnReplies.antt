@@ -5,9 +5,9 @@ use Rattle.std.proofs.lemmas.Bool.{eqb-true}
 use Rattle.std.proofs.lemmas.List.{append-nil}
 use Rattle.pcm_format.specs.declared.settings.Settings.{Settings}
 use Rattle.pcm_oss.specs.declared.event.Event.{Event}
-use Rattle.pcm_oss.specs.declared.event.Event.TheVariants.{Open, Write, Read, Ioctl, Join, StartGroup, Close, Intr}
+use Rattle.pcm_oss.specs.declared.event.Event.TheVariants.{Open, Write, Poke, Read, Ioctl, Join, StartGroup, Close, Intr}
 use Rattle.pcm_oss.specs.declared.event.Way.{Way}
-use Rattle.pcm_oss.specs.declared.event.Way.TheVariants.{Play, Record}
+use Rattle.pcm_oss.specs.declared.event.Way.TheVariants.{Play, Record, Map}
 use Rattle.pcm_oss.specs.declared.reply.Answer.TheVariants.{Got}
 use Rattle.pcm_oss.specs.declared.reply.Errno.TheVariants.{Again}
 use Rattle.pcm_oss.specs.Replies.{Reply}
@@ -15,6 +15,7 @@ use Rattle.pcm_wave.specs.declared.pool.Pool.{Pool}
 use Rattle.pcm_wave.specs.Pools.{capture_frames}
 use Rattle.pcm_desk.specs.declared.turn.Turn.{Turn}
 use Rattle.pcm_desk.specs.declared.play_book.PlayBook.{PlayBook}
+use Rattle.pcm_desk.specs.declared.map_book.MapBook.{MapBook}
 use Rattle.pcm_desk.specs.declared.device.Held.{Held}
 use Rattle.pcm_desk.specs.declared.record_book.RecordBook.{RecordBook}
 use Rattle.pcm_desk.specs.declared.record_book.RecordState.{RecordState}
@@ -26,7 +27,7 @@ use Rattle.pcm_desk.specs.RecordRequests.{record_ask}
 use Rattle.pcm_desk.specs.RecordSafe.{RecordIsSafe}
 use Rattle.pcm_desk.specs.Desk.{after, by_way, capturing, group_of, held_by, record_rate_at}
 use Rattle.pcm_desk.specs.Events.{frames_taken}
-use Rattle.pcm_desk.specs.Own.{Channel, HoldApart, MembersWait, Playing, Recording, channel_at, own_turn, ungrouped}
+use Rattle.pcm_desk.specs.Own.{Channel, HoldApart, Mapped, MembersWait, Playing, Recording, channel_at, own_turn, ungrouped}
 use Rattle.pcm_desk.specs.OwnEvents.{JoinsNone, Opens, channel_begun, closes, concerns, joins, own_events, unnamed}
 use Rattle.pcm_desk.proofs.Apart.{apart-after}
 use Rattle.pcm_desk.proofs.OwnEvents.{IsMine, begun-own, mine-turns, opened-none, other-stays, others-go}
@@ -46,6 +47,7 @@ use Rattle.pcm_sound.proofs.Recorded.{idle-unstarted}
 -- the bytes that a read gets of a channel
 abbrev read_of : ℕ → Channel → recordings.Recording → List ℕ
 read_of count (Playing book) recording = []
+read_of count (Mapped book) recording = []
 read_of count (Recording book) recording = read_bytes count book recording
 
 -- the bytes that an event gets of it
@@ -57,7 +59,9 @@ own_bytes _ channel recording = []
 abbrev next_recording : DeviceSeen → Pool → ℕ → Event → Channel → Channel → recordings.Recording → recordings.Recording
 next_recording device pool handed event (Recording old) (Recording new) recording = cond (starts_recording old new) (recording_from handed) (going_on device pool event old new recording)
 next_recording device pool handed event (Recording old) (Playing new) recording = recording
+next_recording device pool handed event (Recording old) (Mapped new) recording = recording
 next_recording device pool handed event (Playing old) new recording = recording
+next_recording device pool handed event (Mapped old) new recording = recording
 
 -- the replies to its own events
 abbrev own_told : DeviceSeen → Pool → Channel → recordings.Recording → ℕ → List Event → List Reply
@@ -68,7 +72,7 @@ own_told device pool channel recording handed (event ∷ events) =
 
 -- the recording of what a descriptor holds
 abbrev own_recording : Story → Held → recordings.Recording
-own_recording story held = by_way held.way (recording_from 0) (story.recordings held.slot)
+own_recording story held = by_way held.way (recording_from 0) (story.recordings held.slot) (recording_from 0)
 
 -- ---- from a story to one channel of it
 
@@ -78,6 +82,7 @@ next_told : (device : DeviceSeen) (pool : Pool) (story : Story) (event : Event) 
     own_recording new held ≡ next_recording device pool story.desk.handed event (channel_at device story.desk held) (channel_at device new.desk held) (own_recording story held)
 next_told device pool story event Play slot = refl
 next_told device pool story event Record slot = refl
+next_told device pool story event Map slot = refl
 
 -- an event of another descriptor leaves it
 unread : (book : RecordBook) (recording : recordings.Recording) → recordings.handing book book recording ≡ recording
@@ -88,6 +93,7 @@ unread book recording =
 goes_nowhere : (device : DeviceSeen) (pool : Pool) (event : Event) (fd : ℕ) (book : RecordBook) (recording : recordings.Recording) → concerns fd event ≡ false → going_on device pool event book book recording ≡ recording
 goes_nowhere device pool (Open at way settings) fd book recording n = refl
 goes_nowhere device pool (Write at source from count) fd book recording n = refl
+goes_nowhere device pool (Poke at offset from count) fd book recording n = refl
 goes_nowhere device pool (Read at count) fd book recording n = unread book recording
 goes_nowhere device pool (Ioctl at request) fd book recording n = refl
 goes_nowhere device pool (Join at group) fd book recording n = refl
@@ -101,12 +107,14 @@ starts_none false start other = refl
 
 next_same : (device : DeviceSeen) (pool : Pool) (handed : ℕ) (event : Event) (fd : ℕ) (channel : Channel) (recording : recordings.Recording) → concerns fd event ≡ false → next_recording device pool handed event channel channel recording ≡ recording
 next_same device pool handed event fd (Playing book) recording n = refl
+next_same device pool handed event fd (Mapped book) recording n = refl
 next_same device pool handed event fd (Recording book) recording n = starts_none (is_running book.state) (recording_from handed) (going_on device pool event book book recording) ∙ goes_nowhere device pool event fd book recording n
 
 -- nor does it hand frames over
 takes_none : (event : Event) (fd : ℕ) → concerns fd event ≡ false → frames_taken event ≡ 0
 takes_none (Open at way settings) fd n = refl
 takes_none (Write at source from count) fd n = refl
+takes_none (Poke at offset from count) fd n = refl
 takes_none (Read at count) fd n = refl
 takes_none (Ioctl at request) fd n = refl
 takes_none (Join at group) fd n = refl
@@ -119,12 +127,14 @@ read_own : (device : DeviceSeen) (story : Story) (count : ℕ) (way : Way) (slot
     → let held : Held = record { way = way; slot = slot } in bytes_got device story count (Some held) ≡ read_of count (channel_at device story.desk held) (own_recording story held)
 read_own device story count Play slot = refl
 read_own device story count Record slot = refl
+read_own device story count Map slot = refl
 
 -- the bytes of a reply to an event of its own, or to an interrupt
 bytes_own : (device : DeviceSeen) (pool : Pool) (story : Story) (event : Event) (fd : ℕ) (held : Held) → concerns fd event ≡ true → held_by story.desk fd ≡ Some held
     → bytes_to device story event ≡ own_bytes event (channel_at device story.desk held) (own_recording story held)
 bytes_own device pool story (Open at way settings) fd held n e = refl
 bytes_own device pool story (Write at source from count) fd held n e = refl
+bytes_own device pool story (Poke at offset from count) fd held n e = refl
 bytes_own device pool story (Read at count) fd held n e =
     ap (λ (k : ℕ). bytes_got device story count (held_by story.desk k)) (eqb-true at fd n) ∙ ap (bytes_got device story count) e ∙ read_own device story count held.way held.slot
 bytes_own device pool story (Ioctl at request) fd held n e = refl
@@ -133,23 +143,33 @@ bytes_own device pool story (StartGroup at group) fd held n e = refl
 bytes_own device pool story (Close at) fd held n e = refl
 bytes_own device pool story (Intr frames) fd held n e = refl
 
--- neither the number of a descriptor nor the bytes of a write say anything to a channel
+-- neither the number of a descriptor nor the bytes of a write or a poke say anything to a channel
 told_unnamed : (device : DeviceSeen) (pool : Pool) (event : Event) (channel : Channel) (recording : recordings.Recording) (handed : ℕ) (more : List Event)
     → own_told device pool channel recording handed (unnamed event ∷ more) ≡ own_told device pool channel recording handed (event ∷ more)
 told_unnamed device pool (Open fd way settings) (Playing book) recording handed more = refl
 told_unnamed device pool (Open fd way settings) (Recording book) recording handed more = refl
+told_unnamed device pool (Open fd way settings) (Mapped book) recording handed more = refl
 told_unnamed device pool (Write fd source at count) (Playing book) recording handed more = refl
 told_unnamed device pool (Write fd source at count) (Recording book) recording handed more = refl
+told_unnamed device pool (Write fd source at count) (Mapped book) recording handed more = refl
 told_unnamed device pool (Read fd count) (Playing book) recording handed more = refl
 told_unnamed device pool (Read fd count) (Recording book) recording handed more = refl
+told_unnamed device pool (Read fd count) (Mapped book) recording handed more = refl
 told_unnamed device pool (Ioctl fd request) (Playing book) recording handed more = refl
 told_unnamed device pool (Ioctl fd request) (Recording book) recording handed more = refl
+told_unnamed device pool (Ioctl fd request) (Mapped book) recording handed more = refl
 told_unnamed device pool (Join fd group) (Playing book) recording handed more = refl
 told_unnamed device pool (Join fd group) (Recording book) recording handed more = refl
+told_unnamed device pool (Join fd group) (Mapped book) recording handed more = refl
 told_unnamed device pool (StartGroup fd group) (Playing book) recording handed more = refl
 told_unnamed device pool (StartGroup fd group) (Recording book) recording handed more = refl
+told_unnamed device pool (StartGroup fd group) (Mapped book) recording handed more = refl
 told_unnamed device pool (Close fd) (Playing book) recording handed more = refl
 told_unnamed device pool (Close fd) (Recording book) recording handed more = refl
+told_unnamed device pool (Close fd) (Mapped book) recording handed more = refl
+told_unnamed device pool (Poke fd offset at count) (Playing book) recording handed more = refl
+told_unnamed device pool (Poke fd offset at count) (Recording book) recording handed more = refl
+told_unnamed device pool (Poke fd offset at count) (Mapped book) recording handed more = refl
 told_unnamed device pool (Intr n) channel recording handed more = refl
 
 -- what a client is told by one channel of a story
@@ -221,11 +241,13 @@ told_own device pool story fd held (event ∷ events) h m a none =
 -- the book of a channel that records is in order
 abbrev IsSafe : DeviceSeen → Channel → Type 0
 IsSafe device (Playing book) = Unit {0}
+IsSafe device (Mapped book) = Unit {0}
 IsSafe device (Recording book) = RecordIsSafe (record_rate_at device book) book
 
 -- it has started
 abbrev runs : Channel → Bool
 runs (Playing book) = false
+runs (Mapped book) = false
 runs (Recording book) = is_running book.state
 
 captured_settings : (state : RecordState) (device : DeviceSeen) (n : ℕ) (book : RecordBook) → (records.captured_in (record_rate_at device book) state n book).opening.settings ≡ book.opening.settings
@@ -244,25 +266,34 @@ read_settings count book = read_in (nat_lt 0 count && eqb (record_fill_of book) 
 safe_own : (device : DeviceSeen) (handed : ℕ) (event : Event) (channel : Channel) → IsSafe device channel → IsSafe device (own_turn device handed ungrouped event channel).book
 safe_own device handed (Open fd way settings) channel s = s
 safe_own device handed (Write fd source at count) (Playing book) s = tt
+safe_own device handed (Write fd source at count) (Mapped book) s = tt
 safe_own device handed (Write fd source at count) (Recording book) s = s
+safe_own device handed (Poke fd offset at count) (Playing book) s = tt
+safe_own device handed (Poke fd offset at count) (Recording book) s = s
+safe_own device handed (Poke fd offset at count) (Mapped book) s = tt
 safe_own device handed (Read fd count) (Playing book) s = tt
+safe_own device handed (Read fd count) (Mapped book) s = tt
 safe_own device handed (Read fd count) (Recording book) s =
     subst (λ (settings : Settings). RecordIsSafe (record_rate_between device settings) (read_turn count book).book) (sym (read_settings count book)) (record-safe-read (record_rate_at device book) count book s)
 safe_own device handed (Ioctl fd request) (Playing book) s = tt
+safe_own device handed (Ioctl fd request) (Mapped book) s = tt
 safe_own device handed (Ioctl fd request) (Recording book) s =
     let new : RecordBook = (record_ask request book).book in
     record-safe-ask (record_rate_at device book) (record_rate_at device new) request book (λ e. ap (λ (settings : Settings). record_rate_between device settings) (record-ask-settings request book e)) s
 safe_own device handed (Join fd group) channel s = s
 safe_own device handed (StartGroup fd group) channel s = s
 safe_own device handed (Close fd) (Playing book) s = tt
+safe_own device handed (Close fd) (Mapped book) s = tt
 safe_own device handed (Close fd) (Recording book) s = record-safe-closed (record_rate_at device book) book s
 safe_own device handed (Intr n) (Playing book) s = tt
+safe_own device handed (Intr n) (Mapped book) s = tt
 safe_own device handed (Intr n) (Recording book) s =
     subst (λ (settings : Settings). RecordIsSafe (record_rate_between device settings) (capturing device n book)) (sym (captured_settings book.state device n book)) (record-safe-captured (record_rate_at device book) n book s)
 
 -- equal bytes are read of equal recordings, and none of a channel that has none
 read_alike : (device : DeviceSeen) (count : ℕ) (channel : Channel) (one other : recordings.Recording) → IsSafe device channel → (runs channel ≡ true → other ≡ one) → read_of count channel other ≡ read_of count channel one
 read_alike device count (Playing book) one other s same = refl
+read_alike device count (Mapped book) one other s same = refl
 read_alike device count (Recording book) one other s same = at (is_running book.state) refl
   where
     at : (b : Bool) → is_running book.state ≡ b → read_bytes count book other ≡ read_bytes count book one
@@ -280,6 +311,7 @@ bytes_alike device _ channel one other s same = refl
 plays_on : (device : DeviceSeen) (handed : ℕ) (event : Event) (book : PlayBook) → runs (own_turn device handed ungrouped event (Playing book)).book ≡ false
 plays_on device handed (Open fd way settings) book = refl
 plays_on device handed (Write fd source at count) book = refl
+plays_on device handed (Poke fd offset at count) book = refl
 plays_on device handed (Read fd count) book = refl
 plays_on device handed (Ioctl fd request) book = refl
 plays_on device handed (Join fd group) book = refl
@@ -287,10 +319,23 @@ plays_on device handed (StartGroup fd group) book = refl
 plays_on device handed (Close fd) book = refl
 plays_on device handed (Intr n) book = refl
 
+-- nor does a mapped one
+maps_on : (device : DeviceSeen) (handed : ℕ) (event : Event) (book : MapBook) → runs (own_turn device handed ungrouped event (Mapped book)).book ≡ false
+maps_on device handed (Open fd way settings) book = refl
+maps_on device handed (Write fd source at count) book = refl
+maps_on device handed (Poke fd offset at count) book = refl
+maps_on device handed (Read fd count) book = refl
+maps_on device handed (Ioctl fd request) book = refl
+maps_on device handed (Join fd group) book = refl
+maps_on device handed (StartGroup fd group) book = refl
+maps_on device handed (Close fd) book = refl
+maps_on device handed (Intr n) book = refl
+
 -- recordings that are equal while they run go on to be, where the same is captured
 going_same : (device : DeviceSeen) (pool more : Pool) (handed : ℕ) (event : Event) (old : RecordBook) (new : Channel) (one other : recordings.Recording) → capture_frames more ≡ capture_frames pool → (is_running old.state ≡ true → other ≡ one)
     → runs new ≡ true → next_recording device more handed event (Recording old) new other ≡ next_recording device pool handed event (Recording old) new one
 going_same device pool more handed event old (Playing new) one other frames same running = cc
+going_same device pool more handed event old (Mapped new) one other frames same running = cc
 going_same device pool more handed event old (Recording new) one other frames same running = at (is_running old.state) refl (is_running new.state) running
   where
     at : (was : Bool) → is_running old.state ≡ was → (is : Bool) → is ≡ true
@@ -303,6 +348,7 @@ next_alike : (device : DeviceSeen) (pool more : Pool) (handed : ℕ) (event : Ev
     → let new : Channel = (own_turn device handed ungrouped event channel).book in
     runs new ≡ true → next_recording device more handed event channel new other ≡ next_recording device pool handed event channel new one
 next_alike device pool more handed event (Playing book) one other frames same running = absurd (let clash : true ≡ false = sym running ∙ plays_on device handed event book in cc)
+next_alike device pool more handed event (Mapped book) one other frames same running = absurd (let clash : true ≡ false = sym running ∙ maps_on device handed event book in cc)
 next_alike device pool more handed event (Recording book) one other frames same running = going_same device pool more handed event book (own_turn device handed ungrouped event (Recording book)).book one other frames same running
 
 told_alike : (device : DeviceSeen) (pool more : Pool) (channel : Channel) (one other : recordings.Recording) (handed : ℕ) (events : List Event) → capture_frames more ≡ capture_frames pool → IsSafe device channel → (runs channel ≡ true → other ≡ one)
@@ -320,11 +366,13 @@ told_alike device pool more channel one other handed (event ∷ events) frames s
 
 begun_safe : (device : DeviceSeen) (way : Way) (settings : Settings) → IsSafe device (channel_begun way settings)
 begun_safe device Play settings = tt
+begun_safe device Map settings = tt
 begun_safe device Record settings = record-safe-begun (record_rate_between device settings) settings
 
 begun_idle : (way : Way) (settings : Settings) → runs (channel_begun way settings) ≡ false
 begun_idle Play settings = refl
 begun_idle Record settings = refl
+begun_idle Map settings = refl
 
 -- what an opening is told
 opening_told : (device : DeviceSeen) (pool : Pool) (fd : ℕ) (way : Way) (settings : Settings) (held : Held) (story : Story) (events : List Event) → HoldApart story.desk → MembersWait device story.desk

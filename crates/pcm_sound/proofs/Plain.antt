@@ -1,40 +1,65 @@
 -- The device's bytes without a shortage: what the runs are from their starts to their ends.
-use Rattle.std.proofs.Common.{◌≡◌, ℕ, ◌+◌, ◌-◌, ◌*◌, ◌<◌, ◌≤◌, List, length, take, min, Option, Some, None, inl, inr, refl, sym, ap, ◌∙◌, arith, All, length-take}
+use Rattle.std.proofs.Common.{◌≡◌, ℕ, ◌+◌, ◌-◌, ◌*◌, ◌<◌, ◌≤◌, List, [], ◌∷◌, length, take, min, Option, Some, None, inl, inr, refl, sym, ap, ◌∙◌, arith, All, length-take}
 use Rattle.std.specs.Prelude.{◌≢◌, option_map}
 use Rattle.std.proofs.Math.Nat.{mul-le-mul_right}
 use Rattle.std.proofs.lemmas.Bool.{cases_lt}
 use Rattle.std.proofs.lemmas.List.{take-append-le, take-take, take_all}
-use Rattle.std.proofs.lemmas.List.Elements.{All-weaker}
+use Rattle.std.proofs.lemmas.List.Elements.{All-cons, All-head, All-nil, All-tail, All-weaker}
 use Rattle.pcm_format.specs.Frames.{Frame, spelled_frames}
 use Rattle.pcm_feeder.specs.declared.stage.Gain.{Gain}
 use Rattle.pcm_desk.specs.Device.{DeviceSeen, IsDevice, device_frame_bytes, device_settings, ring_frames}
 use Rattle.pcm_desk.proofs.Ratios.{mixed-grows}
-use Rattle.pcm_desk.specs.Desk.{play_at}
+use Rattle.pcm_desk.specs.Desk.{map_at, play_at}
 use Rattle.pcm_sound.specs.Gains.{last_gain}
 use Rattle.pcm_sound.specs.Runs.{Run}
-use Rattle.pcm_sound.specs.Story.{Story}
+use Rattle.pcm_sound.specs.Story.{Story, mixed_gains, mixed_runs}
 use Rattle.pcm_sound.specs.Mix.{Table}
 use Rattle.pcm_sound.specs.DeviceList.{device_body, device_body_of, device_bytes, device_frames, device_list, mix_at, table_of}
 use Rattle.pcm_sound.specs.Plain.{AgreeInCommon, HasNoShortage, IsInPlace, IsUnbroken, SoundAlike, Span, plain_table, span_at, span_frame, spans_of}
 use Rattle.pcm_sound.specs.Valid.{StoryIsValid}
 use Rattle.pcm_sound.proofs.DeviceLists.{device_body-bytes, device_list-frames, device_list-more, device_list-same, length-device_bytes, length-device_list, spelled_frames-take, table-frames}
-use Rattle.pcm_sound.proofs.Heard.{RunIsHeard, heard-in_place, runs-heard, sounding-spans, spans-earlier}
+use Rattle.pcm_sound.proofs.Heard.{RunIsHeard, heard-in_place, map-runs-heard, runs-heard, sounding-spans, spans-earlier}
+use Rattle.pcm_sound.proofs.Numbers.{by-number}
 
 -- ---- one story
 
 -- each run of a valid story is heard from its start to its end, unless a piece is short
-story_heard : (device : DeviceSeen) (story : Story) (slot : ℕ) → StoryIsValid device story → All (RunIsHeard device story.desk.mixed) (story.runs slot)
-story_heard device story slot v = runs-heard device story.desk.mixed (play_at device story.desk slot) (story.runs slot) v.limits (v.safe slot) (v.slots slot) (v.placed slot)
+play_heard : (device : DeviceSeen) (story : Story) (slot : ℕ) → StoryIsValid device story → All (RunIsHeard device story.desk.mixed) (story.runs slot)
+play_heard device story slot v = runs-heard device story.desk.mixed (play_at device story.desk slot) (story.runs slot) v.limits (v.safe slot) (v.slots slot) (v.placed slot)
+
+map_heard : (device : DeviceSeen) (story : Story) (slot : ℕ) → StoryIsValid device story → All (RunIsHeard device story.desk.mixed) (story.map_runs slot)
+map_heard device story slot v = map-runs-heard device story.desk.mixed (map_at device story.desk slot) (story.map_runs slot) (v.maps slot)
+
+story_heard : (device : DeviceSeen) (story : Story) (slot : ℕ) → StoryIsValid device story → All (RunIsHeard device story.desk.mixed) (mixed_runs device story slot)
+story_heard device story slot v =
+    by-number (All (RunIsHeard device story.desk.mixed)) device story.runs story.map_runs slot (λ at. play_heard device story at v) (λ at. map_heard device story at v)
+
+-- a mapped run is never short
+story_whole : (device : DeviceSeen) (story : Story) (slot : ℕ) → StoryIsValid device story → HasNoShortage story → All IsUnbroken (mixed_runs device story slot)
+story_whole device story slot v unbroken = by-number (All IsUnbroken) device story.runs story.map_runs slot unbroken (λ at. (v.maps at).whole)
 
 -- and stands in its place
 pub story-in_place : (device : DeviceSeen) (story : Story) (slot : ℕ) → StoryIsValid device story → All (λ (run : Run). IsUnbroken run → IsInPlace device story.desk.mixed run) (story.runs slot)
 story-in_place device story slot v =
-    All-weaker (RunIsHeard device story.desk.mixed) (λ (run : Run). IsUnbroken run → IsInPlace device story.desk.mixed run) (λ run h. heard-in_place device story.desk.mixed run h) (story.runs slot) (story_heard device story slot v)
+    All-weaker (RunIsHeard device story.desk.mixed) (λ (run : Run). IsUnbroken run → IsInPlace device story.desk.mixed run) (λ run h. heard-in_place device story.desk.mixed run h) (story.runs slot) (play_heard device story slot v)
+
+-- a mapped run stands so whatever happened, and none of its pieces is short
+pub map-in_place : (device : DeviceSeen) (story : Story) (slot : ℕ) → StoryIsValid device story → All (λ (run : Run). IsUnbroken run × IsInPlace device story.desk.mixed run) (story.map_runs slot)
+map-in_place device story slot v = both (story.map_runs slot) (map_heard device story slot v) (v.maps slot).whole
+  where
+    both : (runs : List Run) → All (RunIsHeard device story.desk.mixed) runs → All IsUnbroken runs → All (λ (run : Run). IsUnbroken run × IsInPlace device story.desk.mixed run) runs
+    both [] h w = All-nil (λ (run : Run). IsUnbroken run × IsInPlace device story.desk.mixed run)
+    both (run ∷ runs) h w =
+        let whole = All-head IsUnbroken run runs w in
+        All-cons (λ (r : Run). IsUnbroken r × IsInPlace device story.desk.mixed r) run runs
+        (whole, heard-in_place device story.desk.mixed run (All-head (RunIsHeard device story.desk.mixed) run runs h) whole)
+        (both runs (All-tail (RunIsHeard device story.desk.mixed) run runs h) (All-tail IsUnbroken run runs w))
 
 -- what the runs of a story without a shortage give is told by their starts and ends
 pub table_of-plain : (device : DeviceSeen) (story : Story) (slot position : ℕ) → StoryIsValid device story → HasNoShortage story → table_of device story slot position ≡ plain_table device story slot position
 table_of-plain device story slot position v unbroken =
-    sounding-spans device (last_gain (story.gains slot) position) story.desk.mixed position (story.runs slot) (story_heard device story slot v) (unbroken slot)
+    sounding-spans device (last_gain (mixed_gains device story slot) position) story.desk.mixed position (mixed_runs device story slot) (story_heard device story slot v)
+    (story_whole device story slot v unbroken)
 
 -- and so are the bytes that were handed over
 pub plain-body : (device : DeviceSeen) (story : Story) → StoryIsValid device story → HasNoShortage story → device_body device story ≡ device_body_of device (plain_table device story) story.desk.handed
@@ -54,13 +79,13 @@ same_gain device one other position (Some span) same = ap (λ (gain : Gain). Som
 alike_tables : (device : DeviceSeen) (until : ℕ) (one other : Story) → until ≤ one.desk.mixed → until ≤ other.desk.mixed → StoryIsValid device one → StoryIsValid device other → HasNoShortage one → HasNoShortage other
     → SoundAlike device until one other → (slot position : ℕ) → position < until → table_of device one slot position ≡ table_of device other slot position
 alike_tables device until one other first second v w unbroken whole alike slot position h =
-    let gain : Gain = last_gain (one.gains slot) position in
-    let same : Gain = last_gain (other.gains slot) position in
+    let gain : Gain = last_gain (mixed_gains device one slot) position in
+    let same : Gain = last_gain (mixed_gains device other slot) position in
     table_of-plain device one slot position v unbroken
-    ∙ spans-earlier device gain until one.desk.mixed position (one.runs slot) h first
-    ∙ same_gain device gain same position (span_at (spans_of device until (one.runs slot)) position) (alike.gains slot position)
+    ∙ spans-earlier device gain until one.desk.mixed position (mixed_runs device one slot) h first
+    ∙ same_gain device gain same position (span_at (spans_of device until (mixed_runs device one slot)) position) (alike.gains slot position)
     ∙ ap (λ (spans : List Span). option_map (span_frame device same position) (span_at spans position)) (alike.spans slot)
-    ∙ sym (spans-earlier device same until other.desk.mixed position (other.runs slot) h second)
+    ∙ sym (spans-earlier device same until other.desk.mixed position (mixed_runs device other slot) h second)
     ∙ sym (table_of-plain device other slot position w whole)
 
 -- the front of the device's frames is there once as many were handed over

@@ -5,18 +5,21 @@ use Rattle.std.proofs.lemmas.List.{drop-append-le, length-drop, take-append-le, 
 use Rattle.std.proofs.lemmas.List.Elements.{All-cons, All-head, All-nil, All-tail}
 use Rattle.pcm_format.specs.Frames.{Frame}
 use Rattle.pcm_oss.specs.declared.event.Event.{Event}
-use Rattle.pcm_oss.specs.declared.event.Event.TheVariants.{Open, Write, Read, Ioctl, Join, StartGroup, Close, Intr}
+use Rattle.pcm_oss.specs.declared.event.Event.TheVariants.{Open, Write, Poke, Read, Ioctl, Join, StartGroup, Close, Intr}
 use Rattle.pcm_wave.specs.declared.pool.Pool.{Pool}
 use Rattle.pcm_wave.specs.declared.pool.Source.{Source}
 use Rattle.pcm_wave.specs.declared.pool.Source.TheVariants.{Inline, File}
 use Rattle.pcm_wave.specs.Pools.{HasBytes, body_in, bytes_at, capture_frames, file_at, frames_in, source_bytes}
 use Rattle.pcm_desk.specs.declared.play_book.PlayBook.{PlayBook}
 use Rattle.pcm_desk.specs.declared.record_book.RecordBook.{RecordBook}
+use Rattle.pcm_desk.specs.declared.map_book.MapBook.{MapBook}
 use Rattle.pcm_desk.specs.Device.{DeviceSeen}
 use Rattle.pcm_desk.specs.RecordBooks.{is_running, keeping}
-use Rattle.pcm_desk.specs.Desk.{Desk, after, play_at, held_by, record_at, record_rate_at}
+use Rattle.pcm_desk.specs.Desk.{Desk, after, map_at, play_at, held_by, record_at, record_rate_at}
 use Rattle.pcm_desk.specs.Events.{Fits}
-use Rattle.pcm_sound.specs.Gains.{gains_after}
+use Rattle.pcm_sound.specs.Areas.{holds_map, poked, silences, silent_area, written_by}
+use Rattle.pcm_sound.specs.Gains.{gains_after, map_loudness, play_loudness}
+use Rattle.pcm_sound.specs.MapRuns.{map_runs_after}
 use Rattle.pcm_sound.specs.Given.{recorded_bytes}
 use Rattle.pcm_sound.specs.Pools.{AreAlike, BringsAlike, IsLonger}
 use Rattle.pcm_sound.specs.Recordings.{Recording, going_on, loses, recording_from, starts_recording}
@@ -47,6 +50,7 @@ runs_alike device one other desk (Write fd source at count) slot runs same =
     let new : PlayBook = play_at device (after device desk (Write fd source at count)).desk slot in
     ap (λ (bytes : List ℕ). marking desk.mixed (Write fd source at count) old new (taking bytes old runs))
     (bytes_alike one other source at count (new.written - old.written) same (grows_within count old new ((writes-write_on device (held_by desk fd) desk count).slots slot)))
+runs_alike device one other desk (Poke fd offset at count) slot runs same = refl
 runs_alike device one other desk (Read fd count) slot runs same = refl
 runs_alike device one other desk (Ioctl fd request) slot runs same = refl
 runs_alike device one other desk (Join fd group) slot runs same = refl
@@ -54,10 +58,23 @@ runs_alike device one other desk (StartGroup fd group) slot runs same = refl
 runs_alike device one other desk (Close fd) slot runs same = refl
 runs_alike device one other desk (Intr n) slot runs same = refl
 
+-- what is written into the area of a slot
+written_alike : (one other : Pool) (desk : Desk) (event : Event) (slot : ℕ) (area : List ℕ) → BringsAlike one other event → written_by other desk event slot area ≡ written_by one desk event slot area
+written_alike one other desk (Open fd way settings) slot area same = refl
+written_alike one other desk (Write fd source at count) slot area same = refl
+written_alike one other desk (Poke fd offset at count) slot area same = ap (λ (bytes : List ℕ). cond (holds_map (held_by desk fd) slot) (poked offset bytes area) area) same
+written_alike one other desk (Read fd count) slot area same = refl
+written_alike one other desk (Ioctl fd request) slot area same = refl
+written_alike one other desk (Join fd group) slot area same = refl
+written_alike one other desk (StartGroup fd group) slot area same = refl
+written_alike one other desk (Close fd) slot area same = refl
+written_alike one other desk (Intr n) slot area same = refl
+
 -- the recording of a slot
 pub going-alike : (device : DeviceSeen) (one other : Pool) (event : Event) (old new : RecordBook) (recording : Recording) → capture_frames other ≡ capture_frames one → going_on device other event old new recording ≡ going_on device one event old new recording
 going-alike device one other (Open fd way settings) old new recording same = refl
 going-alike device one other (Write fd source at count) old new recording same = refl
+going-alike device one other (Poke fd offset at count) old new recording same = refl
 going-alike device one other (Read fd count) old new recording same = refl
 going-alike device one other (Ioctl fd request) old new recording same = refl
 going-alike device one other (Join fd group) old new recording same = refl
@@ -74,7 +91,13 @@ told-alike : (device : DeviceSeen) (one other : Pool) (story : Story) (event : E
 told-alike device one other story event brings captured = λ i. record {
   desk = (after device story.desk event).desk;
   runs = λ slot. runs_alike device one other story.desk event slot (story.runs slot) brings i;
-  gains = λ slot. gains_after story.desk.mixed (play_at device story.desk slot) (play_at device (after device story.desk event).desk slot) (story.gains slot);
+  gains = λ slot. gains_after story.desk.mixed (play_loudness (play_at device story.desk slot)) (play_loudness (play_at device (after device story.desk event).desk slot)) (story.gains slot);
+  map_runs = λ slot. map_runs_after device story.desk event (map_at device story.desk slot) (map_at device (after device story.desk event).desk slot) (story.areas slot) (story.map_runs slot);
+  map_gains = λ slot. gains_after story.desk.mixed (map_loudness (map_at device story.desk slot)) (map_loudness (map_at device (after device story.desk event).desk slot)) (story.map_gains slot);
+  areas = λ slot. (
+      let old : MapBook = map_at device story.desk slot in
+      let new : MapBook = map_at device (after device story.desk event).desk slot in
+      cond (silences old new) (silent_area new.opening) (written_alike one other story.desk event slot (story.areas slot) brings i));
   recordings = λ slot. (
       let old : RecordBook = record_at device story.desk slot in
       let new : RecordBook = record_at device (after device story.desk event).desk slot in
@@ -126,6 +149,7 @@ longer_bytes one other (File place) at count l has = ap (λ files. take count (d
 longer_brings : (device : DeviceSeen) (one other : Pool) (event : Event) → IsLonger one other → Fits device one event → BringsAlike one other event
 longer_brings device one other (Open fd way settings) l fits = tt
 longer_brings device one other (Write fd source at count) l fits = longer_bytes one other source at count l fits.2
+longer_brings device one other (Poke fd offset at count) l fits = longer_bytes one other Inline at count l fits.2
 longer_brings device one other (Read fd count) l fits = tt
 longer_brings device one other (Ioctl fd request) l fits = tt
 longer_brings device one other (Join fd group) l fits = tt
@@ -160,6 +184,7 @@ longer_has one other (File place) at count l has = record {
 pub longer-fits : (device : DeviceSeen) (one other : Pool) (event : Event) → IsLonger one other → Fits device one event → Fits device other event
 longer-fits device one other (Open fd way settings) l fits = fits
 longer-fits device one other (Write fd source at count) l fits = (fits.0, fits.1, longer_has one other source at count l fits.2)
+longer-fits device one other (Poke fd offset at count) l fits = (fits.0, fits.1, longer_has one other Inline at count l fits.2)
 longer-fits device one other (Read fd count) l fits = fits
 longer-fits device one other (Ioctl fd request) l fits = fits
 longer-fits device one other (Join fd group) l fits = fits

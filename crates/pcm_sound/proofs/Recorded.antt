@@ -6,9 +6,9 @@ use Rattle.std.proofs.lemmas.List.Elements.{All-head, All-tail}
 use Rattle.std.proofs.lemmas.List.{append-nil}
 use Rattle.pcm_format.specs.declared.settings.Settings.{Settings}
 use Rattle.pcm_oss.specs.declared.event.Event.{Event}
-use Rattle.pcm_oss.specs.declared.event.Event.TheVariants.{Open, Write, Read, Ioctl, Join, StartGroup, Close, Intr}
+use Rattle.pcm_oss.specs.declared.event.Event.TheVariants.{Open, Write, Poke, Read, Ioctl, Join, StartGroup, Close, Intr}
 use Rattle.pcm_oss.specs.declared.event.Way.{Way}
-use Rattle.pcm_oss.specs.declared.event.Way.TheVariants.{Play, Record}
+use Rattle.pcm_oss.specs.declared.event.Way.TheVariants.{Play, Record, Map}
 use Rattle.pcm_oss.specs.declared.reply.Answer.TheVariants.{Got}
 use Rattle.pcm_oss.specs.declared.reply.Errno.TheVariants.{Again, Exist, Inval}
 use Rattle.pcm_oss.specs.declared.request.Request.{Request}
@@ -28,8 +28,10 @@ use Rattle.pcm_desk.specs.PlayBooks.{write_turn}
 use Rattle.pcm_desk.specs.RecordBooks as records
 use Rattle.pcm_desk.specs.RecordBooks.{captures, is_running, read_turn, record_begun, record_fill_of}
 use Rattle.pcm_desk.specs.RecordRequests.{record_ask}
+use Rattle.pcm_desk.specs.MapBooks.{poke_turn}
+use Rattle.pcm_desk.specs.MapRequests.{map_ask}
 use Rattle.pcm_desk.specs.RecordSafe.{IsRecordInOrder, IsRecordUnstarted, RecordIsSafe}
-use Rattle.pcm_desk.specs.Desk.{Desk, DeskTurn, after, asking, both_bits, by_way, close_on, close_play, close_record, desk_here, held_by, interrupt_turn, ioctl_on, join_on, left, record_starting, request_on, start_on, least_free_play, least_free_record, open_play, open_record, open_turn, play_turn, read_on, record_at, record_rate_at, record_turn, record_unopened, refusing, turning, with_record, write_on}
+use Rattle.pcm_desk.specs.Desk.{Desk, DeskTurn, after, asking, both_bits, by_way, close_map, close_on, close_play, close_record, desk_here, held_by, interrupt_turn, ioctl_on, join_on, left, record_starting, request_on, start_on, least_free_map, least_free_play, least_free_record, map_turn, open_map, open_play, open_record, open_turn, play_turn, poke_on, read_on, record_at, record_rate_at, record_turn, record_unopened, refusing, turning, with_record, write_on}
 use Rattle.pcm_desk.specs.Events.{Fits, frames_taken}
 use Rattle.pcm_desk.proofs.Grouping.{by-asking, by-joining, by-starting, record_at-started}
 use Rattle.pcm_desk.proofs.RecordAsking.{record-ask-rate, record-ask-settings}
@@ -187,44 +189,57 @@ all-open_play : (device : DeviceSeen) (found : Option ℕ) (desk : Desk) (fd : �
 all-open_play device None desk fd settings = all-same device desk desk refl
 all-open_play device (Some at) desk fd settings = all-same device desk (open_play (Some at) desk fd settings).desk refl
 
+all-open_map : (device : DeviceSeen) (found : Option ℕ) (desk : Desk) (fd : ℕ) (settings : Settings) → AllTurned device desk (open_map found desk fd settings).desk
+all-open_map device None desk fd settings = all-same device desk desk refl
+all-open_map device (Some at) desk fd settings = all-same device desk (open_map (Some at) desk fd settings).desk refl
+
 all-open_way : (device : DeviceSeen) (desk : Desk) (fd : ℕ) (way : Way) (settings : Settings) → IsRate settings.rate
-    → AllTurned device desk (by_way way (open_play (least_free_play desk.play) desk fd settings) (open_record (least_free_record desk.recording) desk fd settings)).desk
+    → AllTurned device desk (by_way way (open_play (least_free_play desk.play) desk fd settings) (open_record (least_free_record desk.recording) desk fd settings) (open_map (least_free_map desk.mapped) desk fd settings)).desk
 all-open_way device desk fd Play settings rate = all-open_play device (least_free_play desk.play) desk fd settings
 all-open_way device desk fd Record settings rate = all-open_record device (least_free_record desk.recording) desk fd settings rate
+all-open_way device desk fd Map settings rate = all-open_map device (least_free_map desk.mapped) desk fd settings
 
 pub all-open : (device : DeviceSeen) (desk : Desk) (fd : ℕ) (way : Way) (settings : Settings) → IsRate settings.rate → AllTurned device desk (open_turn desk fd way settings).desk
 all-open device desk fd way settings rate =
-    elim (is_some (held_by desk fd)) as (λ (b : Bool). AllTurned device desk (cond {A = DeskTurn} b (refusing desk Exist) (by_way way (open_play (least_free_play desk.play) desk fd settings) (open_record (least_free_record desk.recording) desk fd settings))).desk) [
+    elim (is_some (held_by desk fd)) as (λ (b : Bool). AllTurned device desk (cond {A = DeskTurn} b (refusing desk Exist) (by_way way (open_play (least_free_play desk.play) desk fd settings) (open_record (least_free_record desk.recording) desk fd settings) (open_map (least_free_map desk.mapped) desk fd settings))).desk) [
       | true ↦ all-same device desk desk refl
       | false ↦ all-open_way device desk fd way settings rate
     ]
 
 -- an event of a descriptor, whatever it does to a channel of each way
-all-turning : (device : DeviceSeen) (desk : Desk) (play recording : ℕ → DeskTurn) (held : Option Held) → ((slot : ℕ) → AllTurned device desk (play slot).desk) → ((slot : ℕ) → AllTurned device desk (recording slot).desk)
-    → AllTurned device desk (turning play recording held desk).desk
-all-turning device desk play recording None p r = all-same device desk desk refl
-all-turning device desk play recording (Some held) p r =
-    elim held.way as (λ (way : Way). AllTurned device desk (by_way way (play held.slot) (recording held.slot)).desk) [
+all-turning : (device : DeviceSeen) (desk : Desk) (play recording mapped : ℕ → DeskTurn) (held : Option Held) → ((slot : ℕ) → AllTurned device desk (play slot).desk) → ((slot : ℕ) → AllTurned device desk (recording slot).desk)
+    → ((slot : ℕ) → AllTurned device desk (mapped slot).desk) → AllTurned device desk (turning play recording mapped held desk).desk
+all-turning device desk play recording mapped None p r m = all-same device desk desk refl
+all-turning device desk play recording mapped (Some held) p r m =
+    elim held.way as (λ (way : Way). AllTurned device desk (by_way way (play held.slot) (recording held.slot) (mapped held.slot)).desk) [
       | Play ↦ p held.slot
       | Record ↦ r held.slot
+      | Map ↦ m held.slot
     ]
+
+pub all-poke : (device : DeviceSeen) (held : Option Held) (desk : Desk) (offset count : ℕ) → AllTurned device desk (poke_on device held desk offset count).desk
+all-poke device held desk offset count =
+    all-turning device desk (λ slot. refusing desk Inval) (λ slot. refusing desk Inval) (map_turn device (poke_turn offset count) desk) held
+    (λ slot. all-same device desk desk refl) (λ slot. all-same device desk desk refl) (λ slot. all-same device desk (map_turn device (poke_turn offset count) desk slot).desk refl)
 
 pub all-write : (device : DeviceSeen) (held : Option Held) (desk : Desk) (count : ℕ) → AllTurned device desk (write_on device held desk count).desk
 all-write device held desk count =
-    all-turning device desk (play_turn device (write_turn (desk_here device desk) count) desk) (λ slot. refusing desk Inval) held
-    (λ slot. all-same device desk (play_turn device (write_turn (desk_here device desk) count) desk slot).desk refl) (λ slot. all-same device desk desk refl)
+    all-turning device desk (play_turn device (write_turn (desk_here device desk) count) desk) (λ slot. refusing desk Inval) (λ slot. refusing desk Inval) held
+    (λ slot. all-same device desk (play_turn device (write_turn (desk_here device desk) count) desk slot).desk refl) (λ slot. all-same device desk desk refl) (λ slot. all-same device desk desk refl)
 
 pub all-ioctl : (device : DeviceSeen) (held : Option Held) (desk : Desk) (request : Request) → AllTurned device desk (ioctl_on device held desk request).desk
 all-ioctl device held desk request =
-    all-turning device desk (play_turn device (asking device (desk_here device desk) request) desk) (record_turn device (record_ask request) desk) held
+    all-turning device desk (play_turn device (asking device (desk_here device desk) request) desk) (record_turn device (record_ask request) desk) (map_turn device (map_ask request) desk) held
     (λ slot. all-same device desk (play_turn device (asking device (desk_here device desk) request) desk slot).desk refl)
     (λ slot. all-with device desk slot (record_ask request (record_at device desk slot)).book (turned-asked device request (record_at device desk slot)))
+    (λ slot. all-same device desk (map_turn device (map_ask request) desk slot).desk refl)
 
 pub all-close : (device : DeviceSeen) (held : Option Held) (desk : Desk) (fd : ℕ) → AllTurned device desk (close_on device held desk fd).desk
 all-close device held desk fd =
-    all-turning device desk (close_play device desk fd) (close_record device desk fd) held
+    all-turning device desk (close_play device desk fd) (close_record device desk fd) (close_map device desk fd) held
     (λ slot. all-same device desk (close_play device desk fd slot).desk refl)
     (λ slot. all-with device desk slot (records.closed (record_at device desk slot)) (turned-closed device (record_at device desk slot)))
+    (λ slot. all-same device desk (close_map device desk fd slot).desk refl)
 
 -- ---- groups
 
@@ -314,10 +329,11 @@ read_on_desk : (device : DeviceSeen) (pool : Pool) (held : Option Held) (desk : 
 read_on_desk device pool None desk fd count slot recording v = read-same device pool desk.handed fd count (record_at device desk slot) recording v
 read_on_desk device pool (Some held) desk fd count slot recording v =
     elim held.way as (λ (way : Way).
-    let new : RecordBook = record_at device (by_way way (refusing desk Inval) (record_turn device (read_turn count) desk held.slot)).desk slot in
+    let new : RecordBook = record_at device (by_way way (refusing desk Inval) (record_turn device (read_turn count) desk held.slot) (refusing desk Inval)).desk slot in
     RecordingIsValid device pool desk.handed new (recording_after device pool desk (Read fd count) (record_at device desk slot) new recording)) [
       | Play ↦ read-same device pool desk.handed fd count (record_at device desk slot) recording v
       | Record ↦ read_desk device pool desk fd count held.slot slot recording v
+      | Map ↦ read-same device pool desk.handed fd count (record_at device desk slot) recording v
     ]
 
 captured_at : (device : DeviceSeen) (pool : Pool) (handed n : ℕ) (state : RecordState) (book : RecordBook) (recording : Recording) → book.state ≡ state → IsDevice device → IsCaptureIn (device_settings device).layout pool
@@ -356,6 +372,8 @@ recordings-told device pool story (Open fd way settings) d is fits v =
     turned-story device pool story (Open fd way settings) (all-open device story.desk fd way settings fits.1) (handed_same device story.desk (Open fd way settings) refl) (λ slot. refl) v
 recordings-told device pool story (Write fd source at count) d is fits v =
     turned-story device pool story (Write fd source at count) (all-write device (held_by story.desk fd) story.desk count) (handed_same device story.desk (Write fd source at count) refl) (λ slot. refl) v
+recordings-told device pool story (Poke fd offset at count) d is fits v =
+    turned-story device pool story (Poke fd offset at count) (all-poke device (held_by story.desk fd) story.desk offset count) (handed_same device story.desk (Poke fd offset at count) refl) (λ slot. refl) v
 recordings-told device pool story (Read fd count) d is fits v = λ slot.
     let new : RecordBook = record_at device (read_on device (held_by story.desk fd) story.desk count).desk slot in
     subst (λ (n : ℕ). RecordingIsValid device pool n new ((told device pool story (Read fd count)).recordings slot)) (sym (handed_same device story.desk (Read fd count) refl))

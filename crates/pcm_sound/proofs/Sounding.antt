@@ -1,7 +1,8 @@
 -- What the runs of a slot give at a position, while the slot's story goes on.
-use Rattle.std.proofs.Common.{◌≡◌, ℕ, ◌+◌, ◌-◌, ◌<◌, ◌≤◌, Bool, true, false, cond, eqb, List, [], ◌∷◌, ◌++◌, length, map, Option, Some, None, refl, sym, ap, ◌∙◌, subst, arith, All, length-append, zero-add}
+use Rattle.std.proofs.Common.{◌≡◌, ℕ, ◌+◌, ◌-◌, ◌<◌, ◌≤◌, Bool, true, false, cond, eqb, List, [], ◌∷◌, ◌++◌, length, map, take, Option, Some, None, refl, sym, ap, ◌∙◌, subst, arith, All, length-append, zero-add}
 use Rattle.std.specs.Prelude.{find, ◌&&◌, nat_lt, nat_le}
 use Rattle.std.specs.List.{range_with_len}
+use Rattle.std.proofs.lemmas.List.{take-append-le}
 use Rattle.std.proofs.lemmas.List.Elements.{All-head, All-tail}
 use Rattle.std.proofs.lemmas.Bool.Decides.{nat_tests}
 use Rattle.pcm_format.specs.declared.settings.Settings.{Settings}
@@ -20,7 +21,7 @@ use Rattle.pcm_desk.specs.Device.{DeviceSeen, IsDevice, filters_of, play_plan_be
 use Rattle.pcm_desk.specs.PlayBooks.{giving, is_draining, is_started}
 use Rattle.pcm_desk.specs.Desk.{play_rate_at}
 use Rattle.pcm_sound.specs.Given.{given_frame}
-use Rattle.pcm_sound.specs.Gains.{GainSet, book_gain, gains_after, last_gain, sets_volume}
+use Rattle.pcm_sound.specs.Gains.{GainSet, Loudness, gains_after, last_gain, loudness_gain, sets_volume}
 use Rattle.pcm_sound.specs.Runs.{Piece, Run, begun_run, piece_of, taking, playing, marking, covers, run_frames, piece_frame, first_of, sounding}
 use Rattle.pcm_sound.specs.Valid.{PieceIsValid, RunIsValid, SlotIsValid, HasRate, frames_given, given_in}
 
@@ -47,6 +48,11 @@ frames-append settings bytes more =
     ∙ ap (λ list. list ++ frames_added settings bytes more)
     (map-range-same (frame_at settings (bytes ++ more)) (frame_at settings bytes) before
     (λ k below. frame_at-append settings bytes more k (frame_fits settings (length bytes) k below)))
+
+-- so more bytes behind leave the frames before them
+pub frames-front : (settings : Settings) (bytes more : List ℕ) (n : ℕ) → n ≤ whole_frames settings (length bytes) → take n (frames settings (bytes ++ more)) ≡ take n (frames settings bytes)
+frames-front settings bytes more n within =
+    ap (take n) (frames-append settings bytes more) ∙ take-append-le n (frames settings bytes) (frames_added settings bytes more) (omega (arith, length-frames settings bytes))
 
 -- what whole frames gave stays once more bytes came, where it was allowed without these
 pub given_frame-append : (device : DeviceSeen) (gain : Gain) (settings : Settings) (bytes more : List ℕ) (k : ℕ) → IsDevice device → IsRate settings.rate
@@ -112,8 +118,8 @@ piece_frame-append device gain mixed p settings bytes more (piece ∷ pieces) d 
     (piece_frame-append device gain mixed p settings bytes more pieces d s (All-tail (IsAllowed device mixed settings bytes) piece pieces v))
 
 -- the pieces of a run that may still grow lie among the frames that its bytes allow
-open_pieces : (device : DeviceSeen) (mixed : ℕ) (run : Run) → run.drained ≡ false → RunIsValid device mixed run → All (IsAllowed device mixed run.settings run.bytes) run.pieces
-open_pieces device mixed run more v =
+pub open-pieces : (device : DeviceSeen) (mixed : ℕ) (run : Run) → run.drained ≡ false → RunIsValid device mixed run → All (IsAllowed device mixed run.settings run.bytes) run.pieces
+open-pieces device mixed run more v =
     subst (λ (drained : Bool). All (PieceIsValid mixed (frames_given (play_rate_between device run.settings) drained (whole_frames run.settings (length run.bytes)))) run.pieces) more v
 
 sounding-taking_at : (b : Bool) (device : DeviceSeen) (gain : Gain) (mixed p byte : ℕ) (bytes : List ℕ) (book : PlayBook) (run : Run) (runs : List Run) → eqb book.written 0 ≡ b → IsDevice device
@@ -125,7 +131,7 @@ sounding-taking_at false device gain mixed p byte bytes book run runs e d v more
     let newest = v.newest above in
     ap (λ (given : Option Frame). first_of given (sounding device gain runs p))
     (piece_frame-append device gain mixed p run.settings run.bytes (byte ∷ bytes) run.pieces d (All-head HasRate run runs v.own)
-    (open_pieces device mixed run (newest.2 ∙ more) (All-head (RunIsValid device mixed) run runs v.pieces)))
+    (open-pieces device mixed run (newest.2 ∙ more) (All-head (RunIsValid device mixed) run runs v.pieces)))
 
 -- what a slot gave stays once more bytes came, which only come while its book doesn't drain
 pub sounding-taking : (device : DeviceSeen) (gain : Gain) (mixed p : ℕ) (bytes : List ℕ) (book : PlayBook) (runs : List Run) → IsDevice device → SlotIsValid device mixed book runs
@@ -175,10 +181,10 @@ sounding-playing_none device gain position n k book (run ∷ runs) v h =
     ]
 
 -- a gain that is set later doesn't count at a position of the past
-pub last_gain-later : (position p : ℕ) (old new : PlayBook) (gains : List GainSet) → p < position → last_gain (gains_after position old new gains) p ≡ last_gain gains p
+pub last_gain-later : (position p : ℕ) (old new : Loudness) (gains : List GainSet) → p < position → last_gain (gains_after position old new gains) p ≡ last_gain gains p
 last_gain-later position p old new gains h =
     let later : nat_le position p ≡ false = grind (arith, nat_tests) in
-    elim (sets_volume old new) as (λ (b : Bool). last_gain (cond b (record { position = position; gain = book_gain new } ∷ gains) gains) p ≡ last_gain gains p) [
+    elim (sets_volume old new) as (λ (b : Bool). last_gain (cond b (record { position = position; gain = loudness_gain new } ∷ gains) gains) p ≡ last_gain gains p) [
       | true ↦ rw later refl
       | false ↦ refl
     ]

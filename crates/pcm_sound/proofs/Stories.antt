@@ -1,6 +1,6 @@
 -- A story stays valid through every event that fits, and what was mixed stays as it was.
 use Rattle.std.proofs.Common.{◌≡◌, ℕ, suc, zero, ◌+◌, ◌-◌, ◌<◌, ◌≤◌, Bool, true, false, cond, List, [], ◌∷◌, ◌++◌, length, get_or, drop, replicate, Option, Some, None, inl, inr, refl, sym, ap, ◌∙◌, subst, arith, All, length-take, length-drop}
-use Rattle.std.specs.Prelude.{is_some, nat_le, not, eqb}
+use Rattle.std.specs.Prelude.{is_some, nat_le, nat_lt, not, eqb}
 use Rattle.std.proofs.lemmas.List.{get_or_past, get_or-replicate, length-replicate}
 use Rattle.std.proofs.lemmas.Bool.{cases_lt, eqb-true, not-false, or_parts}
 use Rattle.std.proofs.lemmas.Bool.Decides.{nat_tests}
@@ -8,9 +8,9 @@ use Rattle.std.proofs.lemmas.List.Elements.{All-head, All-nil, All-tail}
 use Rattle.std.proofs.lemmas.List.Quantifiers.{position-Some}
 use Rattle.pcm_format.specs.declared.settings.Settings.{Settings}
 use Rattle.pcm_oss.specs.declared.event.Event.{Event}
-use Rattle.pcm_oss.specs.declared.event.Event.TheVariants.{Open, Write, Read, Ioctl, Join, StartGroup, Close, Intr}
+use Rattle.pcm_oss.specs.declared.event.Event.TheVariants.{Open, Write, Poke, Read, Ioctl, Join, StartGroup, Close, Intr}
 use Rattle.pcm_oss.specs.declared.event.Way.{Way}
-use Rattle.pcm_oss.specs.declared.event.Way.TheVariants.{Play, Record}
+use Rattle.pcm_oss.specs.declared.event.Way.TheVariants.{Play, Record, Map}
 use Rattle.pcm_oss.specs.declared.request.Request.{Request}
 use Rattle.pcm_oss.specs.declared.request.Request.TheVariants.{SetTrigger}
 use Rattle.pcm_wave.specs.declared.pool.Pool.{Pool}
@@ -30,11 +30,14 @@ use Rattle.pcm_desk.specs.declared.record_book.RecordBook.{RecordBook}
 use Rattle.pcm_desk.specs.RecordBooks as records
 use Rattle.pcm_desk.specs.RecordBooks.{record_begun}
 use Rattle.pcm_desk.specs.RecordRequests.{record_ask}
+use Rattle.pcm_desk.specs.declared.map_book.MapBook.{MapBook}
+use Rattle.pcm_desk.specs.MapBooks.{map_begun, map_closed, poke_turn}
+use Rattle.pcm_desk.specs.MapRequests.{map_ask}
 use Rattle.pcm_desk.specs.declared.here.Here.{Here}
-use Rattle.pcm_desk.specs.Device.{DeviceSeen, IsDevice, here_at, mix_settings, mixed_for, play_rate_between, play_slots}
+use Rattle.pcm_desk.specs.Device.{DeviceSeen, IsDevice, here_at, mix_settings, map_slots, mixed_for, play_rate_between, play_slots}
 use Rattle.pcm_desk.specs.PlayBooks.{is_draining, is_play_free, is_started, play_begun, write_turn}
 use Rattle.pcm_desk.specs.PlaySafe.{PlayIsHere, PlayIsSafe}
-use Rattle.pcm_desk.specs.Desk.{Desk, DeskTurn, after, asking, both_bits, by_way, close_on, close_play, close_record, closing, desk_here, group_started, held_by, ioctl_on, join_on, left, least_free_play, least_free_record, mixed_by, mixing, open_play, open_record, open_turn, play_at, play_passing, play_rate_at, play_turn, play_unopened, read_on, record_at, record_turn, refusing, request_on, rests, settling, start_on, turning, with_descriptor, with_play, with_record, write_on}
+use Rattle.pcm_desk.specs.Desk.{Desk, DeskTurn, after, asking, both_bits, by_way, close_map, close_on, close_play, close_record, closing, desk_here, group_started, held_by, ioctl_on, join_on, left, least_free_map, least_free_play, least_free_record, map_at, map_turn, map_unopened, mixed_by, mixing, open_map, open_play, open_record, open_turn, play_at, play_passing, play_rate_at, play_turn, play_unopened, poke_on, read_on, record_at, record_turn, refusing, request_on, rests, settling, start_on, turning, with_descriptor, with_map, with_play, with_record, write_on}
 use Rattle.pcm_desk.specs.Events.{Fits, frames_taken}
 use Rattle.pcm_desk.proofs.Grouping.{by-asking, by-joining, by-starting, play_at-started}
 use Rattle.pcm_desk.proofs.PlayHere.{here-ask, here-begun, here-close, here-settled, here-write, last-refilled}
@@ -43,18 +46,21 @@ use Rattle.pcm_desk.proofs.PlaySafeAsking.{safe-ask}
 use Rattle.pcm_desk.proofs.PlayLeaves.{ask-leaves, close-leaves, close-keeps}
 use Rattle.pcm_desk.proofs.Ratios.{mixed-behind, ratio-between}
 use Rattle.pcm_desk.proofs.Slots.{play_at-passing, play_at-with}
-use Rattle.pcm_sound.specs.Gains.{GainSet, begins, book_gain, last_gain, sets_volume}
+use Rattle.pcm_sound.specs.Gains.{GainSet, Loudness, begins, book_gain, last_gain, loudness_gain, map_gain, map_loudness, play_loudness, sets_volume}
 use Rattle.pcm_sound.specs.Runs.{Run, asks_drop, drops, taking, playing, carrying, marking, sounding}
+use Rattle.pcm_sound.specs.MapRuns.{map_carrying, map_marking}
 use Rattle.pcm_sound.specs.Story.{Story, story_at_start, story_of, told, told_all}
 use Rattle.pcm_sound.specs.DeviceList.{table_of}
 use Rattle.pcm_sound.specs.Places.{SlotIsPlaced}
-use Rattle.pcm_sound.specs.Valid.{RunIsValid, HasRate, SlotIsValid, StoryIsValid}
+use Rattle.pcm_sound.specs.Valid.{RunIsValid, HasRate, MapIsValid, SlotIsValid, StoryIsValid}
 use Rattle.pcm_sound.proofs.Rates.{ask-rate, ask-settings}
 use Rattle.pcm_sound.proofs.Endings.{KeepsGiven, given-ask, given-begun, given-close, given-rest, given-same}
 use Rattle.pcm_sound.proofs.Sounding.{sounding-taking, sounding-playing, sounding-marking, last_gain-later}
 use Rattle.pcm_sound.proofs.Slots.{Accepts, WritesSome, IsUntold, writes-nothing, write_turn-writes, untold-same, untold-empty, untold-taking, untold-leaves, untold-passing, valid-marking, valid-mixing}
 use Rattle.pcm_sound.proofs.Places.{placed-left, placed-taken}
 use Rattle.pcm_sound.proofs.Interrupts.{placed-passing}
+use Rattle.pcm_sound.proofs.MapSlots.{map-marked}
+use Rattle.pcm_sound.proofs.MapStories.{keeps-maps, map-interrupted, map-valid-start, sounding-map_carrying, sounding-map_marking}
 
 -- ---- the counts of a book
 
@@ -225,6 +231,10 @@ leaves-descriptor device mixed dropping old new fd held l = record { order = l.o
 leaves-record : (device : DeviceSeen) (mixed : ℕ) (dropping : Bool) (desk : Desk) (at : ℕ) (book : RecordBook) → LeavesSlots device mixed dropping desk (with_record desk at book)
 leaves-record device mixed dropping desk at book = let l = stays device mixed dropping desk in record { order = l.order; slots = l.slots; given = l.given; handed_same = refl; mixed_same = refl }
 
+-- a mapped book is set
+leaves-map : (device : DeviceSeen) (mixed : ℕ) (dropping : Bool) (desk : Desk) (at : ℕ) (book : MapBook) → LeavesSlots device mixed dropping desk (with_map desk at book)
+leaves-map device mixed dropping desk at book = let l = stays device mixed dropping desk in record { order = l.order; slots = l.slots; given = l.given; handed_same = refl; mixed_same = refl }
+
 -- an open sets the book of the least free slot of its way
 leaves-open_play : (device : DeviceSeen) (mixed : ℕ) (found : Option ℕ) (desk : Desk) (fd : ℕ) (settings : Settings) → IsRate settings.rate → least_free_play desk.play ≡ found → LeavesSlots device mixed false desk (open_play found desk fd settings).desk
 leaves-open_play device mixed None desk fd settings rate e = stays device mixed false desk
@@ -241,41 +251,56 @@ leaves-open_record device mixed (Some at) desk fd settings =
     leaves-descriptor device mixed false desk (with_record desk at (record_begun settings)) fd (Some (record { way = Record; slot = at }))
     (leaves-record device mixed false desk at (record_begun settings))
 
+leaves-open_map : (device : DeviceSeen) (mixed : ℕ) (found : Option ℕ) (desk : Desk) (fd : ℕ) (settings : Settings) → LeavesSlots device mixed false desk (open_map found desk fd settings).desk
+leaves-open_map device mixed None desk fd settings = stays device mixed false desk
+leaves-open_map device mixed (Some at) desk fd settings =
+    leaves-descriptor device mixed false desk (with_map desk at (map_begun settings)) fd (Some (record { way = Map; slot = at }))
+    (leaves-map device mixed false desk at (map_begun settings))
+
 leaves-open_way : (device : DeviceSeen) (mixed : ℕ) (desk : Desk) (fd : ℕ) (way : Way) (settings : Settings) → IsRate settings.rate
-    → LeavesSlots device mixed false desk (by_way way (open_play (least_free_play desk.play) desk fd settings) (open_record (least_free_record desk.recording) desk fd settings)).desk
+    → LeavesSlots device mixed false desk (by_way way (open_play (least_free_play desk.play) desk fd settings) (open_record (least_free_record desk.recording) desk fd settings) (open_map (least_free_map desk.mapped) desk fd settings)).desk
 leaves-open_way device mixed desk fd Play settings rate = leaves-open_play device mixed (least_free_play desk.play) desk fd settings rate refl
 leaves-open_way device mixed desk fd Record settings rate = leaves-open_record device mixed (least_free_record desk.recording) desk fd settings
+leaves-open_way device mixed desk fd Map settings rate = leaves-open_map device mixed (least_free_map desk.mapped) desk fd settings
 
 -- or is refused
 pub leaves-open_turn : (device : DeviceSeen) (mixed : ℕ) (desk : Desk) (fd : ℕ) (way : Way) (settings : Settings) → IsRate settings.rate → LeavesSlots device mixed false desk (open_turn desk fd way settings).desk
 leaves-open_turn device mixed desk fd way settings rate =
-    elim (is_some (held_by desk fd)) as (λ (b : Bool). LeavesSlots device mixed false desk (cond {A = DeskTurn} b (refusing desk Exist) (by_way way (open_play (least_free_play desk.play) desk fd settings) (open_record (least_free_record desk.recording) desk fd settings))).desk) [
+    elim (is_some (held_by desk fd)) as (λ (b : Bool). LeavesSlots device mixed false desk (cond {A = DeskTurn} b (refusing desk Exist) (by_way way (open_play (least_free_play desk.play) desk fd settings) (open_record (least_free_record desk.recording) desk fd settings) (open_map (least_free_map desk.mapped) desk fd settings))).desk) [
       | true ↦ stays device mixed false desk
       | false ↦ leaves-open_way device mixed desk fd way settings rate
     ]
 
 -- an event of a descriptor, whatever it does to a channel of each way
-leaves-turning : (device : DeviceSeen) (mixed : ℕ) (dropping : Bool) (desk : Desk) (play recording : ℕ → DeskTurn) (held : Option Held) → ((slot : ℕ) → LeavesSlots device mixed dropping desk (play slot).desk)
-    → ((slot : ℕ) → LeavesSlots device mixed dropping desk (recording slot).desk) → LeavesSlots device mixed dropping desk (turning play recording held desk).desk
-leaves-turning device mixed dropping desk play recording None p r = stays device mixed dropping desk
-leaves-turning device mixed dropping desk play recording (Some held) p r =
-    elim held.way as (λ (way : Way). LeavesSlots device mixed dropping desk (by_way way (play held.slot) (recording held.slot)).desk) [
+leaves-turning : (device : DeviceSeen) (mixed : ℕ) (dropping : Bool) (desk : Desk) (play recording mapped : ℕ → DeskTurn) (held : Option Held) → ((slot : ℕ) → LeavesSlots device mixed dropping desk (play slot).desk)
+    → ((slot : ℕ) → LeavesSlots device mixed dropping desk (recording slot).desk) → ((slot : ℕ) → LeavesSlots device mixed dropping desk (mapped slot).desk)
+    → LeavesSlots device mixed dropping desk (turning play recording mapped held desk).desk
+leaves-turning device mixed dropping desk play recording mapped None p r m = stays device mixed dropping desk
+leaves-turning device mixed dropping desk play recording mapped (Some held) p r m =
+    elim held.way as (λ (way : Way). LeavesSlots device mixed dropping desk (by_way way (play held.slot) (recording held.slot) (mapped held.slot)).desk) [
       | Play ↦ p held.slot
       | Record ↦ r held.slot
+      | Map ↦ m held.slot
     ]
+
+-- a poke leaves all slots that play
+pub leaves-poke_on : (device : DeviceSeen) (mixed : ℕ) (held : Option Held) (desk : Desk) (offset count : ℕ) → LeavesSlots device mixed false desk (poke_on device held desk offset count).desk
+leaves-poke_on device mixed held desk offset count =
+    leaves-turning device mixed false desk (λ slot. refusing desk Inval) (λ slot. refusing desk Inval) (map_turn device (poke_turn offset count) desk) held (λ slot. stays device mixed false desk)
+    (λ slot. stays device mixed false desk) (λ slot. leaves-map device mixed false desk slot (poke_turn offset count (map_at device desk slot)).book)
 
 -- a read leaves all slots that play
 pub leaves-read_on : (device : DeviceSeen) (mixed : ℕ) (held : Option Held) (desk : Desk) (count : ℕ) → LeavesSlots device mixed false desk (read_on device held desk count).desk
 leaves-read_on device mixed held desk count =
-    leaves-turning device mixed false desk (λ slot. refusing desk Inval) (record_turn device (records.read_turn count) desk) held (λ slot. stays device mixed false desk)
-    (λ slot. leaves-record device mixed false desk slot (records.read_turn count (record_at device desk slot)).book)
+    leaves-turning device mixed false desk (λ slot. refusing desk Inval) (record_turn device (records.read_turn count) desk) (λ slot. refusing desk Inval) held (λ slot. stays device mixed false desk)
+    (λ slot. leaves-record device mixed false desk slot (records.read_turn count (record_at device desk slot)).book) (λ slot. stays device mixed false desk)
 
 -- a request leaves the counts of its book, or nothing of its run
 pub leaves-ioctl_on : (device : DeviceSeen) (mixed : ℕ) (held : Option Held) (desk : Desk) (request : Request) → IsDevice device → HaveRates device desk → LeavesSlots device mixed (asks_drop request) desk (ioctl_on device held desk request).desk
 leaves-ioctl_on device mixed held desk request d rates =
     let here : Here = desk_here device desk in
     let mix_rate : ℕ = (mix_settings device).rate in
-    leaves-turning device mixed (asks_drop request) desk (play_turn device (asking device here request) desk) (record_turn device (record_ask request) desk) held
+    leaves-turning device mixed (asks_drop request) desk (play_turn device (asking device here request) desk) (record_turn device (record_ask request) desk) (map_turn device (map_ask request) desk) held
     (λ slot.
     let book : PlayBook = play_at device desk slot in
     let rate : Rate = play_rate_at device book in
@@ -284,12 +309,13 @@ leaves-ioctl_on device mixed held desk request d rates =
     (λ runs s v. untold-leaves device mixed book asked runs (ask-leaves rate mix_rate here request book s) (ask-rate rate mix_rate here request book v.settings) v)
     (λ s. given-ask rate mix_rate here request book s))
     (λ slot. leaves-record device mixed (asks_drop request) desk slot (record_ask request (record_at device desk slot)).book)
+    (λ slot. leaves-map device mixed (asks_drop request) desk slot (map_ask request (map_at device desk slot)).book)
 
 -- and so does a close
 pub leaves-close_on : (device : DeviceSeen) (mixed : ℕ) (held : Option Held) (desk : Desk) (fd : ℕ) → IsDevice device → HaveRates device desk → LeavesSlots device mixed false desk (close_on device held desk fd).desk
 leaves-close_on device mixed held desk fd d rates =
     let here : Here = desk_here device desk in
-    leaves-turning device mixed false desk (close_play device desk fd) (close_record device desk fd) held
+    leaves-turning device mixed false desk (close_play device desk fd) (close_record device desk fd) (close_map device desk fd) held
     (λ slot.
     let book : PlayBook = play_at device desk slot in
     let rate : Rate = play_rate_at device book in
@@ -302,6 +328,9 @@ leaves-close_on device mixed held desk fd d rates =
     (λ slot.
     let closed : RecordBook = records.closed (record_at device desk slot) in
     leaves-descriptor device mixed false desk (with_record desk slot closed) fd None (leaves-record device mixed false desk slot closed))
+    (λ slot.
+    let closed : MapBook = map_closed (map_at device desk slot) in
+    leaves-descriptor device mixed false desk (with_map desk slot closed) fd None (leaves-map device mixed false desk slot closed))
 
 -- ---- groups
 
@@ -336,6 +365,7 @@ leaves-joined device mixed Play slot desk resting d rates =
     (λ runs s v. untold-leaves device mixed book asked runs (ask-leaves rate mix_rate here (SetTrigger 0) book s) (ask-rate rate mix_rate here (SetTrigger 0) book v.settings) v)
     (λ s. given-rest rate mix_rate here (SetTrigger 0) book s resting)
 leaves-joined device mixed Record slot desk resting d rates = leaves-record device mixed false desk slot (record_ask (SetTrigger 0) (record_at device desk slot)).book
+leaves-joined device mixed Map slot desk resting d rates = leaves-map device mixed false desk slot (map_ask (SetTrigger 0) (map_at device desk slot)).book
 
 pub leaves-join_on : (device : DeviceSeen) (mixed : ℕ) (held : Option Held) (desk : Desk) (group : ℕ) → IsDevice device → HaveRates device desk → LeavesSlots device mixed false desk (join_on device held desk group).desk
 leaves-join_on device mixed held desk group d rates =
@@ -420,9 +450,10 @@ writes_at device desk length at =
 pub writes-write_on : (device : DeviceSeen) (held : Option Held) (desk : Desk) (length : ℕ) → Writes device length desk (write_on device held desk length).desk
 writes-write_on device None desk length = writes_none device desk length
 writes-write_on device (Some held) desk length =
-    elim held.way as (λ (way : Way). Writes device length desk (by_way way (play_turn device (write_turn (desk_here device desk) length) desk held.slot) (refusing desk Inval)).desk) [
+    elim held.way as (λ (way : Way). Writes device length desk (by_way way (play_turn device (write_turn (desk_here device desk) length) desk held.slot) (refusing desk Inval) (refusing desk Inval)).desk) [
       | Play ↦ writes_at device desk length held.slot
       | Record ↦ writes_none device desk length
+      | Map ↦ writes_none device desk length
     ]
 
 -- and books in order
@@ -439,9 +470,10 @@ pub order-write_on : (device : DeviceSeen) (held : Option Held) (desk : Desk) (c
 order-write_on device None desk count slot d rates o = o
 order-write_on device (Some held) desk count slot d rates o =
     let here : Here = desk_here device desk in
-    elim held.way as (λ (way : Way). IsInOrder device here (play_at device (by_way way (play_turn device (write_turn here count) desk held.slot) (refusing desk Inval)).desk slot)) [
+    elim held.way as (λ (way : Way). IsInOrder device here (play_at device (by_way way (play_turn device (write_turn here count) desk held.slot) (refusing desk Inval) (refusing desk Inval)).desk slot)) [
       | Play ↦ order_written_at device desk count held.slot slot d rates o
       | Record ↦ o
+      | Map ↦ o
     ]
 
 -- as many bytes as are asked for are there
@@ -529,6 +561,10 @@ keeps-write device pool story fd source at count h v =
       mixed_same = w.mixed_same;
     }
 
+keeps-poke : (device : DeviceSeen) (pool : Pool) (story : Story) (fd offset at count : ℕ) → StoryIsValid device story → Keeps device pool story (Poke fd offset at count)
+keeps-poke device pool story fd offset at count v =
+    keeps-left device pool story (Poke fd offset at count) (leaves-poke_on device story.desk.mixed (held_by story.desk fd) story.desk offset count) (λ slot. refl) v
+
 keeps-read : (device : DeviceSeen) (pool : Pool) (story : Story) (fd count : ℕ) → StoryIsValid device story → Keeps device pool story (Read fd count)
 keeps-read device pool story fd count v =
     keeps-left device pool story (Read fd count) (leaves-read_on device story.desk.mixed (held_by story.desk fd) story.desk count) (λ slot. refl) v
@@ -553,6 +589,7 @@ keeps-close device pool story fd v =
 pub keeps : (device : DeviceSeen) (pool : Pool) (story : Story) (event : Event) → Fits device pool event → frames_taken event ≡ 0 → StoryIsValid device story → Keeps device pool story event
 keeps device pool story (Open fd way settings) fits none v = keeps-open device pool story fd way settings fits.1 v
 keeps device pool story (Write fd source at count) fits none v = keeps-write device pool story fd source at count fits.2.within v
+keeps device pool story (Poke fd offset at count) fits none v = keeps-poke device pool story fd offset at count v
 keeps device pool story (Read fd count) fits none v = keeps-read device pool story fd count v
 keeps device pool story (Ioctl fd request) fits none v = keeps-ioctl device pool story fd request v
 keeps device pool story (Join fd group) fits none v = keeps-join device pool story fd group v
@@ -561,12 +598,12 @@ keeps device pool story (Close fd) fits none v = keeps-close device pool story f
 keeps device pool story (Intr n) fits none v = absurd (let some = fits.0 in omega arith)
 
 -- a volume that isn't set stays
-same_volume : (old new : PlayBook) → sets_volume old new ≡ false → new.volume ≡ old.volume
+same_volume : (old new : Loudness) → sets_volume old new ≡ false → new.volume ≡ old.volume
 same_volume old new e = eqb-true new.volume old.volume (not-false (eqb new.volume old.volume) (or_parts (begins old new) (not (eqb new.volume old.volume)) e).1)
 
 -- from its position on a gain counts that was set, else the last one
-gain_set : (b : Bool) (position p : ℕ) (old new : PlayBook) (gains : List GainSet) → sets_volume old new ≡ b → position ≤ p → last_gain gains p ≡ book_gain old
-    → last_gain (cond b (record { position = position; gain = book_gain new } ∷ gains) gains) p ≡ book_gain new
+gain_set : (b : Bool) (position p : ℕ) (old new : Loudness) (gains : List GainSet) → sets_volume old new ≡ b → position ≤ p → last_gain gains p ≡ loudness_gain old
+    → last_gain (cond b (record { position = position; gain = loudness_gain new } ∷ gains) gains) p ≡ loudness_gain new
 gain_set true position p old new gains e later h = let here : nat_le position p ≡ true = grind (arith, nat_tests) in rw here refl
 gain_set false position p old new gains e later h = h ∙ ap gain_of (sym (same_volume old new e))
 
@@ -575,9 +612,39 @@ gains-told : (device : DeviceSeen) (pool : Pool) (story : Story) (event : Event)
     → (slot position : ℕ) → (after device story.desk event).desk.mixed ≤ position
     → last_gain ((told device pool story event).gains slot) position ≡ book_gain (play_at device (after device story.desk event).desk slot)
 gains-told device pool story event grows v slot position later =
-    let old : PlayBook = play_at device story.desk slot in
-    let new : PlayBook = play_at device (after device story.desk event).desk slot in
+    let old : Loudness = play_loudness (play_at device story.desk slot) in
+    let new : Loudness = play_loudness (play_at device (after device story.desk event).desk slot) in
     gain_set (sets_volume old new) story.desk.mixed position old new (story.gains slot) refl (omega arith) (v.gains slot position (omega arith))
+
+-- and so has each mapped slot
+map_gains-told : (device : DeviceSeen) (pool : Pool) (story : Story) (event : Event) → story.desk.mixed ≤ (after device story.desk event).desk.mixed → StoryIsValid device story
+    → (slot position : ℕ) → (after device story.desk event).desk.mixed ≤ position
+    → last_gain ((told device pool story event).map_gains slot) position ≡ map_gain (map_at device (after device story.desk event).desk slot)
+map_gains-told device pool story event grows v slot position later =
+    let old : Loudness = map_loudness (map_at device story.desk slot) in
+    let new : Loudness = map_loudness (map_at device (after device story.desk event).desk slot) in
+    gain_set (sets_volume old new) story.desk.mixed position old new (story.map_gains slot) refl (omega arith) (v.map_gains slot position (omega arith))
+
+-- a mapped slot stays valid where its book keeps what it counts and its runs are marked alone
+maps-kept : (device : DeviceSeen) (pool : Pool) (story : Story) (event : Event) → Fits device pool event → frames_taken event ≡ 0 → (after device story.desk event).desk.mixed ≡ story.desk.mixed → StoryIsValid device story
+    → (slot : ℕ) → MapIsValid device (after device story.desk event).desk.mixed (map_at device (after device story.desk event).desk slot) ((told device pool story event).map_runs slot)
+maps-kept device pool story event fits none same v slot =
+    let old : MapBook = map_at device story.desk slot in
+    let new : MapBook = map_at device (after device story.desk event).desk slot in
+    subst (λ (mixed : ℕ). MapIsValid device mixed new ((told device pool story event).map_runs slot)) (sym same)
+    (subst (λ (runs : List Run). MapIsValid device story.desk.mixed new (map_marking story.desk.mixed old new runs)) (sym (untaken event fits none))
+    (map-marked device story.desk.mixed old new (story.map_runs slot) (keeps-maps device pool story.desk event fits none slot) (v.maps slot)))
+  where
+    untaken : (event : Event) → Fits device pool event → frames_taken event ≡ 0 → map_carrying device story.desk event (map_at device story.desk slot) (story.areas slot) (story.map_runs slot) ≡ story.map_runs slot
+    untaken (Open fd way settings) fits none = refl
+    untaken (Write fd source at count) fits none = refl
+    untaken (Poke fd offset at count) fits none = refl
+    untaken (Read fd count) fits none = refl
+    untaken (Ioctl fd request) fits none = refl
+    untaken (Join fd group) fits none = refl
+    untaken (StartGroup fd group) fits none = refl
+    untaken (Close fd) fits none = refl
+    untaken (Intr n) fits none = absurd (let some = fits.0 in omega arith)
 
 -- a slot of the next desk is valid once its newest run was told of the event
 valid-at : (device : DeviceSeen) (pool : Pool) (story : Story) (event : Event) (mixed slot : ℕ) → IsDevice device → (after device story.desk event).desk.mixed ≡ mixed
@@ -590,14 +657,16 @@ valid-at device pool story event mixed slot d same u =
     valid-marking device new.mixed story.desk.mixed event old (play_at device new slot) runs d
     (subst (λ (m : ℕ). IsUntold device m old (play_at device new slot) runs) (sym same) u)
 
-valid-kept : (device : DeviceSeen) (pool : Pool) (story : Story) (event : Event) → Keeps device pool story event → StoryIsValid device story → StoryIsValid device (told device pool story event)
-valid-kept device pool story event k v = record {
+valid-kept : (device : DeviceSeen) (pool : Pool) (story : Story) (event : Event) → Fits device pool event → frames_taken event ≡ 0 → Keeps device pool story event → StoryIsValid device story → StoryIsValid device (told device pool story event)
+valid-kept device pool story event fits none k v = record {
   limits = v.limits;
   slots = λ slot. valid-at device pool story event story.desk.mixed slot v.limits k.mixed_same (k.slots slot);
   safe = λ slot. (k.order slot).counts;
   here = λ slot. subst (λ (handed : ℕ). IsHereAt device (here_at device handed) (play_at device (after device story.desk event).desk slot)) (sym k.handed_same) (k.order slot).place;
   placed = λ slot. subst (λ (mixed : ℕ). SlotIsPlaced device mixed (play_at device (after device story.desk event).desk slot) ((told device pool story event).runs slot)) (sym k.mixed_same) (k.placed slot);
   gains = gains-told device pool story event (let same = k.mixed_same in omega arith) v;
+  maps = maps-kept device pool story event fits none k.mixed_same v;
+  map_gains = map_gains-told device pool story event (let same = k.mixed_same in omega arith) v;
   mixed = k.mixed_same ∙ v.mixed ∙ ap (mixed_for device) (sym k.handed_same);
 }
 
@@ -626,6 +695,7 @@ order-after device pool desk (Write fd source at count) slot d fits rates o =
     let new : Desk = (write_on device (held_by desk fd) desk count).desk in
     subst (λ (handed : ℕ). IsInOrder device (here_at device handed) (play_at device new slot)) (sym (writes-write_on device (held_by desk fd) desk count).handed_same)
     (order-write_on device (held_by desk fd) desk count slot d rates o)
+order-after device pool desk (Poke fd offset at count) slot d fits rates o = order_left device false desk (poke_on device (held_by desk fd) desk offset count).desk slot (leaves-poke_on device 0 (held_by desk fd) desk offset count) o
 order-after device pool desk (Read fd count) slot d fits rates o = order_left device false desk (read_on device (held_by desk fd) desk count).desk slot (leaves-read_on device 0 (held_by desk fd) desk count) o
 order-after device pool desk (Ioctl fd request) slot d fits rates o =
     order_left device (asks_drop request) desk (request_on device (held_by desk fd) desk request).desk slot (leaves-request_on device 0 (held_by desk fd) desk request d rates) o
@@ -647,6 +717,8 @@ valid-interrupted device pool story n v = record {
       (placed-passing device story.desk.mixed q (story.desk.handed + n) n (old slot) (story.runs slot) v.limits (v.slots slot) (v.placed slot)
       (safe-mixing device story.desk.mixed q (old slot) v.limits (v.slots slot).settings (v.safe slot)) (valid slot));
   gains = gains-told device pool story (Intr n) (omega arith) v;
+  maps = λ slot. map-interrupted device story n slot v.limits (v.maps slot);
+  map_gains = map_gains-told device pool story (Intr n) (omega arith) v;
   mixed = ap (λ frames. frames + q) v.mixed ∙ mixed-behind device story.desk.handed n v.limits;
 }
   where
@@ -669,13 +741,14 @@ valid-interrupted device pool story n v = record {
 
 -- a story stays valid through an event that fits
 pub valid-told : (device : DeviceSeen) (pool : Pool) (story : Story) (event : Event) → Fits device pool event → StoryIsValid device story → StoryIsValid device (told device pool story event)
-valid-told device pool story (Open fd way settings) fits v = valid-kept device pool story (Open fd way settings) (keeps-open device pool story fd way settings fits.1 v) v
-valid-told device pool story (Write fd source at count) fits v = valid-kept device pool story (Write fd source at count) (keeps-write device pool story fd source at count fits.2.within v) v
-valid-told device pool story (Read fd count) fits v = valid-kept device pool story (Read fd count) (keeps-read device pool story fd count v) v
-valid-told device pool story (Ioctl fd request) fits v = valid-kept device pool story (Ioctl fd request) (keeps-ioctl device pool story fd request v) v
-valid-told device pool story (Join fd group) fits v = valid-kept device pool story (Join fd group) (keeps-join device pool story fd group v) v
-valid-told device pool story (StartGroup fd group) fits v = valid-kept device pool story (StartGroup fd group) (keeps-start device pool story fd group v) v
-valid-told device pool story (Close fd) fits v = valid-kept device pool story (Close fd) (keeps-close device pool story fd v) v
+valid-told device pool story (Open fd way settings) fits v = valid-kept device pool story (Open fd way settings) fits refl (keeps-open device pool story fd way settings fits.1 v) v
+valid-told device pool story (Write fd source at count) fits v = valid-kept device pool story (Write fd source at count) fits refl (keeps-write device pool story fd source at count fits.2.within v) v
+valid-told device pool story (Poke fd offset at count) fits v = valid-kept device pool story (Poke fd offset at count) fits refl (keeps-poke device pool story fd offset at count v) v
+valid-told device pool story (Read fd count) fits v = valid-kept device pool story (Read fd count) fits refl (keeps-read device pool story fd count v) v
+valid-told device pool story (Ioctl fd request) fits v = valid-kept device pool story (Ioctl fd request) fits refl (keeps-ioctl device pool story fd request v) v
+valid-told device pool story (Join fd group) fits v = valid-kept device pool story (Join fd group) fits refl (keeps-join device pool story fd group v) v
+valid-told device pool story (StartGroup fd group) fits v = valid-kept device pool story (StartGroup fd group) fits refl (keeps-start device pool story fd group v) v
+valid-told device pool story (Close fd) fits v = valid-kept device pool story (Close fd) fits refl (keeps-close device pool story fd v) v
 valid-told device pool story (Intr n) fits v = valid-interrupted device pool story n v
 
 -- each element of copies is the copied one
@@ -701,6 +774,8 @@ valid-start device d = record {
   safe = λ slot. subst (IsSafeAt device) (sym (get_or-same (play_slots device) slot (play_unopened device))) (record { order = unstarted; fill = omega arith; fragments = usual-fragments; volume = refl; told = omega arith });
   placed = λ slot. tt;
   gains = λ slot position l. ap book_gain (sym (get_or-same (play_slots device) slot (play_unopened device)));
+  maps = λ slot. subst (λ (b : MapBook). MapIsValid device 0 b []) (sym (get_or-same (map_slots device) slot (map_unopened device))) (map-valid-start device d);
+  map_gains = λ slot position l. ap map_gain (sym (get_or-same (map_slots device) slot (map_unopened device)));
   mixed = refl;
 }
 
@@ -723,6 +798,7 @@ sounding-carrying device pool story (Write fd source at count) gain slot positio
     let new : PlayBook = play_at device (after device story.desk (Write fd source at count)).desk slot in
     sounding-taking device gain story.desk.mixed position (bytes_at pool source at (new.written - old.written)) old (story.runs slot) v.limits (v.slots slot)
     (written_undrained pool source at count old new ((writes-write_on device (held_by story.desk fd) story.desk count).slots slot))
+sounding-carrying device pool story (Poke fd offset at count) gain slot position v h = refl
 sounding-carrying device pool story (Read fd count) gain slot position v h = refl
 sounding-carrying device pool story (Ioctl fd request) gain slot position v h = refl
 sounding-carrying device pool story (Join fd group) gain slot position v h = refl
@@ -730,15 +806,41 @@ sounding-carrying device pool story (StartGroup fd group) gain slot position v h
 sounding-carrying device pool story (Close fd) gain slot position v h = refl
 sounding-carrying device pool story (Intr n) gain slot position v h = sounding-playing device gain story.desk.mixed (mixed_by device story.desk.handed n) position (play_at device story.desk slot) (story.runs slot) h
 
--- what was mixed stays as it was
-pub table_of-told : (device : DeviceSeen) (pool : Pool) (story : Story) (event : Event) (slot position : ℕ) → StoryIsValid device story → position < story.desk.mixed → table_of device (told device pool story event) slot position ≡ table_of device story slot position
-table_of-told device pool story event slot position v h =
+-- what a slot that plays gave stays as it was
+play_told : (device : DeviceSeen) (pool : Pool) (story : Story) (event : Event) (slot position : ℕ) → StoryIsValid device story → position < story.desk.mixed
+    → let new : Story = told device pool story event in
+    sounding device (last_gain (new.gains slot) position) (new.runs slot) position ≡ sounding device (last_gain (story.gains slot) position) (story.runs slot) position
+play_told device pool story event slot position v h =
     let old : PlayBook = play_at device story.desk slot in
     let new : PlayBook = play_at device (after device story.desk event).desk slot in
     let carried : List Run = carried_at device pool story event slot in
-    ap (λ (gain : Gain). sounding device gain (marking story.desk.mixed event old new carried) position) (last_gain-later story.desk.mixed position old new (story.gains slot) h)
+    ap (λ (gain : Gain). sounding device gain (marking story.desk.mixed event old new carried) position) (last_gain-later story.desk.mixed position (play_loudness old) (play_loudness new) (story.gains slot) h)
     ∙ sounding-marking device (last_gain (story.gains slot) position) story.desk.mixed event old new carried position
     ∙ sounding-carrying device pool story event (last_gain (story.gains slot) position) slot position v h
+
+-- and so does what a mapped slot gave
+map_told : (device : DeviceSeen) (pool : Pool) (story : Story) (event : Event) (slot position : ℕ) → StoryIsValid device story → position < story.desk.mixed
+    → let new : Story = told device pool story event in
+    sounding device (last_gain (new.map_gains slot) position) (new.map_runs slot) position ≡ sounding device (last_gain (story.map_gains slot) position) (story.map_runs slot) position
+map_told device pool story event slot position v h =
+    let old : MapBook = map_at device story.desk slot in
+    let new : MapBook = map_at device (after device story.desk event).desk slot in
+    let carried : List Run = map_carrying device story.desk event old (story.areas slot) (story.map_runs slot) in
+    ap (λ (gain : Gain). sounding device gain (map_marking story.desk.mixed old new carried) position) (last_gain-later story.desk.mixed position (map_loudness old) (map_loudness new) (story.map_gains slot) h)
+    ∙ sounding-map_marking device (last_gain (story.map_gains slot) position) story.desk.mixed old new carried position
+    ∙ sounding-map_carrying device (last_gain (story.map_gains slot) position) story.desk event position old (story.areas slot) (story.map_runs slot) v.limits (v.maps slot) h
+
+-- what was mixed stays as it was
+pub table_of-told : (device : DeviceSeen) (pool : Pool) (story : Story) (event : Event) (slot position : ℕ) → StoryIsValid device story → position < story.desk.mixed → table_of device (told device pool story event) slot position ≡ table_of device story slot position
+table_of-told device pool story event slot position v h =
+    let new : Story = told device pool story event in
+    let at : ℕ = slot - play_slots device in
+    elim (nat_lt slot (play_slots device)) as (λ (b : Bool).
+    sounding device (last_gain (cond b (new.gains slot) (new.map_gains at)) position) (cond b (new.runs slot) (new.map_runs at)) position
+    ≡ sounding device (last_gain (cond b (story.gains slot) (story.map_gains at)) position) (cond b (story.runs slot) (story.map_runs at)) position) [
+      | true ↦ play_told device pool story event slot position v h
+      | false ↦ map_told device pool story event at position v h
+    ]
 
 -- a list of events with one more at its end
 pub told_all-push : (device : DeviceSeen) (pool : Pool) (story : Story) (events : List Event) (event : Event) → told_all device pool story (events ++ event ∷ []) ≡ told device pool (told_all device pool story events) event

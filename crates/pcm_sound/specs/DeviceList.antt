@@ -9,15 +9,15 @@ use Rattle.pcm_format.specs.Layouts.{channels_of}
 use Rattle.pcm_format.specs.Frames.{Frame, spelled_frames}
 use Rattle.pcm_feeder.specs.Streams.{silence}
 use Rattle.pcm_plan.specs.Through.{recs}
-use Rattle.pcm_desk.specs.Device.{DeviceSeen, device_settings, filters_of, full_frame, mix_settings, mixed_for, parent_plan, play_slots, ring_frames}
+use Rattle.pcm_desk.specs.Device.{DeviceSeen, device_settings, filters_of, full_frame, mix_settings, mixed_for, mixed_slots, parent_plan, ring_frames}
 use Rattle.pcm_sound.specs.Gains.{last_gain}
 use Rattle.pcm_sound.specs.Runs.{sounding}
-use Rattle.pcm_sound.specs.Story.{Story, story_of}
+use Rattle.pcm_sound.specs.Story.{Story, mixed_gains, mixed_runs, story_of}
 use Rattle.pcm_sound.specs.Mix.{Table, mix_of}
 
 -- what the runs of a story give
 abbrev pub table_of : DeviceSeen → Story → Table
-table_of device story slot position = sounding device (last_gain (story.gains slot) position) (story.runs slot) position
+table_of device story slot position = sounding device (last_gain (mixed_gains device story slot) position) (mixed_runs device story slot) position
 
 -- a frame of silence in these settings
 abbrev pub silence_in : Settings → Frame
@@ -26,7 +26,7 @@ silence_in settings = silence (channels_of settings.layout)
 -- the mix of a table at a position
 abbrev pub mix_at : DeviceSeen → Table → ℕ → Frame
 mix_at device table position =
-    mix_of (bits_of (mix_settings device).format) (silence_in (mix_settings device)) table (play_slots device) position
+    mix_of (bits_of (mix_settings device).format) (silence_in (mix_settings device)) table (mixed_slots device) position
 
 -- the first frames of a mix, at 32 bits
 abbrev pub mixed_frames : DeviceSeen → (ℕ → Frame) → ℕ → List Frame

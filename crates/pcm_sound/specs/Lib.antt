@@ -1,6 +1,8 @@
 pub mod Given
 pub mod Gains
 pub mod Runs
+pub mod Areas
+pub mod MapRuns
 pub mod Recordings
 pub mod Story
 pub mod StoryReplies

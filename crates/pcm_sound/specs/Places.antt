@@ -1,8 +1,10 @@
 -- Where the pieces of a run stand: they follow each other from its start on, and a run that is over ends behind the last of them.
-use Rattle.std.specs.Prelude.{◌≡◌, ℕ, ◌+◌, ◌<◌, ◌≤◌, true, false, List, [], ◌∷◌, All, Option, Some, None}
+use Rattle.std.specs.Prelude.{◌≡◌, ℕ, ◌+◌, ◌<◌, ◌≤◌, Bool, true, false, List, [], ◌∷◌, All, Option, Some, None}
 use Rattle.pcm_desk.specs.declared.play_book.PlayBook.{PlayBook}
+use Rattle.pcm_desk.specs.declared.map_book.MapBook.{MapBook}
 use Rattle.pcm_desk.specs.Device.{DeviceSeen}
 use Rattle.pcm_desk.specs.PlayBooks.{is_started}
+use Rattle.pcm_desk.specs.MapBooks.{is_map_running}
 use Rattle.pcm_sound.specs.Runs.{Piece, Run}
 use Rattle.pcm_sound.specs.Plain.{IsUnbroken, lasting, run_end}
 
@@ -58,3 +60,23 @@ ArePlaced device mixed book written (run ∷ runs) =
 -- where the runs of a slot stand, before a position
 abbrev pub SlotIsPlaced : DeviceSeen → ℕ → PlayBook → List Run → Type 0
 SlotIsPlaced device mixed book runs = ArePlaced device mixed book book.written runs
+
+-- ---- mapped slots
+
+-- the newest run of a mapped book that has started: its pieces have all that the book gave, and reach to what is mixed next
+pub record IsGoingMap (mixed : ℕ) (book : MapBook) (run : Run) : Type 0 where
+  pub start : ℕ
+  pub started : run.start ≡ Some start
+  pub dropped : run.dropped ≡ None
+  pub follow : FollowFrom start book.given run.pieces
+  pub next : start + book.given ≡ mixed
+
+-- the runs of a mapped slot, of which the newest goes on while its book runs; all others are over
+abbrev pub MapArePlaced : DeviceSeen → ℕ → MapBook → Bool → List Run → Type 0
+MapArePlaced device mixed book running [] = Unit {0}
+MapArePlaced device mixed book running (run ∷ runs) =
+    All (IsOver device mixed) runs × (running ≡ false → IsOver device mixed run) × (running ≡ true → IsGoingMap mixed book run)
+
+-- where the runs of a mapped slot stand, before a position
+abbrev pub MapIsPlaced : DeviceSeen → ℕ → MapBook → List Run → Type 0
+MapIsPlaced device mixed book runs = MapArePlaced device mixed book (is_map_running book.state) runs

@@ -11,7 +11,7 @@ use Rattle.pcm_plan.specs.Through.{out}
 use Rattle.pcm_desk.specs.Device.{DeviceSeen, filters_of, play_plan_between, play_rate_between}
 use Rattle.pcm_sound.specs.Gains.{last_gain}
 use Rattle.pcm_sound.specs.Runs.{Piece, Run, covers, run_frames}
-use Rattle.pcm_sound.specs.Story.{Story, story_of}
+use Rattle.pcm_sound.specs.Story.{Story, mixed_gains, mixed_runs, story_of}
 use Rattle.pcm_sound.specs.Mix.{Table}
 use Rattle.pcm_sound.specs.DeviceList.{device_body_of}
 
@@ -67,7 +67,7 @@ span_frame device gain position span = out span.plan (filters_of device) span.st
 -- what the runs of a story give, by where they start and end alone
 abbrev pub plain_table : DeviceSeen → Story → Table
 plain_table device story slot position =
-    option_map (span_frame device (last_gain (story.gains slot) position) position) (span_at (spans_of device story.desk.mixed (story.runs slot)) position)
+    option_map (span_frame device (last_gain (mixed_gains device story slot) position) position) (span_at (spans_of device story.desk.mixed (mixed_runs device story slot)) position)
 
 -- the device's whole text by this table
 abbrev pub plain_text : DeviceSeen → Pool → List Event → List ℕ
@@ -79,7 +79,7 @@ plain_text device pool events =
 abbrev pub IsUnbroken : Run → Type 0
 IsUnbroken run = All (λ (piece : Piece). piece.short ≡ 0) run.pieces
 
--- nor of any run of a story
+-- nor of any run of a story that plays; a mapped one is never short
 abbrev pub HasNoShortage : Story → Type 0
 HasNoShortage story = (slot : ℕ) → All IsUnbroken (story.runs slot)
 
@@ -98,9 +98,9 @@ pub record IsInPlace (device : DeviceSeen) (mixed : ℕ) (run : Run) : Type 0 wh
 -- Two stories sound alike until a position: in each slot the same plans make the same of the same streams from the same starts
 -- to the same ends, with the same gain wherever one of them is heard.
 pub record SoundAlike (device : DeviceSeen) (until : ℕ) (one other : Story) : Type 0 where
-  pub spans : (slot : ℕ) → spans_of device until (one.runs slot) ≡ spans_of device until (other.runs slot)
-  pub gains : (slot position : ℕ) → span_at (spans_of device until (one.runs slot)) position ≢ None
-      → last_gain (one.gains slot) position ≡ last_gain (other.gains slot) position
+  pub spans : (slot : ℕ) → spans_of device until (mixed_runs device one slot) ≡ spans_of device until (mixed_runs device other slot)
+  pub gains : (slot position : ℕ) → span_at (spans_of device until (mixed_runs device one slot)) position ≢ None
+      → last_gain (mixed_gains device one slot) position ≡ last_gain (mixed_gains device other slot) position
 
 -- two lists are equal in their common length
 abbrev pub AgreeInCommon : List ℕ → List ℕ → Type 0

@@ -14,7 +14,7 @@ use Rattle.pcm_sound.specs.Story.{Story, told}
 abbrev pub bytes_got : DeviceSeen → Story → ℕ → Option Held → List ℕ
 bytes_got device story count None = []
 bytes_got device story count (Some held) =
-    by_way held.way [] (read_bytes count (record_at device story.desk held.slot) (story.recordings held.slot))
+    by_way held.way [] (read_bytes count (record_at device story.desk held.slot) (story.recordings held.slot)) []
 
 -- the bytes that an event gets: no event but a read does
 abbrev pub bytes_to : DeviceSeen → Story → Event → List ℕ

@@ -1,6 +1,6 @@
 -- What holds of every story of events that fit: the newest run is what its book counts, the pieces of a run lie
 -- within its stream and in the past and follow each other, and a recording is what its book counts.
-use Rattle.std.specs.Prelude.{◌≡◌, ℕ, ◌+◌, ◌<◌, ◌≤◌, Bool, true, if◌then◌else◌, List, [], ◌∷◌, length, take, All}
+use Rattle.std.specs.Prelude.{◌≡◌, ℕ, ◌+◌, ◌<◌, ◌≤◌, Bool, true, false, if◌then◌else◌, List, [], ◌∷◌, length, take, All}
 use Rattle.pcm_format.specs.Frames.{whole_frames}
 use Rattle.pcm_rate.specs.declared.rate.Rate.{Rate}
 use Rattle.pcm_rate.specs.Rates.{can, len}
@@ -9,17 +9,21 @@ use Rattle.pcm_desk.specs.declared.play_book.PlayBook.{PlayBook}
 use Rattle.pcm_desk.specs.Device.{DeviceSeen, IsDevice, mixed_for, play_rate_between}
 use Rattle.pcm_desk.specs.PlayBooks.{is_draining, is_started}
 use Rattle.pcm_desk.specs.PlaySafe.{PlayIsHere, PlayIsSafe}
+use Rattle.pcm_desk.specs.declared.map_book.MapBook.{MapBook}
+use Rattle.pcm_desk.specs.MapBooks.{is_map_running, taken_of}
+use Rattle.pcm_desk.specs.MapSafe.{MapIsSafe}
 use Rattle.pcm_desk.specs.declared.record_book.RecordBook.{RecordBook}
 use Rattle.pcm_desk.specs.RecordBooks.{is_running}
 use Rattle.pcm_desk.specs.RecordSafe.{RecordIsSafe}
-use Rattle.pcm_desk.specs.Desk.{desk_here, play_at, play_rate_at, record_at, record_rate_at}
+use Rattle.pcm_desk.specs.Desk.{desk_here, map_at, map_rate_at, play_at, play_rate_at, record_at, record_rate_at}
 use Rattle.pcm_wave.specs.declared.pool.Pool.{Pool}
-use Rattle.pcm_sound.specs.Gains.{book_gain, last_gain}
+use Rattle.pcm_sound.specs.Gains.{book_gain, last_gain, map_gain}
 use Rattle.pcm_sound.specs.Runs.{Piece, Run}
 use Rattle.pcm_sound.specs.Given.{recorded_bytes}
 use Rattle.pcm_sound.specs.Recordings.{Recording, recorded_frames}
 use Rattle.pcm_sound.specs.Story.{Story}
-use Rattle.pcm_sound.specs.Places.{SlotIsPlaced}
+use Rattle.pcm_sound.specs.Places.{MapIsPlaced, SlotIsPlaced}
+use Rattle.pcm_sound.specs.Plain.{IsUnbroken}
 
 -- how many frames of the mix so many frames of a run give: those that they allow, or all that they last for once no more comes
 abbrev pub frames_given : Rate → Bool → ℕ → ℕ
@@ -56,6 +60,22 @@ pub record SlotIsValid (device : DeviceSeen) (mixed : ℕ) (book : PlayBook) (ru
   pub pieces : All (RunIsValid device mixed) runs
   pub own : All HasRate runs
 
+-- the newest run of a mapped slot has all bytes that its book took, and isn't drained
+abbrev pub MapIsNewest : MapBook → List Run → Type 0
+MapIsNewest book [] = ⊥
+MapIsNewest book (run ∷ runs) =
+    (run.settings ≡ book.opening.settings) × (length run.bytes ≡ taken_of book) × (run.drained ≡ false)
+
+-- a mapped slot's book and its runs, before a position; no piece of them is short
+pub record MapIsValid (device : DeviceSeen) (mixed : ℕ) (book : MapBook) (runs : List Run) : Type 0 where
+  pub settings : IsRate book.opening.settings.rate
+  pub safe : MapIsSafe (map_rate_at device book) book
+  pub newest : is_map_running book.state ≡ true → MapIsNewest book runs
+  pub pieces : All (RunIsValid device mixed) runs
+  pub own : All HasRate runs
+  pub placed : MapIsPlaced device mixed book runs
+  pub whole : All IsUnbroken runs
+
 pub record StoryIsValid (device : DeviceSeen) (story : Story) : Type 0 where
   pub limits : IsDevice device
   pub slots : (slot : ℕ) → SlotIsValid device story.desk.mixed (play_at device story.desk slot) (story.runs slot)
@@ -65,6 +85,9 @@ pub record StoryIsValid (device : DeviceSeen) (story : Story) : Type 0 where
   pub placed : (slot : ℕ) → SlotIsPlaced device story.desk.mixed (play_at device story.desk slot) (story.runs slot)
   -- from now on each slot has the gain of its book's volume
   pub gains : (slot position : ℕ) → story.desk.mixed ≤ position → last_gain (story.gains slot) position ≡ book_gain (play_at device story.desk slot)
+  -- so is each mapped slot, and its gain
+  pub maps : (slot : ℕ) → MapIsValid device story.desk.mixed (map_at device story.desk slot) (story.map_runs slot)
+  pub map_gains : (slot position : ℕ) → story.desk.mixed ≤ position → last_gain (story.map_gains slot) position ≡ map_gain (map_at device story.desk slot)
   -- just the frames are mixed that those handed over need
   pub mixed : story.desk.mixed ≡ mixed_for device story.desk.handed
 

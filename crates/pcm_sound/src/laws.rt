@@ -1,16 +1,21 @@
 //! What holds of all recordings, and of all runs without a shortage: the functions here have no work, and their contracts are the laws.
 
-ghost use Rattle.std.specs.Prelude.{◌≡◌, ◌<◌, ◌-◌, ◌^◌, ◌↔◌, ℕ, true, min, List, take, All, IsOk};
+ghost use Rattle.std.specs.Prelude.{◌≡◌, ◌<◌, ◌≤◌, ◌+◌, ◌-◌, ◌^◌, ◌↔◌, ◌++◌, ◌∷◌, ℕ, true, min, List, length, take, drop, slice_index_or, All, IsOk, Ok, Some};
 ghost use Rattle.pcm_format.specs.declared.settings.Settings.{Settings};
 ghost use Rattle.pcm_oss.specs.declared.event.Event.{Event};
-ghost use Rattle.pcm_oss.specs.declared.event.Event.TheVariants.{Open, StartGroup};
+ghost use Rattle.pcm_oss.specs.declared.event.Event.TheVariants.{Open, Poke, StartGroup};
 ghost use Rattle.pcm_oss.specs.declared.event.Way.{Way};
+ghost use Rattle.pcm_oss.specs.declared.event.Way.TheVariants.{Map};
+ghost use Rattle.pcm_oss.specs.declared.reply.Answer.TheVariants.{Pointer};
+ghost use Rattle.pcm_oss.specs.declared.request.Request.TheVariants.{GetOPtr};
 ghost use Rattle.pcm_wave.specs.declared.pool.Pool.{Pool};
-ghost use Rattle.pcm_wave.specs.Pools.{IsCaptureIn, capture_frames};
+ghost use Rattle.pcm_wave.specs.declared.pool.Source.TheVariants.{Inline};
+ghost use Rattle.pcm_wave.specs.Pools.{IsCaptureIn, bytes_at, capture_frames, source_bytes};
 ghost use Rattle.pcm_desk.specs.declared.play_book.PlayBook.{PlayBook};
 ghost use Rattle.pcm_desk.specs.declared.device.Held.{Held};
 ghost use Rattle.pcm_desk.specs.Device.{DeviceSeen, IsDevice, device_settings};
-ghost use Rattle.pcm_desk.specs.Desk.{after, mixing, record_at};
+ghost use Rattle.pcm_desk.specs.Desk.{after, held_by, map_at, mixing, record_at};
+ghost use Rattle.pcm_desk.specs.MapRequests.{map_ask};
 ghost use Rattle.pcm_desk.specs.Events.{Fits};
 ghost use Rattle.pcm_desk.specs.Own.{HoldApart, MembersWait};
 ghost use Rattle.pcm_desk.specs.OwnEvents.{JoinsNone, Opens, own_events};
@@ -19,6 +24,7 @@ ghost use Rattle.pcm_sound.specs.DeviceList.{device_text};
 ghost use Rattle.pcm_sound.specs.OwnReplies.{client_replies};
 ghost use Rattle.pcm_sound.specs.Plain.{AgreeInCommon, HasNoShortage, IsInPlace, IsUnbroken, SoundAlike, plain_text};
 ghost use Rattle.pcm_sound.specs.Given.{recorded_bytes};
+ghost use Rattle.pcm_sound.specs.MapRuns.{area_taken};
 ghost use Rattle.pcm_sound.specs.Pools.{AreAlike, IsLonger};
 ghost use Rattle.pcm_sound.specs.Recordings.{recorded_frames};
 ghost use Rattle.pcm_sound.specs.Runs.{piece_of};
@@ -45,6 +51,35 @@ pub fn pieces_stand_in_their_place()
         → All (Fits device pool) events
         → let story = story_of device pool events in
         All (λ run. IsUnbroken run → IsInPlace device story.desk.mixed run) (story.runs slot) }
+{}
+
+/// A run of a mapped channel is never short, so its pieces stand in their place whatever happens: at each position of the run its slot gives
+/// the frame that is as far into what was taken as the position is past the start.
+pub fn mapped_runs_are_never_short()
+    ensures { (device : DeviceSeen) (pool : Pool) (events : List Event) (slot : ℕ) → IsDevice device
+        → All (Fits device pool) events
+        → let story = story_of device pool events in
+        All (λ run. IsUnbroken run × IsInPlace device story.desk.mixed run) (story.map_runs slot) }
+{}
+
+/// An accepted poke writes its bytes where it says, and changes nothing that was taken: what is taken next begins at the place in the area that
+/// the channel tells.
+pub fn pokes_change_what_was_not_taken()
+    ensures written { (device : DeviceSeen) (pool : Pool) (events : List Event) (fd offset at count slot : ℕ)
+        → let story = story_of device pool events in
+        let area = story.areas slot in
+        held_by story.desk fd ≡ Some (record { way = Map; slot = slot }) → at + count ≤ length (source_bytes pool Inline)
+        → IsOk (after device story.desk (Poke fd offset at count)).reply
+        → (told device pool story (Poke fd offset at count)).areas slot
+        ≡ take offset area ++ bytes_at pool Inline at count ++ drop (offset + count) area }
+    ensures taken { (device : DeviceSeen) (pool : Pool) (story : Story) (fd offset at count slot : ℕ)
+        → (told device pool story (Poke fd offset at count)).map_runs slot ≡ story.map_runs slot }
+    ensures next { (device : DeviceSeen) (pool : Pool) (events : List Event) (slot n first bytes blocks ptr : ℕ) (rest : List ℕ)
+        → let story = story_of device pool events in
+        let book = map_at device story.desk slot in
+        let area = story.areas slot in
+        area_taken device n book area ≡ first ∷ rest → (map_ask GetOPtr book).reply ≡ Ok (Pointer bytes blocks ptr)
+        → first ≡ slice_index_or area ptr 0 }
 {}
 
 /// Without a shortage the device gets what the runs are from their starts to their ends: no count has a part in it.

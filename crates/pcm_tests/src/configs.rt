@@ -37,7 +37,7 @@ fn outcome(alloc: Global, text: &[u8]) -> Outcome {
 // Copies of a text, one text more, and what is to come of them.
 type Row = (usize, &'static [u8], &'static [u8], Outcome);
 
-const ROWS: [Row; 14] = [
+const ROWS: [Row; 19] = [
     (1, b"", b"", USUAL),
     (
         1,
@@ -67,6 +67,27 @@ const ROWS: [Row; 14] = [
     (1, b"Device = {}", b"", Err(("key", "top"))),
     (1, b"[[device]]\n", b"", Err(("kind", "device"))),
     (1, b"vchans.rec = 1", b"", Err(("key", "vchans"))),
+    // Sixteen channels are mixed at most: those that play, and those that are mapped.
+    (1, b"vchans = { play = 1, mapped = 15 }", b"", USUAL),
+    (1, b"vchans.mapped = 12", b"", USUAL),
+    (
+        1,
+        b"vchans.mapped = 13",
+        b"",
+        Err(("range", "vchans.mapped")),
+    ),
+    (
+        1,
+        b"vchans = { mapped = 17, channels = 3 }",
+        b"",
+        Err(("range", "vchans.channels")),
+    ),
+    (
+        1,
+        b"vchans.mapped = true",
+        b"",
+        Err(("kind", "vchans.mapped")),
+    ),
     (
         1,
         b"device.rate = -48000",

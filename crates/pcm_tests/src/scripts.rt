@@ -23,7 +23,7 @@ fn outcome(alloc: Global, text: &[u8]) -> Outcome {
 // A text, and what is to come of it.
 type Row = (&'static [u8], Outcome);
 
-const TEXTS: [Row; 31] = [
+const TEXTS: [Row; 42] = [
     // Lines and their words.
     (b" \t intr \t 7 \r\n", Ok(1)),
     (b"\r\nintr\r\n\r", Ok(1)),
@@ -52,6 +52,17 @@ const TEXTS: [Row; 31] = [
     (b"write 0 -", Ok(1)),
     (b"write 64 0", Err((1, "range"))),
     (b"read 64 x", Err((1, "range"))),
+    (b"open 0 map", Ok(1)),
+    (b"open 63 map s32le 8 192000", Ok(1)),
+    (b"open 0 maps", Err((1, "name"))),
+    (b"open 0 map u8", Err((1, "count"))),
+    (b"poke 63 4294967295 -", Ok(1)),
+    (b"poke 0 0xffffffff 00fF", Ok(1)),
+    (b"poke 0 0", Err((1, "count"))),
+    (b"poke 64 x 0", Err((1, "range"))),
+    (b"poke 0 x 0", Err((1, "number"))),
+    (b"poke 0 4294967296 0", Err((1, "range"))),
+    (b"poke 0 4294967295 0", Err((1, "hex"))),
     (b"ioctl x nosuch 1 2", Err((1, "count"))),
     (b"ioctl x syncgroup", Err((1, "count"))),
     (b"ioctl x syncstart 1 2", Err((1, "count"))),
@@ -79,7 +90,7 @@ fn texts(rt: HostRuntime) {
 type LongRow = (&'static [u8], usize, &'static [u8], &'static [u8], Outcome);
 
 // The greatest number of events and the longest text are cases of corpus/.
-const LIMITS: [LongRow; 5] = [
+const LIMITS: [LongRow; 7] = [
     // Each interrupt takes 1024 frames of four bytes.
     (b"", 65536, b"intr 1024\n", b"", Ok(65536)),
     (b"", 65536, b"intr 1024\n", b"intr 1", Err((65537, "long"))),
@@ -91,9 +102,11 @@ const LIMITS: [LongRow; 5] = [
         b"intr 1025",
         Err((65537, "range")),
     ),
-    // The bytes of a write.
+    // The bytes of a write and of a poke.
     (b"write 0 ", 4096, b"5a", b"", Ok(1)),
     (b"write 0 ", 4097, b"5a", b"", Err((1, "hex"))),
+    (b"poke 0 0 ", 4096, b"5a", b"", Ok(1)),
+    (b"poke 0 0 ", 4097, b"5a", b"", Err((1, "hex"))),
 ];
 
 // The text of a row.
@@ -126,7 +139,10 @@ fn limits(rt: HostRuntime) -> Result<(), Fail> {
 
 const TEXT: &[u8] = b"open 4 rec u24be 4 96000\n\
     write 3 0102\n\
+    open 5 map\n\
+    poke 5 0x10 0405\n\
     write 3 03\n\
+    poke 5 4294967295 -\n\
     ioctl 3 setplayvol 0x3264\n\
     ioctl 4 syncgroup 0\n\
     ioctl 3 syncgroup 4294967295\n\
@@ -135,7 +151,7 @@ const TEXT: &[u8] = b"open 4 rec u24be 4 96000\n\
     read 4 4096\n\
     close 3\n";
 
-const EVENTS: [Event; 10] = [
+const EVENTS: [Event; 13] = [
     Event::Open {
         fd: 4,
         way: Way::Record,
@@ -151,11 +167,32 @@ const EVENTS: [Event; 10] = [
         at: 0,
         len: 2,
     },
+    Event::Open {
+        fd: 5,
+        way: Way::Map,
+        settings: Settings {
+            format: Format::U8,
+            layout: Layout::One,
+            rate: 8000,
+        },
+    },
+    Event::Poke {
+        fd: 5,
+        offset: 16,
+        at: 2,
+        len: 2,
+    },
     Event::Write {
         fd: 3,
         source: Source::Inline,
-        at: 2,
+        at: 4,
         len: 1,
+    },
+    Event::Poke {
+        fd: 5,
+        offset: 4294967295,
+        at: 5,
+        len: 0,
     },
     Event::Ioctl {
         fd: 3,
@@ -175,7 +212,7 @@ const EVENTS: [Event; 10] = [
 // Whether a script has these events, and the bytes and frames that they name.
 fn has_events(script: &Script) -> bool {
     script.events.as_slice() == EVENTS.as_slice()
-        && script.inline_bytes.as_slice() == b"\x01\x02\x03".as_slice()
+        && script.inline_bytes.as_slice() == b"\x01\x02\x04\x05\x03".as_slice()
         && script.device_frames == 256
 }
 

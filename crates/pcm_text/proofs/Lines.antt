@@ -15,9 +15,9 @@ use Rattle.pcm_format.specs.declared.settings.TheConstants.{RATE_LEAST, RATE_MOS
 use Rattle.pcm_format.specs.Formats.{format_named, name_of}
 use Rattle.pcm_format.specs.Layouts.{channels_of, layout_of}
 use Rattle.pcm_oss.specs.declared.event.Event.{Event}
-use Rattle.pcm_oss.specs.declared.event.Event.TheVariants.{Open, Write, Read, Ioctl, Join, StartGroup, Close, Intr}
+use Rattle.pcm_oss.specs.declared.event.Event.TheVariants.{Open, Write, Poke, Read, Ioctl, Join, StartGroup, Close, Intr}
 use Rattle.pcm_oss.specs.declared.event.Way.{Way}
-use Rattle.pcm_oss.specs.declared.event.Way.TheVariants.{Play, Record}
+use Rattle.pcm_oss.specs.declared.event.Way.TheVariants.{Play, Record, Map}
 use Rattle.pcm_oss.specs.declared.request.Request.{Request}
 use Rattle.pcm_oss.specs.declared.request.Request.TheVariants as requests
 use Rattle.pcm_wave.specs.declared.pool.Pool.{Pool}
@@ -28,7 +28,7 @@ use Rattle.pcm_desk.specs.Device.{DeviceSeen, ring_frames}
 use Rattle.pcm_desk.specs.Events.{Fits}
 use Rattle.pcm_script.specs.declared.names.Command.{Command}
 use Rattle.pcm_script.specs.declared.names.Command.TheVariants as commands
-use Rattle.pcm_script.specs.Commands.{asked_by, close_line, command_line, interrupt_line, ioctl_line, line_event, open_line, or_fault, read_line, send_line, write_line}
+use Rattle.pcm_script.specs.Commands.{asked_by, close_line, command_line, interrupt_line, ioctl_line, line_event, most_offset, open_line, or_fault, poke_line, read_line, send_line, write_line}
 use Rattle.pcm_script.specs.declared.line_event.LineEvent.TheVariants as lines
 use Rattle.pcm_script.specs.Numbers.{is_decimal_digit, within}
 use Rattle.pcm_script.specs.Names.{command_name, command_named, join_name, request_name, start_group_name, way_name, way_named}
@@ -46,6 +46,7 @@ command-word : (command : Command) → IsOneWord (command_name command)
 command-word commands.Open = one-word _ refl
 command-word commands.Write = one-word _ refl
 command-word commands.Send = one-word _ refl
+command-word commands.Poke = one-word _ refl
 command-word commands.Read = one-word _ refl
 command-word commands.Ioctl = one-word _ refl
 command-word commands.Close = one-word _ refl
@@ -55,6 +56,7 @@ command-read : (command : Command) → command_named (command_name command) ≡ 
 command-read commands.Open = refl
 command-read commands.Write = refl
 command-read commands.Send = refl
+command-read commands.Poke = refl
 command-read commands.Read = refl
 command-read commands.Ioctl = refl
 command-read commands.Close = refl
@@ -63,10 +65,12 @@ command-read commands.Intr = refl
 way-word : (way : Way) → IsOneWord (way_name way)
 way-word Play = one-word _ refl
 way-word Record = one-word _ refl
+way-word Map = one-word _ refl
 
 way-read : (way : Way) → way_named (way_name way) ≡ Some way
 way-read Play = refl
 way-read Record = refl
+way-read Map = refl
 
 format-word : (format : Format) → IsOneWord (name_of format)
 format-word U8 = one-word _ refl
@@ -191,6 +195,8 @@ arguments-words device pool (Write fd Inline at count) fits small bytes named =
     (small-fd fd fits.0, (bytes-word (bytes_at pool Inline at count) (bytes-part pool.inline_bytes at count bytes), tt))
 arguments-words device pool (Write fd (File place) at count) fits small bytes named =
     (small-fd fd fits.0, (one-word (file_name_in (slice_get pool.files place)) (named place fits.2.has).word, (decimal-word at (omega (arith, small.0)), (decimal-word count (omega (arith, small.1)), tt))))
+arguments-words device pool (Poke fd offset at count) fits small bytes named =
+    (small-fd fd fits.0, (decimal-word offset (omega (arith, small)), (bytes-word (bytes_at pool Inline at count) (bytes-part pool.inline_bytes at count bytes), tt)))
 arguments-words device pool (Read fd count) fits small bytes named = (small-fd fd fits.0, (decimal-word count (omega (arith, fits.1)), tt))
 arguments-words device pool (Ioctl fd request) fits small bytes named = (small-fd fd fits, (request-word request, argument-words request small))
 arguments-words device pool (Join fd group) fits small bytes named = (small-fd fd fits, (one-word join_name refl, (decimal-word group (omega (arith, small)), tt)))
@@ -253,7 +259,7 @@ start_group-read fd group low small = rw (decimal-within 0 63 fd (omega arith) (
 pub event-read : (device : DeviceSeen) (pool : Pool) (event : Event) → Fits device pool event → HasSmallNumbers event → IsBytes pool.inline_bytes
     → ((place : ℕ) → place < length pool.files → IsFileNamed pool.files place)
     → asked_by device pool.files (command_for event) (arguments_for pool event) ≡ Ok (line_asked pool event)
-unfolding open_line write_line send_line read_line close_line interrupt_line
+unfolding open_line write_line send_line poke_line read_line close_line interrupt_line
 event-read device pool (Open fd way settings) fits small bytes named =
     rw (
       decimal-within 0 63 fd (omega (arith, fits.0)) (omega arith) (omega (arith, fits.0)),
@@ -275,6 +281,12 @@ event-read device pool (Write fd (File place) at count) fits small bytes named =
       decimal-read at small.0,
       decimal-read count small.1,
       le-leb (at + count) (length (body_in (slice_get pool.files place))) fits.2.within,
+    ) refl
+event-read device pool (Poke fd offset at count) fits small bytes named =
+    rw (
+      decimal-within 0 63 fd (omega (arith, fits.0)) (omega arith) (omega (arith, fits.0)),
+      decimal-within 0 most_offset offset small (omega arith) (omega (arith, small)),
+      bytes-read (bytes_at pool Inline at count) (bytes-part pool.inline_bytes at count bytes) (few-bytes count (drop at pool.inline_bytes) fits.1),
     ) refl
 event-read device pool (Read fd count) fits small bytes named =
     rw (decimal-within 0 63 fd (omega (arith, fits.0)) (omega arith) (omega (arith, fits.0)), decimal-within 0 READ_BYTES count (omega (arith, fits.1)) (omega arith) fits.1) refl

@@ -8,7 +8,7 @@ use Rattle.std.proofs.lemmas.List.Sums.{sum_by-cons}
 use Rattle.std.proofs.Math.Nat.{mul-le-mul_right}
 use Rattle.hex.specs.Hex.{IsBytes}
 use Rattle.pcm_oss.specs.declared.event.Event.{Event}
-use Rattle.pcm_oss.specs.declared.event.Event.TheVariants.{Open, Write, Read, Ioctl, Join, StartGroup, Close, Intr}
+use Rattle.pcm_oss.specs.declared.event.Event.TheVariants.{Open, Write, Poke, Read, Ioctl, Join, StartGroup, Close, Intr}
 use Rattle.pcm_wave.specs.declared.pool.Pool.{Pool}
 use Rattle.pcm_wave.specs.declared.pool.Source.TheVariants.{Inline, File}
 use Rattle.pcm_wave.specs.DataFiles.{DataFileSeen}
@@ -45,6 +45,7 @@ frames-line_asked : (pool : Pool) (event : Event) → frames_asked (line_asked p
 frames-line_asked pool (Open fd way settings) = refl
 frames-line_asked pool (Write fd Inline at count) = refl
 frames-line_asked pool (Write fd (File place) at count) = refl
+frames-line_asked pool (Poke fd offset at count) = refl
 frames-line_asked pool (Read fd count) = refl
 frames-line_asked pool (Ioctl fd request) = refl
 frames-line_asked pool (Join fd group) = refl
@@ -135,6 +136,12 @@ event-same device pool other (Write fd Inline at count) front more fits bytes =
       ap (λ l. take count (drop (length front) l)) bytes ∙ middle-part front (bytes_at pool Inline at count) more count size,
     )
 event-same device pool other (Write fd (File place) at count) front more fits bytes = refl
+event-same device pool other (Poke fd offset at count) front more fits bytes =
+    let size = part-length count at pool.inline_bytes fits.2.within in (
+      length front,
+      ap (λ n. Poke fd offset (length front) n) size,
+      ap (λ l. take count (drop (length front) l)) bytes ∙ middle-part front (bytes_at pool Inline at count) more count size,
+    )
 event-same device pool other (Read fd count) front more fits bytes = refl
 event-same device pool other (Ioctl fd request) front more fits bytes = refl
 event-same device pool other (Join fd group) front more fits bytes = refl
@@ -175,6 +182,7 @@ text-same device files script writable =
 found-event : (device : DeviceSeen) (pool : Pool) (event : Event) → Fits device pool event → FindsBytes pool event
 found-event device pool (Open fd way settings) fits = tt
 found-event device pool (Write fd source at count) fits = fits.2
+found-event device pool (Poke fd offset at count) fits = fits.2
 found-event device pool (Read fd count) fits = tt
 found-event device pool (Ioctl fd request) fits = tt
 found-event device pool (Join fd group) fits = tt
@@ -182,6 +190,6 @@ found-event device pool (StartGroup fd group) fits = tt
 found-event device pool (Close fd) fits = tt
 found-event device pool (Intr frames) fits = tt
 
--- each write of a script that fits a device names bytes that are there
+-- each write and each poke of a script that fits a device names bytes that are there
 pub found-fits : (device : DeviceSeen) (files : List DataFileSeen) (script : Script) → AllFit device files script → AllFound files script
 found-fits device files script fits = λ i d l. found-event device (pool_of files script) _ (fits i d l)

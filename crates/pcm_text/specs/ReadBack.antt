@@ -1,9 +1,9 @@
--- What the text of a script is read back as: the same events, with the bytes of all writes one behind another.
+-- What the text of a script is read back as: the same events, with the bytes of all writes and pokes one behind another.
 use Rattle.std.specs.Prelude.{IfSome, ◌≡◌, ℕ, ◌*◌, ◌^◌, ◌<◌, ◌≤◌, ◌==◌, Bool, true, not, ◌&&◌, List, [], ◌∷◌, length, position, Some, All, slice_get}
 use Rattle.std.specs.List.{list_all}
 use Rattle.hex.specs.Hex.{IsBytes}
 use Rattle.pcm_oss.specs.declared.event.Event.{Event}
-use Rattle.pcm_oss.specs.declared.event.Event.TheVariants.{Open, Write, Read, Ioctl, Join, StartGroup, Close, Intr}
+use Rattle.pcm_oss.specs.declared.event.Event.TheVariants.{Open, Write, Poke, Read, Ioctl, Join, StartGroup, Close, Intr}
 use Rattle.pcm_wave.specs.declared.pool.Pool.{Pool}
 use Rattle.pcm_wave.specs.declared.pool.Source.TheVariants.{Inline, File}
 use Rattle.pcm_wave.specs.DataFiles.{DataFileSeen}
@@ -26,6 +26,7 @@ abbrev pub line_asked : Pool → Event → LineEvent
 line_asked pool (Open fd way settings) = lines.Open fd way settings
 line_asked pool (Write fd Inline at count) = lines.Write fd (bytes_at pool Inline at count)
 line_asked pool (Write fd (File place) at count) = lines.Send fd place at count
+line_asked pool (Poke fd offset at count) = lines.Poke fd offset (bytes_at pool Inline at count)
 line_asked pool (Read fd count) = lines.Read fd count
 line_asked pool (Ioctl fd request) = lines.Ioctl fd request
 line_asked pool (Join fd group) = lines.Join fd group
@@ -46,6 +47,8 @@ rewritten files script = with_asked (pool_of files script) empty_script script.e
 abbrev pub AsksTheSame : Pool → Pool → Event → Event → Type 0
 AsksTheSame pool other (Write fd Inline at count) again =
     (place : ℕ) × (again ≡ Write fd Inline place count) × (bytes_at other Inline place count ≡ bytes_at pool Inline at count)
+AsksTheSame pool other (Poke fd offset at count) again =
+    (place : ℕ) × (again ≡ Poke fd offset place count) × (bytes_at other Inline place count ≡ bytes_at pool Inline at count)
 AsksTheSame pool other event again = again ≡ event
 
 -- as many events, each of which asks for the same
@@ -70,6 +73,7 @@ pub record IsFileNamed (files : List DataFileSeen) (place : ℕ) : Type 0 where
 -- the numbers of an event are of 32 bits, as they are in every script
 abbrev pub HasSmallNumbers : Event → Type 0
 HasSmallNumbers (Write fd source at count) = (at < 2 ^ 32) × (count < 2 ^ 32)
+HasSmallNumbers (Poke fd offset at count) = offset < 2 ^ 32
 HasSmallNumbers (Ioctl fd request) = IfSome (argument_of request) (λ argument. argument < 2 ^ 32)
 HasSmallNumbers (Join fd group) = group < 2 ^ 32
 HasSmallNumbers (StartGroup fd group) = group < 2 ^ 32

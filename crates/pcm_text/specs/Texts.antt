@@ -5,7 +5,7 @@ use Rattle.pcm_format.specs.declared.settings.Settings.{Settings}
 use Rattle.pcm_format.specs.Formats.{name_of}
 use Rattle.pcm_format.specs.Layouts.{channels_of}
 use Rattle.pcm_oss.specs.declared.event.Event.{Event}
-use Rattle.pcm_oss.specs.declared.event.Event.TheVariants.{Open, Write, Read, Ioctl, Join, StartGroup, Close, Intr}
+use Rattle.pcm_oss.specs.declared.event.Event.TheVariants.{Open, Write, Poke, Read, Ioctl, Join, StartGroup, Close, Intr}
 use Rattle.pcm_oss.specs.declared.request.Request.{Request}
 use Rattle.pcm_oss.specs.declared.request.Request.TheVariants.{SetFmt, Speed, Channels, SetFragment, SetTrigger, SetPlayVol}
 use Rattle.pcm_wave.specs.declared.pool.Pool.{Pool}
@@ -29,6 +29,7 @@ abbrev pub command_for : Event → Command
 command_for (Open fd way settings) = commands.Open
 command_for (Write fd Inline at count) = commands.Write
 command_for (Write fd (File place) at count) = commands.Send
+command_for (Poke fd offset at count) = commands.Poke
 command_for (Read fd count) = commands.Read
 command_for (Ioctl fd request) = commands.Ioctl
 command_for (Join fd group) = commands.Ioctl
@@ -60,11 +61,12 @@ abbrev pub argument_words : Option ℕ → List (List ℕ)
 argument_words None = []
 argument_words (Some argument) = decimal argument ∷ []
 
--- what stands behind the command of an event; a write has its bytes in hexadecimal, or a dash
+-- what stands behind the command of an event; a write has its bytes in hexadecimal, or a dash, and so has a poke
 abbrev pub arguments_for : Pool → Event → List (List ℕ)
 arguments_for pool (Open fd way settings) = decimal fd ∷ way_name way ∷ settings_words settings
 arguments_for pool (Write fd Inline at count) = decimal fd ∷ bytes_text (bytes_at pool Inline at count) ∷ []
 arguments_for pool (Write fd (File place) at count) = decimal fd ∷ file_name_in (slice_get pool.files place) ∷ decimal at ∷ decimal count ∷ []
+arguments_for pool (Poke fd offset at count) = decimal fd ∷ decimal offset ∷ bytes_text (bytes_at pool Inline at count) ∷ []
 arguments_for pool (Read fd count) = decimal fd ∷ decimal count ∷ []
 arguments_for pool (Ioctl fd request) = decimal fd ∷ request_name request ∷ argument_words (argument_of request)
 arguments_for pool (Join fd group) = decimal fd ∷ join_name ∷ decimal group ∷ []
@@ -88,8 +90,9 @@ text_of files script = lines_for (pool_of files script) script.events
 -- an event whose bytes are there
 abbrev pub FindsBytes : Pool → Event → Type 0
 FindsBytes pool (Write fd source at count) = HasBytes pool source at count
+FindsBytes pool (Poke fd offset at count) = HasBytes pool Inline at count
 FindsBytes pool event = Unit {0}
 
--- each write of a script names bytes that are there
+-- each write and each poke of a script names bytes that are there
 abbrev pub AllFound : List DataFileSeen → Script → Type 0
 AllFound files script = All (FindsBytes (pool_of files script)) script.events

@@ -1,8 +1,8 @@
 //! What holds of texts that are written: each function here has no work, and its contract is a law.
 
 ghost use Rattle.std.specs.Prelude.{◌≡◌, ◌∷◌, [], List, Ok, codes};
-ghost use Rattle.pcm_oss.specs.declared.event.Event.TheVariants.{Close, Intr, Ioctl, Join, Open, Read, StartGroup, Write};
-ghost use Rattle.pcm_oss.specs.declared.event.Way.TheVariants.{Play, Record};
+ghost use Rattle.pcm_oss.specs.declared.event.Event.TheVariants.{Close, Intr, Ioctl, Join, Open, Poke, Read, StartGroup, Write};
+ghost use Rattle.pcm_oss.specs.declared.event.Way.TheVariants.{Map, Play, Record};
 ghost use Rattle.pcm_oss.specs.declared.request.Request.TheVariants.{SetFmt, SetTrigger, Sync};
 ghost use Rattle.pcm_wave.specs.declared.pool.Source.TheVariants.{Inline};
 ghost use Rattle.pcm_wave.specs.DataFiles.{DataFileSeen};
@@ -14,7 +14,7 @@ ghost use Rattle.pcm_text.specs.ReadBack.{AskTheSame, IsWritable, rewritten};
 ghost use Rattle.pcm_text.specs.Texts.{text_of};
 
 /// The text of a script that a device takes is read, and the script that it is asks for the same: the same events in the same
-/// order, but that the bytes of a write may stand at another place, where they are the same bytes.
+/// order, but that the bytes of a write or a poke may stand at another place, where they are the same bytes.
 pub fn what_is_written_is_read_back()
     ensures read { (device : DeviceSeen) (files : List DataFileSeen) (script : Script)
         → IsWritable device files script
@@ -29,9 +29,12 @@ pub fn what_is_written_is_read_back()
 pub fn lines_are_written_so()
     ensures open { line_alone (Open 0 Play small_settings) ≡ codes "open 0 play u8 2 8000\n" }
     ensures record { line_alone (Open 63 Record small_settings) ≡ codes "open 63 rec u8 2 8000\n" }
+    ensures map { line_alone (Open 1 Map small_settings) ≡ codes "open 1 map u8 2 8000\n" }
     ensures write { line_alone (Write 7 Inline 1 3) ≡ codes "write 7 0aff00\n" }
     ensures empty { line_alone (Write 7 Inline 2 0) ≡ codes "write 7 -\n" }
     ensures send { line_alone sent ≡ codes "send 10 song 2 40\n" }
+    ensures poke { line_alone (Poke 63 4294967295 1 2) ≡ codes "poke 63 4294967295 0aff\n" }
+    ensures nothing { line_alone (Poke 0 0 4 0) ≡ codes "poke 0 0 -\n" }
     ensures read { line_alone (Read 1 4096) ≡ codes "read 1 4096\n" }
     ensures format { line_alone (Ioctl 2 (SetFmt 16)) ≡ codes "ioctl 2 setfmt 16\n" }
     ensures greatest { line_alone (Ioctl 2 (SetTrigger 4294967295)) ≡ codes "ioctl 2 settrigger 4294967295\n" }

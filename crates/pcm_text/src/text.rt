@@ -43,6 +43,7 @@ fn command_for(event: &Event) -> Command
             ..
         } => Command::Write,
         Event::Write { .. } => Command::Send,
+        Event::Poke { .. } => Command::Poke,
         Event::Read { .. } => Command::Read,
         Event::Ioctl { .. } | Event::Join { .. } | Event::StartGroup { .. } => Command::Ioctl,
         Event::Close { .. } => Command::Close,
@@ -75,6 +76,12 @@ fn push_arguments(
             at,
             len,
         } => push_send(text, fd, files[place].name(), at, len),
+        Event::Poke {
+            fd,
+            offset,
+            at,
+            len,
+        } => push_poke(text, fd, offset, inline(script, at, len)),
         Event::Read { fd, len } => push_read(text, fd, len),
         Event::Ioctl { fd, request } => push_ioctl(text, fd, request),
         Event::Join { fd, group } => push_grouping(text, fd, join_name(), group),
@@ -84,7 +91,7 @@ fn push_arguments(
     }
 }
 
-// The bytes of a script's lines that a write names.
+// The bytes of a script's lines that a write or a poke names.
 fn inline(script: &Script, at: u32, len: u32) -> &[u8]
     requires within { at + len ≤ length script.now.inline_bytes }
     ensures { result.now ≡ take len (drop at script.now.inline_bytes) }
@@ -120,6 +127,15 @@ fn push_send(text: &mut Vec<u8>, fd: u8, name: &str, at: u32, count: u32) -> Res
     push_word(text, name.as_bytes())?;
     push_number(text, at)?;
     push_number(text, count)
+}
+
+fn push_poke(text: &mut Vec<u8>, fd: u8, offset: u32, bytes: &[u8]) -> Result<(), AllocError>
+    ensures { OnOk result (text.new.items
+        ≡ text.old.items ++ spaced (decimal fd ∷ decimal offset ∷ bytes_text bytes.now ∷ [])) }
+{
+    push_number(text, u32::from(fd))?;
+    push_number(text, offset)?;
+    push_bytes(text, bytes)
 }
 
 fn push_read(text: &mut Vec<u8>, fd: u8, count: u32) -> Result<(), AllocError>

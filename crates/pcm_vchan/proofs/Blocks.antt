@@ -1,18 +1,26 @@
 -- A block of the mix, slot by slot.
-use Rattle.std.proofs.Common.{◌≡◌, ℕ, ◌+◌, ◌<◌, length, List, [], ◌∷◌, ◌++◌, get_or, fold, ℤ, refl, sym, ap, ◌∙◌, zero-add}
+use Rattle.std.proofs.Common.{◌≡◌, ℕ, zero, suc, ◌+◌, ◌*◌, ◌<◌, length, List, [], ◌∷◌, ◌++◌, take, drop, get_or, fold, ℤ, refl, sym, ap, ◌∙◌, zero-add}
 use Rattle.std.specs.List.{range_with_len}
 use Rattle.std.proofs.lemmas.List.{get_or_default}
 use Rattle.std.proofs.lemmas.List.Sums.{fold-append}
+use Rattle.pcm_format.specs.Formats.{bits_of}
+use Rattle.pcm_format.specs.Layouts.{channels_of}
 use Rattle.pcm_format.proofs.Ranges.{range-add}
+use Rattle.pcm_mix.specs.Mix.{mixed}
 use Rattle.pcm_desk.specs.declared.play_book.PlayBook.{PlayBook}
-use Rattle.pcm_desk.specs.Device.{DeviceSeen}
-use Rattle.pcm_desk.specs.Desk.{play_unopened}
-use Rattle.pcm_sound.specs.Added.{turned}
+use Rattle.pcm_desk.specs.declared.map_book.MapBook.{MapBook}
+use Rattle.pcm_desk.specs.Device.{DeviceSeen, mix_settings}
+use Rattle.pcm_desk.specs.Desk.{map_unopened, play_unopened}
+use Rattle.pcm_sound.specs.Gains.{map_gain}
+use Rattle.pcm_sound.specs.Given.{given_samples}
+use Rattle.pcm_sound.specs.MapRuns.{area_taken}
+use Rattle.pcm_sound.specs.Added.{map_giving, map_turned, turned}
 use Rattle.pcm_sound.proofs.Turns.{turned-nothing}
 use Rattle.pcm_play.specs.declared.channel.PlayChannelOf.{PlayChannelOf}
-use Rattle.pcm_vchan.specs.Slots.{play_books_of}
-use Rattle.pcm_vchan.specs.Blocks.{mixed_onto}
-use Rattle.pcm_vchan.proofs.Channels.{play_at-channel}
+use Rattle.pcm_map.specs.declared.channel.MapChannelOf.{MapChannelOf}
+use Rattle.pcm_vchan.specs.Slots.{map_books_of, play_books_of}
+use Rattle.pcm_vchan.specs.Blocks.{mapped_onto, mixed_onto}
+use Rattle.pcm_vchan.proofs.Channels.{map_at-channel, play_at-channel}
 
 -- a block of the mix once one slot more gave its frames
 pub mixed-more : {B : Type 0} (device : DeviceSeen) (n : ℕ) (channels : List (PlayChannelOf B)) (streams : ℕ → List ℕ) (slot : ℕ) (channel other : PlayChannelOf B) → slot < length channels → channel ≡ get_or channels slot other → (sum : List ℤ)
@@ -29,3 +37,29 @@ block-nothing device books streams [] = refl
 block-nothing device books streams (slot ∷ slots) =
     let onto : List ℤ → ℕ → List ℤ = λ sum at. turned device 0 (get_or books at (play_unopened device)) (streams at) sum in
     ap (λ (sum : List ℤ). fold onto sum slots) (turned-nothing device (get_or books slot (play_unopened device)) (streams slot)) ∙ block-nothing device books streams slots
+
+-- ---- mapped channels
+
+-- a block once one mapped slot more gave its frames
+pub mapped-more : {B : Type 0} (device : DeviceSeen) (n : ℕ) (channels : List (MapChannelOf B)) (taken areas : ℕ → List ℕ) (slot : ℕ) (channel other : MapChannelOf B) → slot < length channels → channel ≡ get_or channels slot other → (sum : List ℤ)
+    → map_turned device n channel.book (taken slot) (areas slot) (mapped_onto device n (map_books_of channels) taken areas slot sum) ≡ mapped_onto device n (map_books_of channels) taken areas (slot + 1) sum
+mapped-more {B = B} device n channels taken areas slot channel other there is sum =
+    let onto : List ℤ → ℕ → List ℤ = λ sum at. map_turned device n (get_or (map_books_of channels) at (map_unopened device)) (taken at) (areas at) sum in
+    ap (λ (book : MapBook). map_turned device n book (taken slot) (areas slot) (mapped_onto device n (map_books_of channels) taken areas slot sum)) (map_at-channel channels slot channel (map_unopened device) there (is ∙ get_or_default channels slot other channel there))
+    ∙ sym (ap (fold onto sum) (range-add 0 slot 1 ∙ ap (λ a. range_with_len 0 slot ++ a ∷ []) (zero-add slot)) ∙ fold-append onto sum (range_with_len 0 slot) (slot ∷ []))
+
+onto-nothing : (bits k : ℕ) (add : List ℤ) → mixed bits (take k []) add ++ drop k [] ≡ []
+onto-nothing bits zero add = refl
+onto-nothing bits (suc k) add = refl
+
+-- where nothing is mixed they add nothing
+pub mapped-nothing : (device : DeviceSeen) (books : List MapBook) (taken areas : ℕ → List ℕ) (slots : List ℕ)
+    → fold (λ sum slot. map_turned device 0 (get_or books slot (map_unopened device)) (taken slot) (areas slot) sum) [] slots ≡ []
+mapped-nothing device books taken areas [] = refl
+mapped-nothing device books taken areas (slot ∷ slots) =
+    let onto : List ℤ → ℕ → List ℤ = λ sum at. map_turned device 0 (get_or books at (map_unopened device)) (taken at) (areas at) sum in
+    let book = get_or books slot (map_unopened device) in
+    let count : ℕ = map_giving 0 book in
+    let none : map_turned device 0 book (taken slot) (areas slot) [] ≡ [] = onto-nothing (bits_of (mix_settings device).format) (count * channels_of (mix_settings device).layout)
+    (given_samples device (map_gain book) book.opening.settings (taken slot ++ area_taken device 0 book (areas slot)) book.given count) in
+    ap (λ (sum : List ℤ). fold onto sum slots) none ∙ mapped-nothing device books taken areas slots

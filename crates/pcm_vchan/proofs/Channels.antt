@@ -1,15 +1,17 @@
 -- The channels of a device, one of them changed or all refilled.
-use Rattle.std.proofs.Common.{◌≡◌, ℕ, ℤ, ◌*◌, ◌+◌, ◌<◌, ◌≤◌, Bool, cond, List, [], ◌∷◌, ◌++◌, length, map, set, get_or, take, Some, None, All, refl, sym, ap, ◌∙◌, subst, inl, inr, arith, get_or-set_same, get_or-set_other}
-use Rattle.std.specs.Prelude.{not, nat_lt, position}
+use Rattle.std.proofs.Common.{◌≡◌, ℕ, ℤ, ◌*◌, ◌+◌, ◌<◌, ◌≤◌, Bool, true, false, cond, List, [], ◌∷◌, ◌++◌, length, map, set, get_or, take, Some, None, All, refl, sym, ap, ◌∙◌, subst, inl, inr, arith, get_or-set_same, get_or-set_other}
+use Rattle.std.specs.Prelude.{not, ◌&&◌, ◌||◌, nat_lt, position}
 use Rattle.std.proofs.Props.{props}
 use mathlib.Core.HLevel.{is_prop→PathP}
 use Rattle.pcm_fixed.specs.Fixed.{fixed_len}
+use Rattle.pcm_format.specs.Formats.{code_of}
 use Rattle.pcm_format.specs.Frames.{Frame, frame_bytes}
+use Rattle.pcm_format.specs.Layouts.{channels_of}
 use Rattle.pcm_desk.specs.declared.limits.TheConstants.{RING_FRAMES}
 use Rattle.pcm_oss.specs.declared.event.TheConstants.{SLOTS}
 use Rattle.std.specs.List.{position_or_len, prefix_len}
 use Rattle.std.proofs.lemmas.List.{append-nil, get_or-map, map-set, length-map, length-set, get_or_default, same_lists, take-take}
-use Rattle.std.proofs.lemmas.Bool.{cases_eq}
+use Rattle.std.proofs.lemmas.Bool.{cases_eq, eq-eqb}
 use Rattle.pcm_feeder.specs.declared.kind.Kind.{Kind}
 use Rattle.pcm_feeder.specs.Filters.{Filters}
 use Rattle.pcm_feeder.specs.Limits.{IsRate}
@@ -18,16 +20,23 @@ use Rattle.pcm_feeder.specs.Kept.{Kept}
 use Rattle.pcm_desk.specs.declared.play_book.PlayBook.{PlayBook}
 use Rattle.pcm_desk.specs.declared.device.Device.{Device}
 use Rattle.pcm_desk.specs.declared.here.Here.{Here}
-use Rattle.pcm_desk.specs.Device.{DeviceSeen, HasRates, mixed_for, passed_for, seen, unfiltered}
+use Rattle.pcm_desk.specs.Device.{DeviceSeen, HasRates, mixed_for, mixed_slots, passed_for, seen, unfiltered}
 use Rattle.pcm_desk.specs.PlayBooks.{is_play_free, play_settled}
 use Rattle.pcm_desk.specs.declared.record_book.RecordBook.{RecordBook}
+use Rattle.pcm_desk.specs.declared.map_book.MapBook.{MapBook}
+use Rattle.pcm_desk.specs.declared.opening.Opening.{Opening}
+use Rattle.pcm_desk.specs.MapBooks.{is_map_free, taken_of}
 use Rattle.pcm_desk.specs.RecordBooks.{is_record_free}
-use Rattle.pcm_desk.specs.Desk.{capturing, least_free_play, least_free_record, mixed_by, mixing, play_passing, play_rate_at}
+use Rattle.pcm_desk.specs.Desk.{capturing, least_free_map, least_free_play, least_free_record, map_passing, mixed_by, mixing, play_passing, play_rate_at}
 use Rattle.pcm_play.specs.declared.channel.PlayChannelOf.{PlayChannelOf}
 use Rattle.pcm_vchan.specs.declared.parent.ParentOf.{ParentOf}
 use Rattle.pcm_record.specs.declared.channel.RecordChannelOf.{RecordChannelOf}
 use Rattle.pcm_record.specs.Channels.{IsRecordReady, RecordMoves}
-use Rattle.pcm_vchan.specs.Slots.{AreMixed, Each, IsPlayDue, MaySettle, Mixes, Passes, PlayAreOf, Settles, play_books_of, record_books_of}
+use Rattle.pcm_map.specs.declared.channel.MapChannelOf.{MapChannelOf}
+use Rattle.pcm_map.specs.Channels.{IsMapReady, MapMoves, area_of}
+use Rattle.pcm_map.proofs.Moving.{moves-nothing}
+use Rattle.pcm_sound.specs.Areas.{is_recut, silences, silent_area}
+use Rattle.pcm_vchan.specs.Slots.{AreMixed, Each, IsPlayDue, MapKeeps, MaySettle, Mixes, Passes, PlayAreOf, Settles, map_books_of, play_books_of, record_books_of}
 use Rattle.pcm_play.specs.Channels.{IsPlayReady, PlayMoves, PlayStands}
 
 prefix_len-map : {X Y : Type 0} (p : Y → Bool) (f : X → Y) (xs : List X) → prefix_len p (map f xs) ≡ prefix_len (λ x. p (f x)) xs
@@ -146,6 +155,68 @@ record_books_of-captured {B = B} device n old new same each =
     get_or-map (λ (c : RecordChannelOf B). c.book) new k other d there ∙ each k other before
     ∙ ap (capturing device n) (sym (get_or-map (λ (c : RecordChannelOf B). c.book) old k other d before)) ∙ sym (get_or-map (capturing device n) (record_books_of old) k d d listed))
 
+-- ---- mapped channels
+
+-- the least free slot of mapped books is that of their channels
+pub least_free_map-books : {B : Type 0} (channels : List (MapChannelOf B)) → least_free_map (map_books_of channels) ≡ position (λ (channel : MapChannelOf B). is_map_free channel.book.state) channels
+least_free_map-books {B = B} channels = position-map (λ (book : MapBook). is_map_free book.state) (λ (channel : MapChannelOf B). channel.book) channels
+
+-- the book of a mapped channel
+pub map_at-channel : {B : Type 0} (channels : List (MapChannelOf B)) (slot : ℕ) (old : MapChannelOf B) (other : MapBook) → slot < length channels → old ≡ get_or channels slot old → old.book ≡ get_or (map_books_of channels) slot other
+map_at-channel {B = B} channels slot old other there is = ap (λ (channel : MapChannelOf B). channel.book) is ∙ sym (get_or-map (λ (channel : MapChannelOf B). channel.book) channels slot old other there)
+
+-- their books once one channel changed, whose book changed by `how`
+pub map_books_of-set : {B : Type 0} (how : MapBook → MapBook) (channels : List (MapChannelOf B)) (slot : ℕ) (old new : MapChannelOf B) (other : MapBook) → slot < length channels → old ≡ get_or channels slot old → new.book ≡ how old.book
+    → map_books_of (set channels slot new) ≡ set (map_books_of channels) slot (how (get_or (map_books_of channels) slot other))
+map_books_of-set {B = B} how channels slot old new other there is changed =
+    map-set (λ (channel : MapChannelOf B). channel.book) channels slot new
+    ∙ ap (set (map_books_of channels) slot) (changed ∙ ap how (map_at-channel channels slot old other there is))
+
+-- a channel that moved is ready still
+pub map-ready-moved : {B : Type 0} (kind : B → Kind) (kept : B → Kept) (filters : Filters) (more : List ℕ) (frames : ℕ) (old new : MapChannelOf B) → MapMoves kind kept filters more frames old new → IsMapReady kind kept filters old → IsMapReady kind kept filters new
+map-ready-moved kind kept filters more frames old new m r = record {
+  kinds = m.kinds r.kinds;
+  planned = m.planned r.planned;
+  stands = record { bytes = take (taken_of new.book) (r.stands.bytes ++ more); stands = m.stands r.stands.bytes r.stands.stands };
+}
+
+recut-none : (opening : Opening) → is_recut opening opening ≡ false
+recut-none opening =
+    let codes = eq-eqb (code_of opening.settings.format) (code_of opening.settings.format) refl in
+    let channels = eq-eqb (channels_of opening.settings.layout) (channels_of opening.settings.layout) refl in
+    let counts = eq-eqb opening.fragments.count opening.fragments.count refl in
+    let logs = eq-eqb opening.fragments.log opening.fragments.log refl in
+    rw (codes, channels, counts, logs) refl
+
+begins-none : (free : Bool) → (free && not free) ≡ false
+begins-none true = refl
+begins-none false = refl
+
+-- a call that leaves a channel as it is
+pub map-keeps-nothing : {B : Type 0} (kind : B → Kind) (kept : B → Kept) (filters : Filters) (channel : MapChannelOf B) → MapKeeps kind kept filters (λ area. area) channel channel
+map-keeps-nothing kind kept filters channel =
+    let opening : Opening = channel.book.opening in
+    let stays : silences channel.book channel.book ≡ false = ap (λ (b : Bool). b || is_recut opening opening) (begins-none (is_map_free channel.book.state)) ∙ recut-none opening in
+    record {
+      moves = moves-nothing kind kept filters [] 0 channel;
+      area = ap (λ (b : Bool). cond b (silent_area opening) (area_of channel)) (sym stays);
+    }
+
+-- their books after an interrupt
+pub map_books_of-passed : {B : Type 0} (device : DeviceSeen) (handed n : ℕ) (old new : List (MapChannelOf B)) → length new ≡ length old → Each (λ (o : MapChannelOf B) (c : MapChannelOf B). c.book ≡ map_passing device handed n o.book) old new
+    → map_books_of new ≡ map (map_passing device handed n) (map_books_of old)
+map_books_of-passed {B = B} device handed n old new same each =
+    let passing : MapBook → MapBook = map_passing device handed n in
+    same_lists (map_books_of new) (map passing (map_books_of old))
+    (length-map new (λ (c : MapChannelOf B). c.book) ∙ same ∙ sym (length-map (map_books_of old) passing ∙ length-map old (λ (c : MapChannelOf B). c.book)))
+    (λ k d within.
+    let there : k < length new = omega (arith, length-map new (λ (c : MapChannelOf B). c.book)) in
+    let before : k < length old = omega arith in
+    let listed : k < length (map_books_of old) = omega (arith, length-map old (λ (c : MapChannelOf B). c.book)) in
+    let other : MapChannelOf B = some_channel old k before in
+    get_or-map (λ (c : MapChannelOf B). c.book) new k other d there ∙ each k other before
+    ∙ ap passing (sym (get_or-map (λ (c : MapChannelOf B). c.book) old k other d before)) ∙ sym (get_or-map passing (map_books_of old) k d d listed))
+
 -- ---- a parent
 
 rate-prop : (rate : ℕ) (x y : IsRate rate) → x ≡ y
@@ -158,12 +229,13 @@ rates-prop : (device : Device) (x y : HasRates device) → x ≡ y
 rates-prop device x y = λ i. record { rate = rate-prop device.settings.rate x.rate y.rate i; mix_rate = rate-prop device.mix.rate x.mix_rate y.mix_rate i }
 
 -- a parent with other channels that are the old ones is the old one
-pub parent_same : {B : Type 0} (new old : ParentOf B) (device : new.device ≡ old.device) (channels : new.channels ≡ old.channels) (recorders : new.recorders ≡ old.recorders) (bus : new.bus ≡ old.bus) (ring : new.ring ≡ old.ring)
+pub parent_same : {B : Type 0} (new old : ParentOf B) (device : new.device ≡ old.device) (channels : new.channels ≡ old.channels) (recorders : new.recorders ≡ old.recorders) (maps : new.maps ≡ old.maps) (bus : new.bus ≡ old.bus) (ring : new.ring ≡ old.ring)
     (handed : new.handed ≡ old.handed) → new.mixed ≡ old.mixed → (passed : new.passed ≡ old.passed) → new ≡ old
-parent_same {B = B} new old device channels recorders bus ring handed mixed passed = λ i. record {
+parent_same {B = B} new old device channels recorders maps bus ring handed mixed passed = λ i. record {
   device = device i;
   channels = channels i;
   recorders = recorders i;
+  maps = maps i;
   bus = bus i;
   ring = ring i;
   handed = handed i;
@@ -174,7 +246,8 @@ parent_same {B = B} new old device channels recorders bus ring handed mixed pass
   bus_of = is_prop→PathP (λ j. (bus j).device ≡ device j) (λ j. hlevel props) new.bus_of old.bus_of i;
   within = is_prop→PathP (λ j. (device j).ring_frames ≤ RING_FRAMES) (λ j. hlevel props) new.within old.within i;
   slots = is_prop→PathP (λ j. fixed_len (channels j) ≡ (device j).play_slots) (λ j. hlevel props) new.slots old.slots i;
-  slots_within = is_prop→PathP (λ j. (device j).play_slots ≤ SLOTS) (λ j. hlevel props) new.slots_within old.slots_within i;
+  maps_count = is_prop→PathP (λ j. fixed_len (maps j) ≡ (device j).map_slots) (λ j. hlevel props) new.maps_count old.maps_count i;
+  slots_within = is_prop→PathP (λ j. mixed_slots (unfiltered (device j)) ≤ SLOTS) (λ j. hlevel props) new.slots_within old.slots_within i;
   recorders_count = is_prop→PathP (λ j. fixed_len (recorders j) ≡ (device j).record_slots) (λ j. hlevel props) new.recorders_count old.recorders_count i;
   recorders_within = is_prop→PathP (λ j. (device j).record_slots ≤ SLOTS) (λ j. hlevel props) new.recorders_within old.recorders_within i;
   size = is_prop→PathP (λ j. (ring j).size ≡ (device j).ring_frames * frame_bytes (device j).settings) (λ j. hlevel props) new.size old.size i;

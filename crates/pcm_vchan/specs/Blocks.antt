@@ -8,12 +8,14 @@ use Rattle.pcm_format.specs.Frames.{frame_bytes}
 use Rattle.pcm_format.specs.Layouts.{channels_of}
 use Rattle.pcm_format.specs.Samples.{spelled}
 use Rattle.pcm_desk.specs.declared.play_book.PlayBook.{PlayBook}
+use Rattle.pcm_desk.specs.declared.map_book.MapBook.{MapBook}
 use Rattle.pcm_desk.specs.declared.device.Device.{Device}
 use Rattle.pcm_desk.specs.Device.{DeviceSeen, device_settings, mix_settings, ring_frames, seen}
-use Rattle.pcm_desk.specs.Desk.{play_unopened}
-use Rattle.pcm_sound.specs.Added.{turned}
+use Rattle.pcm_desk.specs.Desk.{map_unopened, play_unopened}
+use Rattle.pcm_sound.specs.Added.{map_turned, turned}
 use Rattle.pcm_play.specs.declared.channel.PlayChannelOf.{PlayChannelOf}
-use Rattle.pcm_vchan.specs.Slots.{AllPlayStand, play_books_of}
+use Rattle.pcm_map.specs.declared.channel.MapChannelOf.{MapChannelOf}
+use Rattle.pcm_vchan.specs.Slots.{AllMapStand, AllPlayStand, map_books_of, play_books_of}
 
 -- the samples of so many frames of silence
 abbrev pub silent_samples : Settings → ℕ → List ℤ
@@ -27,6 +29,18 @@ mixed_onto device n books streams slots sum =
 -- the same, from silence on
 abbrev pub block_of : DeviceSeen → ℕ → List PlayBook → (ℕ → List ℕ) → ℕ → List ℤ
 block_of device n books streams slots = mixed_onto device n books streams slots (silent_samples (mix_settings device) n)
+
+-- a block of the mix once the first mapped slots gave their frames to it, from their books, the bytes that were taken and their areas
+abbrev pub mapped_onto : DeviceSeen → ℕ → List MapBook → (ℕ → List ℕ) → (ℕ → List ℕ) → ℕ → List ℤ → List ℤ
+mapped_onto device n books taken areas slots sum =
+    fold (λ sum slot. map_turned device n (slice_index_or books slot (map_unopened device)) (taken slot) (areas slot) sum) sum (range_with_len 0 slots)
+
+-- what is known of the slots that are mixed: the bytes of the run of each that plays, and of each mapped one the bytes that were taken and
+-- what stands in its area
+pub record Sources : Type 0 where
+  pub played : ℕ → List ℕ
+  pub taken : ℕ → List ℕ
+  pub areas : ℕ → List ℕ
 
 -- the bytes of samples
 abbrev pub block_bytes : Settings → List ℤ → List ℕ
@@ -47,7 +61,21 @@ abbrev pub MixesOnto : {B : Type 0} → (B → Kept) → Filters → Device → 
 MixesOnto kept filters device n channels old new = (streams : ℕ → List ℕ) → AllPlayStand kept filters channels streams
     → new ≡ mixed_onto (seen filters device) n (play_books_of channels) streams (length channels) old
 
+-- a block to which mapped ones add theirs
+abbrev pub MapsOnto : {B : Type 0} → (B → Kept) → Filters → Device → ℕ → List (MapChannelOf B) → List ℤ → List ℤ → Type 0
+MapsOnto kept filters device n channels old new = (taken areas : ℕ → List ℕ) → AllMapStand kept filters channels taken areas
+    → new ≡ mapped_onto (seen filters device) n (map_books_of channels) taken areas (length channels) old
+
+-- channels stand for what is known of their slots
+pub record AllStand {B : Type 0} (kept : B → Kept) (filters : Filters) (channels : List (PlayChannelOf B)) (maps : List (MapChannelOf B)) (sources : Sources) : Type 0 where
+  pub playing : AllPlayStand kept filters channels sources.played
+  pub mapped : AllMapStand kept filters maps sources.taken sources.areas
+
+-- a block of all channels: first of those that play, and then of the mapped ones
+abbrev pub whole_block : {B : Type 0} → DeviceSeen → ℕ → List (PlayChannelOf B) → List (MapChannelOf B) → Sources → List ℤ
+whole_block device n channels maps sources =
+    mapped_onto device n (map_books_of maps) sources.taken sources.areas (length maps) (block_of device n (play_books_of channels) sources.played (length channels))
+
 -- a block of theirs
-abbrev pub MixesBlock : {B : Type 0} → (B → Kept) → Filters → Device → ℕ → List (PlayChannelOf B) → List ℤ → Type 0
-MixesBlock kept filters device n channels block = (streams : ℕ → List ℕ) → AllPlayStand kept filters channels streams
-    → block ≡ block_of (seen filters device) n (play_books_of channels) streams (length channels)
+abbrev pub MixesBlock : {B : Type 0} → (B → Kept) → Filters → Device → ℕ → List (PlayChannelOf B) → List (MapChannelOf B) → List ℤ → Type 0
+MixesBlock kept filters device n channels maps block = (sources : Sources) → AllStand kept filters channels maps sources → block ≡ whole_block (seen filters device) n channels maps sources

@@ -6,6 +6,8 @@ use Rattle.pcm_play.specs.declared.channel.PlayChannelOf.{PlayChannelOf}
 use Rattle.pcm_play.specs.contracts.channel.PlayChannelOf.{the_row as channel_row}
 use Rattle.pcm_record.specs.declared.channel.RecordChannelOf.{RecordChannelOf}
 use Rattle.pcm_record.specs.contracts.channel.RecordChannelOf.{the_row as recorder_row}
+use Rattle.pcm_map.specs.declared.channel.MapChannelOf.{MapChannelOf}
+use Rattle.pcm_map.specs.contracts.channel.MapChannelOf.{the_row as map_row}
 use Rattle.pcm_vchan.specs.declared.parent.ParentOf.{ParentOf}
 use Rattle.pcm_vchan.specs.contracts.parent.ParentOf.{the_row}
 
@@ -24,3 +26,11 @@ with_recorder parent slot channel = record parent { recorders = with_fixed_item 
 -- the parent ends with the channel that records as its borrower left it
 abbrev pub LendsRecorder : (R : RattleType) → MutBor (ParentOf R.Denot) → ℕ → MutBor (RecordChannelOf R.Denot) → Fml
 LendsRecorder R parent slot channel = Lends (the_row R) (recorder_row R) parent channel (λ last. with_recorder parent.now slot last)
+
+-- a parent with another mapped channel in a slot
+abbrev pub with_map_channel : {B : Type 0} → ParentOf B → ℕ → MapChannelOf B → ParentOf B
+with_map_channel parent slot channel = record parent { maps = with_fixed_item parent.maps slot channel }
+
+-- the parent ends with the mapped channel as its borrower left it
+abbrev pub LendsMap : (R : RattleType) → MutBor (ParentOf R.Denot) → ℕ → MutBor (MapChannelOf R.Denot) → Fml
+LendsMap R parent slot channel = Lends (the_row R) (map_row R) parent channel (λ last. with_map_channel parent.now slot last)

@@ -11,24 +11,29 @@ use Rattle.pcm_desk.specs.declared.device.Device.{Device}
 use Rattle.pcm_desk.specs.declared.limits.TheConstants.{MIX_FRAMES, RING_FRAMES}
 use Rattle.pcm_oss.specs.declared.event.TheConstants.{SLOTS}
 use Rattle.pcm_desk.specs.declared.here.Here.{Here}
-use Rattle.pcm_desk.specs.Device.{DeviceSeen, HasRates, mix_frames, mixed_for, passed_for, seen, unfiltered}
+use Rattle.pcm_desk.specs.Device.{DeviceSeen, HasRates, mix_frames, mixed_for, mixed_slots, passed_for, seen, unfiltered}
 use Rattle.pcm_desk.specs.declared.play_book.PlayBook.{PlayBook}
 use Rattle.pcm_desk.specs.declared.record_book.RecordBook.{RecordBook}
+use Rattle.pcm_desk.specs.declared.map_book.MapBook.{MapBook}
 use Rattle.pcm_feeder.specs.declared.kind.Kind.{Kind}
 use Rattle.pcm_feeder.specs.Filters.{Filters}
 use Rattle.pcm_feeder.specs.Kept.{Kept}
 use Rattle.pcm_desk.specs.PlayBooks.{play_begun}
 use Rattle.pcm_desk.specs.RecordBooks.{record_begun}
-use Rattle.pcm_desk.specs.Desk.{least_free_play, least_free_record, mixed_by}
+use Rattle.pcm_desk.specs.MapBooks.{map_begun}
+use Rattle.pcm_desk.specs.Desk.{least_free_map, least_free_play, least_free_record, mixed_by}
 use Rattle.pcm_play.specs.declared.channel.PlayChannelOf.{PlayChannelOf}
 use Rattle.pcm_play.specs.Channels.{IsPlayReady, IsPlayUnopened, PlayMoves}
 use Rattle.pcm_record.specs.declared.channel.RecordChannelOf.{RecordChannelOf}
 use Rattle.pcm_record.specs.Channels.{IsRecordReady, IsRecordUnopened, RecordMoves}
+use Rattle.pcm_map.specs.declared.channel.MapChannelOf.{MapChannelOf}
+use Rattle.pcm_map.specs.Channels.{IsMapReady, IsMapUnopened}
 use Rattle.pcm_vchan.specs.declared.parent.ParentOf.{ParentOf}
 use Rattle.pcm_vchan.specs.Buses.{HasMadeSome, TurnsBus}
 use Rattle.pcm_vchan.specs.Handovers.{IsPlannedBy}
 use Rattle.pcm_vchan.specs.Captures.{AllCapture}
-use Rattle.pcm_vchan.specs.Slots.{Each, IsPlayDue, IsRecordDue, Passes, PlayAreOf, RecordAreOf, play_books_of, record_books_of}
+use Rattle.pcm_vchan.specs.Slots.{Each, IsMapDue, IsPlayDue, IsRecordDue, MapAreOf, MapKeeps, MapPlays, Passes, PlayAreOf, RecordAreOf, map_books_of, play_books_of, record_books_of}
+use Rattle.pcm_vchan.specs.Starts.{EachAt}
 
 -- the channels of a parent, by slot: those that play
 abbrev pub play_channels : {B : Type 0} → ParentOf B → List (PlayChannelOf B)
@@ -38,6 +43,10 @@ play_channels parent = fixed_items parent.channels
 abbrev pub record_channels : {B : Type 0} → ParentOf B → List (RecordChannelOf B)
 record_channels parent = fixed_items parent.recorders
 
+-- and the mapped ones
+abbrev pub map_channels : {B : Type 0} → ParentOf B → List (MapChannelOf B)
+map_channels parent = fixed_items parent.maps
+
 -- the books of a parent, by slot
 abbrev pub play_books : {B : Type 0} → ParentOf B → List PlayBook
 play_books parent = play_books_of (play_channels parent)
@@ -45,12 +54,15 @@ play_books parent = play_books_of (play_channels parent)
 abbrev pub record_books : {B : Type 0} → ParentOf B → List RecordBook
 record_books parent = record_books_of (record_channels parent)
 
+abbrev pub map_books : {B : Type 0} → ParentOf B → List MapBook
+map_books parent = map_books_of (map_channels parent)
+
 -- a device that a parent can be made for
 pub record HasLimits (device : Device) : Type 0 where
   pub rates : HasRates device
   pub ring : device.ring_frames ≤ RING_FRAMES
   pub mix : mix_frames (unfiltered device) ≤ MIX_FRAMES
-  pub slots : device.play_slots ≤ SLOTS
+  pub slots : mixed_slots (unfiltered device) ≤ SLOTS
   pub recorders : device.record_slots ≤ SLOTS
 
 -- ---- what is repeated of all channels of a parent
@@ -59,19 +71,27 @@ pub record HasLimits (device : Device) : Type 0 where
 pub record AreServed {B : Type 0} (kind : B → Kind) (kept : B → Kept) (filters : Filters) (parent : ParentOf B) : Type 0 where
   pub own : PlayAreOf parent.device (play_channels parent)
   pub recorders_own : RecordAreOf parent.device (record_channels parent)
+  pub maps_own : MapAreOf parent.device (map_channels parent)
   pub ready : All (IsPlayReady kind kept filters) (play_channels parent)
   pub recorders_ready : All (IsRecordReady kind kept filters) (record_channels parent)
+  pub maps_ready : All (IsMapReady kind kept filters) (map_channels parent)
 
 -- all are of its device, and have the boxes of a rack: they may be closed
 pub record AreClosable {B : Type 0} (kind : B → Kind) (parent : ParentOf B) : Type 0 where
   pub own : PlayAreOf parent.device (play_channels parent)
   pub recorders_own : RecordAreOf parent.device (record_channels parent)
+  pub maps_own : MapAreOf parent.device (map_channels parent)
   pub kinds : All (λ channel. HaveKinds kind (boxes_in channel.path.chain)) (play_channels parent)
   pub recorders_kinds : All (λ channel. HaveKinds kind (boxes_in channel.path.chain)) (record_channels parent)
+  pub maps_kinds : All (λ channel. HaveKinds kind (boxes_in channel.path.chain)) (map_channels parent)
 
 -- the bytes that were accepted since the opening of each fit a count
 abbrev pub TotalsFit : {B : Type 0} → ParentOf B → Type 0
 TotalsFit parent = All (λ channel. channel.book.done + channel.book.written < 2 ^ 64) (play_channels parent)
+
+-- and the frames that each mapped one gave fit one
+abbrev pub GivenFit : {B : Type 0} → ParentOf B → Type 0
+GivenFit parent = All (λ channel. channel.book.given < 2 ^ 50) (map_channels parent)
 
 -- how many frames an interrupt of n mixes
 abbrev pub mixed_in : {B : Type 0} → Filters → ℕ → ParentOf B → ℕ
@@ -91,6 +111,7 @@ here_of parent = record { mixed = parent.mixed; passed = passed_for (unfiltered 
 pub record AreDue {B : Type 0} (kind : B → Kind) (kept : B → Kept) (filters : Filters) (frames : ℕ) (parent : ParentOf B) : Type 0 where
   pub playing : All (IsPlayDue kind kept filters parent.device (mixed_in filters frames parent)) (play_channels parent)
   pub recording : All (IsRecordDue kind kept filters parent.device frames) (record_channels parent)
+  pub mapped : All (IsMapDue kind kept filters parent.device (mixed_in filters frames parent)) (map_channels parent)
   pub bus : HasBus kept (seen filters parent.device) parent
 
 -- nobody has opened one that plays
@@ -101,6 +122,10 @@ ArePlayUnopened kind kept filters device parent = All (IsPlayUnopened kind kept 
 abbrev pub AreRecordUnopened : {B : Type 0} → (B → Kind) → (B → Kept) → Filters → Device → ParentOf B → Type 0
 AreRecordUnopened kind kept filters device parent = All (IsRecordUnopened kind kept filters device) (record_channels parent)
 
+-- nor a mapped one
+abbrev pub AreMapUnopened : {B : Type 0} → (B → Kind) → (B → Kept) → Filters → Device → ParentOf B → Type 0
+AreMapUnopened kind kept filters device parent = All (IsMapUnopened kind kept filters device) (map_channels parent)
+
 -- what a call moves of each that plays
 abbrev pub EachPlayMoves : {B : Type 0} → (B → Kind) → (B → Kept) → Filters → List ℕ → ℕ → ParentOf B → ParentOf B → Type 0
 EachPlayMoves kind kept filters more frames old new = Each (PlayMoves kind kept filters more frames) (play_channels old) (play_channels new)
@@ -108,6 +133,14 @@ EachPlayMoves kind kept filters more frames old new = Each (PlayMoves kind kept 
 -- and of each that records
 abbrev pub EachRecordMoves : {B : Type 0} → (B → Kind) → (B → Kept) → Filters → List Frame → ℕ → ParentOf B → ParentOf B → Type 0
 EachRecordMoves kind kept filters input count old new = Each (RecordMoves kind kept filters input count) (record_channels old) (record_channels new)
+
+-- and leaves of each mapped one, into whose area it may write
+abbrev pub EachMapKeeps : {B : Type 0} → (B → Kind) → (B → Kept) → Filters → (ℕ → List ℕ → List ℕ) → ParentOf B → ParentOf B → Type 0
+EachMapKeeps kind kept filters writes old new = EachAt (λ slot. MapKeeps kind kept filters (writes slot)) (map_channels old) (map_channels new)
+
+-- a call that writes into none
+abbrev pub untouched : ℕ → List ℕ → List ℕ
+untouched slot area = area
 
 -- the book of each that plays after an interrupt of n frames
 abbrev pub EachPasses : {B : Type 0} → Filters → ℕ → ParentOf B → ParentOf B → Type 0
@@ -117,9 +150,13 @@ EachPasses filters n old new = Each (Passes (seen filters old.device) old.handed
 abbrev pub EachCaptures : {B : Type 0} → (B → Kind) → (B → Kept) → Filters → ℕ → List ℤ → ParentOf B → ParentOf B → Type 0
 EachCaptures kind kept filters n samples old new = AllCapture kind kept (seen filters old.device) n samples (record_channels old) (record_channels new)
 
+-- and of each mapped one
+abbrev pub EachMapPlays : {B : Type 0} → (B → Kind) → (B → Kept) → Filters → ℕ → ParentOf B → ParentOf B → Type 0
+EachMapPlays kind kept filters n old new = Each (MapPlays kind kept filters old.device (mixed_in filters n old)) (map_channels old) (map_channels new)
+
 -- and of the parent's bus and ring
 abbrev pub BusTurns : {B : Type 0} → (B → Kept) → Filters → ℕ → ParentOf B → ParentOf B → Type 0
-BusTurns kept filters n old new = TurnsBus kept (seen filters old.device) old.handed n (play_channels old) old.bus.chain new.bus.chain old.ring.bytes new.ring.bytes
+BusTurns kept filters n old new = TurnsBus kept (seen filters old.device) old.handed n (play_channels old) (map_channels old) old.bus.chain new.bus.chain old.ring.bytes new.ring.bytes
 
 -- ---- opening a slot
 
@@ -148,6 +185,7 @@ pub record KeepsOutput {B : Type 0} (old new : ParentOf B) : Type 0 where
   pub mixed_same : new.mixed ≡ old.mixed
   pub slots_same : length (play_channels new) ≡ length (play_channels old)
   pub recorders_same : length (record_channels new) ≡ length (record_channels old)
+  pub maps_same : length (map_channels new) ≡ length (map_channels old)
 
 -- an open of a channel that plays
 pub record OpensPlay {B : Type 0} (kind : B → Kind) (kept : B → Kept) (filters : Filters) (settings : Settings) (old new : ParentOf B) (result : Result ℕ Errno) : Type 0 where
@@ -155,6 +193,7 @@ pub record OpensPlay {B : Type 0} (kind : B → Kind) (kept : B → Kept) (filte
   pub own : PlayAreOf new.device (play_channels new)
   pub moves : EachPlayMoves kind kept filters [] 0 old new
   pub others : new.recorders ≡ old.recorders
+  pub mapped : new.maps ≡ old.maps
 
 -- an open of a channel that records
 pub record OpensRecord {B : Type 0} (kind : B → Kind) (kept : B → Kept) (filters : Filters) (settings : Settings) (old new : ParentOf B) (result : Result ℕ Errno) : Type 0 where
@@ -162,3 +201,12 @@ pub record OpensRecord {B : Type 0} (kind : B → Kind) (kept : B → Kept) (fil
   pub own : RecordAreOf new.device (record_channels new)
   pub moves : EachRecordMoves kind kept filters [] 0 old new
   pub others : new.channels ≡ old.channels
+  pub mapped : new.maps ≡ old.maps
+
+-- an open of a mapped channel
+pub record OpensMap {B : Type 0} (kind : B → Kind) (kept : B → Kept) (filters : Filters) (settings : Settings) (old new : ParentOf B) (result : Result ℕ Errno) : Type 0 where
+  pub begins : Begins (length (map_channels old)) (least_free_map (map_books old)) (map_begun settings) (map_books old) (map_books new) result
+  pub own : MapAreOf new.device (map_channels new)
+  pub keeps : EachMapKeeps kind kept filters untouched old new
+  pub others : new.channels ≡ old.channels
+  pub recording : new.recorders ≡ old.recorders

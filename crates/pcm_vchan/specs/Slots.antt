@@ -1,5 +1,5 @@
 -- The channels of a device, by slot.
-use Rattle.std.specs.Prelude.{◌≡◌, ◌≢◌, ℕ, ◌+◌, ◌^◌, ◌<◌, List, [], length, map, slice_index_or, All}
+use Rattle.std.specs.Prelude.{◌≡◌, ◌≢◌, ℕ, ◌+◌, ◌^◌, ◌<◌, if◌then◌else◌, List, [], length, map, slice_index_or, All}
 use Rattle.pcm_feeder.specs.declared.kind.Kind.{Kind}
 use Rattle.pcm_feeder.specs.Filters.{Filters}
 use Rattle.pcm_feeder.specs.Kept.{Kept}
@@ -8,15 +8,19 @@ use Rattle.pcm_chain.specs.Chains.{boxes_in}
 use Rattle.pcm_format.specs.Frames.{Frame}
 use Rattle.pcm_desk.specs.declared.play_book.PlayBook.{PlayBook}
 use Rattle.pcm_desk.specs.declared.record_book.RecordBook.{RecordBook}
+use Rattle.pcm_desk.specs.declared.map_book.MapBook.{MapBook}
 use Rattle.pcm_desk.specs.declared.device.Device.{Device}
 use Rattle.pcm_desk.specs.declared.here.Here.{Here}
-use Rattle.pcm_desk.specs.Desk.{mixing, play_passing}
+use Rattle.pcm_desk.specs.Desk.{map_mixing, mixing, play_passing}
 use Rattle.pcm_desk.specs.Device.{DeviceSeen, seen}
 use Rattle.pcm_play.specs.declared.channel.PlayChannelOf.{PlayChannelOf}
 use Rattle.pcm_oss.specs.declared.fragments.TheConstants.{RING_BYTES}
 use Rattle.pcm_play.specs.Channels.{IsPlayReady, PlayMoves, PlayStands, SettlesBook}
 use Rattle.pcm_record.specs.declared.channel.RecordChannelOf.{RecordChannelOf}
 use Rattle.pcm_record.specs.Channels.{IsRecordReady, RecordStands}
+use Rattle.pcm_map.specs.declared.channel.MapChannelOf.{MapChannelOf}
+use Rattle.pcm_map.specs.Channels.{IsMapReady, MapMoves, MapStands, MapTakes, area_of}
+use Rattle.pcm_sound.specs.Areas.{silences, silent_area}
 
 -- the books of channels, by slot
 abbrev pub play_books_of : {B : Type 0} → List (PlayChannelOf B) → List PlayBook
@@ -100,3 +104,46 @@ pub record IsRecordDue {B : Type 0} (kind : B → Kind) (keeps : B → Kept) (fi
   pub ready : IsRecordReady kind keeps filters channel
   pub captured : channel.book.captured + frames < 2 ^ 56
   pub kept : channel.book.kept + RING_BYTES < 2 ^ 64
+
+-- ---- mapped channels
+
+-- their books, by slot
+abbrev pub map_books_of : {B : Type 0} → List (MapChannelOf B) → List MapBook
+map_books_of channels = map (λ channel. channel.book) channels
+
+-- each is of one device
+abbrev pub MapAreOf : {B : Type 0} → Device → List (MapChannelOf B) → Type 0
+MapAreOf device channels = All (λ channel. channel.path.device ≡ device) channels
+
+-- a channel stands for its book and the bytes that were taken in its slot, and this stands in its area
+pub record MapStandsWith {B : Type 0} (kept : B → Kept) (filters : Filters) (taken content : List ℕ) (channel : MapChannelOf B) : Type 0 where
+  pub stands : MapStands kept filters channel channel.book taken
+  pub area : area_of channel ≡ content
+
+-- so does each
+abbrev pub AllMapStand : {B : Type 0} → (B → Kept) → Filters → List (MapChannelOf B) → (ℕ → List ℕ) → (ℕ → List ℕ) → Type 0
+AllMapStand kept filters channels taken areas = (slot : ℕ) (other : MapChannelOf _) → slot < length channels
+    → MapStandsWith kept filters (taken slot) (areas slot) (slice_index_or channels slot other)
+
+-- a channel of this device is ready for an interrupt that mixes so many frames, and its counts have room for them
+pub record IsMapDue {B : Type 0} (kind : B → Kind) (keeps : B → Kept) (filters : Filters) (device : Device) (frames : ℕ) (channel : MapChannelOf B) : Type 0 where
+  pub own : channel.path.device ≡ device
+  pub ready : IsMapReady kind keeps filters channel
+  pub given : channel.book.given + frames < 2 ^ 50
+
+-- what an interrupt that mixes so many frames leaves of a channel: it takes what stands in the area, which stays
+pub record MapPlays {B : Type 0} (kind : B → Kind) (kept : B → Kept) (filters : Filters) (device : Device) (frames : ℕ) (old new : MapChannelOf B) : Type 0 where
+  pub book : new.book ≡ map_mixing (seen filters device) frames old.book
+  pub moves : MapTakes kind kept filters frames old new
+  pub area : area_of new ≡ area_of old
+
+-- and of those of a device
+pub record AreTaken {B : Type 0} (kind : B → Kind) (kept : B → Kept) (filters : Filters) (device : Device) (frames : ℕ) (old new : List (MapChannelOf B)) : Type 0 where
+  pub own : MapAreOf device new
+  pub each : Each (MapPlays kind kept filters device frames) old new
+
+-- What a call leaves of a channel, which writes so into its area: it takes nothing, and the area is silent anew where another opening
+-- begins, or its format, its channels or its fragments are others.
+pub record MapKeeps {B : Type 0} (kind : B → Kind) (kept : B → Kept) (filters : Filters) (writes : List ℕ → List ℕ) (old new : MapChannelOf B) : Type 0 where
+  pub moves : MapMoves kind kept filters [] 0 old new
+  pub area : area_of new ≡ (if silences old.book new.book then silent_area new.book.opening else writes (area_of old))

@@ -10,7 +10,7 @@ ghost use Rattle.pcm_desk.specs.Desk.{mixed_by};
 ghost use Rattle.pcm_desk.specs.Device.{mix_frames, seen, unfiltered, HasRates};
 ghost use Rattle.pcm_vchan.specs.Buses.{HasMadeSome, TurnsBus};
 ghost use Rattle.pcm_vchan.specs.Handovers.{HasMade, IsPlannedBy};
-ghost use Rattle.pcm_vchan.specs.Slots.{AreMixed, IsPlayDue};
+ghost use Rattle.pcm_vchan.specs.Slots.{AreMixed, AreTaken, IsMapDue, IsPlayDue};
 
 use crate::handover::hand_over;
 use crate::mixer::{mix_block, turn_ring};
@@ -18,6 +18,7 @@ use pcm_chain::ChainOf;
 use pcm_desk::{Device, Here};
 use pcm_feeder::{Feeder, RackOf, Tables};
 use pcm_fixed::Fixed;
+use pcm_map::MapChannelOf;
 use pcm_plan::plan_record;
 use pcm_play::PlayChannelOf;
 use pcm_ring::ByteRing;
@@ -78,6 +79,7 @@ impl<B: Feeder> BusOf<B> {
         &mut self,
         tables: &Tables,
         channels: &mut [PlayChannelOf<B>],
+        maps: &mut [MapChannelOf<B>],
         handed: u64,
         here: Here,
         n: usize,
@@ -89,6 +91,8 @@ impl<B: Feeder> BusOf<B> {
         requires count { here.mixed + mixed_by (seen tables.now self.old.device) handed n < 2 ^ 64 }
         requires due { All (IsPlayDue B.kind B.kept tables.now self.old.device
             (mixed_by (seen tables.now self.old.device) handed n)) channels.old }
+        requires maps_due { All (IsMapDue B.kind B.kept tables.now self.old.device
+            (mixed_by (seen tables.now self.old.device) handed n)) maps.old }
         requires planned { IsPlannedBy (seen tables.now self.old.device) self.old.chain }
         requires made { HasMadeSome B.kept (seen tables.now self.old.device) self.old.chain handed }
         requires full { length ring.old.bytes ≡ ring.old.size }
@@ -99,16 +103,18 @@ impl<B: Feeder> BusOf<B> {
         ensures made { HasMadeSome B.kept (seen tables.now self.old.device) self.new.chain (handed + n) }
         ensures count { result ≡ mixed_by (seen tables.now self.old.device) handed n }
         ensures mixed { AreMixed B.kind B.kept tables.now self.old.device here.mixed result channels.old channels.new }
+        ensures taken { AreTaken B.kind B.kept tables.now self.old.device result maps.old maps.new }
         ensures size { ring.new.size ≡ ring.old.size }
         ensures full { length ring.new.bytes ≡ ring.old.size }
         ensures out { out.new ≡ take (n * frame_bytes self.old.device.settings) ring.old.bytes }
-        ensures turns { TurnsBus B.kept (seen tables.now self.old.device) handed n channels.old
+        ensures turns { TurnsBus B.kept (seen tables.now self.old.device) handed n channels.old maps.old
             self.old.chain self.new.chain ring.old.bytes ring.new.bytes }
     {
         turn(
             self.device,
             tables,
             channels,
+            maps,
             &mut self.chain,
             handed,
             here,
@@ -128,6 +134,7 @@ fn turn<B: Feeder>(
     device: Device,
     tables: &Tables,
     channels: &mut [PlayChannelOf<B>],
+    maps: &mut [MapChannelOf<B>],
     chain: &mut ChainOf<B>,
     handed: u64,
     here: Here,
@@ -145,6 +152,8 @@ fn turn<B: Feeder>(
     requires count { here.mixed + mixed_by (seen tables.now device) handed n < 2 ^ 64 }
     requires due { All (IsPlayDue B.kind B.kept tables.now device
         (mixed_by (seen tables.now device) handed n)) channels.old }
+    requires maps_due { All (IsMapDue B.kind B.kept tables.now device
+        (mixed_by (seen tables.now device) handed n)) maps.old }
     requires planned { IsPlannedBy (seen tables.now device) chain.old }
     requires made { HasMadeSome B.kept (seen tables.now device) chain.old handed }
     requires part { mix_frames (unfiltered device) * channels_of device.mix.layout ≤ length part.old }
@@ -158,10 +167,11 @@ fn turn<B: Feeder>(
     ensures made { HasMadeSome B.kept (seen tables.now device) chain.new (handed + n) }
     ensures count { result ≡ mixed_by (seen tables.now device) handed n }
     ensures mixed { AreMixed B.kind B.kept tables.now device here.mixed result channels.old channels.new }
+    ensures taken { AreTaken B.kind B.kept tables.now device result maps.old maps.new }
     ensures size { ring.new.size ≡ ring.old.size }
     ensures full { length ring.new.bytes ≡ ring.old.size }
     ensures out { out.new ≡ take (n * frame_bytes device.settings) ring.old.bytes }
-    ensures turns { TurnsBus B.kept (seen tables.now device) handed n channels.old
+    ensures turns { TurnsBus B.kept (seen tables.now device) handed n channels.old maps.old
         chain.old chain.new ring.old.bytes ring.new.bytes }
 {
     let count = mixed_by(device, tables, chain, handed, n);
@@ -171,6 +181,7 @@ fn turn<B: Feeder>(
         device,
         tables,
         channels,
+        maps,
         here,
         count,
         &mut part[..samples],

@@ -7,13 +7,16 @@ ghost use Rattle.pcm_format.specs.Layouts.{channels_of};
 ghost use Rattle.pcm_format.specs.Frames.{frame_bytes};
 ghost use Rattle.pcm_desk.specs.declared.limits.TheConstants.{RING_FRAMES};
 ghost use Rattle.pcm_desk.specs.Device.{seen, unfiltered};
-ghost use Rattle.pcm_play.specs.Channels.{AddsTo, HoldBlock, PlayMoves};
-ghost use Rattle.pcm_vchan.specs.Slots.{AreMixed, AtSlot, ChangesAt, IsPlayDue, Mixes, OthersStay};
-ghost use Rattle.pcm_vchan.specs.Blocks.{silent_ring, turned_ring, MixesBlock, MixesOnto};
+ghost use Rattle.pcm_path.specs.Paths.{HoldBlock};
+ghost use Rattle.pcm_play.specs.Channels.{AddsTo, PlayMoves};
+ghost use Rattle.pcm_map.specs.Channels.{MapAddsTo};
+ghost use Rattle.pcm_vchan.specs.Slots.{AreMixed, AreTaken, AtSlot, ChangesAt, IsMapDue, IsPlayDue, MapPlays, Mixes, OthersStay};
+ghost use Rattle.pcm_vchan.specs.Blocks.{silent_ring, turned_ring, MapsOnto, MixesBlock, MixesOnto};
 
 use pcm_desk::{Device, Here};
 use pcm_feeder::{Feeder, Tables};
 use pcm_format::{Settings, spell_frames};
+use pcm_map::MapChannelOf;
 use pcm_play::PlayChannelOf;
 use pcm_ring::ByteRing;
 use std::alloc::{AllocError, Global};
@@ -67,11 +70,57 @@ fn mix_slot<B: Feeder>(
     channels[slot].refill(tables, n, here, frames, sum);
 }
 
-/// Mixes a block of `n` frames from silence on, behind what was mixed before. `part` holds the frames of one channel meanwhile.
+// Adds the frames of each mapped channel to a block of `n` frames. The other buffer holds one channel's part meanwhile.
+fn mix_maps<B: Feeder>(
+    device: Device,
+    tables: &Tables,
+    maps: &mut [MapChannelOf<B>],
+    n: usize,
+    frames: &mut [i32],
+    sum: &mut [i32],
+)
+    requires some { 0 < n }
+    requires due { All (IsMapDue B.kind B.kept tables.now device n) maps.old }
+    requires block { HoldBlock device n frames.old sum.old }
+    ensures taken { AreTaken B.kind B.kept tables.now device n maps.old maps.new }
+    ensures sum { MapsOnto B.kept tables.now device n maps.old sum.old sum.new }
+    ensures fits { All (FitsBits (bits_of device.mix.format)) sum.new }
+{
+    for slot in 0..maps.len() {
+        mix_map(device, tables, maps, slot, n, frames, sum);
+    }
+}
+
+// Adds the frames of one mapped channel.
+fn mix_map<B: Feeder>(
+    device: Device,
+    tables: &Tables,
+    maps: &mut [MapChannelOf<B>],
+    slot: usize,
+    n: usize,
+    frames: &mut [i32],
+    sum: &mut [i32],
+)
+    requires some { 0 < n }
+    requires there { slot < length maps.old }
+    requires due { AtSlot (IsMapDue B.kind B.kept tables.now device n) maps.old slot }
+    requires block { HoldBlock device n frames.old sum.old }
+    ensures others { OthersStay slot maps.old maps.new }
+    ensures own { AtSlot (λ channel. channel.path.device ≡ device) maps.new slot }
+    ensures plays { ChangesAt (MapPlays B.kind B.kept tables.now device n) slot maps.old maps.new }
+    ensures sum { AtSlot (MapAddsTo B.kept tables.now device n sum.old sum.new) maps.old slot }
+    ensures fits { All (FitsBits (bits_of device.mix.format)) sum.new }
+{
+    maps[slot].refill(tables, n, frames, sum);
+}
+
+/// Mixes a block of `n` frames from silence on, behind what was mixed before: first of the channels that play, and then of the mapped ones.
+/// `part` holds the frames of one channel meanwhile.
 pub fn mix_block<B: Feeder>(
     device: Device,
     tables: &Tables,
     channels: &mut [PlayChannelOf<B>],
+    maps: &mut [MapChannelOf<B>],
     here: Here,
     n: usize,
     part: &mut [i32],
@@ -79,15 +128,18 @@ pub fn mix_block<B: Feeder>(
 )
     requires count { here.mixed + n < 2 ^ 64 }
     requires due { All (IsPlayDue B.kind B.kept tables.now device n) channels.old }
+    requires maps_due { All (IsMapDue B.kind B.kept tables.now device n) maps.old }
     requires part { length part.old ≡ n * channels_of device.mix.layout }
     requires sum { length sum.old ≡ n * channels_of device.mix.layout }
     ensures mixed { AreMixed B.kind B.kept tables.now device here.mixed n channels.old channels.new }
-    ensures block { MixesBlock B.kept tables.now device n channels.old sum.new }
+    ensures taken { AreTaken B.kind B.kept tables.now device n maps.old maps.new }
+    ensures block { MixesBlock B.kept tables.now device n channels.old maps.old sum.new }
     ensures fits { All (FitsBits (bits_of device.mix.format)) sum.new }
 {
     sum.fill(0);
     if n > 0 {
         mix_channels(device, tables, channels, here, n, part, sum);
+        mix_maps(device, tables, maps, n, part, sum);
     }
 }
 

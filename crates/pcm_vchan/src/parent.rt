@@ -9,13 +9,15 @@ ghost use Rattle.pcm_feeder.specs.Limits.{IsRate};
 ghost use Rattle.pcm_feeder.specs.Racks.{AreRacks, list_of};
 ghost use Rattle.pcm_desk.specs.declared.limits.TheConstants.{RING_FRAMES};
 ghost use Rattle.pcm_oss.specs.declared.event.TheConstants.{SLOTS};
-ghost use Rattle.pcm_desk.specs.Device.{passed_for, seen, unfiltered, HasRates};
+ghost use Rattle.pcm_desk.specs.Device.{mixed_slots, passed_for, seen, unfiltered, HasRates};
 ghost use Rattle.pcm_group.specs.Groups.{all_in, change_in};
 ghost use Rattle.pcm_desk.specs.Desk.{play_starting, record_starting};
 ghost use Rattle.pcm_desk.specs.Here.{IsHere};
 ghost use Rattle.pcm_desk.specs.PlayBooks.{is_play_free, play_is_ready};
 ghost use Rattle.pcm_desk.specs.RecordBooks.{is_record_free};
-ghost use Rattle.pcm_vchan.specs.Slots.{Each, MaySettle, PlayAreOf, RecordAreOf, Settles};
+ghost use Rattle.pcm_desk.specs.MapBooks.{is_map_free};
+ghost use Rattle.pcm_map.specs.Channels.{IsMapReady, IsMapUnopened};
+ghost use Rattle.pcm_vchan.specs.Slots.{Each, MapAreOf, MaySettle, PlayAreOf, RecordAreOf, Settles};
 ghost use Rattle.pcm_play.specs.Channels.{IsPlayHere, IsPlayReady, IsPlayUnopened};
 ghost use Rattle.pcm_record.specs.Channels.{IsRecordReady, IsRecordUnopened};
 ghost use Rattle.pcm_vchan.specs.Starts.{EachAt, MayRecord, MayStart, Records, Starts, is_in};
@@ -32,19 +34,21 @@ use pcm_feeder::{Feeder, RackOf, RacksOf, Tables};
 use pcm_fixed::Fixed;
 use pcm_format::Settings;
 use pcm_group::Groups;
+use pcm_map::MapChannelOf;
 use pcm_oss::{Errno, SLOTS, Way};
 use pcm_play::PlayChannelOf;
 use pcm_record::RecordChannelOf;
 use pcm_ring::ByteRing;
 use std::alloc::{AllocError, Global};
 
-/// The channels of a device by slot, those that play and those that record, the bus from the former to its ring, which is always full,
-/// how many frames were handed over and mixed, and how many of these have left the ring.
+/// The channels of a device by slot, those that play, those that record and the mapped ones, the bus from what is played to its ring, which is
+/// always full, how many frames were handed over and mixed, and how many of these have left the ring.
 #[derive(Drop)]
 pub struct ParentOf<B> {
     pub device: Device,
     pub channels: Fixed<PlayChannelOf<B>>,
     pub recorders: Fixed<RecordChannelOf<B>>,
+    pub maps: Fixed<MapChannelOf<B>>,
     pub bus: BusOf<B>,
     pub ring: ByteRing,
     pub handed: u64,
@@ -55,7 +59,8 @@ pub struct ParentOf<B> {
     ghost passed_is: { passed ≡ passed_for (unfiltered device) handed },
     ghost within: { device.ring_frames ≤ RING_FRAMES },
     ghost slots: { fixed_len channels ≡ device.play_slots },
-    ghost slots_within: { device.play_slots ≤ SLOTS },
+    ghost maps_count: { fixed_len maps ≡ device.map_slots },
+    ghost slots_within: { mixed_slots (unfiltered device) ≤ SLOTS },
     ghost recorders_count: { fixed_len recorders ≡ device.record_slots },
     ghost recorders_within: { device.record_slots ≤ SLOTS },
     ghost size: { ring.size ≡ device.ring_frames * frame_bytes device.settings },
@@ -63,12 +68,12 @@ pub struct ParentOf<B> {
 }
 
 impl<B: Feeder> ParentOf<B> {
-    ghost use Rattle.pcm_oss.specs.declared.event.Way.TheVariants.{Play, Record};
-    ghost use Rattle.pcm_vchan.specs.Parents.{play_books, play_channels, record_books, record_channels, mixed_in, AreDue, ArePlayUnopened, AreRecordUnopened, AreServed, EachCaptures, EachPasses, EachPlayMoves, EachRecordMoves, HasBus, HasLimits, KeepsOutput, OpensPlay, OpensRecord, BusTurns, TotalsFit, here_of};
-    ghost use Rattle.pcm_vchan.specs.Lending.{LendsChannel, LendsRecorder};
+    ghost use Rattle.pcm_oss.specs.declared.event.Way.TheVariants.{Play, Record, Map};
+    ghost use Rattle.pcm_vchan.specs.Parents.{map_channels, play_books, play_channels, record_books, record_channels, mixed_in, AreDue, AreMapUnopened, ArePlayUnopened, AreRecordUnopened, AreServed, EachCaptures, EachMapPlays, EachPasses, EachPlayMoves, EachRecordMoves, HasBus, HasLimits, KeepsOutput, OpensMap, OpensPlay, OpensRecord, BusTurns, TotalsFit, here_of};
+    ghost use Rattle.pcm_vchan.specs.Lending.{LendsChannel, LendsMap, LendsRecorder};
 
-    /// A device that nobody has opened, whose ring is full of silence. Each slot gets a rack: those that play the first
-    /// sixteen, those that record the next ones, and the bus the last one.
+    /// A device that nobody has opened, whose ring is full of silence. Each slot gets a rack: those that play the first ones, mapped ones
+    /// those behind them, those that record the ones from the seventeenth on, and the bus the last one.
     pub fn new(
         alloc: Global,
         device: Device,
@@ -80,6 +85,8 @@ impl<B: Feeder> ParentOf<B> {
         ensures device { IfOk result (λ made. made.device ≡ device) }
         ensures slots { IfOk result (λ made. length (play_channels made) ≡ device.play_slots) }
         ensures channels { IfOk result (ArePlayUnopened B.kind B.kept tables.now device) }
+        ensures maps { IfOk result (λ made. length (map_channels made) ≡ device.map_slots) }
+        ensures mapped { IfOk result (AreMapUnopened B.kind B.kept tables.now device) }
         ensures recorders { IfOk result (λ made. length (record_channels made) ≡ device.record_slots) }
         ensures recording { IfOk result (AreRecordUnopened B.kind B.kept tables.now device) }
         ensures planned { IfOk result (λ made. IsPlannedBy (seen tables.now device) made.bus.chain) }
@@ -91,13 +98,16 @@ impl<B: Feeder> ParentOf<B> {
         let mut playing = racks.into_list();
         let mut recording = playing.split_off(SLOTS)?;
         let bus = BusOf::new(alloc, device, tables, recording.pop().unwrap())?;
+        let mapped = playing.split_off(device.play_slots as usize)?;
         let channels = free_channels(alloc, device, tables, playing)?;
+        let maps = free_maps(alloc, device, tables, mapped)?;
         let recorders = free_recorders(alloc, device, tables, recording)?;
         let ring = silent_ring(alloc, device)?;
         Ok(ParentOf {
             device,
             channels: Fixed::new(channels),
             recorders: Fixed::new(recorders),
+            maps: Fixed::new(maps),
             bus,
             ring,
             handed: 0,
@@ -117,12 +127,14 @@ impl<B: Feeder> ParentOf<B> {
         requires served { AreServed B.kind B.kept tables.now self.old }
         ensures play { way ≡ Play → OpensPlay B.kind B.kept tables.now settings self.old self.new result }
         ensures recording { way ≡ Record → OpensRecord B.kind B.kept tables.now settings self.old self.new result }
+        ensures mapped { way ≡ Map → OpensMap B.kind B.kept tables.now settings self.old self.new result }
         ensures output { KeepsOutput self.old self.new }
         ensures refused { OnErr result (self.new ≡ self.old) }
     {
         match way {
             Way::Play => self.open_play(tables, settings),
             Way::Record => self.open_record(tables, settings),
+            Way::Map => self.open_map(tables, settings),
         }
     }
 
@@ -158,6 +170,22 @@ impl<B: Feeder> ParentOf<B> {
         Ok(slot)
     }
 
+    // A mapped opening begins in the least free slot.
+    fn open_map(&mut self, tables: &Tables, settings: Settings) -> Result<usize, Errno>
+        requires rate { IsRate settings.rate }
+        requires own { MapAreOf self.old.device (map_channels self.old) }
+        requires ready { All (IsMapReady B.kind B.kept tables.now) (map_channels self.old) }
+        ensures opens { OpensMap B.kind B.kept tables.now settings self.old self.new result }
+        ensures output { KeepsOutput self.old self.new }
+        ensures refused { OnErr result (self.new ≡ self.old) }
+    {
+        let Some(slot) = self.least_free_map() else {
+            return Err(Errno::Busy);
+        };
+        self.maps[slot].begin(tables, settings);
+        Ok(slot)
+    }
+
     /// Lends the channel of a slot.
     pub fn play(&mut self, slot: usize) -> &mut PlayChannelOf<B>
         requires { slot < fixed_len self.old.channels }
@@ -174,6 +202,15 @@ impl<B: Feeder> ParentOf<B> {
         ensures value { result.now ≡ slice_index_or (record_channels self.old) slot result.now }
     {
         &mut self.recorders[slot]
+    }
+
+    /// Lends the mapped channel of a slot.
+    pub fn mapped(&mut self, slot: usize) -> &mut MapChannelOf<B>
+        requires { slot < fixed_len self.old.maps }
+        ensures* writes_back { sem 𝓛 (LendsMap B.row self.entry slot result) }
+        ensures value { result.now ≡ slice_index_or (map_channels self.old) slot result.now }
+    {
+        &mut self.maps[slot]
     }
 
     /// Whether each member of a group that plays may start at any moment.
@@ -193,6 +230,7 @@ impl<B: Feeder> ParentOf<B> {
         requires count { TotalsFit self.old }
         ensures own { PlayAreOf self.new.device (play_channels self.new) }
         ensures recorders_own { RecordAreOf self.new.device (record_channels self.new) }
+        ensures maps { self.new.maps ≡ self.old.maps }
         ensures output { KeepsOutput self.old self.new }
         ensures books { play_books self.new
             ≡ change_in group (play_starting (seen tables.now self.old.device) here) groups.now.play (play_books self.old) }
@@ -212,6 +250,7 @@ impl<B: Feeder> ParentOf<B> {
         ensures started { EachAt (λ slot. Starts B.kind B.kept tables.now here (is_in groups.now.play group slot)) (play_channels self.old) (play_channels self.new) }
         ensures slots { length (play_channels self.new) ≡ length (play_channels self.old) }
         ensures recorders { self.new.recorders ≡ self.old.recorders }
+        ensures maps { self.new.maps ≡ self.old.maps }
         ensures output { KeepsOutput self.old self.new }
     {
         start_playing(&mut self.channels, tables, groups, group, here);
@@ -223,6 +262,7 @@ impl<B: Feeder> ParentOf<B> {
         ensures started { EachAt (λ slot. Records B.kind B.kept tables.now (is_in groups.now.recording group slot)) (record_channels self.old) (record_channels self.new) }
         ensures slots { length (record_channels self.new) ≡ length (record_channels self.old) }
         ensures channels { self.new.channels ≡ self.old.channels }
+        ensures maps { self.new.maps ≡ self.old.maps }
         ensures output { KeepsOutput self.old self.new }
     {
         start_recording(&mut self.recorders, tables, groups, group);
@@ -247,6 +287,9 @@ impl<B: Feeder> ParentOf<B> {
         ensures recorders_own { RecordAreOf self.new.device (record_channels self.new) }
         ensures recorders_slots { length (record_channels self.new) ≡ length (record_channels self.old) }
         ensures recorders { EachCaptures B.kind B.kept tables.now n captured.now self.old self.new }
+        ensures maps_own { MapAreOf self.new.device (map_channels self.new) }
+        ensures maps_slots { length (map_channels self.new) ≡ length (map_channels self.old) }
+        ensures maps { EachMapPlays B.kind B.kept tables.now n self.old self.new }
         ensures handed { self.new.handed ≡ self.old.handed + n }
         ensures mixed { self.new.mixed ≡ self.old.mixed + mixed_in tables.now n self.old }
         ensures out { out.new
@@ -258,6 +301,7 @@ impl<B: Feeder> ParentOf<B> {
         let mixed = self.bus.turn(
             tables,
             &mut self.channels,
+            &mut self.maps,
             self.handed,
             before,
             n,
@@ -277,6 +321,7 @@ impl<B: Feeder> ParentOf<B> {
         ensures slots { length (play_channels self.new) ≡ length (play_channels self.old) }
         ensures settled { Each (Settles B.kind B.kept (here_of self.new)) (play_channels self.old) (play_channels self.new) }
         ensures recorders { self.new.recorders ≡ self.old.recorders }
+        ensures maps { self.new.maps ≡ self.old.maps }
         ensures bus { self.new.bus ≡ self.old.bus }
         ensures ring { self.new.ring ≡ self.old.ring }
         ensures handed { self.new.handed ≡ self.old.handed + n }
@@ -315,6 +360,15 @@ impl<B: Feeder> ParentOf<B> {
         ensures within { IfSome result (λ slot. slot < fixed_len self.now.recorders) }
     {
         self.recorders.iter().position(|channel| channel.is_free())
+    }
+
+    // The least slot for a mapped channel that is free, if there is one.
+    fn least_free_map(&self) -> Option<usize>
+        ensures slot { result
+            ≡ position (λ channel. is_map_free channel.book.state) (map_channels self.now) }
+        ensures within { IfSome result (λ slot. slot < fixed_len self.now.maps) }
+    {
+        self.maps.iter().position(|channel| channel.is_free())
     }
 }
 
@@ -358,6 +412,28 @@ fn free_recorders<B: Feeder>(
     let mut channels = Vec::new(alloc);
     for rack in racks {
         channels.push(RecordChannelOf::new(alloc, device, tables, rack)?)?;
+    }
+    Ok(channels)
+}
+
+// The mapped channels of a device, which nobody has opened, with the first racks.
+fn free_maps<B: Feeder>(
+    alloc: Global,
+    device: Device,
+    tables: &Tables,
+    racks: Vec<RackOf<B>>,
+) -> Result<Vec<MapChannelOf<B>>, AllocError>
+    requires device { HasRates device }
+    requires enough { device.map_slots ≤ vec_len racks }
+    requires kinds { AreRacks B.kind racks.items }
+    ensures slots { IfOk result (λ made. length made.items ≡ device.map_slots) }
+    ensures channels { IfOk result (λ made. All (IsMapUnopened B.kind B.kept tables.now device) made.items) }
+{
+    let mut racks = racks;
+    racks.truncate(device.map_slots as usize);
+    let mut channels = Vec::new(alloc);
+    for rack in racks {
+        channels.push(MapChannelOf::new(alloc, device, tables, rack)?)?;
     }
     Ok(channels)
 }

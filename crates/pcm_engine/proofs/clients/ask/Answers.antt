@@ -3,24 +3,30 @@ use Rattle.std.proofs.lemmas.Result.{on_err_weaker}
 use Rattle.pcm_fixed.proofs.Items.{item-kept, items-count}
 use Rattle.pcm_feeder.specs.Racks.{HaveKinds}
 use Rattle.pcm_chain.specs.Chains.{boxes_in}
-use Rattle.pcm_oss.specs.declared.event.Way.TheVariants.{Play, Record}
+use Rattle.pcm_oss.specs.declared.event.Way.TheVariants.{Play, Record, Map}
 use Rattle.pcm_desk.specs.declared.device.Device.{Device}
 use Rattle.pcm_desk.specs.Device.{seen}
+use Rattle.pcm_desk.specs.MapRequests.{map_ask}
 use Rattle.pcm_desk.specs.RecordRequests.{record_ask}
 use Rattle.pcm_desk.specs.declared.here.Here.{Here}
-use Rattle.pcm_desk.specs.Desk.{DeskTurn, asking, desk_here, held_by, play_turn, play_rate_at, record_turn}
-use Rattle.pcm_desk.proofs.Silent.{ask-silent, record-ask-silent}
+use Rattle.pcm_desk.specs.Desk.{DeskTurn, asking, desk_here, held_by, map_turn, play_turn, play_rate_at, record_turn}
+use Rattle.pcm_desk.proofs.Silent.{ask-silent, map-asked-silent, record-ask-silent}
 use Rattle.pcm_play.specs.declared.channel.PlayChannelOf.{PlayChannelOf}
 use Rattle.pcm_play.specs.Channels.{IsPlayHere, IsPlayPlanned, PlayMoves}
 use Rattle.pcm_play.proofs.Moving.{moves-nothing}
 use Rattle.pcm_record.specs.declared.channel.RecordChannelOf.{RecordChannelOf}
 use Rattle.pcm_record.specs.Channels.{IsRecordPlanned, RecordMoves}
 use Rattle.pcm_record.proofs.Moving as recorders
+use Rattle.pcm_map.specs.declared.channel.MapChannelOf.{MapChannelOf}
+use Rattle.pcm_map.specs.Channels.{IsMapPlanned}
+use Rattle.pcm_vchan.specs.Slots.{MapKeeps}
 use Rattle.pcm_vchan.proofs.Channels.{each_set, own_set, parent_same}
-use Rattle.pcm_vchan.specs.Parents.{play_channels, record_channels}
+use Rattle.pcm_vchan.specs.Parents.{map_channels, play_channels, record_channels, untouched}
 use Rattle.pcm_oss.specs.Replies.{bytes_due}
 use Rattle.pcm_engine.specs.Desks.{desk_with}
-use Rattle.pcm_engine.proofs.Turning.{desk-played, desk-recorded, own-lent, play-there, record-there, reply-played, reply-recorded, turning-held, holding-is}
+use Rattle.pcm_vchan.proofs.Channels.{map-keeps-nothing}
+use Rattle.pcm_engine.proofs.Mapped.{keeps-asked}
+use Rattle.pcm_engine.proofs.Turning.{desk-mapped, desk-played, desk-recorded, map-there, map-unfree, own-lent, play-there, record-there, reply-mapped, reply-played, reply-recorded, turning-held, holding-is}
 use Rattle.pcm_engine.proofs.clients.ask.Goals as goal
 
 pub returns-in_err-held-clause-channels : goal.returns-in_err-held-clause-channels
@@ -111,7 +117,7 @@ returns-in-Play-clause-refused g c =
     let held = c.in_ok-held.held in
     let e = holding-is (held_by (desk_with parent c.args.descriptors.now) c.args.fd) c.in_ok-held.held (sym c.holding.ensures ∙ c.in_ok-held.was) in
     on_err_weaker c.ioctl.result
-    (λ same. parent_same _ parent refl (item-kept parent.channels held.slot c.ioctl.new.self c.play.result.now (same ∙ c.play.ensures.value)) refl refl refl refl refl refl)
+    (λ same. parent_same _ parent refl (item-kept parent.channels held.slot c.ioctl.new.self c.play.result.now (same ∙ c.play.ensures.value)) refl refl refl refl refl refl refl)
     c.ioctl.ensures.refused
 
 pub returns-in-Play-clause-desk : goal.returns-in-Play-clause-desk
@@ -124,7 +130,7 @@ returns-in-Play-clause-desk g c =
     let own = own-lent parent.device (play_channels parent) held.slot lent there c.play.ensures.value c.requires.served.own in
     desk-played (seen c.args.tables.now parent.device) (asking (seen c.args.tables.now parent.device) (desk_here (seen c.args.tables.now parent.device) (desk_with parent c.args.descriptors.now)) c.args.request) parent c.args.descriptors.now held.slot lent c.ioctl.new.self there c.play.ensures.value
     (c.ioctl.ensures.book ∙ ap (λ (d : Device). (asking (seen c.args.tables.now d) c.args.here c.args.request lent.book).book) own ∙ ap (λ (here : Here). (asking (seen c.args.tables.now parent.device) here c.args.request lent.book).book) c.requires.at)
-    ∙ sym (ap (λ (t : DeskTurn). t.desk) (turning-held Play (play_turn (seen c.args.tables.now parent.device) (asking (seen c.args.tables.now parent.device) (desk_here (seen c.args.tables.now parent.device) (desk_with parent c.args.descriptors.now)) c.args.request) (desk_with parent c.args.descriptors.now)) (record_turn (seen c.args.tables.now parent.device) (record_ask c.args.request) (desk_with parent c.args.descriptors.now)) (held_by (desk_with parent c.args.descriptors.now) c.args.fd) held (desk_with parent c.args.descriptors.now) e c.in-Play.is))
+    ∙ sym (ap (λ (t : DeskTurn). t.desk) (turning-held Play (play_turn (seen c.args.tables.now parent.device) (asking (seen c.args.tables.now parent.device) (desk_here (seen c.args.tables.now parent.device) (desk_with parent c.args.descriptors.now)) c.args.request) (desk_with parent c.args.descriptors.now)) (record_turn (seen c.args.tables.now parent.device) (record_ask c.args.request) (desk_with parent c.args.descriptors.now)) (map_turn (seen c.args.tables.now parent.device) (map_ask c.args.request) (desk_with parent c.args.descriptors.now)) (held_by (desk_with parent c.args.descriptors.now) c.args.fd) held (desk_with parent c.args.descriptors.now) e c.in-Play.is))
 
 pub returns-in-Play-clause-reply : goal.returns-in-Play-clause-reply
 returns-in-Play-clause-reply g c =
@@ -136,7 +142,7 @@ returns-in-Play-clause-reply g c =
     let own = own-lent parent.device (play_channels parent) held.slot lent there c.play.ensures.value c.requires.served.own in
     reply-played (seen c.args.tables.now parent.device) (asking (seen c.args.tables.now parent.device) (desk_here (seen c.args.tables.now parent.device) (desk_with parent c.args.descriptors.now)) c.args.request) parent c.args.descriptors.now held.slot lent c.ioctl.result there c.play.ensures.value
     (c.ioctl.ensures.reply ∙ ap (λ (d : Device). (asking (seen c.args.tables.now d) c.args.here c.args.request lent.book).reply) own ∙ ap (λ (here : Here). (asking (seen c.args.tables.now parent.device) here c.args.request lent.book).reply) c.requires.at)
-    ∙ sym (ap (λ (t : DeskTurn). t.reply) (turning-held Play (play_turn (seen c.args.tables.now parent.device) (asking (seen c.args.tables.now parent.device) (desk_here (seen c.args.tables.now parent.device) (desk_with parent c.args.descriptors.now)) c.args.request) (desk_with parent c.args.descriptors.now)) (record_turn (seen c.args.tables.now parent.device) (record_ask c.args.request) (desk_with parent c.args.descriptors.now)) (held_by (desk_with parent c.args.descriptors.now) c.args.fd) held (desk_with parent c.args.descriptors.now) e c.in-Play.is))
+    ∙ sym (ap (λ (t : DeskTurn). t.reply) (turning-held Play (play_turn (seen c.args.tables.now parent.device) (asking (seen c.args.tables.now parent.device) (desk_here (seen c.args.tables.now parent.device) (desk_with parent c.args.descriptors.now)) c.args.request) (desk_with parent c.args.descriptors.now)) (record_turn (seen c.args.tables.now parent.device) (record_ask c.args.request) (desk_with parent c.args.descriptors.now)) (map_turn (seen c.args.tables.now parent.device) (map_ask c.args.request) (desk_with parent c.args.descriptors.now)) (held_by (desk_with parent c.args.descriptors.now) c.args.fd) held (desk_with parent c.args.descriptors.now) e c.in-Play.is))
 
 pub returns-in-Play-clause-channels : goal.returns-in-Play-clause-channels
 returns-in-Play-clause-channels g c =
@@ -168,7 +174,7 @@ returns-in-Record-clause-refused g c =
     let held = c.in_ok-held.held in
     let e = holding-is (held_by (desk_with parent c.args.descriptors.now) c.args.fd) c.in_ok-held.held (sym c.holding.ensures ∙ c.in_ok-held.was) in
     on_err_weaker c.ioctl-in-Record.result
-    (λ same. parent_same _ parent refl refl (item-kept parent.recorders held.slot c.ioctl-in-Record.new.self c.recorder.result.now (same ∙ c.recorder.ensures.value)) refl refl refl refl refl)
+    (λ same. parent_same _ parent refl refl (item-kept parent.recorders held.slot c.ioctl-in-Record.new.self c.recorder.result.now (same ∙ c.recorder.ensures.value)) refl refl refl refl refl refl)
     c.ioctl-in-Record.ensures.refused
 
 pub returns-in-Record-clause-desk : goal.returns-in-Record-clause-desk
@@ -178,7 +184,7 @@ returns-in-Record-clause-desk g c =
     let e = holding-is (held_by (desk_with parent c.args.descriptors.now) c.args.fd) c.in_ok-held.held (sym c.holding.ensures ∙ c.in_ok-held.was) in
     let there = record-there parent c.args.descriptors.now c.args.fd held c.requires.apart e c.in-Record.is in
     desk-recorded (seen c.args.tables.now parent.device) (record_ask c.args.request) parent c.args.descriptors.now held.slot c.recorder.result.now c.ioctl-in-Record.new.self there c.recorder.ensures.value c.ioctl-in-Record.ensures.book
-    ∙ sym (ap (λ (t : DeskTurn). t.desk) (turning-held Record (play_turn (seen c.args.tables.now parent.device) (asking (seen c.args.tables.now parent.device) (desk_here (seen c.args.tables.now parent.device) (desk_with parent c.args.descriptors.now)) c.args.request) (desk_with parent c.args.descriptors.now)) (record_turn (seen c.args.tables.now parent.device) (record_ask c.args.request) (desk_with parent c.args.descriptors.now)) (held_by (desk_with parent c.args.descriptors.now) c.args.fd) held (desk_with parent c.args.descriptors.now) e c.in-Record.is))
+    ∙ sym (ap (λ (t : DeskTurn). t.desk) (turning-held Record (play_turn (seen c.args.tables.now parent.device) (asking (seen c.args.tables.now parent.device) (desk_here (seen c.args.tables.now parent.device) (desk_with parent c.args.descriptors.now)) c.args.request) (desk_with parent c.args.descriptors.now)) (record_turn (seen c.args.tables.now parent.device) (record_ask c.args.request) (desk_with parent c.args.descriptors.now)) (map_turn (seen c.args.tables.now parent.device) (map_ask c.args.request) (desk_with parent c.args.descriptors.now)) (held_by (desk_with parent c.args.descriptors.now) c.args.fd) held (desk_with parent c.args.descriptors.now) e c.in-Record.is))
 
 pub returns-in-Record-clause-reply : goal.returns-in-Record-clause-reply
 returns-in-Record-clause-reply g c =
@@ -187,7 +193,7 @@ returns-in-Record-clause-reply g c =
     let e = holding-is (held_by (desk_with parent c.args.descriptors.now) c.args.fd) c.in_ok-held.held (sym c.holding.ensures ∙ c.in_ok-held.was) in
     let there = record-there parent c.args.descriptors.now c.args.fd held c.requires.apart e c.in-Record.is in
     reply-recorded (seen c.args.tables.now parent.device) (record_ask c.args.request) parent c.args.descriptors.now held.slot c.recorder.result.now c.ioctl-in-Record.result there c.recorder.ensures.value c.ioctl-in-Record.ensures.reply
-    ∙ sym (ap (λ (t : DeskTurn). t.reply) (turning-held Record (play_turn (seen c.args.tables.now parent.device) (asking (seen c.args.tables.now parent.device) (desk_here (seen c.args.tables.now parent.device) (desk_with parent c.args.descriptors.now)) c.args.request) (desk_with parent c.args.descriptors.now)) (record_turn (seen c.args.tables.now parent.device) (record_ask c.args.request) (desk_with parent c.args.descriptors.now)) (held_by (desk_with parent c.args.descriptors.now) c.args.fd) held (desk_with parent c.args.descriptors.now) e c.in-Record.is))
+    ∙ sym (ap (λ (t : DeskTurn). t.reply) (turning-held Record (play_turn (seen c.args.tables.now parent.device) (asking (seen c.args.tables.now parent.device) (desk_here (seen c.args.tables.now parent.device) (desk_with parent c.args.descriptors.now)) c.args.request) (desk_with parent c.args.descriptors.now)) (record_turn (seen c.args.tables.now parent.device) (record_ask c.args.request) (desk_with parent c.args.descriptors.now)) (map_turn (seen c.args.tables.now parent.device) (map_ask c.args.request) (desk_with parent c.args.descriptors.now)) (held_by (desk_with parent c.args.descriptors.now) c.args.fd) held (desk_with parent c.args.descriptors.now) e c.in-Record.is))
 
 pub returns-in-Record-clause-channels : goal.returns-in-Record-clause-channels
 returns-in-Record-clause-channels g c = λ slot other there. moves-nothing g.B.Feeder.kind g.B.Feeder.kept c.args.tables.now [] 0 (get_or (play_channels c.args.parent.now) slot other)
@@ -200,3 +206,99 @@ returns-in-Record-clause-recorders g c =
     let there = record-there parent c.args.descriptors.now c.args.fd held c.requires.apart e c.in-Record.is in
     each_set (RecordMoves g.B.Feeder.kind g.B.Feeder.kept c.args.tables.now [] 0) (record_channels parent) held.slot c.recorder.result.now c.ioctl-in-Record.new.self there c.recorder.ensures.value c.ioctl-in-Record.ensures.moves
     (recorders.moves-nothing g.B.Feeder.kind g.B.Feeder.kept c.args.tables.now [] 0)
+
+pub returns-in_err-held-clause-maps : goal.returns-in_err-held-clause-maps
+returns-in_err-held-clause-maps g c = λ slot other there. map-keeps-nothing g.B.Feeder.kind g.B.Feeder.kept c.args.tables.now (get_or (map_channels c.args.parent.now) slot other)
+
+pub returns-in-Play-clause-maps : goal.returns-in-Play-clause-maps
+returns-in-Play-clause-maps g c = λ slot other there. map-keeps-nothing g.B.Feeder.kind g.B.Feeder.kept c.args.tables.now (get_or (map_channels c.args.parent.now) slot other)
+
+pub returns-in-Record-clause-maps : goal.returns-in-Record-clause-maps
+returns-in-Record-clause-maps g c = λ slot other there. map-keeps-nothing g.B.Feeder.kind g.B.Feeder.kept c.args.tables.now (get_or (map_channels c.args.parent.now) slot other)
+
+pub mapped-requires : goal.mapped-requires
+mapped-requires g c =
+    let parent = c.args.parent.now in
+    let held = c.in_ok-held.held in
+    let e = holding-is (held_by (desk_with parent c.args.descriptors.now) c.args.fd) c.in_ok-held.held (sym c.holding.ensures ∙ c.in_ok-held.was) in
+    let there = map-there parent c.args.descriptors.now c.args.fd held c.requires.apart e c.in-Map.is in
+    omega (arith, there, items-count parent.maps)
+
+pub ioctl-requires-in-Map-clause-kinds : goal.ioctl-requires-in-Map-clause-kinds
+ioctl-requires-in-Map-clause-kinds g c =
+    let parent = c.args.parent.now in
+    let held = c.in_ok-held.held in
+    let e = holding-is (held_by (desk_with parent c.args.descriptors.now) c.args.fd) c.in_ok-held.held (sym c.holding.ensures ∙ c.in_ok-held.was) in
+    let there = map-there parent c.args.descriptors.now c.args.fd held c.requires.apart e c.in-Map.is in
+    subst (λ (channel : MapChannelOf _). HaveKinds g.B.Feeder.kind (boxes_in channel.path.chain)) (sym c.mapped.ensures.value) (c.requires.served.maps_ready held.slot c.mapped.result.now there).kinds
+
+pub ioctl-requires-in-Map-clause-planned : goal.ioctl-requires-in-Map-clause-planned
+ioctl-requires-in-Map-clause-planned g c =
+    let parent = c.args.parent.now in
+    let held = c.in_ok-held.held in
+    let e = holding-is (held_by (desk_with parent c.args.descriptors.now) c.args.fd) c.in_ok-held.held (sym c.holding.ensures ∙ c.in_ok-held.was) in
+    let there = map-there parent c.args.descriptors.now c.args.fd held c.requires.apart e c.in-Map.is in
+    subst (IsMapPlanned c.args.tables.now) (sym c.mapped.ensures.value) (c.requires.served.maps_ready held.slot c.mapped.result.now there).planned
+
+pub ioctl-requires-in-Map-clause-count : goal.ioctl-requires-in-Map-clause-count
+ioctl-requires-in-Map-clause-count g c =
+    let parent = c.args.parent.now in
+    let held = c.in_ok-held.held in
+    let e = holding-is (held_by (desk_with parent c.args.descriptors.now) c.args.fd) c.in_ok-held.held (sym c.holding.ensures ∙ c.in_ok-held.was) in
+    let there = map-there parent c.args.descriptors.now c.args.fd held c.requires.apart e c.in-Map.is in
+    subst (λ (channel : MapChannelOf _). channel.book.given < 1125899906842624) (sym c.mapped.ensures.value) (c.requires.given held.slot c.mapped.result.now there)
+
+pub returns-in-Map-clause-silent : goal.returns-in-Map-clause-silent
+returns-in-Map-clause-silent g c =
+    ap bytes_due c.ioctl-in-Map.ensures.reply ∙ map-asked-silent c.args.request c.mapped.result.now.book
+
+pub returns-in-Map-clause-maps_own : goal.returns-in-Map-clause-maps_own
+returns-in-Map-clause-maps_own g c =
+    let parent = c.args.parent.now in
+    let held = c.in_ok-held.held in
+    let e = holding-is (held_by (desk_with parent c.args.descriptors.now) c.args.fd) c.in_ok-held.held (sym c.holding.ensures ∙ c.in_ok-held.was) in
+    let there = map-there parent c.args.descriptors.now c.args.fd held c.requires.apart e c.in-Map.is in
+    own_set (λ (channel : MapChannelOf _). channel.path.device) parent.device (map_channels parent) held.slot c.mapped.result.now c.ioctl-in-Map.new.self there c.mapped.ensures.value c.ioctl-in-Map.ensures.device c.requires.served.maps_own
+
+pub returns-in-Map-clause-refused : goal.returns-in-Map-clause-refused
+returns-in-Map-clause-refused g c =
+    let parent = c.args.parent.now in
+    let held = c.in_ok-held.held in
+    on_err_weaker c.ioctl-in-Map.result
+    (λ same. parent_same _ parent refl refl refl (item-kept parent.maps held.slot c.ioctl-in-Map.new.self c.mapped.result.now (same ∙ c.mapped.ensures.value)) refl refl refl refl refl)
+    c.ioctl-in-Map.ensures.refused
+
+pub returns-in-Map-clause-desk : goal.returns-in-Map-clause-desk
+returns-in-Map-clause-desk g c =
+    let parent = c.args.parent.now in
+    let held = c.in_ok-held.held in
+    let e = holding-is (held_by (desk_with parent c.args.descriptors.now) c.args.fd) c.in_ok-held.held (sym c.holding.ensures ∙ c.in_ok-held.was) in
+    let there = map-there parent c.args.descriptors.now c.args.fd held c.requires.apart e c.in-Map.is in
+    desk-mapped (seen c.args.tables.now parent.device) (map_ask c.args.request) parent c.args.descriptors.now held.slot c.mapped.result.now c.ioctl-in-Map.new.self there c.mapped.ensures.value c.ioctl-in-Map.ensures.book
+    ∙ sym (ap (λ (t : DeskTurn). t.desk) (turning-held Map (play_turn (seen c.args.tables.now parent.device) (asking (seen c.args.tables.now parent.device) (desk_here (seen c.args.tables.now parent.device) (desk_with parent c.args.descriptors.now)) c.args.request) (desk_with parent c.args.descriptors.now)) (record_turn (seen c.args.tables.now parent.device) (record_ask c.args.request) (desk_with parent c.args.descriptors.now)) (map_turn (seen c.args.tables.now parent.device) (map_ask c.args.request) (desk_with parent c.args.descriptors.now)) (held_by (desk_with parent c.args.descriptors.now) c.args.fd) held (desk_with parent c.args.descriptors.now) e c.in-Map.is))
+
+pub returns-in-Map-clause-reply : goal.returns-in-Map-clause-reply
+returns-in-Map-clause-reply g c =
+    let parent = c.args.parent.now in
+    let held = c.in_ok-held.held in
+    let e = holding-is (held_by (desk_with parent c.args.descriptors.now) c.args.fd) c.in_ok-held.held (sym c.holding.ensures ∙ c.in_ok-held.was) in
+    let there = map-there parent c.args.descriptors.now c.args.fd held c.requires.apart e c.in-Map.is in
+    reply-mapped (seen c.args.tables.now parent.device) (map_ask c.args.request) parent c.args.descriptors.now held.slot c.mapped.result.now c.ioctl-in-Map.result there c.mapped.ensures.value c.ioctl-in-Map.ensures.reply
+    ∙ sym (ap (λ (t : DeskTurn). t.reply) (turning-held Map (play_turn (seen c.args.tables.now parent.device) (asking (seen c.args.tables.now parent.device) (desk_here (seen c.args.tables.now parent.device) (desk_with parent c.args.descriptors.now)) c.args.request) (desk_with parent c.args.descriptors.now)) (record_turn (seen c.args.tables.now parent.device) (record_ask c.args.request) (desk_with parent c.args.descriptors.now)) (map_turn (seen c.args.tables.now parent.device) (map_ask c.args.request) (desk_with parent c.args.descriptors.now)) (held_by (desk_with parent c.args.descriptors.now) c.args.fd) held (desk_with parent c.args.descriptors.now) e c.in-Map.is))
+
+pub returns-in-Map-clause-channels : goal.returns-in-Map-clause-channels
+returns-in-Map-clause-channels g c = λ slot other there. moves-nothing g.B.Feeder.kind g.B.Feeder.kept c.args.tables.now [] 0 (get_or (play_channels c.args.parent.now) slot other)
+
+pub returns-in-Map-clause-recorders : goal.returns-in-Map-clause-recorders
+returns-in-Map-clause-recorders g c = λ slot other there. recorders.moves-nothing g.B.Feeder.kind g.B.Feeder.kept c.args.tables.now [] 0 (get_or (record_channels c.args.parent.now) slot other)
+
+pub returns-in-Map-clause-maps : goal.returns-in-Map-clause-maps
+returns-in-Map-clause-maps g c =
+    let parent = c.args.parent.now in
+    let held = c.in_ok-held.held in
+    let e = holding-is (held_by (desk_with parent c.args.descriptors.now) c.args.fd) c.in_ok-held.held (sym c.holding.ensures ∙ c.in_ok-held.was) in
+    let there = map-there parent c.args.descriptors.now c.args.fd held c.requires.apart e c.in-Map.is in
+    let unfree = map-unfree parent c.args.descriptors.now c.args.fd held c.mapped.result.now c.requires.apart e c.in-Map.is there c.mapped.ensures.value in
+    each_set (MapKeeps g.B.Feeder.kind g.B.Feeder.kept c.args.tables.now (untouched 0)) (map_channels parent) held.slot c.mapped.result.now c.ioctl-in-Map.new.self there c.mapped.ensures.value
+    (keeps-asked g.B.Feeder.kind g.B.Feeder.kept c.args.tables.now 0 c.mapped.result.now c.ioctl-in-Map.new.self unfree c.ioctl-in-Map.ensures.area c.ioctl-in-Map.ensures.moves)
+    (map-keeps-nothing g.B.Feeder.kind g.B.Feeder.kept c.args.tables.now)

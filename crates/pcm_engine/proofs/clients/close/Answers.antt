@@ -5,10 +5,11 @@ use Rattle.pcm_desk.specs.Device.{seen}
 use Rattle.pcm_desk.specs.Desk.{Desk, close_on, leaving, left, with_descriptor, held_by}
 use Rattle.pcm_play.proofs.Moving.{moves-nothing}
 use Rattle.pcm_record.proofs.Moving as recorders
-use Rattle.pcm_vchan.specs.Parents.{play_channels, record_channels}
+use Rattle.pcm_vchan.specs.Parents.{map_channels, play_channels, record_channels}
 use Rattle.pcm_engine.specs.declared.descriptors.Descriptors.{Descriptors}
 use Rattle.pcm_engine.specs.Desks.{desk_with}
-use Rattle.pcm_engine.proofs.Turning.{closes-held, held-few, play-there, record-there, holding-is}
+use Rattle.pcm_vchan.proofs.Channels.{map-keeps-nothing}
+use Rattle.pcm_engine.proofs.Turning.{closes-held, held-few, map-there, play-there, record-there, holding-is}
 use Rattle.pcm_engine.proofs.clients.close.Goals as goal
 
 pub close_channel-answer-requires-clause-play : goal.close_channel-answer-requires-clause-play
@@ -47,3 +48,11 @@ returns-in_err-held-clause-channels g c = λ filters slot other there. moves-not
 
 pub returns-in_err-held-clause-recorders : goal.returns-in_err-held-clause-recorders
 returns-in_err-held-clause-recorders g c = λ filters slot other there. recorders.moves-nothing g.B.Feeder.kind g.B.Feeder.kept filters [] 0 (get_or (record_channels c.args.parent.now) slot other)
+
+pub returns-in_err-held-clause-maps : goal.returns-in_err-held-clause-maps
+returns-in_err-held-clause-maps g c = λ filters slot other there. map-keeps-nothing g.B.Feeder.kind g.B.Feeder.kept filters (get_or (map_channels c.args.parent.now) slot other)
+
+pub close_channel-answer-requires-clause-mapped : goal.close_channel-answer-requires-clause-mapped
+close_channel-answer-requires-clause-mapped g c =
+    let parent = c.args.parent.now in
+    λ is. (let there = map-there parent c.args.descriptors.now c.args.fd c.in_ok-held.held c.requires.apart (holding-is (held_by (desk_with parent c.args.descriptors.now) c.args.fd) c.in_ok-held.held (sym c.holding.ensures ∙ c.in_ok-held.was)) is in omega (arith, there, items-count parent.maps))

@@ -41,7 +41,7 @@ returns-clause-refused g c =
     let held = channel_of Record c.in_ok-slot.slot in
     let e = recording-is (held_by (desk_with parent c.args.descriptors.now) c.args.fd) c.in_ok-slot.slot (sym c.recording.ensures ∙ c.in_ok-slot.was) in
     on_err_weaker c.read.result
-    (λ same. parent_same _ parent refl refl (item-kept parent.recorders held.slot c.read.new.self c.recorder.result.now (same ∙ c.recorder.ensures.value)) refl refl refl refl refl)
+    (λ same. parent_same _ parent refl refl (item-kept parent.recorders held.slot c.read.new.self c.recorder.result.now (same ∙ c.recorder.ensures.value)) refl refl refl refl refl refl)
     c.read.ensures.refused
 
 pub returns-clause-turn : goal.returns-clause-turn
@@ -53,10 +53,10 @@ returns-clause-turn g c =
     record {
       desk = λ filters.
           desk-recorded (seen filters parent.device) (read_turn (length c.args.out.now)) parent c.args.descriptors.now held.slot c.recorder.result.now c.read.new.self there c.recorder.ensures.value c.read.ensures.book
-          ∙ sym (ap (λ (t : DeskTurn). t.desk) (turning-held Record (λ slot. refusing (desk_with parent c.args.descriptors.now) Inval) (record_turn (seen filters parent.device) (read_turn (length c.args.out.now)) (desk_with parent c.args.descriptors.now)) (held_by (desk_with parent c.args.descriptors.now) c.args.fd) held (desk_with parent c.args.descriptors.now) e refl));
+          ∙ sym (ap (λ (t : DeskTurn). t.desk) (turning-held Record (λ slot. refusing (desk_with parent c.args.descriptors.now) Inval) (record_turn (seen filters parent.device) (read_turn (length c.args.out.now)) (desk_with parent c.args.descriptors.now)) (λ slot. refusing (desk_with parent c.args.descriptors.now) Inval) (held_by (desk_with parent c.args.descriptors.now) c.args.fd) held (desk_with parent c.args.descriptors.now) e refl));
       reply = λ filters.
           reply-recorded (seen filters parent.device) (read_turn (length c.args.out.now)) parent c.args.descriptors.now held.slot c.recorder.result.now c.read.result there c.recorder.ensures.value c.read.ensures.reply
-          ∙ sym (ap (λ (t : DeskTurn). t.reply) (turning-held Record (λ slot. refusing (desk_with parent c.args.descriptors.now) Inval) (record_turn (seen filters parent.device) (read_turn (length c.args.out.now)) (desk_with parent c.args.descriptors.now)) (held_by (desk_with parent c.args.descriptors.now) c.args.fd) held (desk_with parent c.args.descriptors.now) e refl));
+          ∙ sym (ap (λ (t : DeskTurn). t.reply) (turning-held Record (λ slot. refusing (desk_with parent c.args.descriptors.now) Inval) (record_turn (seen filters parent.device) (read_turn (length c.args.out.now)) (desk_with parent c.args.descriptors.now)) (λ slot. refusing (desk_with parent c.args.descriptors.now) Inval) (held_by (desk_with parent c.args.descriptors.now) c.args.fd) held (desk_with parent c.args.descriptors.now) e refl));
     }
 
 pub returns-clause-recorders : goal.returns-clause-recorders

@@ -55,7 +55,7 @@ returns-clause-refused g c =
     let held = channel_of Play c.in_ok-slot.slot in
     let e = playing-is (held_by (desk_with parent c.args.descriptors.now) c.args.fd) c.in_ok-slot.slot (sym c.playing.ensures ∙ c.in_ok-slot.was) in
     on_err_weaker c.write.result
-    (λ same. parent_same _ parent refl (item-kept parent.channels held.slot c.write.new.self c.play.result.now (same ∙ c.play.ensures.value)) refl refl refl refl refl refl)
+    (λ same. parent_same _ parent refl (item-kept parent.channels held.slot c.write.new.self c.play.result.now (same ∙ c.play.ensures.value)) refl refl refl refl refl refl refl)
     c.write.ensures.refused
 
 pub returns-clause-turn : goal.returns-clause-turn
@@ -68,7 +68,7 @@ returns-clause-turn g c =
     let there = play-there parent c.args.descriptors.now c.args.fd held c.requires.apart e refl in
     let turned : (device : DeviceSeen) → DeskTurn = λ device. write_on device (held_by desk c.args.fd) desk count in
     let held_there : (device : DeviceSeen) → turned device ≡ play_turn device (write_turn (desk_here device desk) count) desk held.slot =
-    λ device. turning-held Play (play_turn device (write_turn (desk_here device desk) count) desk) (λ slot. refusing desk Inval) (held_by desk c.args.fd) held desk e refl in
+    λ device. turning-held Play (play_turn device (write_turn (desk_here device desk) count) desk) (λ slot. refusing desk Inval) (λ slot. refusing desk Inval) (held_by desk c.args.fd) held desk e refl in
     record {
       desk = λ filters at.
           let device = seen filters parent.device in

@@ -4,9 +4,10 @@ use Rattle.pcm_desk.proofs.Apart.{regrouped}
 use Rattle.pcm_desk.specs.Own.{HoldApart}
 use Rattle.pcm_play.proofs.Moving.{moves-nothing}
 use Rattle.pcm_record.proofs.Moving as recorders
-use Rattle.pcm_vchan.specs.Parents.{play_channels, record_channels}
+use Rattle.pcm_vchan.specs.Parents.{map_channels, play_channels, record_channels}
 use Rattle.pcm_engine.specs.declared.descriptors.Descriptors.{Descriptors}
 use Rattle.pcm_engine.specs.Desks.{desk_with}
+use Rattle.pcm_vchan.proofs.Channels.{map-keeps-nothing}
 use Rattle.pcm_engine.proofs.Turning.{held-few, holding-is}
 use Rattle.pcm_engine.proofs.grouped.ioctl.Goals as goal
 
@@ -36,3 +37,9 @@ pub ask-requires-clause-apart : goal.ask-requires-clause-apart
 ask-requires-clause-apart g c =
     subst (λ (d : Descriptors). HoldApart (desk_with c.args.parent.now d)) (sym c.leave_by.ensures)
     (regrouped (desk_with c.args.parent.now c.args.descriptors.now) _ c.requires.apart)
+
+pub returns-in_err-held-clause-maps : goal.returns-in_err-held-clause-maps
+returns-in_err-held-clause-maps g c = λ slot other there. map-keeps-nothing g.B.Feeder.kind g.B.Feeder.kept c.args.tables.now (get_or (map_channels c.args.parent.now) slot other)
+
+pub returns-in-Some-clause-maps : goal.returns-in-Some-clause-maps
+returns-in-Some-clause-maps g c = λ slot other there. map-keeps-nothing g.B.Feeder.kind g.B.Feeder.kept c.args.tables.now (get_or (map_channels c.args.parent.now) slot other)

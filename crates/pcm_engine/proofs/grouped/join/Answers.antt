@@ -9,11 +9,12 @@ use Rattle.pcm_desk.specs.Device.{seen}
 use Rattle.pcm_desk.specs.Desk.{Desk, DeskTurn, held_by, ioctl_on}
 use Rattle.pcm_play.proofs.Moving.{moves-nothing}
 use Rattle.pcm_record.proofs.Moving as recorders
-use Rattle.pcm_vchan.specs.Parents.{play_channels, record_channels}
+use Rattle.pcm_vchan.specs.Parents.{map_channels, play_channels, record_channels}
 use Rattle.pcm_engine.specs.declared.descriptors.Descriptors.{Descriptors}
 use Rattle.pcm_engine.specs.Desks.{desk_with}
 use Rattle.pcm_engine.proofs.Grouping.{handed-on, join-busy, join-done, join-refused}
-use Rattle.pcm_engine.proofs.Turning.{held-few, holding-is, play-there, record-there}
+use Rattle.pcm_vchan.proofs.Channels.{map-keeps-nothing}
+use Rattle.pcm_engine.proofs.Turning.{held-few, holding-is, map-there, play-there, record-there}
 use Rattle.pcm_engine.proofs.grouped.join.Goals as goal
 
 pub returns-in_err-held-clause-channels : goal.returns-in_err-held-clause-channels
@@ -113,3 +114,19 @@ returns-clause-reply g c =
     let e = holding-is (held_by desk c.args.fd) held (sym c.holding.ensures ∙ c.in_ok-held.was) in
     let answer = ap (λ (groups : Groups). joining groups held.way held.slot c.args.group) (sym c.groups-groups.ensures) ∙ sym c.join.ensures.answer ∙ c.in_ok-number.was in
     sym (ap (λ (t : DeskTurn). t.reply) (join-done device desk (held_by desk c.args.fd) held c.args.group c.in_ok-number.number e answer (sym (c.is_at_rest.ensures device c.args.descriptors.now) ∙ c.if-not-is_at_rest.false)))
+
+pub returns-in_err-held-clause-maps : goal.returns-in_err-held-clause-maps
+returns-in_err-held-clause-maps g c = λ slot other there. map-keeps-nothing g.B.Feeder.kind g.B.Feeder.kept c.args.tables.now (get_or (map_channels c.args.parent.now) slot other)
+
+pub returns-in_err-number-clause-maps : goal.returns-in_err-number-clause-maps
+returns-in_err-number-clause-maps g c = λ slot other there. map-keeps-nothing g.B.Feeder.kind g.B.Feeder.kept c.args.tables.now (get_or (map_channels c.args.parent.now) slot other)
+
+pub returns-then-not-is_at_rest-clause-maps : goal.returns-then-not-is_at_rest-clause-maps
+returns-then-not-is_at_rest-clause-maps g c = λ slot other there. map-keeps-nothing g.B.Feeder.kind g.B.Feeder.kept c.args.tables.now (get_or (map_channels c.args.parent.now) slot other)
+
+pub is_at_rest-requires-clause-mapped : goal.is_at_rest-requires-clause-mapped
+is_at_rest-requires-clause-mapped g c = λ maps.
+    let parent = c.args.parent.now in
+    let e = holding-is (held_by (desk_with parent c.args.descriptors.now) c.args.fd) c.in_ok-held.held (sym c.holding.ensures ∙ c.in_ok-held.was) in
+    let there = map-there parent c.args.descriptors.now c.args.fd c.in_ok-held.held c.requires.apart e maps in
+    omega (arith, there, items-count parent.maps)

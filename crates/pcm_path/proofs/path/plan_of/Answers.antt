@@ -1,4 +1,4 @@
-use Rattle.std.proofs.Common.{sym, ap, ◌∙◌, subst}
+use Rattle.std.proofs.Common.{sym, ap, ◌∙◌, subst, inl, inr}
 use Rattle.pcm_oss.specs.declared.event.Way.{Way}
 use Rattle.pcm_rate.specs.Rates.{IsRatio}
 use Rattle.pcm_plan.specs.Plans.{PlanSeen, rate_in_plan}
@@ -9,7 +9,10 @@ use Rattle.pcm_path.proofs.path.plan_of.Goals as goal
 
 pub returns-in-Play-clause-value : goal.returns-in-Play-clause-value
 returns-in-Play-clause-value c =
-    c.plan_play.ensures.value ∙ sym (ap (λ (way : Way). plan_between way (seen c.args.tables.now c.args.device.now) c.args.client.now) c.in-Play.is)
+    elim c.in-Play.is [
+      | inl play ↦ c.plan_play.ensures.value ∙ sym (ap (λ (way : Way). plan_between way (seen c.args.tables.now c.args.device.now) c.args.client.now) play)
+      | inr map ↦ c.plan_play.ensures.value ∙ sym (ap (λ (way : Way). plan_between way (seen c.args.tables.now c.args.device.now) c.args.client.now) map)
+    ]
 
 pub returns-in-Record-clause-value : goal.returns-in-Record-clause-value
 returns-in-Record-clause-value c =

@@ -11,6 +11,10 @@ pub returns-clause-record : goal.returns-clause-record
 unfolding digits encode_with
 returns-clause-record c = refl
 
+pub returns-clause-map : goal.returns-clause-map
+unfolding digits encode_with
+returns-clause-map c = refl
+
 pub returns-clause-write : goal.returns-clause-write
 unfolding digits encode_with
 returns-clause-write c = refl
@@ -22,6 +26,14 @@ returns-clause-empty c = refl
 pub returns-clause-send : goal.returns-clause-send
 unfolding digits encode_with
 returns-clause-send c = refl
+
+pub returns-clause-poke : goal.returns-clause-poke
+unfolding digits encode_with
+returns-clause-poke c = refl
+
+pub returns-clause-nothing : goal.returns-clause-nothing
+unfolding digits encode_with
+returns-clause-nothing c = refl
 
 pub returns-clause-read : goal.returns-clause-read
 unfolding digits encode_with

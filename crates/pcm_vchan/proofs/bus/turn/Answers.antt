@@ -7,10 +7,10 @@ use Rattle.pcm_feeder.specs.Streams.{interleaved}
 use Rattle.pcm_plan.specs.Through.{recs}
 use Rattle.pcm_desk.specs.Device.{DeviceSeen, filters_of, mix_frames, parent_plan, seen, unfiltered}
 use Rattle.pcm_desk.specs.Desk.{mixed_by}
-use Rattle.pcm_vchan.specs.Blocks.{block_of, turned_ring}
+use Rattle.pcm_vchan.specs.Blocks.{turned_ring, whole_block}
 use Rattle.pcm_vchan.specs.Buses.{mixed_at_once}
 use Rattle.pcm_vchan.specs.Handovers.{AreMixedFor, HasMade, raised_frames}
-use Rattle.pcm_vchan.specs.Slots.{IsPlayDue, play_books_of}
+use Rattle.pcm_vchan.specs.Slots.{IsMapDue, IsPlayDue}
 use Rattle.pcm_vchan.proofs.bus.turn.Goals as goal
 
 -- as many samples as an interrupt mixes have room where the most of them have
@@ -55,6 +55,10 @@ pub mix_block-requires-clause-due : goal.mix_block-requires-clause-due
 mix_block-requires-clause-due g c =
     subst (λ (count : ℕ). All (IsPlayDue g.B.Feeder.kind g.B.Feeder.kept c.args.tables.now c.args.device count) c.args.channels.now) (sym c.mixed_by-count.ensures.value) c.requires.due
 
+pub mix_block-requires-clause-maps_due : goal.mix_block-requires-clause-maps_due
+mix_block-requires-clause-maps_due g c =
+    subst (λ (count : ℕ). All (IsMapDue g.B.Feeder.kind g.B.Feeder.kept c.args.tables.now c.args.device count) c.args.maps.now) (sym c.mixed_by-count.ensures.value) c.requires.maps_due
+
 pub mix_block-requires-clause-part : goal.mix_block-requires-clause-part
 mix_block-requires-clause-part g c =
     let room = has-room c.mixed_by-count.result (channels_of c.args.device.mix.layout) c.channels.result (mix_frames (unfiltered c.args.device)) (length c.args.part.now) c.channels.ensures c.mixed_by-count.ensures.most c.requires.part in
@@ -79,7 +83,7 @@ hand_over-made-requires-clause-can g c =
     }
 
 pub returns-clause-turns : goal.returns-clause-turns
-returns-clause-turns g c = λ streams x stand made.
+returns-clause-turns g c = λ sources x stand made.
     let device : DeviceSeen = seen c.args.tables.now c.args.device in
     let channels = channels_of c.args.device.mix.layout in
     let handed = c.args.handed in
@@ -88,9 +92,9 @@ returns-clause-turns g c = λ streams x stand made.
     let long = front c.args.sum.now c.mixed_by-count.result channels c.channels.result c.channels.ensures room in
     let enough : AreMixedFor device c.mix_block.new.sum handed n = c.mix_block.auto.sum ∙ long ∙ ap (λ k. k * channels) c.mixed_by-count.ensures.value in
     let more = c.hand_over-made.ensures.makes x handed made enough in
-    let block : c.mix_block.new.sum ≡ block_of device (mixed_by device handed n) (play_books_of c.args.channels.now) streams (length c.args.channels.now) =
-    c.mix_block.ensures.block streams stand ∙ ap (λ k. block_of device k (play_books_of c.args.channels.now) streams (length c.args.channels.now)) c.mixed_by-count.ensures.value in
-    let all : x ++ raised_frames device c.mix_block.new.sum ≡ x ++ mixed_at_once device handed n c.args.channels.now streams = ap (λ (b : List ℤ). x ++ raised_frames device b) block in
+    let block : c.mix_block.new.sum ≡ whole_block device (mixed_by device handed n) c.args.channels.now c.args.maps.now sources =
+    c.mix_block.ensures.block sources stand ∙ ap (λ k. whole_block device k c.args.channels.now c.args.maps.now sources) c.mixed_by-count.ensures.value in
+    let all : x ++ raised_frames device c.mix_block.new.sum ≡ x ++ mixed_at_once device handed n c.args.channels.now c.args.maps.now sources = ap (λ (b : List ℤ). x ++ raised_frames device b) block in
     record {
       made = subst (λ (frames : List Frame). HasMade g.B.Feeder.kept device c.hand_over-made.new.chain frames (handed + n)) all more.made;
       ring = c.turn_ring.ensures.ring

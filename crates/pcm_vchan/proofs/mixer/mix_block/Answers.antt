@@ -6,11 +6,14 @@ use Rattle.pcm_format.specs.Formats.{bits_of}
 use Rattle.pcm_format.specs.Layouts.{channels_of}
 use Rattle.pcm_format.proofs.Spelling.{silence-fits}
 use Rattle.pcm_desk.specs.Device.{seen}
-use Rattle.pcm_desk.specs.Desk.{mixing}
+use Rattle.pcm_desk.specs.Desk.{map_mixing, mixing}
+use Rattle.pcm_sound.specs.MapRuns.{area_taken}
 use Rattle.pcm_play.proofs.Moving.{moves-nothing}
-use Rattle.pcm_vchan.specs.Slots.{play_books_of}
-use Rattle.pcm_vchan.specs.Blocks.{block_of, mixed_onto}
-use Rattle.pcm_vchan.proofs.Blocks.{block-nothing}
+use Rattle.pcm_map.specs.Channels.{area_of}
+use Rattle.pcm_map.proofs.Moving.{moves-nothing as map-moves-nothing}
+use Rattle.pcm_vchan.specs.Slots.{map_books_of, play_books_of}
+use Rattle.pcm_vchan.specs.Blocks.{block_of, mapped_onto, mixed_onto}
+use Rattle.pcm_vchan.proofs.Blocks.{block-nothing, mapped-nothing}
 use Rattle.pcm_vchan.proofs.mixer.mix_block.Goals as goal
 
 pub mix_channels-requires-clause-block : goal.mix_channels-requires-clause-block
@@ -22,12 +25,21 @@ mix_channels-requires-clause-block g c =
       fits = subst (All P) (sym (c.fill.ensures.after (λ y same. same))) (All-replicate P (length c.args.sum.now) (pos 0) (silence-fits (bits_of c.args.device.mix.format)));
     }
 
+pub mix_maps-requires-clause-block : goal.mix_maps-requires-clause-block
+mix_maps-requires-clause-block g c = record {
+  frames_whole = omega (arith, c.mix_channels.auto.frames, c.requires.part);
+  sum_whole = omega (arith, c.mix_channels.auto.sum, c.fill.ensures.len, c.requires.sum);
+  fits = c.mix_channels.ensures.fits;
+}
+
 pub returns-then-n-gt0-clause-block : goal.returns-then-n-gt0-clause-block
-returns-then-n-gt0-clause-block g c = λ streams stand.
+returns-then-n-gt0-clause-block g c = λ sources stand.
     let device = seen c.args.tables.now c.args.device in
     let slots = length c.args.channels.now in
     let silent : c.fill.new.self ≡ replicate (c.args.n * channels_of c.args.device.mix.layout) (pos 0) = c.fill.ensures.after (λ y same. same) ∙ ap (λ k. replicate k (pos 0)) c.requires.sum in
-    c.mix_channels.ensures.sum streams stand ∙ ap (mixed_onto device c.args.n (play_books_of c.args.channels.now) streams slots) silent
+    c.mix_maps.ensures.sum sources.taken sources.areas stand.mapped
+    ∙ ap (mapped_onto device c.args.n (map_books_of c.args.maps.now) sources.taken sources.areas (length c.args.maps.now))
+    (c.mix_channels.ensures.sum sources.played stand.playing ∙ ap (mixed_onto device c.args.n (play_books_of c.args.channels.now) sources.played slots) silent)
 
 pub returns-else-n-gt0-clause-mixed : goal.returns-else-n-gt0-clause-mixed
 returns-else-n-gt0-clause-mixed g c =
@@ -38,17 +50,36 @@ returns-else-n-gt0-clause-mixed g c =
       books = λ slot other h. subst (λ (n : ℕ). (get_or c.args.channels.now slot other).book ≡ mixing (seen c.args.tables.now c.args.device) c.args.here.mixed n (get_or c.args.channels.now slot other).book) (sym none) refl;
     }
 
+pub returns-else-n-gt0-clause-taken : goal.returns-else-n-gt0-clause-taken
+returns-else-n-gt0-clause-taken g c =
+    let device = seen c.args.tables.now c.args.device in
+    let none : c.args.n ≡ 0 = omega (arith, c.if-n-gt0.false) in
+    record {
+      own = λ slot other h. (c.requires.maps_due slot other h).own;
+      each = λ slot other h. (
+          let channel = get_or c.args.maps.now slot other in
+          record {
+            book = subst (λ (n : ℕ). channel.book ≡ map_mixing device n channel.book) (sym none) refl;
+            moves = map-moves-nothing g.B.Feeder.kind g.B.Feeder.kept c.args.tables.now (area_taken (seen c.args.tables.now channel.path.device) c.args.n channel.book (area_of channel)) c.args.n channel;
+            area = refl;
+          });
+    }
+
 pub returns-else-n-gt0-clause-block : goal.returns-else-n-gt0-clause-block
-returns-else-n-gt0-clause-block g c = λ streams stand.
+returns-else-n-gt0-clause-block g c = λ sources stand.
     let device = seen c.args.tables.now c.args.device in
     let books = play_books_of c.args.channels.now in
     let slots = length c.args.channels.now in
+    let maps = map_books_of c.args.maps.now in
+    let mapped = length c.args.maps.now in
     let none : c.args.n ≡ 0 = omega (arith, c.if-n-gt0.false) in
     let empty : length c.args.sum.now ≡ 0 = c.requires.sum ∙ ap (λ n. n * channels_of c.args.device.mix.layout) none ∙ zero-mul (channels_of c.args.device.mix.layout) in
+    let played : block_of device 0 books sources.played slots ≡ [] =
+    ap (λ k. mixed_onto device 0 books sources.played slots (replicate k (pos 0))) (zero-mul (channels_of c.args.device.mix.layout)) ∙ block-nothing device books sources.played (range_with_len 0 slots) in
     c.fill.ensures.after (λ y same. same) ∙ ap (λ k. replicate k (pos 0)) empty
-    ∙ sym (ap (λ n. block_of device n books streams slots) none
-    ∙ ap (λ k. mixed_onto device 0 books streams slots (replicate k (pos 0))) (zero-mul (channels_of c.args.device.mix.layout))
-    ∙ block-nothing device books streams (range_with_len 0 slots))
+    ∙ sym (ap (λ n. mapped_onto device n maps sources.taken sources.areas mapped (block_of device n books sources.played slots)) none
+    ∙ ap (mapped_onto device 0 maps sources.taken sources.areas mapped) played
+    ∙ mapped-nothing device maps sources.taken sources.areas (range_with_len 0 mapped))
 
 pub returns-else-n-gt0-clause-fits : goal.returns-else-n-gt0-clause-fits
 returns-else-n-gt0-clause-fits g c =

@@ -3,7 +3,8 @@ use Rattle.pcm_desk.specs.Device.{seen}
 use Rattle.pcm_desk.specs.Desk.{mixing}
 use Rattle.pcm_play.specs.declared.channel.PlayChannelOf.{PlayChannelOf}
 use Rattle.pcm_vchan.specs.Slots.{AllPlayStand, play_books_of}
-use Rattle.pcm_play.specs.Channels.{HoldBlock, PlayMoves}
+use Rattle.pcm_path.specs.Paths.{HoldBlock}
+use Rattle.pcm_play.specs.Channels.{PlayMoves}
 use Rattle.pcm_vchan.specs.Blocks.{mixed_onto}
 use Rattle.pcm_vchan.proofs.mixer.mix_channels.Given as goal
 

@@ -7,7 +7,8 @@ use Rattle.pcm_desk.specs.Device.{seen}
 use Rattle.pcm_desk.specs.Desk.{mixing}
 use Rattle.pcm_sound.specs.Added.{turned}
 use Rattle.pcm_play.specs.declared.channel.PlayChannelOf.{PlayChannelOf}
-use Rattle.pcm_play.specs.Channels.{HoldBlock, PlayStands, PlayMoves}
+use Rattle.pcm_path.specs.Paths.{HoldBlock}
+use Rattle.pcm_play.specs.Channels.{PlayStands, PlayMoves}
 use Rattle.pcm_vchan.proofs.mixer.mix_slot.Goals as goal
 
 pub refill-requires-clause-ready : goal.refill-requires-clause-ready

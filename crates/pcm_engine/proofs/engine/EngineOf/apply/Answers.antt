@@ -2,15 +2,16 @@ use Rattle.std.proofs.Common.{rules, All, ℕ, ◌+◌, ◌*◌, List, [], get_o
 use Rattle.pcm_fixed.specs.declared.fixed.Fixed.{Fixed}
 use Rattle.pcm_fixed.specs.Fixed.{fixed_items}
 use Rattle.pcm_oss.specs.declared.event.Event.{Event}
-use Rattle.pcm_oss.specs.declared.event.Event.TheVariants.{Open, Write, Read, Ioctl, Join, StartGroup, Close, Intr}
+use Rattle.pcm_oss.specs.declared.event.Event.TheVariants.{Open, Write, Poke, Read, Ioctl, Join, StartGroup, Close, Intr}
 use Rattle.pcm_format.specs.Layouts.{channels_of}
 use Rattle.pcm_oss.specs.declared.fragments.TheConstants.{RING_BYTES}
 use Rattle.pcm_desk.specs.declared.device.Device.{Device}
 use Rattle.pcm_play.specs.declared.channel.PlayChannelOf.{PlayChannelOf}
 use Rattle.pcm_record.specs.declared.channel.RecordChannelOf.{RecordChannelOf}
+use Rattle.pcm_map.specs.declared.channel.MapChannelOf.{MapChannelOf}
 use Rattle.pcm_desk.specs.declared.limits.TheConstants.{MIX_FRAMES, RING_FRAMES}
 use Rattle.pcm_oss.specs.Replies.{Reply}
-use Rattle.pcm_desk.specs.Desk.{after, held_by, write_on}
+use Rattle.pcm_desk.specs.Desk.{after, held_by, poke_on, write_on}
 use Rattle.pcm_desk.specs.Own.{HoldApart}
 use Rattle.pcm_desk.proofs.Apart.{apart-after}
 use Rattle.pcm_desk.specs.declared.here.Here.{Here}
@@ -19,12 +20,15 @@ use Rattle.pcm_play.specs.Channels.{IsPlayHere, PlayMoves}
 use Rattle.pcm_play.proofs.Moving.{moves-nothing}
 use Rattle.pcm_record.specs.Channels.{RecordMoves}
 use Rattle.pcm_record.proofs.Moving as recorders
-use Rattle.pcm_vchan.specs.Slots.{PlayAreOf, Each, RecordAreOf}
+use Rattle.pcm_vchan.specs.Slots.{Each, MapAreOf, MapKeeps, PlayAreOf, RecordAreOf}
+use Rattle.pcm_vchan.specs.Starts.{EachAt}
+use Rattle.pcm_engine.specs.Desks.{poked_by}
 use Rattle.pcm_engine.specs.Engines.{device_of, desk_of}
-use Rattle.pcm_engine.specs.Steps.{BusMoves, ChannelsMove, RecordersMove, bytes_answered}
-use Rattle.pcm_vchan.proofs.Channels.{play_books_of-passed, record_books_of-captured}
-use Rattle.pcm_vchan.specs.Parents.{play_channels, record_channels}
+use Rattle.pcm_engine.specs.Steps.{BusMoves, ChannelsMove, MapsMove, RecordersMove, bytes_answered}
+use Rattle.pcm_vchan.proofs.Channels.{map_books_of-passed, play_books_of-passed, record_books_of-captured}
+use Rattle.pcm_vchan.specs.Parents.{map_channels, play_channels, record_channels, untouched}
 use Rattle.pcm_engine.proofs.Desks.{count-stays, count-within, desk_with-mixed}
+use Rattle.pcm_vchan.proofs.Channels.{map-keeps-nothing}
 use Rattle.pcm_engine.proofs.Buses.{bus-same, bus-stays, mixes-few}
 use Rattle.pcm_engine.proofs.InOrder.{channels-here, closable, here-seen, here-within, served}
 use Rattle.pcm_engine.proofs.Recording.{length-captured}
@@ -44,6 +48,8 @@ invariant_of-self-in-Write g c =
       given = count-within (λ (c : PlayChannelOf _). c.book.given) MIX_FRAMES old.steps (play_channels old.parent) (play_channels new) same
           (λ slot other there. let more = (c.write.ensures.channels old.tables slot other there).given in omega (arith, more)) old.given;
       recorders_own = subst (λ (v : Fixed (RecordChannelOf _)). RecordAreOf new.device (fixed_items v)) (sym c.write.ensures.recorders) (subst (λ (d : Device). RecordAreOf d (record_channels old.parent)) (sym output.device_same) old.recorders_own);
+      maps_own = subst (λ (v : Fixed (MapChannelOf _)). MapAreOf new.device (fixed_items v)) (sym c.write.ensures.maps) (subst (λ (d : Device). MapAreOf d (map_channels old.parent)) (sym output.device_same) old.maps_own);
+      maps_given = count-stays (λ (c : MapChannelOf _). c.book.given) MIX_FRAMES old.steps (map_channels old.parent) (map_channels new) (ap (λ (v : Fixed (MapChannelOf _)). fixed_items v) c.write.ensures.maps) old.maps_given;
       kept = count-stays (λ (c : RecordChannelOf _). c.book.kept) RING_BYTES old.steps (record_channels old.parent) (record_channels new) (ap (λ (v : Fixed (RecordChannelOf _)). fixed_items v) c.write.ensures.recorders) old.kept;
       captured_within = count-stays (λ (c : RecordChannelOf _). c.book.captured) RING_FRAMES old.steps (record_channels old.parent) (record_channels new) (ap (λ (v : Fixed (RecordChannelOf _)). fixed_items v) c.write.ensures.recorders) old.captured_within;
       captured_size = old.captured_size ∙ ap (λ (d : Device). d.ring_frames * channels_of d.settings.layout) (sym output.device_same);
@@ -65,6 +71,9 @@ invariant_of-self-in-Ioctl g c =
       given = count-within (λ (c : PlayChannelOf _). c.book.given) MIX_FRAMES old.steps (play_channels old.parent) (play_channels new) same
           (λ slot other there. let more = (c.ioctl.ensures.channels slot other there).given in omega (arith, more)) old.given;
       recorders_own = c.ioctl.ensures.recorders_own;
+      maps_own = c.ioctl.ensures.maps_own;
+      maps_given = count-within (λ (c : MapChannelOf _). c.book.given) MIX_FRAMES old.steps (map_channels old.parent) (map_channels new) output.maps_same
+          (λ slot other there. let more = (c.ioctl.ensures.maps slot other there).moves.given in omega (arith, more)) old.maps_given;
       kept = count-within (λ (c : RecordChannelOf _). c.book.kept) RING_BYTES old.steps (record_channels old.parent) (record_channels new) output.recorders_same
           (λ slot other there. (c.ioctl.ensures.recorders slot other there).kept) old.kept;
       captured_within = count-within (λ (c : RecordChannelOf _). c.book.captured) RING_FRAMES old.steps (record_channels old.parent) (record_channels new) output.recorders_same
@@ -88,6 +97,9 @@ invariant_of-self-in-Join g c =
       given = count-within (λ (c : PlayChannelOf _). c.book.given) MIX_FRAMES old.steps (play_channels old.parent) (play_channels new) same
           (λ slot other there. let more = (c.join.ensures.channels slot other there).given in omega (arith, more)) old.given;
       recorders_own = c.join.ensures.recorders_own;
+      maps_own = c.join.ensures.maps_own;
+      maps_given = count-within (λ (c : MapChannelOf _). c.book.given) MIX_FRAMES old.steps (map_channels old.parent) (map_channels new) output.maps_same
+          (λ slot other there. let more = (c.join.ensures.maps slot other there).moves.given in omega (arith, more)) old.maps_given;
       kept = count-within (λ (c : RecordChannelOf _). c.book.kept) RING_BYTES old.steps (record_channels old.parent) (record_channels new) output.recorders_same
           (λ slot other there. (c.join.ensures.recorders slot other there).kept) old.kept;
       captured_within = count-within (λ (c : RecordChannelOf _). c.book.captured) RING_FRAMES old.steps (record_channels old.parent) (record_channels new) output.recorders_same
@@ -111,6 +123,9 @@ invariant_of-self-in-StartGroup g c =
       given = count-within (λ (c : PlayChannelOf _). c.book.given) MIX_FRAMES old.steps (play_channels old.parent) (play_channels new) same
           (λ slot other there. let more = (c.start_group.ensures.channels slot other there).given in omega (arith, more)) old.given;
       recorders_own = c.start_group.ensures.recorders_own;
+      maps_own = c.start_group.ensures.maps_own;
+      maps_given = count-within (λ (c : MapChannelOf _). c.book.given) MIX_FRAMES old.steps (map_channels old.parent) (map_channels new) output.maps_same
+          (λ slot other there. let more = (c.start_group.ensures.maps slot other there).moves.given in omega (arith, more)) old.maps_given;
       kept = count-within (λ (c : RecordChannelOf _). c.book.kept) RING_BYTES old.steps (record_channels old.parent) (record_channels new) output.recorders_same
           (λ slot other there. (c.start_group.ensures.recorders slot other there).kept) old.kept;
       captured_within = count-within (λ (c : RecordChannelOf _). c.book.captured) RING_FRAMES old.steps (record_channels old.parent) (record_channels new) output.recorders_same
@@ -147,6 +162,9 @@ interrupt-requires-clause-due g c =
             captured = omega (arith, captured, within, fits.1, c.requires.count);
             kept = omega (arith, kept, c.requires.count);
           };
+      mapped = λ slot other there.
+          let given = old.maps_given slot other there in
+          record { own = old.maps_own slot other there; ready = c.requires.ready.mapped slot other there; given = omega (arith, given, few, c.requires.count) };
     }
 
 -- every channel is ready for a call
@@ -214,7 +232,8 @@ invariant_of-self-in-Intr g c =
     let few = mixes-few old.tables c.in-Intr.frames old.parent c.requires.ready.bus.planned.limits fits.1 in
     let books = play_books_of-passed (device_of old) old.parent.handed c.in-Intr.frames (play_channels old.parent) (play_channels new) same c.interrupt.ensures.books in
     let recorded = record_books_of-captured (device_of old) c.in-Intr.frames (record_channels old.parent) (record_channels new) c.interrupt.ensures.recorders_slots (λ slot other there. (c.interrupt.ensures.recorders slot other there).book) in
-    let desk = desk_with-mixed (device_of old) old.parent new old.descriptors c.in-Intr.frames books recorded c.interrupt.ensures.handed c.interrupt.ensures.mixed in
+    let taken = map_books_of-passed (device_of old) old.parent.handed c.in-Intr.frames (map_channels old.parent) (map_channels new) c.interrupt.ensures.maps_slots (λ slot other there. (c.interrupt.ensures.maps slot other there).book) in
+    let desk = desk_with-mixed (device_of old) old.parent new old.descriptors c.in-Intr.frames books recorded taken c.interrupt.ensures.handed c.interrupt.ensures.mixed in
     let brought = length-captured old.parent.device.settings.layout c.args.pool.now old.parent.handed c.in-Intr.frames c.requires.captures in
     record {
       apart = subst HoldApart (sym desk) (apart-after (device_of old) (desk_of old) (Intr c.in-Intr.frames) old.apart);
@@ -224,6 +243,9 @@ invariant_of-self-in-Intr g c =
       given = count-within (λ (c : PlayChannelOf _). c.book.given) MIX_FRAMES old.steps (play_channels old.parent) (play_channels new) same
           (λ slot other there. let more = (c.interrupt.ensures.channels slot other there).given in omega (arith, more, few)) old.given;
       recorders_own = c.interrupt.ensures.recorders_own;
+      maps_own = c.interrupt.ensures.maps_own;
+      maps_given = count-within (λ (c : MapChannelOf _). c.book.given) MIX_FRAMES old.steps (map_channels old.parent) (map_channels new) c.interrupt.ensures.maps_slots
+          (λ slot other there. let more = (c.interrupt.ensures.maps slot other there).moves.given in omega (arith, more, few)) old.maps_given;
       kept = count-within (λ (c : RecordChannelOf _). c.book.kept) RING_BYTES old.steps (record_channels old.parent) (record_channels new) c.interrupt.ensures.recorders_slots
           (λ slot other there. (c.interrupt.ensures.recorders slot other there).moves.kept) old.kept;
       captured_within = count-within (λ (c : RecordChannelOf _). c.book.captured) RING_FRAMES old.steps (record_channels old.parent) (record_channels new) c.interrupt.ensures.recorders_slots
@@ -240,7 +262,8 @@ returns-in-Intr-clause-desk g c =
     let n : ℕ = c.in-Intr.frames in
     let books = play_books_of-passed (device_of old) old.parent.handed n (play_channels old.parent) (play_channels new) c.interrupt.ensures.slots c.interrupt.ensures.books in
     let recorded = record_books_of-captured (device_of old) n (record_channels old.parent) (record_channels new) c.interrupt.ensures.recorders_slots (λ slot other there. (c.interrupt.ensures.recorders slot other there).book) in
-    desk_with-mixed (device_of old) old.parent new old.descriptors n books recorded c.interrupt.ensures.handed c.interrupt.ensures.mixed
+    let taken = map_books_of-passed (device_of old) old.parent.handed n (map_channels old.parent) (map_channels new) c.interrupt.ensures.maps_slots (λ slot other there. (c.interrupt.ensures.maps slot other there).book) in
+    desk_with-mixed (device_of old) old.parent new old.descriptors n books recorded taken c.interrupt.ensures.handed c.interrupt.ensures.mixed
     ∙ sym (ap (λ (event : Event). (after (device_of old) (desk_of old) event).desk) c.in-Intr.is)
 
 pub returns-in-Write-clause-desk : goal.returns-in-Write-clause-desk
@@ -354,6 +377,9 @@ invariant_of-self g c =
       given = count-within (λ (c : PlayChannelOf _). c.book.given) MIX_FRAMES old.steps (play_channels old.parent) (play_channels new) same
           (λ slot other there. let more = (c.open.ensures.channels slot other there).given in omega (arith, more)) old.given;
       recorders_own = c.open.ensures.recorders_own;
+      maps_own = c.open.ensures.maps_own;
+      maps_given = count-within (λ (c : MapChannelOf _). c.book.given) MIX_FRAMES old.steps (map_channels old.parent) (map_channels new) output.maps_same
+          (λ slot other there. let more = (c.open.ensures.maps slot other there).moves.given in omega (arith, more)) old.maps_given;
       kept = count-within (λ (c : RecordChannelOf _). c.book.kept) RING_BYTES old.steps (record_channels old.parent) (record_channels new) output.recorders_same
           (λ slot other there. (c.open.ensures.recorders slot other there).kept) old.kept;
       captured_within = count-within (λ (c : RecordChannelOf _). c.book.captured) RING_FRAMES old.steps (record_channels old.parent) (record_channels new) output.recorders_same
@@ -377,6 +403,9 @@ invariant_of-self-in-Close g c =
       given = count-within (λ (c : PlayChannelOf _). c.book.given) MIX_FRAMES old.steps (play_channels old.parent) (play_channels new) same
           (λ slot other there. let more = (c.close.ensures.channels old.tables slot other there).given in omega (arith, more)) old.given;
       recorders_own = c.close.ensures.recorders_own;
+      maps_own = c.close.ensures.maps_own;
+      maps_given = count-within (λ (c : MapChannelOf _). c.book.given) MIX_FRAMES old.steps (map_channels old.parent) (map_channels new) output.maps_same
+          (λ slot other there. let more = (c.close.ensures.maps old.tables slot other there).moves.given in omega (arith, more)) old.maps_given;
       kept = count-within (λ (c : RecordChannelOf _). c.book.kept) RING_BYTES old.steps (record_channels old.parent) (record_channels new) output.recorders_same
           (λ slot other there. (c.close.ensures.recorders old.tables slot other there).kept) old.kept;
       captured_within = count-within (λ (c : RecordChannelOf _). c.book.captured) RING_FRAMES old.steps (record_channels old.parent) (record_channels new) output.recorders_same
@@ -398,6 +427,8 @@ invariant_of-self-in-Read g c =
       counted = count-stays (λ (c : PlayChannelOf _). c.book.done + c.book.written) RING_BYTES old.steps (play_channels old.parent) (play_channels new) stays old.counted;
       given = count-stays (λ (c : PlayChannelOf _). c.book.given) MIX_FRAMES old.steps (play_channels old.parent) (play_channels new) stays old.given;
       recorders_own = c.answer_read.ensures.recorders_own;
+      maps_own = subst (λ (v : Fixed (MapChannelOf _)). MapAreOf new.device (fixed_items v)) (sym c.answer_read.ensures.maps) (subst (λ (d : Device). MapAreOf d (map_channels old.parent)) (sym output.device_same) old.maps_own);
+      maps_given = count-stays (λ (c : MapChannelOf _). c.book.given) MIX_FRAMES old.steps (map_channels old.parent) (map_channels new) (ap (λ (v : Fixed (MapChannelOf _)). fixed_items v) c.answer_read.ensures.maps) old.maps_given;
       kept = count-within (λ (c : RecordChannelOf _). c.book.kept) RING_BYTES old.steps (record_channels old.parent) (record_channels new) output.recorders_same
           (λ slot other there. (c.answer_read.ensures.recorders old.tables slot other there).kept) old.kept;
       captured_within = count-within (λ (c : RecordChannelOf _). c.book.captured) RING_FRAMES old.steps (record_channels old.parent) (record_channels new) output.recorders_same
@@ -416,7 +447,7 @@ pub returns-in-Open-clause-turns : goal.returns-in-Open-clause-turns
 returns-in-Open-clause-turns g c =
     let old = c.args.self.now in
     let new = c.open.new.parent in
-    subst (λ (event : Event). BusMoves g.B.Feeder.kept (device_of old) old.parent.handed event (play_channels old.parent) old.parent.bus.chain new.bus.chain old.parent.ring.bytes new.ring.bytes) (sym c.in-Open.is)
+    subst (λ (event : Event). BusMoves g.B.Feeder.kept (device_of old) old.parent.handed event (play_channels old.parent) (map_channels old.parent) old.parent.bus.chain new.bus.chain old.parent.ring.bytes new.ring.bytes) (sym c.in-Open.is)
     (bus-same old.parent new c.open.ensures.output)
 
 pub returns-in-Write-clause-bus : goal.returns-in-Write-clause-bus
@@ -428,7 +459,7 @@ pub returns-in-Write-clause-turns : goal.returns-in-Write-clause-turns
 returns-in-Write-clause-turns g c =
     let old = c.args.self.now in
     let new = c.write.new.parent in
-    subst (λ (event : Event). BusMoves g.B.Feeder.kept (device_of old) old.parent.handed event (play_channels old.parent) old.parent.bus.chain new.bus.chain old.parent.ring.bytes new.ring.bytes) (sym c.in-Write.is)
+    subst (λ (event : Event). BusMoves g.B.Feeder.kept (device_of old) old.parent.handed event (play_channels old.parent) (map_channels old.parent) old.parent.bus.chain new.bus.chain old.parent.ring.bytes new.ring.bytes) (sym c.in-Write.is)
     (bus-same old.parent new c.write.ensures.output)
 
 pub returns-in-Read-clause-bus : goal.returns-in-Read-clause-bus
@@ -440,7 +471,7 @@ pub returns-in-Read-clause-turns : goal.returns-in-Read-clause-turns
 returns-in-Read-clause-turns g c =
     let old = c.args.self.now in
     let new = c.answer_read.new.parent in
-    subst (λ (event : Event). BusMoves g.B.Feeder.kept (device_of old) old.parent.handed event (play_channels old.parent) old.parent.bus.chain new.bus.chain old.parent.ring.bytes new.ring.bytes) (sym c.in-Read.is)
+    subst (λ (event : Event). BusMoves g.B.Feeder.kept (device_of old) old.parent.handed event (play_channels old.parent) (map_channels old.parent) old.parent.bus.chain new.bus.chain old.parent.ring.bytes new.ring.bytes) (sym c.in-Read.is)
     (bus-same old.parent new c.answer_read.ensures.output)
 
 pub returns-in-Ioctl-clause-bus : goal.returns-in-Ioctl-clause-bus
@@ -462,21 +493,21 @@ pub returns-in-Ioctl-clause-turns : goal.returns-in-Ioctl-clause-turns
 returns-in-Ioctl-clause-turns g c =
     let old = c.args.self.now in
     let new = c.ioctl.new.parent in
-    subst (λ (event : Event). BusMoves g.B.Feeder.kept (device_of old) old.parent.handed event (play_channels old.parent) old.parent.bus.chain new.bus.chain old.parent.ring.bytes new.ring.bytes) (sym c.in-Ioctl.is)
+    subst (λ (event : Event). BusMoves g.B.Feeder.kept (device_of old) old.parent.handed event (play_channels old.parent) (map_channels old.parent) old.parent.bus.chain new.bus.chain old.parent.ring.bytes new.ring.bytes) (sym c.in-Ioctl.is)
     (bus-same old.parent new c.ioctl.ensures.output)
 
 pub returns-in-Join-clause-turns : goal.returns-in-Join-clause-turns
 returns-in-Join-clause-turns g c =
     let old = c.args.self.now in
     let new = c.join.new.parent in
-    subst (λ (event : Event). BusMoves g.B.Feeder.kept (device_of old) old.parent.handed event (play_channels old.parent) old.parent.bus.chain new.bus.chain old.parent.ring.bytes new.ring.bytes) (sym c.in-Join.is)
+    subst (λ (event : Event). BusMoves g.B.Feeder.kept (device_of old) old.parent.handed event (play_channels old.parent) (map_channels old.parent) old.parent.bus.chain new.bus.chain old.parent.ring.bytes new.ring.bytes) (sym c.in-Join.is)
     (bus-same old.parent new c.join.ensures.output)
 
 pub returns-in-StartGroup-clause-turns : goal.returns-in-StartGroup-clause-turns
 returns-in-StartGroup-clause-turns g c =
     let old = c.args.self.now in
     let new = c.start_group.new.parent in
-    subst (λ (event : Event). BusMoves g.B.Feeder.kept (device_of old) old.parent.handed event (play_channels old.parent) old.parent.bus.chain new.bus.chain old.parent.ring.bytes new.ring.bytes) (sym c.in-StartGroup.is)
+    subst (λ (event : Event). BusMoves g.B.Feeder.kept (device_of old) old.parent.handed event (play_channels old.parent) (map_channels old.parent) old.parent.bus.chain new.bus.chain old.parent.ring.bytes new.ring.bytes) (sym c.in-StartGroup.is)
     (bus-same old.parent new c.start_group.ensures.output)
 
 pub returns-in-Close-clause-bus : goal.returns-in-Close-clause-bus
@@ -488,14 +519,14 @@ pub returns-in-Close-clause-turns : goal.returns-in-Close-clause-turns
 returns-in-Close-clause-turns g c =
     let old = c.args.self.now in
     let new = c.close.new.parent in
-    subst (λ (event : Event). BusMoves g.B.Feeder.kept (device_of old) old.parent.handed event (play_channels old.parent) old.parent.bus.chain new.bus.chain old.parent.ring.bytes new.ring.bytes) (sym c.in-Close.is)
+    subst (λ (event : Event). BusMoves g.B.Feeder.kept (device_of old) old.parent.handed event (play_channels old.parent) (map_channels old.parent) old.parent.bus.chain new.bus.chain old.parent.ring.bytes new.ring.bytes) (sym c.in-Close.is)
     (bus-same old.parent new c.close.ensures.output)
 
 pub returns-in-Intr-clause-turns : goal.returns-in-Intr-clause-turns
 returns-in-Intr-clause-turns g c =
     let old = c.args.self.now in
     let new = c.interrupt.new.parent in
-    subst (λ (event : Event). BusMoves g.B.Feeder.kept (device_of old) old.parent.handed event (play_channels old.parent) old.parent.bus.chain new.bus.chain old.parent.ring.bytes new.ring.bytes) (sym c.in-Intr.is)
+    subst (λ (event : Event). BusMoves g.B.Feeder.kept (device_of old) old.parent.handed event (play_channels old.parent) (map_channels old.parent) old.parent.bus.chain new.bus.chain old.parent.ring.bytes new.ring.bytes) (sym c.in-Intr.is)
     c.interrupt.ensures.turns
 
 pub interrupt-requires-clause-mixed : goal.interrupt-requires-clause-mixed
@@ -513,3 +544,131 @@ returns-in-Open-clause-channels g c =
 
 pub returns-in-Open-clause-refused : goal.returns-in-Open-clause-refused
 returns-in-Open-clause-refused g c = λ err. record { parent_same = search rules; descriptors_same = search rules }
+
+pub ioctl-requires-clause-given : goal.ioctl-requires-clause-given
+ioctl-requires-clause-given g c = λ slot other there. (let given = c.args.self.now.maps_given slot other there in omega (arith, given, c.requires.count))
+
+pub join-requires-clause-given : goal.join-requires-clause-given
+join-requires-clause-given g c = λ slot other there. (let given = c.args.self.now.maps_given slot other there in omega (arith, given, c.requires.count))
+
+pub start_group-requires-clause-given : goal.start_group-requires-clause-given
+start_group-requires-clause-given g c = λ slot other there. (let given = c.args.self.now.maps_given slot other there in omega (arith, given, c.requires.count))
+
+pub returns-in-Open-clause-maps : goal.returns-in-Open-clause-maps
+returns-in-Open-clause-maps g c =
+    let old = c.args.self.now in
+    subst (λ (event : Event). MapsMove g.B.Feeder.kind g.B.Feeder.kept old.tables old.parent.device c.args.pool.now (desk_of old) event (map_channels old.parent) (map_channels c.open.new.parent)) (sym c.in-Open.is)
+    c.open.ensures.maps
+
+pub returns-in-Ioctl-clause-maps : goal.returns-in-Ioctl-clause-maps
+returns-in-Ioctl-clause-maps g c =
+    let old = c.args.self.now in
+    subst (λ (event : Event). MapsMove g.B.Feeder.kind g.B.Feeder.kept old.tables old.parent.device c.args.pool.now (desk_of old) event (map_channels old.parent) (map_channels c.ioctl.new.parent)) (sym c.in-Ioctl.is)
+    c.ioctl.ensures.maps
+
+pub returns-in-Join-clause-maps : goal.returns-in-Join-clause-maps
+returns-in-Join-clause-maps g c =
+    let old = c.args.self.now in
+    subst (λ (event : Event). MapsMove g.B.Feeder.kind g.B.Feeder.kept old.tables old.parent.device c.args.pool.now (desk_of old) event (map_channels old.parent) (map_channels c.join.new.parent)) (sym c.in-Join.is)
+    c.join.ensures.maps
+
+pub returns-in-StartGroup-clause-maps : goal.returns-in-StartGroup-clause-maps
+returns-in-StartGroup-clause-maps g c =
+    let old = c.args.self.now in
+    subst (λ (event : Event). MapsMove g.B.Feeder.kind g.B.Feeder.kept old.tables old.parent.device c.args.pool.now (desk_of old) event (map_channels old.parent) (map_channels c.start_group.new.parent)) (sym c.in-StartGroup.is)
+    c.start_group.ensures.maps
+
+pub returns-in-Close-clause-maps : goal.returns-in-Close-clause-maps
+returns-in-Close-clause-maps g c =
+    let old = c.args.self.now in
+    subst (λ (event : Event). MapsMove g.B.Feeder.kind g.B.Feeder.kept old.tables old.parent.device c.args.pool.now (desk_of old) event (map_channels old.parent) (map_channels c.close.new.parent)) (sym c.in-Close.is)
+    (c.close.ensures.maps old.tables)
+
+pub returns-in-Intr-clause-maps : goal.returns-in-Intr-clause-maps
+returns-in-Intr-clause-maps g c =
+    let old = c.args.self.now in
+    subst (λ (event : Event). MapsMove g.B.Feeder.kind g.B.Feeder.kept old.tables old.parent.device c.args.pool.now (desk_of old) event (map_channels old.parent) (map_channels c.interrupt.new.parent)) (sym c.in-Intr.is)
+    c.interrupt.ensures.maps
+
+pub returns-in-Write-clause-maps : goal.returns-in-Write-clause-maps
+returns-in-Write-clause-maps g c =
+    let old = c.args.self.now in
+    subst (λ (event : Event). MapsMove g.B.Feeder.kind g.B.Feeder.kept old.tables old.parent.device c.args.pool.now (desk_of old) event (map_channels old.parent) (map_channels c.write.new.parent)) (sym c.in-Write.is)
+    (subst (λ (v : Fixed (MapChannelOf _)). EachAt (λ slot. MapKeeps g.B.Feeder.kind g.B.Feeder.kept old.tables (untouched slot)) (map_channels old.parent) (fixed_items v)) (sym c.write.ensures.maps)
+    (λ slot other there. map-keeps-nothing g.B.Feeder.kind g.B.Feeder.kept old.tables (get_or (map_channels old.parent) slot other)))
+
+pub returns-in-Read-clause-maps : goal.returns-in-Read-clause-maps
+returns-in-Read-clause-maps g c =
+    let old = c.args.self.now in
+    subst (λ (event : Event). MapsMove g.B.Feeder.kind g.B.Feeder.kept old.tables old.parent.device c.args.pool.now (desk_of old) event (map_channels old.parent) (map_channels c.answer_read.new.parent)) (sym c.in-Read.is)
+    (subst (λ (v : Fixed (MapChannelOf _)). EachAt (λ slot. MapKeeps g.B.Feeder.kind g.B.Feeder.kept old.tables (untouched slot)) (map_channels old.parent) (fixed_items v)) (sym c.answer_read.ensures.maps)
+    (λ slot other there. map-keeps-nothing g.B.Feeder.kind g.B.Feeder.kept old.tables (get_or (map_channels old.parent) slot other)))
+
+pub returns-in-Poke-clause-maps : goal.returns-in-Poke-clause-maps
+returns-in-Poke-clause-maps g c =
+    let old = c.args.self.now in
+    subst (λ (event : Event). MapsMove g.B.Feeder.kind g.B.Feeder.kept old.tables old.parent.device c.args.pool.now (desk_of old) event (map_channels old.parent) (map_channels c.poke.new.parent)) (sym c.in-Poke.is)
+    (subst (λ (bytes : List ℕ). EachAt (λ slot. MapKeeps g.B.Feeder.kind g.B.Feeder.kept old.tables (poked_by c.in-Poke.fd c.in-Poke.offset bytes (desk_of old) slot)) (map_channels old.parent) (map_channels c.poke.new.parent)) c.bytes_at-bytes-in-Poke.ensures.bytes
+    (c.poke.ensures.maps old.tables))
+
+pub invariant_of-self-in-Poke : goal.invariant_of-self-in-Poke
+invariant_of-self-in-Poke g c =
+    let old = c.args.self.now in
+    let new = c.poke.new.parent in
+    let output = c.poke.ensures.output in
+    let plays = ap (λ (v : Fixed (PlayChannelOf _)). fixed_items v) c.poke.ensures.channels in
+    let records = ap (λ (v : Fixed (RecordChannelOf _)). fixed_items v) c.poke.ensures.recorders in
+    record {
+      apart = subst HoldApart (sym (c.poke.ensures.turn.desk old.tables)) (apart-after (device_of old) (desk_of old) (Poke c.in-Poke.fd c.in-Poke.offset c.in-Poke.at (length c.bytes_at-bytes-in-Poke.result.now)) old.apart);
+      own = subst (λ (v : Fixed (PlayChannelOf _)). PlayAreOf new.device (fixed_items v)) (sym c.poke.ensures.channels) (subst (λ (d : Device). PlayAreOf d (play_channels old.parent)) (sym output.device_same) old.own);
+      counted = count-stays (λ (c : PlayChannelOf _). c.book.done + c.book.written) RING_BYTES old.steps (play_channels old.parent) (play_channels new) plays old.counted;
+      given = count-stays (λ (c : PlayChannelOf _). c.book.given) MIX_FRAMES old.steps (play_channels old.parent) (play_channels new) plays old.given;
+      recorders_own = subst (λ (v : Fixed (RecordChannelOf _)). RecordAreOf new.device (fixed_items v)) (sym c.poke.ensures.recorders) (subst (λ (d : Device). RecordAreOf d (record_channels old.parent)) (sym output.device_same) old.recorders_own);
+      kept = count-stays (λ (c : RecordChannelOf _). c.book.kept) RING_BYTES old.steps (record_channels old.parent) (record_channels new) records old.kept;
+      captured_within = count-stays (λ (c : RecordChannelOf _). c.book.captured) RING_FRAMES old.steps (record_channels old.parent) (record_channels new) records old.captured_within;
+      maps_own = c.poke.ensures.maps_own;
+      maps_given = count-within (λ (c : MapChannelOf _). c.book.given) MIX_FRAMES old.steps (map_channels old.parent) (map_channels new) output.maps_same
+          (λ slot other there. let more = (c.poke.ensures.maps old.tables slot other there).moves.given in omega (arith, more)) old.maps_given;
+      captured_size = old.captured_size ∙ ap (λ (d : Device). d.ring_frames * channels_of d.settings.layout) (sym output.device_same);
+      mixed_within = omega (arith, output.mixed_same, old.mixed_within);
+      handed_within = omega (arith, output.handed_same, old.handed_within);
+    }
+
+pub returns-in-Poke-clause-desk : goal.returns-in-Poke-clause-desk
+returns-in-Poke-clause-desk g c =
+    let old = c.args.self.now in
+    c.poke.ensures.turn.desk old.tables ∙ ap (λ (n : ℕ). (poke_on (device_of old) (held_by (desk_of old) c.in-Poke.fd) (desk_of old) c.in-Poke.offset n).desk) c.bytes_at-bytes-in-Poke.ensures.length
+    ∙ sym (ap (λ (event : Event). (after (device_of old) (desk_of old) event).desk) c.in-Poke.is)
+
+pub returns-in-Poke-clause-reply : goal.returns-in-Poke-clause-reply
+returns-in-Poke-clause-reply g c =
+    let old = c.args.self.now in
+    ap (λ (r : Reply). r.result) c.tell-in-Poke.ensures.kept ∙ c.poke.ensures.turn.reply old.tables
+    ∙ ap (λ (n : ℕ). (poke_on (device_of old) (held_by (desk_of old) c.in-Poke.fd) (desk_of old) c.in-Poke.offset n).reply) c.bytes_at-bytes-in-Poke.ensures.length
+    ∙ sym (ap (λ (event : Event). (after (device_of old) (desk_of old) event).reply) c.in-Poke.is)
+
+pub returns-in-Poke-clause-channels : goal.returns-in-Poke-clause-channels
+returns-in-Poke-clause-channels g c =
+    let old = c.args.self.now in
+    subst (λ (event : Event). ChannelsMove g.B.Feeder.kind g.B.Feeder.kept (device_of old) c.args.pool.now old.parent.handed event (play_channels old.parent) (play_channels c.poke.new.parent)) (sym c.in-Poke.is)
+    (subst (λ (v : Fixed (PlayChannelOf _)). Each (PlayMoves g.B.Feeder.kind g.B.Feeder.kept old.tables [] 0) (play_channels old.parent) (fixed_items v)) (sym c.poke.ensures.channels)
+    (λ slot other there. moves-nothing g.B.Feeder.kind g.B.Feeder.kept old.tables [] 0 (get_or (play_channels old.parent) slot other)))
+
+pub returns-in-Poke-clause-recorders : goal.returns-in-Poke-clause-recorders
+returns-in-Poke-clause-recorders g c =
+    let old = c.args.self.now in
+    subst (λ (event : Event). RecordersMove g.B.Feeder.kind g.B.Feeder.kept (device_of old) c.args.pool.now old.parent.handed event (record_channels old.parent) (record_channels c.poke.new.parent)) (sym c.in-Poke.is)
+    (subst (λ (v : Fixed (RecordChannelOf _)). Each (RecordMoves g.B.Feeder.kind g.B.Feeder.kept old.tables [] 0) (record_channels old.parent) (fixed_items v)) (sym c.poke.ensures.recorders)
+    (λ slot other there. recorders.moves-nothing g.B.Feeder.kind g.B.Feeder.kept old.tables [] 0 (get_or (record_channels old.parent) slot other)))
+
+pub returns-in-Poke-clause-bus : goal.returns-in-Poke-clause-bus
+returns-in-Poke-clause-bus g c =
+    let old = c.args.self.now in
+    bus-stays g.B.Feeder.kept (device_of old) old.parent c.poke.new.parent c.poke.ensures.output c.requires.ready.bus
+
+pub returns-in-Poke-clause-turns : goal.returns-in-Poke-clause-turns
+returns-in-Poke-clause-turns g c =
+    let old = c.args.self.now in
+    let new = c.poke.new.parent in
+    subst (λ (event : Event). BusMoves g.B.Feeder.kept (device_of old) old.parent.handed event (play_channels old.parent) (map_channels old.parent) old.parent.bus.chain new.bus.chain old.parent.ring.bytes new.ring.bytes) (sym c.in-Poke.is)
+    (bus-same old.parent new c.poke.ensures.output)

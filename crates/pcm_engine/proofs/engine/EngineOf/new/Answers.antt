@@ -5,6 +5,7 @@ use Rattle.pcm_desk.proofs.Apart.{apart-shut}
 use Rattle.pcm_desk.proofs.Members.{waits-none}
 use Rattle.pcm_sound.proofs.Stories.{get_or-same}
 use Rattle.pcm_desk.specs.declared.device.Device.{Device}
+use Rattle.pcm_desk.specs.declared.map_book.MapBook.{MapBook}
 use Rattle.pcm_desk.specs.declared.record_book.RecordBook.{RecordBook}
 use Rattle.pcm_desk.specs.Desk.{play_unopened}
 use Rattle.pcm_desk.specs.Device.{IsInLimits, here_at, mixed_for, seen}
@@ -13,10 +14,10 @@ use Rattle.pcm_sound.specs.Story.{story_at_start}
 use Rattle.pcm_engine.specs.Desks.{desk_with}
 use Rattle.pcm_engine.specs.Stands.{RecordersStand}
 use Rattle.pcm_engine.proofs.InOrder.{books-start, ready-all}
-use Rattle.pcm_engine.proofs.Starting.{parent-starts, ready-unopened, record-ready-unopened, record_books_of-unopened, recorders-start}
+use Rattle.pcm_engine.proofs.Starting.{map-ready-unopened, parent-starts, ready-unopened, record-ready-unopened, record_books_of-unopened, recorders-start}
 use Rattle.pcm_engine.proofs.engine.EngineOf.new.Goals as goal
 use Rattle.pcm_vchan.specs.Handovers.{HasMade}
-use Rattle.pcm_vchan.specs.Parents.{HasBus, play_channels, record_channels}
+use Rattle.pcm_vchan.specs.Parents.{HasBus, map_channels, play_channels, record_channels}
 
 pub invariant_of-result : goal.invariant_of-result
 invariant_of-result g c =
@@ -25,12 +26,14 @@ invariant_of-result g c =
       own = λ slot other there. (c.in_ok-parent.ensures.channels slot other there).device_is ∙ sym c.in_ok-parent.ensures.device;
       apart = apart-shut _ (λ fd held e. let none : None ≡ Some held = sym (get_or-same 64 fd None) ∙ sym (ap (λ (list : List (Option Held)). get_or list fd None) c.all_shut.ensures.held) ∙ e in cc);
       recorders_own = λ slot other there. (c.in_ok-parent.ensures.recording slot other there).device_is ∙ sym c.in_ok-parent.ensures.device;
+      maps_own = λ slot other there. (c.in_ok-parent.ensures.mapped slot other there).device_is ∙ sym c.in_ok-parent.ensures.device;
       counted = λ slot other there.
           let book = (c.in_ok-parent.ensures.channels slot other there).book in
           let none = ap (λ (b : PlayBook). b.written) book in
           let before = ap (λ (b : PlayBook). b.done) book in
           omega arith;
       given = λ slot other there. let none = ap (λ (b : PlayBook). b.given) (c.in_ok-parent.ensures.channels slot other there).book in omega arith;
+      maps_given = λ slot other there. let none = ap (λ (b : MapBook). b.given) (c.in_ok-parent.ensures.mapped slot other there).book in omega arith;
       kept = λ slot other there. let none = ap (λ (b : RecordBook). b.kept) (c.in_ok-parent.ensures.recording slot other there).book in omega arith;
       captured_within = λ slot other there. let none = ap (λ (b : RecordBook). b.captured) (c.in_ok-parent.ensures.recording slot other there).book in omega arith;
       captured_size = c.new-2.ensures.len ∙ c.in_ok-captured.ensures.len ∙ ap (λ n. c.args.device.ring_frames * n) c.channels.ensures ∙ ap (λ (d : Device). d.ring_frames * channels_of d.settings.layout) (sym c.in_ok-parent.ensures.device);
@@ -42,6 +45,7 @@ pub returns-clause-ready : goal.returns-clause-ready
 returns-clause-ready g c = ready-all g.B.Feeder.kind g.B.Feeder.kept _
     (ready-unopened g.B.Feeder.kind g.B.Feeder.kept c.args.tables c.args.device (play_channels c.in_ok-parent.parent) c.in_ok-parent.ensures.channels)
     (record-ready-unopened g.B.Feeder.kind g.B.Feeder.kept c.args.tables c.args.device (record_channels c.in_ok-parent.parent) c.in_ok-parent.ensures.recording)
+    (map-ready-unopened g.B.Feeder.kind g.B.Feeder.kept c.args.tables c.args.device (map_channels c.in_ok-parent.parent) c.in_ok-parent.ensures.mapped)
     (let e = c.in_ok-parent.ensures in
     let parent = c.in_ok-parent.parent in
     subst (λ (d : Device). HasBus g.B.Feeder.kept (seen c.args.tables d) parent) (sym e.device) (record {
@@ -64,6 +68,19 @@ returns-clause-stands g c = λ pool.
     let books = record_books_of-unopened g.B.Feeder.kind g.B.Feeder.kept c.args.tables c.args.device (record_channels parent) e.recorders e.recording in
     let started = recorders-start g.B.Feeder.kind g.B.Feeder.kept c.args.tables c.args.device pool (record_channels parent) c.requires.limits.device_is e.recording in
     record {
-      playing = parent-starts g.B.Feeder.kind g.B.Feeder.kept c.args.tables c.args.device parent c.all_shut.result c.requires.limits.device_is c.all_shut.ensures.held c.all_shut.ensures.groups e.device e.slots books e.channels e.made e.ring e.handed e.mixed;
+      playing = parent-starts g.B.Feeder.kind g.B.Feeder.kept c.args.tables c.args.device parent c.all_shut.result c.requires.limits.device_is (record {
+        device_is = e.device;
+        slots = e.slots;
+        channels = e.channels;
+        recorders = books;
+        mapped = e.maps;
+        maps = e.mapped;
+        shut = c.all_shut.ensures.held;
+        groups = c.all_shut.ensures.groups;
+        made = e.made;
+        ring = e.ring;
+        handed = e.handed;
+        mixed = e.mixed;
+      });
       recording = subst (λ (d : Device). RecordersStand g.B.Feeder.kept (seen c.args.tables d) pool (record_channels parent) (story_at_start (seen c.args.tables d))) (sym e.device) started;
     }

@@ -8,6 +8,7 @@ use Rattle.pcm_feeder.specs.Filters.{Filters}
 use Rattle.pcm_oss.specs.declared.event.Event.{Event}
 use Rattle.pcm_play.specs.Channels.{IsPlayReady}
 use Rattle.pcm_record.specs.Channels.{IsRecordReady}
+use Rattle.pcm_map.specs.Channels.{IsMapReady}
 use Rattle.pcm_sound.specs.StoryReplies.{bytes_to}
 use Rattle.pcm_desk.specs.Desk.{Desk, after, held_by}
 use Rattle.pcm_desk.specs.Own.{IsIsolated, MembersWait}
@@ -19,17 +20,19 @@ use Rattle.std.specs.Prelude.{IsOk}
 use Rattle.pcm_sound.specs.Story.{story_of, story_at_start, told}
 use Rattle.pcm_sound.specs.DeviceList.{device_body}
 use Rattle.pcm_sound.specs.Valid.{StoryIsValid}
-use Rattle.pcm_sound.proofs.Plain.{plain-body}
+use Rattle.pcm_sound.proofs.Plain.{map-in_place, plain-body}
 use Rattle.pcm_sound.proofs.Stories.{order-after, told_all-push}
-use Rattle.pcm_engine.specs.Stands.{PartsStand, RecordersStand, bytes_kept, frames_captured}
+use Rattle.pcm_engine.specs.declared.engine.EngineOf.{EngineOf}
+use Rattle.pcm_engine.specs.Stands.{RecordersStand, bytes_kept, frames_captured}
 use Rattle.pcm_engine.specs.Steps.{bytes_answered, bytes_brought, frames_mixed}
 use Rattle.pcm_engine.specs.Engines.{BooksAreHere, device_of, desk_of}
 use Rattle.pcm_vchan.proofs.Channels.{ready-after}
-use Rattle.pcm_vchan.specs.Parents.{HasBus, play_channels, record_channels}
+use Rattle.pcm_vchan.specs.Parents.{HasBus, map_channels, play_channels, record_channels}
 use Rattle.pcm_desk.proofs.Isolation.{isolated}
 use Rattle.pcm_engine.proofs.InOrder.{books-rates, ready-all, rings-hold}
 use Rattle.pcm_engine.proofs.Recording.{all-record, answered-told, recorders-ready, recorders-told, reply-made}
-use Rattle.pcm_engine.proofs.Standing.{Stepped, stands-told, body-told}
+use Rattle.pcm_engine.proofs.Mapped.{maps-ready}
+use Rattle.pcm_engine.proofs.Standing.{Parts, Stepped, StandsFor, stands-told, body-told}
 use Rattle.pcm_engine.proofs.Waiting.{read-waiting}
 use Rattle.pcm_engine.proofs.engine.EngineOf.step.Goals as goal
 
@@ -52,7 +55,13 @@ returns-clause-ready g c =
     let members : MembersWait (device_of new) (desk_of new) =
     subst (λ (d : DeviceSeen). MembersWait d (desk_of new)) (sym same)
     (subst (MembersWait (device_of old)) (sym c.apply.ensures.desk) (waits-after (device_of old) (desk_of old) c.args.event.now old.apart c.requires.ready.members)) in
-    ready-all g.B.Feeder.kind g.B.Feeder.kept new playing recording bus limits places members
+    let mapped = subst (λ (t : Filters). All (IsMapReady g.B.Feeder.kind g.B.Feeder.kept t) (map_channels new.parent)) (sym c.apply.ensures.tables)
+    (maps-ready g.B.Feeder.kind g.B.Feeder.kept old.parent.device old.tables c.args.pool.now (desk_of old) c.args.event.now (map_channels old.parent) (map_channels new.parent) c.apply.ensures.maps_slots c.apply.ensures.maps c.requires.ready.mapped) in
+    ready-all g.B.Feeder.kind g.B.Feeder.kept new playing recording mapped bus limits places members
+
+-- the parts of an engine
+abbrev parts_of : {B : Type 0} → EngineOf B → Parts B
+parts_of engine = record { channels = play_channels engine.parent; maps = map_channels engine.parent; chain = engine.parent.bus.chain; ring = engine.parent.ring.bytes }
 
 pub returns-clause-stands : goal.returns-clause-stands
 returns-clause-stands g c = λ events s.
@@ -63,25 +72,31 @@ returns-clause-stands g c = λ events s.
     let event = c.args.event.now in
     let story = story_of device pool events in
     let kept = g.B.Feeder.kept in
-    let step : Stepped g.B.Feeder.kind kept device pool event (desk_of old) (desk_of new) (play_channels old.parent) (play_channels new.parent) old.parent.bus.chain new.parent.bus.chain old.parent.ring.bytes new.parent.ring.bytes = record {
+    let step : Stepped g.B.Feeder.kind kept old.parent.device old.tables pool event (desk_of old) (desk_of new) (parts_of old) (parts_of new) = record {
       desk = c.apply.ensures.desk;
       play_before = refl;
       play_now = refl;
       slots = c.apply.ensures.slots;
       all_slots = items-count old.parent.channels ∙ old.parent.slots;
       channels = c.apply.ensures.channels;
+      map_before = refl;
+      map_now = refl;
+      mapped = c.apply.ensures.maps_slots;
+      all_mapped = items-count old.parent.maps ∙ old.parent.maps_count;
+      own = old.maps_own;
+      maps = c.apply.ensures.maps;
       bus = c.apply.ensures.turns;
     } in
-    let stood = stands-told g.B.Feeder.kind kept device pool story event (desk_of old) (desk_of new) (play_channels old.parent) (play_channels new.parent) old.parent.bus.chain new.parent.bus.chain old.parent.ring.bytes new.parent.ring.bytes c.requires.fits step s.playing in
-    let pushed : PartsStand kept device (desk_of new) (play_channels new.parent) new.parent.bus.chain new.parent.ring.bytes (story_of device pool (events ++ event ∷ [])) =
-    subst (PartsStand kept device (desk_of new) (play_channels new.parent) new.parent.bus.chain new.parent.ring.bytes) (sym (told_all-push device pool (story_at_start device) events event)) stood in
+    let stood = stands-told g.B.Feeder.kind kept old.parent.device old.tables pool story event (desk_of old) (desk_of new) (parts_of old) (parts_of new) c.requires.fits step s.playing in
+    let pushed : StandsFor kept device (desk_of new) (parts_of new) (story_of device pool (events ++ event ∷ [])) =
+    subst (StandsFor kept device (desk_of new) (parts_of new)) (sym (told_all-push device pool (story_at_start device) events event)) stood in
     let recorded = recorders-told g.B.Feeder.kind kept device old.parent.device pool story event (desk_of old) (desk_of new) (record_channels old.parent) (record_channels new.parent) c.requires.captures c.requires.fits refl old.recorders_own
     s.playing.desk_is c.apply.ensures.desk refl refl c.apply.ensures.recorders_slots c.apply.ensures.recorders s.playing.valid s.recording in
     let recording : RecordersStand kept device pool (record_channels new.parent) (story_of device pool (events ++ event ∷ [])) =
     subst (RecordersStand kept device pool (record_channels new.parent)) (sym (told_all-push device pool (story_at_start device) events event)) recorded in
     let same : device_of new ≡ device = ap (λ (d : Device). seen new.tables d) c.apply.ensures.device ∙ ap (λ (t : Filters). seen t old.parent.device) c.apply.ensures.tables in
     record {
-      playing = subst (λ (d : DeviceSeen). PartsStand kept d (desk_of new) (play_channels new.parent) new.parent.bus.chain new.parent.ring.bytes (story_of d pool (events ++ event ∷ []))) (sym same) pushed;
+      playing = subst (λ (d : DeviceSeen). StandsFor kept d (desk_of new) (parts_of new) (story_of d pool (events ++ event ∷ []))) (sym same) pushed;
       recording = subst (λ (d : DeviceSeen). RecordersStand kept d pool (record_channels new.parent) (story_of d pool (events ++ event ∷ []))) (sym same) recording;
     }
 
@@ -108,7 +123,7 @@ returns-clause-bytes g c = λ events s.
     let event = c.args.event.now in
     let story = story_of device pool events in
     ap (device_body device) (told_all-push device pool (story_at_start device) events event)
-    ∙ body-told g.B.Feeder.kept device pool story event (desk_of old) (play_channels old.parent) old.parent.bus.chain old.parent.ring.bytes c.requires.fits s.playing
+    ∙ body-told g.B.Feeder.kept device pool story event (desk_of old) (parts_of old) c.requires.fits s.playing
     ∙ ap (λ (n : ℕ). device_body device story ++ take n old.parent.ring.bytes) (sym c.apply.ensures.count)
     ∙ ap (λ (bytes : List ℕ). device_body device story ++ bytes) (sym c.apply.ensures.out)
 
@@ -164,3 +179,16 @@ returns-clause-taken g c = λ fd count is.
     read-waiting g.B.Feeder.kind g.B.Feeder.kept old.tables (device_of old) (desk_of old) (record_channels old.parent) count (held_by (desk_of old) fd) c.apply.new.reply.bytes refl c.requires.ready.recording
     (λ held e. old.apart.within fd held e)
     (λ bytes frames stand. c.apply.ensures.bytes bytes frames stand ∙ ap (λ (event : Event). bytes_answered (device_of old) (desk_of old) bytes event) is)
+
+pub returns-clause-maps_safe : goal.returns-clause-maps_safe
+returns-clause-maps_safe g c = (returns-clause-ready g c).maps
+
+pub returns-clause-mapped : goal.returns-clause-mapped
+returns-clause-mapped g c = λ events slot s.
+    let old = c.args.self.now in
+    let device = device_of old in
+    let pool = c.args.pool.now in
+    let longer : List Event = events ++ c.args.event.now ∷ [] in
+    let same : device_of c.apply.new.self ≡ device = ap (λ (d : Device). seen c.apply.new.self.tables d) c.apply.ensures.device ∙ ap (λ (t : Filters). seen t old.parent.device) c.apply.ensures.tables in
+    let valid : StoryIsValid device (story_of device pool longer) = subst (λ (d : DeviceSeen). StoryIsValid d (story_of d pool longer)) same (returns-clause-stands g c events s).playing.valid in
+    map-in_place device (story_of device pool longer) slot valid

@@ -11,11 +11,12 @@ use Rattle.pcm_desk.specs.Desk.{mixed_by}
 use Rattle.pcm_desk.proofs.Ratios.{mixed-behind}
 use Rattle.pcm_play.specs.declared.channel.PlayChannelOf.{PlayChannelOf}
 use Rattle.pcm_record.specs.declared.channel.RecordChannelOf.{RecordChannelOf}
+use Rattle.pcm_map.specs.declared.channel.MapChannelOf.{MapChannelOf}
 use Rattle.pcm_vchan.specs.Buses.{HasMadeSome, TurnsBus}
 use Rattle.pcm_vchan.specs.Handovers.{IsPlannedBy}
 use Rattle.pcm_vchan.specs.Captures.{Captures}
-use Rattle.pcm_vchan.specs.Slots.{AreMixed, Each, IsPlayDue, IsRecordDue, PlayAreOf, Settles}
-use Rattle.pcm_vchan.specs.Parents.{here_of, mixed_in, play_channels, record_channels}
+use Rattle.pcm_vchan.specs.Slots.{AreMixed, AreTaken, Each, IsMapDue, IsPlayDue, IsRecordDue, PlayAreOf, Settles}
+use Rattle.pcm_vchan.specs.Parents.{here_of, map_channels, mixed_in, play_channels, record_channels}
 use Rattle.pcm_vchan.proofs.Channels.{ArePassed, all-passed, may-settle}
 use Rattle.pcm_vchan.proofs.parent.ParentOf.interrupt.Goals as goal
 
@@ -29,8 +30,14 @@ turn-mixed-requires-clause-due g c =
     let Due : Device → PlayChannelOf _ → Type 0 = λ device. IsPlayDue g.B.Feeder.kind g.B.Feeder.kept c.args.tables.now device (mixed_by (seen c.args.tables.now device) old.handed c.args.n) in
     subst (All (Due old.bus.device)) (sym c.deref_mut.ensures.value) (subst (λ (device : Device). All (Due device) (play_channels old)) (sym old.bus_of) c.requires.due.playing)
 
+pub turn-mixed-requires-clause-maps_due : goal.turn-mixed-requires-clause-maps_due
+turn-mixed-requires-clause-maps_due g c =
+    let old = c.args.self.now in
+    let Due : Device → MapChannelOf _ → Type 0 = λ device. IsMapDue g.B.Feeder.kind g.B.Feeder.kept c.args.tables.now device (mixed_by (seen c.args.tables.now device) old.handed c.args.n) in
+    subst (All (Due old.bus.device)) (sym c.deref_mut-2.ensures.value) (subst (λ (device : Device). All (Due device) (map_channels old)) (sym old.bus_of) c.requires.due.mapped)
+
 pub capture_all-requires-clause-due : goal.capture_all-requires-clause-due
-capture_all-requires-clause-due g c = subst (All (IsRecordDue g.B.Feeder.kind g.B.Feeder.kept c.args.tables.now c.args.self.now.device c.args.n)) (sym c.deref_mut-2.ensures.value) c.requires.due.recording
+capture_all-requires-clause-due g c = subst (All (IsRecordDue g.B.Feeder.kind g.B.Feeder.kept c.args.tables.now c.args.self.now.device c.args.n)) (sym c.deref_mut-3.ensures.value) c.requires.due.recording
 
 pub turn-mixed-requires-clause-count : goal.turn-mixed-requires-clause-count
 turn-mixed-requires-clause-count g c =
@@ -104,20 +111,53 @@ returns-clause-books g c = (passed g c).books
 pub returns-clause-recorders_own : goal.returns-clause-recorders_own
 returns-clause-recorders_own g c =
     let old = c.args.self.now in
-    let same = rewritten c.capture_all.new.channels (record_channels old) (fixed_len old.recorders) (c.capture_all.auto.channels ∙ c.deref_mut-2.ensures.len) in
+    let same = rewritten c.capture_all.new.channels (record_channels old) (fixed_len old.recorders) (c.capture_all.auto.channels ∙ c.deref_mut-3.ensures.len) in
     rw (c.pass.ensures.device, c.pass.ensures.recorders, same) c.capture_all.ensures.own
 
 pub returns-clause-recorders_slots : goal.returns-clause-recorders_slots
 returns-clause-recorders_slots g c =
     let old = c.args.self.now in
-    let same = rewritten c.capture_all.new.channels (record_channels old) (fixed_len old.recorders) (c.capture_all.auto.channels ∙ c.deref_mut-2.ensures.len) in
-    rw (c.pass.ensures.recorders, same) (c.capture_all.auto.channels ∙ ap length c.deref_mut-2.ensures.value)
+    let same = rewritten c.capture_all.new.channels (record_channels old) (fixed_len old.recorders) (c.capture_all.auto.channels ∙ c.deref_mut-3.ensures.len) in
+    rw (c.pass.ensures.recorders, same) (c.capture_all.auto.channels ∙ ap length c.deref_mut-3.ensures.value)
 
 pub returns-clause-recorders : goal.returns-clause-recorders
 returns-clause-recorders g c =
     let old = c.args.self.now in
-    let same = rewritten c.capture_all.new.channels (record_channels old) (fixed_len old.recorders) (c.capture_all.auto.channels ∙ c.deref_mut-2.ensures.len) in
-    rw (c.pass.ensures.recorders, same) (subst (λ (before : List (RecordChannelOf _)). Each (Captures g.B.Feeder.kind g.B.Feeder.kept (seen c.args.tables.now old.device) c.args.n c.args.captured.now) before c.capture_all.new.channels) c.deref_mut-2.ensures.value c.capture_all.ensures.moves)
+    let same = rewritten c.capture_all.new.channels (record_channels old) (fixed_len old.recorders) (c.capture_all.auto.channels ∙ c.deref_mut-3.ensures.len) in
+    rw (c.pass.ensures.recorders, same) (subst (λ (before : List (RecordChannelOf _)). Each (Captures g.B.Feeder.kind g.B.Feeder.kept (seen c.args.tables.now old.device) c.args.n c.args.captured.now) before c.capture_all.new.channels) c.deref_mut-3.ensures.value c.capture_all.ensures.moves)
+
+-- and of the mapped ones
+are-taken : {B : Type 0} (kind : B → Kind) (kept : B → Kept) (filters : Filters) (mixer device : Device) (result frames : ℕ) (lent old new : List (MapChannelOf B)) → mixer ≡ device → result ≡ frames → lent ≡ old
+    → AreTaken kind kept filters mixer result lent new → AreTaken kind kept filters device frames old new
+are-taken kind kept filters mixer device result frames lent old new of count is t =
+    subst (λ (d : Device). AreTaken kind kept filters d frames old new) of
+    (subst (λ (q : ℕ). AreTaken kind kept filters mixer q old new) count
+    (subst (λ (channels : List (MapChannelOf _)). AreTaken kind kept filters mixer result channels new) is t))
+
+taken : (g : _) (c : goal.After-pass g) → AreTaken g.B.Feeder.kind g.B.Feeder.kept c.args.tables.now c.args.self.now.device (mixed_in c.args.tables.now c.args.n c.args.self.now) (map_channels c.args.self.now) c.turn-mixed.new.maps
+taken g c =
+    let old = c.args.self.now in
+    let count = c.turn-mixed.ensures.count ∙ ap (λ (device : Device). mixed_by (seen c.args.tables.now device) old.handed c.args.n) old.bus_of in
+    are-taken g.B.Feeder.kind g.B.Feeder.kept c.args.tables.now old.bus.device old.device c.turn-mixed.result (mixed_in c.args.tables.now c.args.n old) c.deref_mut-2.result.now (map_channels old) c.turn-mixed.new.maps
+    old.bus_of count c.deref_mut-2.ensures.value c.turn-mixed.ensures.taken
+
+pub returns-clause-maps_own : goal.returns-clause-maps_own
+returns-clause-maps_own g c =
+    let old = c.args.self.now in
+    let same = rewritten c.turn-mixed.new.maps (map_channels old) (fixed_len old.maps) (c.turn-mixed.auto.maps ∙ c.deref_mut-2.ensures.len) in
+    rw (c.pass.ensures.device, c.pass.ensures.maps, same) (taken g c).own
+
+pub returns-clause-maps_slots : goal.returns-clause-maps_slots
+returns-clause-maps_slots g c =
+    let old = c.args.self.now in
+    let same = rewritten c.turn-mixed.new.maps (map_channels old) (fixed_len old.maps) (c.turn-mixed.auto.maps ∙ c.deref_mut-2.ensures.len) in
+    rw (c.pass.ensures.maps, same) (c.turn-mixed.auto.maps ∙ ap length c.deref_mut-2.ensures.value)
+
+pub returns-clause-maps : goal.returns-clause-maps
+returns-clause-maps g c =
+    let old = c.args.self.now in
+    let same = rewritten c.turn-mixed.new.maps (map_channels old) (fixed_len old.maps) (c.turn-mixed.auto.maps ∙ c.deref_mut-2.ensures.len) in
+    rw (c.pass.ensures.maps, same) (taken g c).each
 
 pub returns-clause-mixed : goal.returns-clause-mixed
 returns-clause-mixed g c =
@@ -130,8 +170,9 @@ returns-clause-turns g c =
     let kept = g.B.Feeder.kept in
     let new = c.turn-mixed.new in
     rw (c.pass.ensures.bus, c.pass.ensures.ring)
-    (subst (λ (channels : List (PlayChannelOf _)). TurnsBus kept (seen c.args.tables.now old.device) old.handed c.args.n channels old.bus.chain new.self.chain old.ring.bytes new.ring.bytes) c.deref_mut.ensures.value
-    (subst (λ (device : Device). TurnsBus kept (seen c.args.tables.now device) old.handed c.args.n c.deref_mut.result.now old.bus.chain new.self.chain old.ring.bytes new.ring.bytes) old.bus_of c.turn-mixed.ensures.turns))
+    (subst (λ (channels : List (PlayChannelOf _)). TurnsBus kept (seen c.args.tables.now old.device) old.handed c.args.n channels (map_channels old) old.bus.chain new.self.chain old.ring.bytes new.ring.bytes) c.deref_mut.ensures.value
+    (subst (λ (maps : List (MapChannelOf _)). TurnsBus kept (seen c.args.tables.now old.device) old.handed c.args.n c.deref_mut.result.now maps old.bus.chain new.self.chain old.ring.bytes new.ring.bytes) c.deref_mut-2.ensures.value
+    (subst (λ (device : Device). TurnsBus kept (seen c.args.tables.now device) old.handed c.args.n c.deref_mut.result.now c.deref_mut-2.result.now old.bus.chain new.self.chain old.ring.bytes new.ring.bytes) old.bus_of c.turn-mixed.ensures.turns)))
 
 pub returns-clause-bus : goal.returns-clause-bus
 returns-clause-bus g c =

@@ -1,4 +1,4 @@
-use Rattle.std.proofs.Common.{List, [], ◌∷◌, ◌++◌, w64, sym, ap, ◌∙◌, subst}
+use Rattle.std.proofs.Common.{List, arith, [], ◌∷◌, ◌++◌, w64, sym, ap, ◌∙◌, subst}
 use Rattle.std.proofs.lemmas.Int.{to_z-of_z}
 use Rattle.std.specs.Prelude.{All}
 use Rattle.std.specs.Option.{option_to_list}
@@ -6,6 +6,7 @@ use Rattle.std.proofs.lemmas.List.Elements.{All-cons, All-head, All-nil, All-tai
 use Rattle.pcm_feeder.specs.Racks.{AreRacks, IsRack}
 use Rattle.pcm_play.specs.Channels.{IsPlayUnopened}
 use Rattle.pcm_record.specs.Channels.{IsRecordUnopened}
+use Rattle.pcm_map.specs.Channels.{IsMapUnopened}
 use Rattle.pcm_vchan.proofs.parent.ParentOf.new.Goals as goal
 
 -- what holds of all elements holds of those before some, and of those behind
@@ -24,9 +25,23 @@ new-requires-clause-kinds g c =
     let parted = c.pop.ensures.items ∙ ap (λ last. c.pop.new.self.items ++ option_to_list last) c.unwrap.ensures in
     All-head (IsRack g.B.Feeder.kind) c.unwrap.result [] (behind (IsRack g.B.Feeder.kind) c.pop.new.self.items (c.unwrap.result ∷ []) (subst (AreRacks g.B.Feeder.kind) parted all))
 
+pub split_off-requires-2 : goal.split_off-requires-2
+split_off-requires-2 g c = omega (arith, c.in_ok-recording.ensures.len, c.requires.limits.slots)
+
 pub free_channels-requires-clause-kinds : goal.free_channels-requires-clause-kinds
 free_channels-requires-clause-kinds g c =
-    subst (AreRacks g.B.Feeder.kind) (sym c.in_ok-recording.ensures.items) (All-take (IsRack g.B.Feeder.kind) 16 c.into_list-playing.result.items (c.into_list-playing.ensures.kinds c.requires.kinds))
+    let first : AreRacks g.B.Feeder.kind c.split_off.new.self.items =
+    subst (AreRacks g.B.Feeder.kind) (sym c.in_ok-recording.ensures.items) (All-take (IsRack g.B.Feeder.kind) 16 c.into_list-playing.result.items (c.into_list-playing.ensures.kinds c.requires.kinds)) in
+    subst (AreRacks g.B.Feeder.kind) (sym c.in_ok-mapped.ensures.items) (All-take (IsRack g.B.Feeder.kind) c.args.device.play_slots c.split_off.new.self.items first)
+
+pub free_maps-requires-clause-enough : goal.free_maps-requires-clause-enough
+free_maps-requires-clause-enough g c = omega (arith, c.in_ok-recording.ensures.len, c.in_ok-mapped.ensures.tail_len, c.requires.limits.slots)
+
+pub free_maps-requires-clause-kinds : goal.free_maps-requires-clause-kinds
+free_maps-requires-clause-kinds g c =
+    let first : AreRacks g.B.Feeder.kind c.split_off.new.self.items =
+    subst (AreRacks g.B.Feeder.kind) (sym c.in_ok-recording.ensures.items) (All-take (IsRack g.B.Feeder.kind) 16 c.into_list-playing.result.items (c.into_list-playing.ensures.kinds c.requires.kinds)) in
+    subst (AreRacks g.B.Feeder.kind) (sym c.in_ok-mapped.ensures.tail) (All-drop (IsRack g.B.Feeder.kind) c.args.device.play_slots c.split_off.new.self.items first)
 
 pub free_recorders-requires-clause-kinds : goal.free_recorders-requires-clause-kinds
 free_recorders-requires-clause-kinds g c =
@@ -42,6 +57,7 @@ invariant_of-result g c =
       passed_is = to_z-of_z w64 c.passed.result (record { sfits = c.passed.type_inv }) ∙ c.passed.ensures;
       within = c.requires.limits.ring;
       slots = c.new-2.ensures.len ∙ c.in_ok-channels.channels.ok.0 ∙ c.in_ok-channels.ensures.slots;
+      maps_count = c.new-4.ensures.len ∙ c.in_ok-maps.maps.ok.0 ∙ c.in_ok-maps.ensures.slots;
       slots_within = c.requires.limits.slots;
       recorders_count = c.new-3.ensures.len ∙ c.in_ok-recorders.recorders.ok.0 ∙ c.in_ok-recorders.ensures.slots;
       recorders_within = c.requires.limits.recorders;
@@ -56,3 +72,7 @@ returns-clause-channels g c =
 pub returns-clause-recording : goal.returns-clause-recording
 returns-clause-recording g c =
     subst (All (IsRecordUnopened g.B.Feeder.kind g.B.Feeder.kept c.args.tables.now c.args.device)) (sym c.new-3.ensures.items) c.in_ok-recorders.ensures.channels
+
+pub returns-clause-mapped : goal.returns-clause-mapped
+returns-clause-mapped g c =
+    subst (All (IsMapUnopened g.B.Feeder.kind g.B.Feeder.kept c.args.tables.now c.args.device)) (sym c.new-4.ensures.items) c.in_ok-maps.ensures.channels

@@ -21,6 +21,7 @@ invariant_of-self g c =
       passed_is = old.passed_is;
       within = old.within;
       slots = old.slots;
+      maps_count = old.maps_count;
       slots_within = old.slots_within;
       recorders_count = old.recorders_count;
       recorders_within = old.recorders_within;
@@ -41,6 +42,7 @@ returns-in_default-clause-opens g c =
       own = c.requires.own;
       moves = λ slot other there. moves-nothing g.B.Feeder.kind g.B.Feeder.kept c.args.tables.now [] 0 (get_or (record_channels old) slot other);
       others = refl;
+      mapped = refl;
     }
 
 pub returns-clause-opens : goal.returns-clause-opens
@@ -61,4 +63,5 @@ returns-clause-opens g c =
       moves = each_set (RecordMoves g.B.Feeder.kind g.B.Feeder.kept c.args.tables.now [] 0) (record_channels old) c.in-Some.slot c.index_mut.result.now c.begin.new.self there c.index_mut.ensures.value c.begin.ensures.moves
           (moves-nothing g.B.Feeder.kind g.B.Feeder.kept c.args.tables.now [] 0);
       others = refl;
+      mapped = refl;
     }

@@ -37,6 +37,7 @@ returns-clause-output g c =
       mixed_same = last.mixed_same ∙ first.mixed_same;
       slots_same = last.slots_same ∙ first.slots_same;
       recorders_same = last.recorders_same ∙ first.recorders_same;
+      maps_same = last.maps_same ∙ first.maps_same;
     }
 
 pub returns-clause-own : goal.returns-clause-own

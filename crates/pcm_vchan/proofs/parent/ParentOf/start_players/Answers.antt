@@ -30,4 +30,5 @@ returns-clause-output g c = record {
   mixed_same = refl;
   slots_same = returns-clause-slots g c;
   recorders_same = refl;
+  maps_same = refl;
 }

@@ -30,4 +30,5 @@ returns-clause-output g c = record {
   mixed_same = refl;
   slots_same = refl;
   recorders_same = returns-clause-slots g c;
+  maps_same = refl;
 }

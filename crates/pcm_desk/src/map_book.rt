@@ -1,0 +1,27 @@
+//! The book of a mapped opening.
+
+use crate::Opening;
+
+/// Where a mapped channel stands in its life.
+#[derive(Clone, Copy, Debug, PartialEq, Eq)]
+pub enum MapState {
+    /// No descriptor has it.
+    Free,
+    /// Open, and not started.
+    Setup,
+    /// Started: every interrupt takes what stands in the area.
+    Running,
+}
+
+/// What is counted of a mapped opening.
+#[derive(Clone, Copy, Debug, PartialEq, Eq)]
+pub struct MapBook {
+    pub opening: Opening,
+    /// The volume that is set.
+    pub volume: u32,
+    pub state: MapState,
+    /// Frames taken out of the area since the start.
+    pub eaten: u64,
+    /// Frames handed to the mix since the start.
+    pub given: u64,
+}

@@ -1,0 +1,4 @@
+pub mod Areas
+pub mod Books
+pub mod Pieces
+pub mod Moving

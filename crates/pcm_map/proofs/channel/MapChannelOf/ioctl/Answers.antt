@@ -1,0 +1,91 @@
+use Rattle.std.proofs.Common.{take, sym, ap, subst, ◌∙◌, refl, arith, [], List, ℕ, cond}
+use Rattle.pcm_fixed.proofs.Items.{items-written}
+use Rattle.pcm_plan.specs.Plans.{PlanSeen, rate_in_plan}
+use Rattle.pcm_desk.specs.declared.device.Device.{Device}
+use Rattle.pcm_desk.specs.declared.turn.Turn.{Turn}
+use Rattle.pcm_desk.specs.declared.map_book.MapBook.{MapBook}
+use Rattle.pcm_desk.specs.Device.{HasRates, play_plan_between, seen}
+use Rattle.pcm_desk.specs.MapSafe.{MapIsSafe}
+use Rattle.pcm_desk.specs.Openings.{ring_bytes}
+use Rattle.pcm_sound.specs.Areas.{is_recut, silent_area}
+use Rattle.pcm_map.proofs.Books.{taken-fits}
+use Rattle.pcm_desk.proofs.Refused.{map-ask-refused}
+use Rattle.pcm_map.proofs.Moving.{book-asked, moves-ended, moves-kept}
+use Rattle.pcm_map.proofs.channel.MapChannelOf.ioctl.Goals as goal
+
+pub asked-turn-requires-clause-taken : goal.asked-turn-requires-clause-taken
+asked-turn-requires-clause-taken g c =
+    let fits = taken-fits c.args.tables.now c.args.self.now c.requires.planned c.requires.count in
+    omega (arith, fits)
+
+-- what is refused leaves the book
+pub returns-in_err-answer-clause-book : goal.returns-in_err-answer-clause-book
+returns-in_err-answer-clause-book g c =
+    sym (map-ask-refused c.args.request c.args.self.now.book c.in_err-answer.field-0.0 (ap (λ (t : Turn MapBook). t.reply) (sym c.asked-turn.ensures) ∙ c.in_err-answer.was))
+
+pub recut-requires-clause-fragments : goal.recut-requires-clause-fragments
+recut-requires-clause-fragments g c = (book-asked c.args.tables.now c.args.request c.args.self.now c.asked-turn.result c.requires.planned c.asked-turn.ensures).safe.fragments
+
+pub begin_run-requires-clause-rate : goal.begin_run-requires-clause-rate
+begin_run-requires-clause-rate g c = (book-asked c.args.tables.now c.args.request c.args.self.now c.asked-turn.result c.requires.planned c.asked-turn.ensures).rate
+
+pub begin_run-requires-clause-fragments : goal.begin_run-requires-clause-fragments
+begin_run-requires-clause-fragments g c = (book-asked c.args.tables.now c.args.request c.args.self.now c.asked-turn.result c.requires.planned c.asked-turn.ensures).safe.fragments
+
+pub invariant_of-self : goal.invariant_of-self
+invariant_of-self g c =
+    let old = c.args.self.now in
+    let left = book-asked c.args.tables.now c.args.request old c.asked-turn.result c.requires.planned c.asked-turn.ensures in
+    record {
+      rates = subst HasRates (sym c.begin_run.ensures.device) old.rates;
+      rate = left.rate;
+      ratio = c.begin_run.ensures.ratio;
+      ring = c.begin_run.ensures.ring;
+      safe = subst (λ (p : PlanSeen). MapIsSafe (rate_in_plan p) c.asked-turn.result.book)
+          (sym (c.begin_run.ensures.planned.plan_is ∙ ap (λ (d : Device). play_plan_between (seen c.args.tables.now d) c.asked-turn.result.book.opening.settings) c.begin_run.ensures.device)) left.safe;
+      size = old.size;
+    }
+
+pub invariant_of-self-else-self-eq0 : goal.invariant_of-self-else-self-eq0
+invariant_of-self-else-self-eq0 g c =
+    let old = c.args.self.now in
+    let left = book-asked c.args.tables.now c.args.request old c.asked-turn.result c.requires.planned c.asked-turn.ensures in
+    let go = left.goes c.if-self-eq0.false in
+    record {
+      rates = old.rates;
+      rate = left.rate;
+      ratio = old.ratio;
+      ring = old.ring;
+      safe = subst (λ (p : PlanSeen). MapIsSafe (rate_in_plan p) c.asked-turn.result.book)
+          (sym (c.requires.planned.plan_is ∙ ap (play_plan_between (seen c.args.tables.now old.path.device)) (sym go.settings))) left.safe;
+      size = old.size;
+    }
+
+pub returns-then-self-eq0-clause-area : goal.returns-then-self-eq0-clause-area
+returns-then-self-eq0-clause-area g c =
+    let old = c.args.self.now in
+    let new = c.asked-turn.result.book.opening in
+    ap (take (ring_bytes new)) (items-written old.area c.recut.new.area (c.recut.auto.area ∙ c.deref_mut.ensures.len))
+    ∙ c.recut.ensures
+    ∙ ap (λ (list : List ℕ). cond (is_recut old.book.opening new) (silent_area new) (take (ring_bytes old.book.opening) list)) c.deref_mut.ensures.value
+
+pub returns-else-self-eq0-clause-area : goal.returns-else-self-eq0-clause-area
+returns-else-self-eq0-clause-area g c =
+    let old = c.args.self.now in
+    let new = c.asked-turn.result.book.opening in
+    ap (take (ring_bytes new)) (items-written old.area c.recut.new.area (c.recut.auto.area ∙ c.deref_mut.ensures.len))
+    ∙ c.recut.ensures
+    ∙ ap (λ (list : List ℕ). cond (is_recut old.book.opening new) (silent_area new) (take (ring_bytes old.book.opening) list)) c.deref_mut.ensures.value
+
+pub returns-then-self-eq0-clause-moves : goal.returns-then-self-eq0-clause-moves
+returns-then-self-eq0-clause-moves g c =
+    let old = c.args.self.now in
+    let left = book-asked c.args.tables.now c.args.request old c.asked-turn.result c.requires.planned c.asked-turn.ensures in
+    moves-ended g.B.Feeder.kind g.B.Feeder.kept c.args.tables.now [] 0 old _ c.begin_run.ensures.kinds (λ p. c.begin_run.ensures.planned)
+    (left.ended c.if-self-eq0.true) c.if-self-eq0.true c.begin_run.ensures.empty
+
+pub returns-else-self-eq0-clause-moves : goal.returns-else-self-eq0-clause-moves
+returns-else-self-eq0-clause-moves g c =
+    let old = c.args.self.now in
+    let go = (book-asked c.args.tables.now c.args.request old c.asked-turn.result c.requires.planned c.asked-turn.ensures).goes c.if-self-eq0.false in
+    moves-kept g.B.Feeder.kind g.B.Feeder.kept c.args.tables.now [] 0 old _ refl refl go.settings go.eaten go.given

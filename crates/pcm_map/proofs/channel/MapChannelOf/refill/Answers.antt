@@ -1,0 +1,36 @@
+use Rattle.std.proofs.Common.{sym, ap, ◌∙◌, subst, All}
+use Rattle.pcm_num.specs.Limit.{FitsBits}
+use Rattle.pcm_desk.specs.declared.device.Device.{Device}
+use Rattle.pcm_format.specs.Formats.{bits_of}
+use Rattle.pcm_desk.specs.Device.{seen}
+use Rattle.pcm_map.specs.Channels.{area_of}
+use Rattle.pcm_map.proofs.Books.{mixing-gives}
+use Rattle.pcm_map.proofs.Moving.{moves-given, moves-nothing, turned-given, turned-none}
+use Rattle.pcm_map.proofs.channel.MapChannelOf.refill.Goals as goal
+
+pub returns-then-not-is_running-clause-moves : goal.returns-then-not-is_running-clause-moves
+returns-then-not-is_running-clause-moves g c = moves-nothing g.B.Feeder.kind g.B.Feeder.kept c.args.tables.now _ c.args.n c.args.self.now
+
+pub returns-then-not-is_running-clause-sum : goal.returns-then-not-is_running-clause-sum
+returns-then-not-is_running-clause-sum g c = λ bytes s.
+    let old = c.args.self.now in
+    turned-none (seen c.args.tables.now old.path.device) c.args.n old.book bytes (area_of old) c.args.sum.now (sym c.if-not-is_running.ensures)
+
+pub returns-clause-book : goal.returns-clause-book
+returns-clause-book g c =
+    let old = c.args.self.now in
+    c.give.ensures.gives.book ∙ sym (mixing-gives (seen c.args.tables.now old.path.device) c.args.n old.book c.requires.some (sym c.if-not-is_running.ensures))
+
+pub returns-clause-moves : goal.returns-clause-moves
+returns-clause-moves g c =
+    moves-given g.B.Feeder.kind g.B.Feeder.kept c.args.tables.now c.args.n c.args.self.now c.give.new.self c.give.new.frames c.requires.some (sym c.if-not-is_running.ensures) c.give.ensures.gives
+
+pub returns-clause-sum : goal.returns-clause-sum
+returns-clause-sum g c =
+    let old = c.args.self.now in
+    turned-given g.B.Feeder.kind g.B.Feeder.kept c.args.tables.now c.args.n old c.give.new.self c.give.new.frames c.args.sum.now c.mix_into.new.acc c.bits.result c.requires.some (sym c.if-not-is_running.ensures) c.give.ensures.gives
+    (c.give.auto.frames ∙ c.requires.block.frames_whole) c.requires.block.sum_whole (c.bits.ensures ∙ ap (λ (device : Device). bits_of device.mix.format) c.give.ensures.gives.device) c.mix_into.ensures.value
+
+pub returns-clause-fits : goal.returns-clause-fits
+returns-clause-fits g c =
+    subst (λ bits. All (FitsBits bits) c.mix_into.new.acc) (c.bits.ensures ∙ ap (λ (device : Device). bits_of device.mix.format) c.give.ensures.gives.device) c.mix_into.ensures.fits

@@ -1,0 +1,77 @@
+-- A mapped channel: what it stands for, what stands in its area, and what an event changes of it.
+use Rattle.std.specs.Prelude.{◌≡◌, ℕ, ◌+◌, ◌≤◌, ℤ, if◌then◌else◌, List, [], ◌++◌, length, take}
+use Rattle.pcm_fixed.specs.Fixed.{fixed_items}
+use Rattle.pcm_format.specs.Frames.{frames}
+use Rattle.pcm_feeder.specs.declared.kind.Kind.{Kind}
+use Rattle.pcm_feeder.specs.Filters.{Filters}
+use Rattle.pcm_feeder.specs.Kept.{Kept}
+use Rattle.pcm_feeder.specs.Racks.{HaveKinds}
+use Rattle.pcm_chain.specs.Chains.{boxes_in, ChainStands}
+use Rattle.pcm_oss.specs.declared.event.Way.TheVariants.{Map}
+use Rattle.pcm_desk.specs.declared.map_book.MapBook.{MapBook}
+use Rattle.pcm_desk.specs.declared.device.Device.{Device}
+use Rattle.pcm_desk.specs.Device.{seen}
+use Rattle.pcm_desk.specs.MapBooks.{taken_of}
+use Rattle.pcm_desk.specs.Openings.{ring_bytes}
+use Rattle.pcm_desk.specs.Desk.{map_unopened}
+use Rattle.pcm_sound.specs.Added.{map_turned}
+use Rattle.pcm_sound.specs.Areas.{is_recut, silent_area}
+use Rattle.pcm_sound.specs.MapRuns.{area_taken}
+use Rattle.pcm_path.specs.Paths.{IsPlanned}
+use Rattle.pcm_map.specs.declared.channel.MapChannelOf.{MapChannelOf}
+
+-- what stands in a channel's area: as many bytes as its fragments have
+abbrev pub area_of : {B : Type 0} → MapChannelOf B → List ℕ
+area_of channel = take (ring_bytes channel.book.opening) (fixed_items channel.area)
+
+-- a channel's chain goes by the plan that these filters give for its book's settings
+abbrev pub IsMapPlanned : {B : Type 0} → Filters → MapChannelOf B → Type 0
+IsMapPlanned filters channel = IsPlanned Map filters channel.book.opening.settings channel.path
+
+-- A channel stands for a book and all bytes that were taken of its area in its run: the chain has eaten them all, and no silence.
+pub record MapStands {B : Type 0} (kept : B → Kept) (filters : Filters) (channel : MapChannelOf B) (book : MapBook) (bytes : List ℕ) : Type 0 where
+  pub book_is : channel.book ≡ book
+  pub count : length bytes ≡ taken_of book
+  pub chain_is : ChainStands kept filters channel.path.chain (frames book.opening.settings bytes) 0 book.given
+
+-- a channel stands for its book and some bytes
+pub record MapStandsForSome {B : Type 0} (kept : B → Kept) (filters : Filters) (channel : MapChannelOf B) : Type 0 where
+  pub bytes : List ℕ
+  pub stands : MapStands kept filters channel channel.book bytes
+
+-- each box of a channel is of its place's kind, its chain goes by its plan, and the channel stands for some bytes
+pub record IsMapReady {B : Type 0} (kind : B → Kind) (kept : B → Kept) (filters : Filters) (channel : MapChannelOf B) : Type 0 where
+  pub kinds : HaveKinds kind (boxes_in channel.path.chain)
+  pub planned : IsMapPlanned filters channel
+  pub stands : MapStandsForSome kept filters channel
+
+-- whatever bytes were taken before, a channel adds to a block of so many frames what the rules say of them and of its area
+abbrev pub MapAddsTo : {B : Type 0} → (B → Kept) → Filters → Device → ℕ → List ℤ → List ℤ → MapChannelOf B → Type 0
+MapAddsTo kept filters device n old new channel = (bytes : List ℕ) → MapStands kept filters channel channel.book bytes
+    → new ≡ map_turned (seen filters device) n channel.book bytes (area_of channel) old
+
+-- a request leaves the area, but for one by which the area has another format, other channels or another size
+abbrev pub RecutsArea : {B : Type 0} → MapChannelOf B → MapChannelOf B → Type 0
+RecutsArea old new = area_of new ≡ (if is_recut old.book.opening new.book.opening then silent_area new.book.opening else area_of old)
+
+-- nobody has opened the channel yet: it stands for no bytes, its boxes are of the right kinds, its chain goes by its plan, and its area is
+-- silent
+pub record IsMapUnopened {B : Type 0} (kind : B → Kind) (kept : B → Kept) (filters : Filters) (device : Device) (channel : MapChannelOf B) : Type 0 where
+  pub device_is : channel.path.device ≡ device
+  pub book : channel.book ≡ map_unopened (seen filters device)
+  pub kinds : HaveKinds kind (boxes_in channel.path.chain)
+  pub planned : IsMapPlanned filters channel
+  pub stands : MapStands kept filters channel channel.book []
+  pub area : area_of channel ≡ silent_area channel.book.opening
+
+-- What an event leaves of a channel, which may take these bytes of the area and give so many frames: whatever bytes it stood for, it
+-- stands for these and what it took, or for none where its run is over.
+pub record MapMoves {B : Type 0} (kind : B → Kind) (kept : B → Kept) (filters : Filters) (more : List ℕ) (frames : ℕ) (old new : MapChannelOf B) : Type 0 where
+  pub kinds : HaveKinds kind (boxes_in old.path.chain) → HaveKinds kind (boxes_in new.path.chain)
+  pub planned : IsMapPlanned filters old → IsMapPlanned filters new
+  pub stands : (bytes : List ℕ) → MapStands kept filters old old.book bytes → MapStands kept filters new new.book (take (taken_of new.book) (bytes ++ more))
+  pub given : new.book.given ≤ old.book.given + frames
+
+-- an interrupt that mixes so many frames takes what stands in the area
+abbrev pub MapTakes : {B : Type 0} → (B → Kind) → (B → Kept) → Filters → ℕ → MapChannelOf B → MapChannelOf B → Type 0
+MapTakes kind kept filters n old new = MapMoves kind kept filters (area_taken (seen filters old.path.device) n old.book (area_of old)) n old new

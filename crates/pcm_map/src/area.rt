@@ -1,0 +1,73 @@
+//! The bytes of an area: silent ones, and those that are taken in turn.
+
+ghost use Rattle.std.specs.Prelude.{◌≡◌, ◌≤◌, ◌<◌, ◌++◌, length, map, take, if◌then◌else◌};
+ghost use Rattle.std.specs.List.{range_with_len};
+ghost use Rattle.pcm_oss.specs.declared.fragments.TheConstants.{RING_BYTES};
+ghost use Rattle.pcm_oss.specs.Fragments.{AreFragments};
+ghost use Rattle.pcm_ring.specs.Ring.{free_bytes};
+ghost use Rattle.pcm_desk.specs.Openings.{ring_bytes};
+ghost use Rattle.pcm_sound.specs.Areas.{area_bytes, is_recut, silent_area, silent_byte};
+
+use pcm_desk::Opening;
+use pcm_format::{Format, spell};
+use pcm_ring::ByteRing;
+
+// Whether an opening has another area than it had: of another format, other channels or other fragments.
+fn is_recut(old: &Opening, new: &Opening) -> bool
+    ensures { result ≡ is_recut old.now new.now }
+{
+    old.settings.format.code() != new.settings.format.code()
+        || old.settings.layout.channels() != new.settings.layout.channels()
+        || old.fragments.count != new.fragments.count
+        || old.fragments.log != new.fragments.log
+}
+
+/// Makes the area of an opening silent where it has another one than the opening before it.
+pub fn recut(area: &mut [u8], old: &Opening, new: &Opening)
+    requires size { length area.old ≡ RING_BYTES }
+    requires fragments { AreFragments new.now.fragments }
+    ensures { take (ring_bytes new.now) area.new
+        ≡ (if is_recut old.now new.now then silent_area new.now else take (ring_bytes old.now) area.old) }
+{
+    if is_recut(old, new) {
+        silence(area, new);
+    }
+}
+
+/// Makes the area of an opening silent.
+pub fn silence(area: &mut [u8], opening: &Opening)
+    requires size { length area.old ≡ RING_BYTES }
+    requires fragments { AreFragments opening.now.fragments }
+    ensures { take (ring_bytes opening.now) area.new ≡ silent_area opening.now }
+{
+    let size = opening.fragments.size() as usize;
+    fill_silent(&mut area[..size], opening.settings.format);
+}
+
+// Each byte is one of the spelling of 0.
+fn fill_silent(bytes: &mut [u8], format: Format)
+    ensures { bytes.new ≡ map (silent_byte format) (range_with_len 0 (length bytes.old)) }
+{
+    let width = format.bytes();
+    let mut sample = [0u8; 4];
+    spell(format, 0, &mut sample[..width]);
+    for at in 0..bytes.len() {
+        bytes[at] = sample[at % width];
+    }
+}
+
+/// Puts `count` bytes of an area into a ring, from the byte at `from` on. Behind the last byte of the area comes the first.
+pub fn put_round(ring: &mut ByteRing, area: &[u8], from: u64, count: usize)
+    requires some { 0 < length area.now }
+    requires room { count ≤ free_bytes ring.old }
+    ensures { ring.new ≡ record ring.old { bytes = ring.old.bytes ++ area_bytes area.now from count } }
+{
+    let mut place = (from % area.len() as u64) as usize;
+    let mut left = count;
+    while left > 0 {
+        let part = left.min(area.len() - place);
+        ring.put(&area[place..place + part]);
+        left -= part;
+        place = 0;
+    }
+}

@@ -1,0 +1,245 @@
+//! A mapped channel: its book, its area, and the path by whose ring and chain the device takes what stands there.
+
+ghost use Rattle.std.specs.Prelude.{◌≡◌, ◌+◌, ◌*◌, ◌^◌, ◌<◌, ◌≤◌, [], length, IfOk, OnErr, All, IsTrue};
+ghost use Rattle.pcm_fixed.specs.Fixed.{fixed_len};
+ghost use Rattle.pcm_format.specs.Formats.{bits_of};
+ghost use Rattle.pcm_format.specs.Layouts.{channels_of};
+ghost use Rattle.pcm_num.specs.Limit.{FitsBits};
+ghost use Rattle.pcm_feeder.specs.Limits.{IsRate};
+ghost use Rattle.pcm_feeder.specs.Racks.{HaveKinds, IsRack};
+ghost use Rattle.pcm_oss.specs.declared.event.Way.TheVariants.{Map};
+ghost use Rattle.pcm_oss.specs.declared.fragments.TheConstants.{RING_BYTES};
+ghost use Rattle.pcm_oss.specs.Fragments.{AreFragments};
+ghost use Rattle.pcm_rate.specs.Rates.{IsRatio};
+ghost use Rattle.pcm_ring.specs.Ring.{empty_ring};
+ghost use Rattle.pcm_plan.specs.Plans.{rate_in_plan};
+ghost use Rattle.pcm_chain.specs.Chains.{boxes_in, plan_in};
+ghost use Rattle.pcm_desk.specs.Device.{HasRates, seen};
+ghost use Rattle.pcm_desk.specs.MapBooks.{is_map_free, is_map_running, is_map_setup, map_begun, map_closed, poke_turn};
+ghost use Rattle.pcm_desk.specs.MapRequests.{map_ask};
+ghost use Rattle.pcm_desk.specs.MapSafe.{MapIsSafe};
+ghost use Rattle.pcm_desk.specs.Desk.{map_mixing};
+ghost use Rattle.pcm_desk.proofs.Props.{map_props};
+ghost use Rattle.pcm_path.specs.Paths.{HoldBlock, IsEmpty, IsPlanned};
+ghost use Rattle.std.proofs.Props.{props};
+ghost use Rattle.pcm_sound.specs.Areas.{poked, silent_area};
+
+use crate::area::{put_round, recut, silence};
+use pcm_desk::{Device, MapBook, MapState, Opening};
+use pcm_feeder::{Feeder, RackOf, Tables};
+use pcm_fixed::Fixed;
+use pcm_format::Settings;
+use pcm_mix::mix_into;
+use pcm_oss::{Answer, Errno, RING_BYTES, Request, Way, gain_of};
+use pcm_path::PathOf;
+use std::alloc::{AllocError, Global};
+
+/// How many frames a piece of a refill has at most.
+const PIECE_FRAMES: usize = 64;
+
+/// A channel of the device whose area is mapped.
+#[derive(Drop)]
+pub struct MapChannelOf<B> {
+    pub book: MapBook,
+    pub path: PathOf<B>,
+    // As many bytes as the greatest area has.
+    pub area: Fixed<u8>,
+    ghost rates: { HasRates path.device } by { Prim.hlevel props },
+    ghost rate: { IsRate book.opening.settings.rate } by { Prim.hlevel props },
+    ghost ratio: { IsRatio (rate_in_plan (plan_in path.chain)) } by { Prim.hlevel props },
+    // Between two calls no byte waits, and all of the ring's room is free.
+    ghost ring: { path.ring ≡ empty_ring RING_BYTES },
+    ghost safe: { MapIsSafe (rate_in_plan (plan_in path.chain)) book } by { Prim.hlevel map_props },
+    ghost size: { fixed_len area ≡ RING_BYTES },
+}
+
+impl<B: Feeder> MapChannelOf<B> {
+    ghost use Rattle.pcm_feeder.specs.Filters.{Filters};
+    ghost use Rattle.pcm_map.specs.declared.channel.TheConstants.{PIECE_FRAMES};
+    ghost use Rattle.pcm_map.specs.Pieces.{MapGives};
+    ghost use Rattle.pcm_map.specs.Channels.{area_of, IsMapPlanned, IsMapReady, IsMapUnopened, MapAddsTo, MapMoves, MapTakes, RecutsArea};
+
+    /// A channel of a device that nobody has opened. All its memory is taken here.
+    pub fn new(
+        alloc: Global,
+        device: Device,
+        tables: &Tables,
+        rack: RackOf<B>,
+    ) -> Result<MapChannelOf<B>, AllocError>
+        requires device { HasRates device }
+        requires kinds { IsRack B.kind rack }
+        ensures unopened { IfOk result (IsMapUnopened B.kind B.kept tables.now device) }
+    {
+        let mut path = PathOf::new(alloc, device, rack)?;
+        let mut area = Fixed::new(vec![in alloc; 0u8; RING_BYTES as usize]?);
+        let book = MapBook {
+            state: MapState::Free,
+            ..MapBook::begun(device.mix)
+        };
+        begin_run(&mut path, tables, &book.opening);
+        silence(&mut area, &book.opening);
+        Ok(MapChannelOf { book, path, area })
+    }
+
+    /// Whether nobody has the channel.
+    pub fn is_free(&self) -> bool
+        ensures { result ≡ is_map_free self.now.book.state }
+    {
+        self.book.is_free()
+    }
+
+    /// Whether the channel is open, and hasn't started.
+    pub fn is_at_rest(&self) -> bool
+        ensures { result ≡ is_map_setup self.now.book.state }
+    {
+        self.book.is_setup()
+    }
+
+    /// A new opening begins, whose area is silent, and whose sound goes through the plan of its settings.
+    pub fn begin(&mut self, tables: &Tables, settings: Settings)
+        requires rate { IsRate settings.rate }
+        requires kinds { HaveKinds B.kind (boxes_in self.old.path.chain) }
+        ensures book { self.new.book ≡ map_begun settings }
+        ensures device { self.new.path.device ≡ self.old.path.device }
+        ensures area { area_of self.new ≡ silent_area self.new.book.opening }
+        ensures moves { MapMoves B.kind B.kept tables.now [] 0 self.old self.new }
+    {
+        self.book = MapBook::begun(settings);
+        begin_run(&mut self.path, tables, &self.book.opening);
+        silence(&mut self.area, &self.book.opening);
+    }
+
+    /// Writes `bytes` into the area from its byte `offset` on, if they fit.
+    pub fn poke(&mut self, offset: u32, bytes: &[u8]) -> Result<Answer, Errno>
+        ensures book { self.new.book ≡ (poke_turn offset (length bytes.now) self.old.book).book }
+        ensures reply { result ≡ (poke_turn offset (length bytes.now) self.old.book).reply }
+        ensures device { self.new.path.device ≡ self.old.path.device }
+        ensures area { area_of self.new ≡ poked offset bytes.now (area_of self.old) }
+        ensures refused { OnErr result (self.new ≡ self.old) }
+        ensures moves { (filters : Filters) → MapMoves B.kind B.kept filters [] 0 self.old self.new }
+    {
+        let turn = self.book.poke(offset, bytes.len() as u64);
+        let answer = turn.reply?;
+        let start = offset as usize;
+        self.area[start..start + bytes.len()].copy_from_slice(bytes);
+        Ok(answer)
+    }
+
+    /// Does what a request asks. Where it hasn't started, the chain begins anew, and another format, other channels or other fragments make
+    /// the area silent.
+    pub fn ioctl(&mut self, tables: &Tables, request: Request) -> Result<Answer, Errno>
+        requires kinds { HaveKinds B.kind (boxes_in self.old.path.chain) }
+        requires planned { IsMapPlanned tables.now self.old }
+        requires count { self.old.book.given < 2 ^ 50 }
+        ensures book { self.new.book ≡ (map_ask request self.old.book).book }
+        ensures reply { result ≡ (map_ask request self.old.book).reply }
+        ensures device { self.new.path.device ≡ self.old.path.device }
+        ensures area { RecutsArea self.old self.new }
+        ensures refused { OnErr result (self.new ≡ self.old) }
+        ensures moves { MapMoves B.kind B.kept tables.now [] 0 self.old self.new }
+    {
+        let turn = self.book.asked(request);
+        let answer = turn.reply?;
+        recut(&mut self.area, &self.book.opening, &turn.book.opening);
+        self.book = turn.book;
+        if self.book.given == 0 {
+            begin_run(&mut self.path, tables, &self.book.opening);
+        }
+        Ok(answer)
+    }
+
+    /// No descriptor has the channel any more: nothing more is taken.
+    pub fn close(&mut self)
+        requires kinds { HaveKinds B.kind (boxes_in self.old.path.chain) }
+        ensures book { self.new.book ≡ map_closed self.old.book }
+        ensures device { self.new.path.device ≡ self.old.path.device }
+        ensures area { area_of self.new ≡ area_of self.old }
+        ensures moves { (filters : Filters) → MapMoves B.kind B.kept filters [] 0 self.old self.new }
+    {
+        self.book = self.book.closed();
+        self.path.restart();
+    }
+
+    /// Adds the channel's frames to a block of the mix, as many as an interrupt that mixes `n` frames gets: what they need is taken out of the
+    /// area as it stands. `frames` holds them meanwhile.
+    pub fn refill(&mut self, tables: &Tables, n: usize, frames: &mut [i32], sum: &mut [i32])
+        requires some { 0 < n }
+        requires ready { IsMapReady B.kind B.kept tables.now self.old }
+        requires block { HoldBlock self.old.path.device n frames.old sum.old }
+        requires count { self.old.book.given + n < 2 ^ 50 }
+        ensures book { self.new.book ≡ map_mixing (seen tables.now self.old.path.device) n self.old.book }
+        ensures device { self.new.path.device ≡ self.old.path.device }
+        ensures area { area_of self.new ≡ area_of self.old }
+        ensures moves { MapTakes B.kind B.kept tables.now n self.old self.new }
+        ensures sum { MapAddsTo B.kept tables.now self.old.path.device n sum.old sum.new self.old }
+        ensures fits { All (FitsBits (bits_of self.old.path.device.mix.format)) sum.new }
+    {
+        if !self.book.is_running() {
+            return;
+        }
+        self.give(tables, n, frames);
+        mix_into(sum, frames, self.path.device.mix.format.bits());
+    }
+
+    // A started channel gives its next frames, piece by piece.
+    fn give(&mut self, tables: &Tables, n: usize, frames: &mut [i32])
+        requires running { IsTrue (is_map_running self.old.book.state) }
+        requires ready { IsMapReady B.kind B.kept tables.now self.old }
+        requires room { n * channels_of self.old.path.device.mix.layout ≤ length frames.old }
+        requires count { self.old.book.given + n < 2 ^ 50 }
+        ensures gives { MapGives B.kind B.kept tables.now n self.old self.new frames.new }
+    {
+        let channels = self.path.device.mix.layout.channels();
+        let mut done = 0;
+        while done < n {
+            let piece = (n - done).min(PIECE_FRAMES);
+            self.give_piece(tables, piece, &mut frames[done * channels..]);
+            done += piece;
+        }
+    }
+
+    // A started channel gives so few frames that all that they need has room in the ring.
+    fn give_piece(&mut self, tables: &Tables, n: usize, frames: &mut [i32])
+        requires running { IsTrue (is_map_running self.old.book.state) }
+        requires few { n ≤ PIECE_FRAMES }
+        requires ready { IsMapReady B.kind B.kept tables.now self.old }
+        requires room { n * channels_of self.old.path.device.mix.layout ≤ length frames.old }
+        requires count { self.old.book.given + n < 2 ^ 50 }
+        ensures gives { MapGives B.kind B.kept tables.now n self.old self.new frames.new }
+    {
+        let Opening {
+            settings,
+            fragments,
+            ..
+        } = self.book.opening;
+        let book = self.book.refilled(self.path.chain.plan().rate(), n as u64);
+        let count = (book.eaten - self.book.eaten) as usize * settings.frame_bytes();
+        let gain = gain_of(self.book.volume);
+        let area = &self.area[..fragments.size() as usize];
+        let PathOf { ring, chain, .. } = &mut self.path;
+        put_round(ring, area, self.book.taken(), count);
+        chain.pull(tables, gain, ring, settings.format, false, n, frames);
+        self.book = book;
+    }
+}
+
+// A run of an opening begins, with all of the ring's room for a piece of it.
+fn begin_run<B: Feeder>(path: &mut PathOf<B>, tables: &Tables, opening: &Opening)
+    requires device { HasRates path.old.device }
+    requires rate { IsRate opening.now.settings.rate }
+    requires fragments { AreFragments opening.now.fragments }
+    requires room { path.old.ring.max ≡ RING_BYTES }
+    requires kinds { HaveKinds B.kind (boxes_in path.old.chain) }
+    ensures device { path.new.device ≡ path.old.device }
+    ensures ratio { IsRatio (rate_in_plan (plan_in path.new.chain)) }
+    ensures ring { path.new.ring ≡ empty_ring RING_BYTES }
+    ensures planned { IsPlanned Map tables.now opening.now.settings path.new }
+    ensures kinds { HaveKinds B.kind (boxes_in path.new.chain) }
+    ensures empty { IsEmpty B.kept path.new }
+{
+    path.begin(Way::Map, tables, opening);
+    path.ring.set_size(RING_BYTES as usize);
+}
+
+/// A channel whose rack holds boxes.
+pub type MapChannel = MapChannelOf<Box<dyn Feeder>>;

@@ -1,0 +1,39 @@
+use Rattle.std.proofs.Common.{◌≡◌, ◌+◌, ◌++◌, ◌∷◌, [], List, length, ap, ◌∙◌, arith, length-take}
+use Rattle.std.proofs.lemmas.List.{length_push}
+use Rattle.std.proofs.lemmas.List.Elements.{All-nil, All-push, All-same, All-take, All-head, All-tail}
+use Rattle.pcm_feeder.specs.declared.rack.RackOf.{RackOf}
+use Rattle.pcm_feeder.specs.Racks.{IsRack}
+use Rattle.pcm_map.specs.declared.channel.MapChannelOf.{MapChannelOf}
+use Rattle.pcm_map.specs.Channels.{IsMapUnopened}
+use Rattle.pcm_vchan.proofs.parent.free_maps.Goals as goal
+
+pub loop-rack-init : goal.loop-rack-init
+loop-rack-init g c =
+    let rest = c.into_iter-rack-iterator.ensures.into_iter_gives.0 ∙ c.truncate.ensures.items in
+    let none = c.new-channels.ensures.items in
+    record {
+      count = rw (none, rest) (omega (arith, length-take c.args.device.map_slots c.args.racks.items, c.args.racks.ok.0, c.requires.enough));
+      unopened = rw none (All-nil (IsMapUnopened g.B.Feeder.kind g.B.Feeder.kept c.args.tables.now c.args.device));
+      kinds = rw rest (All-take (IsRack g.B.Feeder.kind) c.args.device.map_slots c.args.racks.items c.requires.kinds);
+    }
+
+pub new-requires-clause-kinds : goal.new-requires-clause-kinds
+new-requires-clause-kinds g c =
+    All-head (IsRack g.B.Feeder.kind) c.in-Some.rack c.next.new.self.rest.items (rw (c.in-Some.ensures.steps.0) at c.loop-rack.invariant.kinds)
+
+pub loop-rack-preserved : goal.loop-rack-preserved
+loop-rack-preserved g c =
+    let channel = c.in_ok-new.field-0 in
+    let P = IsMapUnopened g.B.Feeder.kind g.B.Feeder.kept c.args.tables.now c.args.device in
+    let steps = c.in-Some.ensures.steps.0 in
+    let before = c.loop-rack.channels.items in
+    let made : P channel = c.in_ok-new.ensures.unopened in
+    let items = c.in_ok-push.ensures.items in
+    let longer : length c.push.new.self.items ≡ length before + 1 = ap (λ (list : List (MapChannelOf _)). length list) items ∙ length_push before channel in
+    let shorter : length c.loop-rack.rack-iterator.rest.items ≡ length (c.in-Some.rack ∷ c.next.new.self.rest.items) = ap (λ (list : List (RackOf _)). length list) steps in
+    let count = c.loop-rack.invariant.count in
+    record {
+      count = omega arith;
+      unopened = All-same P c.push.new.self.items (before ++ channel ∷ []) items (All-push P before channel c.loop-rack.invariant.unopened made);
+      kinds = All-tail (IsRack g.B.Feeder.kind) c.in-Some.rack c.next.new.self.rest.items (rw steps at c.loop-rack.invariant.kinds);
+    }
