@@ -13,9 +13,9 @@ ENDS = (
 WORDS = (
     "open write send poke read ioctl close intr play rec map u8 s8 s16le s16be u16le u16be s24le s24be u24le u24be "
     "s32le s32be u32le u32be setfmt speed channels getfmts getcaps getblksize setfragment getospace getispace getoptr getiptr getodelay "
-    "geterror settrigger gettrigger setplayvol getplayvol post sync halt syncgroup syncstart - # w 00 ff 0a0b nosuch [device] [vchans] "
-    "[files] [[tables]] rate format channels container capture hw_block hw_blocks quality record mapped shift rows src dst = , \" ' { } [ ] "
-    "true raw wav 1979-05-27"
+    "geterror settrigger gettrigger setplayvol getplayvol post sync halt syncgroup syncstart mixer master slot mute - # w 00 ff 0a0b nosuch "
+    "[device] [vchans] [files] [[tables]] rate format channels container capture hw_block hw_blocks quality record mapped shift rows "
+    "src dst = , \" ' { } [ ] true raw wav 1979-05-27"
 ).split()
 # sizes and numbers in the header of a wave
 FIELDS = (0, 1, 2, 3, 4, 8, 15, 16, 17, 18, 24, 32, 40, 255, 65534, 65535, 2**24, 0x7EFFFFFF, 0x7F000000, 2**31, 2**32 - 1)

@@ -10,7 +10,7 @@ use Rattle.pcm_feeder.specs.LastFrames.{frames_kept, kept_after_eating}
 use Rattle.pcm_feeder.specs.Sections.{section_on, sections_on, past_behind}
 use Rattle.pcm_feeder.specs.Streams.{frames_of, moved_on, silence}
 use Rattle.pcm_feeder.proofs.Frames.{length-frames_of}
-use Rattle.feed_eq.specs.Pairs.{IsPair, frames_in}
+use Rattle.feed_eq.specs.Pairs.{IsPair, pair_frames}
 
 -- ---- pairs of frames
 
@@ -38,37 +38,37 @@ eaten-all c n last new samples is all eaten =
 
 -- ---- the first section
 
-head-frames : (c : ℕ) (last : LastFrames) (rest : List LastFrames) → 0 < c → IsPair c last → take 2 (frames_in (last ∷ rest)) ≡ frames_kept last
-head-frames c last rest above is = take_at (frames_kept last) (frames_in rest) 2 (pair-count c last above is)
+head-frames : (c : ℕ) (last : LastFrames) (rest : List LastFrames) → 0 < c → IsPair c last → take 2 (pair_frames (last ∷ rest)) ≡ frames_kept last
+head-frames c last rest above is = take_at (frames_kept last) (pair_frames rest) 2 (pair-count c last above is)
 
-tail-frames : (c : ℕ) (last : LastFrames) (rest : List LastFrames) → 0 < c → IsPair c last → drop 2 (frames_in (last ∷ rest)) ≡ frames_in rest
-tail-frames c last rest above is = drop_at (frames_kept last) (frames_in rest) 2 (pair-count c last above is)
+tail-frames : (c : ℕ) (last : LastFrames) (rest : List LastFrames) → 0 < c → IsPair c last → drop 2 (pair_frames (last ∷ rest)) ≡ pair_frames rest
+tail-frames c last rest above is = drop_at (frames_kept last) (pair_frames rest) 2 (pair-count c last above is)
 
 -- what it makes
 made-first : (c : ℕ) (section : Section) (input output : LastFrames) (rest : List LastFrames) (more : List Frame) → 0 < c → IsPair c input → IsPair c output
-    → section_on c section (take 2 (frames_in (input ∷ output ∷ rest))) (take 2 (drop 2 (frames_in (input ∷ output ∷ rest)))) more
+    → section_on c section (take 2 (pair_frames (input ∷ output ∷ rest))) (take 2 (drop 2 (pair_frames (input ∷ output ∷ rest)))) more
     ≡ section_on c section (frames_kept input) (frames_kept output) more
 made-first c section input output rest more above first second =
-    ap (λ list. section_on c section list (take 2 (drop 2 (frames_in (input ∷ output ∷ rest)))) more) (head-frames c input (output ∷ rest) above first)
+    ap (λ list. section_on c section list (take 2 (drop 2 (pair_frames (input ∷ output ∷ rest)))) more) (head-frames c input (output ∷ rest) above first)
     ∙ ap (λ list. section_on c section (frames_kept input) list more) (ap (take 2) (tail-frames c input (output ∷ rest) above first) ∙ head-frames c output rest above second)
 
 -- and what the others make of that
 on-first : (c : ℕ) (section : Section) (sections : List Section) (input output : LastFrames) (rest : List LastFrames) (more : List Frame) → 0 < c → IsPair c input → IsPair c output
-    → sections_on c (section ∷ sections) (frames_in (input ∷ output ∷ rest)) more ≡ sections_on c sections (frames_in (output ∷ rest)) (section_on c section (frames_kept input) (frames_kept output) more)
+    → sections_on c (section ∷ sections) (pair_frames (input ∷ output ∷ rest)) more ≡ sections_on c sections (pair_frames (output ∷ rest)) (section_on c section (frames_kept input) (frames_kept output) more)
 on-first c section sections input output rest more above first second =
-    let all = frames_in (input ∷ output ∷ rest) in
+    let all = pair_frames (input ∷ output ∷ rest) in
     ap (λ tail. sections_on c sections tail (section_on c section (take 2 all) (take 2 (drop 2 all)) more)) (tail-frames c input (output ∷ rest) above first)
-    ∙ ap (sections_on c sections (frames_in (output ∷ rest))) (made-first c section input output rest more above first second)
+    ∙ ap (sections_on c sections (pair_frames (output ∷ rest))) (made-first c section input output rest more above first second)
 
 behind-first : (c : ℕ) (section : Section) (sections : List Section) (input output : LastFrames) (rest : List LastFrames) (more : List Frame) → 0 < c → IsPair c input → IsPair c output
-    → past_behind c (section ∷ sections) (frames_in (input ∷ output ∷ rest)) more
-    ≡ moved_on (frames_kept input) more ++ past_behind c sections (frames_in (output ∷ rest)) (section_on c section (frames_kept input) (frames_kept output) more)
+    → past_behind c (section ∷ sections) (pair_frames (input ∷ output ∷ rest)) more
+    ≡ moved_on (frames_kept input) more ++ past_behind c sections (pair_frames (output ∷ rest)) (section_on c section (frames_kept input) (frames_kept output) more)
 behind-first c section sections input output rest more above first second =
-    let all = frames_in (input ∷ output ∷ rest) in
+    let all = pair_frames (input ∷ output ∷ rest) in
     let made = section_on c section (take 2 all) (take 2 (drop 2 all)) more in
     ap (λ front. moved_on front more ++ past_behind c sections (drop 2 all) made) (head-frames c input (output ∷ rest) above first)
     ∙ ap (λ tail. moved_on (frames_kept input) more ++ past_behind c sections tail made) (tail-frames c input (output ∷ rest) above first)
-    ∙ ap (λ list. moved_on (frames_kept input) more ++ past_behind c sections (frames_in (output ∷ rest)) list) (made-first c section input output rest more above first second)
+    ∙ ap (λ list. moved_on (frames_kept input) more ++ past_behind c sections (pair_frames (output ∷ rest)) list) (made-first c section input output rest more above first second)
 
 -- ---- one section after another
 
@@ -85,17 +85,17 @@ window-set : (n at : ℕ) (lasts : List LastFrames) (new : LastFrames) → windo
 window-set n at lasts new = ap (take (n + 1 - (at + 1))) (drop-set-lt (at + 1) lasts at new (omega arith))
 
 -- pairs up to one, with that one
-front-more : (at : ℕ) (lasts : List LastFrames) (new : LastFrames) → at < length lasts → frames_in (take (at + 1) (set lasts at new)) ≡ frames_in (take at lasts) ++ frames_kept new
+front-more : (at : ℕ) (lasts : List LastFrames) (new : LastFrames) → at < length lasts → pair_frames (take (at + 1) (set lasts at new)) ≡ pair_frames (take at lasts) ++ frames_kept new
 front-more at lasts new within =
-    ap frames_in (take_more_set lasts at new within)
+    ap pair_frames (take_more_set lasts at new within)
     ∙ flat_map-append frames_kept (take at lasts) (new ∷ [])
-    ∙ ap (λ list. frames_in (take at lasts) ++ list) (append-nil (frames_kept new))
+    ∙ ap (λ list. pair_frames (take at lasts) ++ list) (append-nil (frames_kept new))
 
 -- after one more section what is left comes to the same
 pub record GoesOn (c n at : ℕ) (sections : List Section) (lasts after : List LastFrames) (more made : List Frame) : Type 0 where
-  pub left : sections_on c (drop at sections) (frames_in (window n at lasts)) more ≡ sections_on c (drop (at + 1) sections) (frames_in (window n (at + 1) after)) made
-  pub kept : frames_in (take at lasts) ++ past_behind c (drop at sections) (frames_in (window n at lasts)) more
-      ≡ frames_in (take (at + 1) after) ++ past_behind c (drop (at + 1) sections) (frames_in (window n (at + 1) after)) made
+  pub left : sections_on c (drop at sections) (pair_frames (window n at lasts)) more ≡ sections_on c (drop (at + 1) sections) (pair_frames (window n (at + 1) after)) made
+  pub kept : pair_frames (take at lasts) ++ past_behind c (drop at sections) (pair_frames (window n at lasts)) more
+      ≡ pair_frames (take (at + 1) after) ++ past_behind c (drop (at + 1) sections) (pair_frames (window n (at + 1) after)) made
 
 pub goes-on : (c at : ℕ) (sections : List Section) (lasts : List LastFrames) (new d : LastFrames) (e : Section) (more made : List Frame) → 0 < c → at < length sections → length sections < length lasts
     → All (IsPair c) lasts → made ≡ section_on c (get_or sections at e) (frames_kept (get_or lasts at d)) (frames_kept (get_or lasts (at + 1) d)) more
@@ -115,20 +115,20 @@ goes-on c at sections lasts new d e more made above below room pairs is eaten =
     let cut : drop at sections ≡ section ∷ left = drop_more sections at e below in
     record {
       left =
-          ap (λ list. sections_on c list (frames_in (window n at lasts)) more) cut
-          ∙ ap (λ list. sections_on c (section ∷ left) (frames_in list) more) here
+          ap (λ list. sections_on c list (pair_frames (window n at lasts)) more) cut
+          ∙ ap (λ list. sections_on c (section ∷ left) (pair_frames list) more) here
           ∙ on-first c section left input output rest more above first second
-          ∙ ap (λ list. sections_on c left (frames_in list) (section_on c section (frames_kept input) (frames_kept output) more)) (sym after)
-          ∙ ap (sections_on c left (frames_in (window n (at + 1) (set lasts at new)))) (sym is);
+          ∙ ap (λ list. sections_on c left (pair_frames list) (section_on c section (frames_kept input) (frames_kept output) more)) (sym after)
+          ∙ ap (sections_on c left (pair_frames (window n (at + 1) (set lasts at new)))) (sym is);
       kept =
-          ap (λ list. frames_in (take at lasts) ++ past_behind c list (frames_in (window n at lasts)) more) cut
-          ∙ ap (λ list. frames_in (take at lasts) ++ past_behind c (section ∷ left) (frames_in list) more) here
-          ∙ ap (λ list. frames_in (take at lasts) ++ list) (behind-first c section left input output rest more above first second)
-          ∙ ap (λ list. frames_in (take at lasts) ++ (list ++ past_behind c left (frames_in (output ∷ rest)) (section_on c section (frames_kept input) (frames_kept output) more))) (sym eaten)
-          ∙ sym (append_assoc (frames_in (take at lasts)) (frames_kept new) (past_behind c left (frames_in (output ∷ rest)) (section_on c section (frames_kept input) (frames_kept output) more)))
-          ∙ ap (λ front. front ++ past_behind c left (frames_in (output ∷ rest)) (section_on c section (frames_kept input) (frames_kept output) more)) (sym (front-more at lasts new (omega (arith, below, room))))
-          ∙ ap (λ list. frames_in (take (at + 1) (set lasts at new)) ++ past_behind c left (frames_in list) (section_on c section (frames_kept input) (frames_kept output) more)) (sym after)
-          ∙ ap (λ list. frames_in (take (at + 1) (set lasts at new)) ++ past_behind c left (frames_in (window n (at + 1) (set lasts at new))) list) (sym is);
+          ap (λ list. pair_frames (take at lasts) ++ past_behind c list (pair_frames (window n at lasts)) more) cut
+          ∙ ap (λ list. pair_frames (take at lasts) ++ past_behind c (section ∷ left) (pair_frames list) more) here
+          ∙ ap (λ list. pair_frames (take at lasts) ++ list) (behind-first c section left input output rest more above first second)
+          ∙ ap (λ list. pair_frames (take at lasts) ++ (list ++ past_behind c left (pair_frames (output ∷ rest)) (section_on c section (frames_kept input) (frames_kept output) more))) (sym eaten)
+          ∙ sym (append_assoc (pair_frames (take at lasts)) (frames_kept new) (past_behind c left (pair_frames (output ∷ rest)) (section_on c section (frames_kept input) (frames_kept output) more)))
+          ∙ ap (λ front. front ++ past_behind c left (pair_frames (output ∷ rest)) (section_on c section (frames_kept input) (frames_kept output) more)) (sym (front-more at lasts new (omega (arith, below, room))))
+          ∙ ap (λ list. pair_frames (take (at + 1) (set lasts at new)) ++ past_behind c left (pair_frames list) (section_on c section (frames_kept input) (frames_kept output) more)) (sym after)
+          ∙ ap (λ list. pair_frames (take (at + 1) (set lasts at new)) ++ past_behind c left (pair_frames (window n (at + 1) (set lasts at new))) list) (sym is);
     }
 
 -- ---- behind the last section
@@ -140,26 +140,26 @@ none-left c sections tail more = ap (λ list. sections_on c list tail more) (dro
 -- and its own outputs are kept
 pub all-kept : (c : ℕ) (sections : List Section) (lasts : List LastFrames) (new d : LastFrames) (more : List Frame) → length sections < length lasts
     → frames_kept new ≡ moved_on (frames_kept (get_or lasts (length sections) d)) more
-    → frames_in (take (length sections + 1) (set lasts (length sections) new))
-    ≡ frames_in (take (length sections) lasts) ++ past_behind c (drop (length sections) sections) (frames_in (window (length sections) (length sections) lasts)) more
+    → pair_frames (take (length sections + 1) (set lasts (length sections) new))
+    ≡ pair_frames (take (length sections) lasts) ++ past_behind c (drop (length sections) sections) (pair_frames (window (length sections) (length sections) lasts)) more
 all-kept c sections lasts new d more room eaten =
     let n = length sections in
     let last = get_or lasts n d in
     let none : n + 1 - (n + 1) ≡ 0 = omega arith in
     let alone : window n n lasts ≡ last ∷ [] = window-more n n lasts d (omega arith) room ∙ ap (λ k. last ∷ take k (drop (n + 1) lasts)) none in
     front-more n lasts new room
-    ∙ ap (λ list. frames_in (take n lasts) ++ list) (eaten ∙ ap (λ list. moved_on list more) (sym (append-nil (frames_kept last))))
-    ∙ ap (λ list. frames_in (take n lasts) ++ moved_on (frames_in list) more) (sym alone)
-    ∙ ap (λ list. frames_in (take n lasts) ++ past_behind c list (frames_in (window n n lasts)) more) (sym (drop_all n sections (omega arith)))
+    ∙ ap (λ list. pair_frames (take n lasts) ++ list) (eaten ∙ ap (λ list. moved_on list more) (sym (append-nil (frames_kept last))))
+    ∙ ap (λ list. pair_frames (take n lasts) ++ moved_on (pair_frames list) more) (sym alone)
+    ∙ ap (λ list. pair_frames (take n lasts) ++ past_behind c list (pair_frames (window n n lasts)) more) (sym (drop_all n sections (omega arith)))
 
 -- ---- the begin
 
 -- silent pairs, one after another
-pub silent-pairs : (c n : ℕ) (last : LastFrames) → frames_kept last ≡ replicate 2 (silence c) → frames_in (replicate n last) ≡ replicate (2 * n) (silence c)
+pub silent-pairs : (c n : ℕ) (last : LastFrames) → frames_kept last ≡ replicate 2 (silence c) → pair_frames (replicate n last) ≡ replicate (2 * n) (silence c)
 silent-pairs c zero last is = refl
 silent-pairs c (suc n) last is =
     let more : 2 + 2 * n ≡ 2 * suc n = omega arith in
-    ap (λ list. list ++ frames_in (replicate n last)) is
+    ap (λ list. list ++ pair_frames (replicate n last)) is
     ∙ ap (λ list. replicate 2 (silence c) ++ list) (silent-pairs c n last is)
     ∙ replicate-append-replicate 2 (2 * n) (silence c)
     ∙ ap (λ k. replicate k (silence c)) more

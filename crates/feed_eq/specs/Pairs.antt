@@ -10,5 +10,5 @@ pub record IsPair (channels : ℕ) (last : LastFrames) : Type 0 where
   pub width : last.channels ≡ channels
 
 -- the frames that these keep
-abbrev pub frames_in : List LastFrames → List Frame
-frames_in lasts = flat_map frames_kept lasts
+abbrev pub pair_frames : List LastFrames → List Frame
+pair_frames lasts = flat_map frames_kept lasts

@@ -18,7 +18,7 @@ use Rattle.pcm_feeder.specs.Streams.{Stream, silence, stream_of, moved_on}
 use Rattle.feed_poly.specs.declared.window.Window.{Window}
 use Rattle.feed_poly.specs.Places.{window_frame}
 use Rattle.feed_poly.specs.Rows.{row_in, channel_in, weighted, row_frame}
-use Rattle.feed_poly.specs.Window.{frames_in}
+use Rattle.feed_poly.specs.Window.{window_frames}
 use Rattle.feed_poly.proofs.Windows.{part-is, map-twice}
 
 -- ---- one row
@@ -83,7 +83,7 @@ output-is filter taps c dst parts row shift needed coefs before now list is has 
     ∙ ap (λ r. map (filtered filter taps r near) (range_with_len 0 c)) which
 
 -- the window has as many frames as the filter has taps
-pub window-taps : (window : Window) → length (frames_in window) ≡ window.taps
+pub window-taps : (window : Window) → length (window_frames window) ≡ window.taps
 window-taps window = length-map-range_with_len (λ i. window_frame window.channels (fixed_items window.samples) (window.at + i)) 0 window.taps
 
 -- ---- the filter

@@ -25,7 +25,7 @@ impl Interpolator for Polyphase {
     ghost use Rattle.pcm_fixed.specs.Fixed.{fixed_items};
     ghost use Rattle.pcm_feeder.specs.declared.kind.Kind.TheVariants as kinds;
     ghost use Rattle.feed_rate.specs.Methods.Method.{ByFilter};
-    ghost use Rattle.feed_poly.specs.Window.{frames_in};
+    ghost use Rattle.feed_poly.specs.Window.{window_frames};
     ghost use Rattle.feed_rate.proofs.Histories.{made-channels};
     ghost use Rattle.feed_poly.specs.Places.{window_sample};
 
@@ -35,7 +35,7 @@ impl Interpolator for Polyphase {
 
     ghost seen = { λ poly. record {
       method = ByFilter poly.window.channels poly.table poly.window.taps;
-      tail = frames_in poly.window;
+      tail = window_frames poly.window;
       passed = poly.passed;
     } };
 

@@ -35,11 +35,11 @@ pub struct Window {
 }
 
 impl Window {
-    ghost use Rattle.feed_poly.specs.Window.{frames_after, frames_in};
+    ghost use Rattle.feed_poly.specs.Window.{frames_after, window_frames};
 
     /// A silent window. All memory is taken here, for 64 frames of eight channels.
     pub fn new(alloc: Global) -> Result<Window, AllocError>
-        ensures { IfOk result (λ made. frames_in made ≡ replicate made.taps (silence made.channels)) }
+        ensures { IfOk result (λ made. window_frames made ≡ replicate made.taps (silence made.channels)) }
     {
         let samples = Fixed::new(vec![in alloc; 0i32; SAMPLES]?);
         Ok(Window {
@@ -55,7 +55,7 @@ impl Window {
         requires limits { AreChannels channels }
         requires some { 1 ≤ taps }
         requires most { taps ≤ TAPS }
-        ensures frames { frames_in self.new ≡ replicate taps (silence channels) }
+        ensures frames { window_frames self.new ≡ replicate taps (silence channels) }
         ensures channels { self.new.channels ≡ channels }
         ensures taps { self.new.taps ≡ taps }
     {
@@ -69,7 +69,7 @@ impl Window {
     pub fn eat(&mut self, input: &[i32], from: usize, to: usize)
         requires order { from ≤ to }
         requires there { to * self.old.channels ≤ length input.now }
-        ensures frames { frames_in self.new ≡ frames_after self.old input.now from to }
+        ensures frames { window_frames self.new ≡ frames_after self.old input.now from to }
         ensures channels { self.new.channels ≡ self.old.channels }
         ensures taps { self.new.taps ≡ self.old.taps }
     {
@@ -83,7 +83,7 @@ impl Window {
     // Takes a frame in for the oldest.
     fn push(&mut self, frame: &[i32])
         requires { length frame.now ≡ self.old.channels }
-        ensures frames { frames_in self.new ≡ moved_on (frames_in self.old) (frame.now ∷ []) }
+        ensures frames { window_frames self.new ≡ moved_on (window_frames self.old) (frame.now ∷ []) }
         ensures channels { self.new.channels ≡ self.old.channels }
         ensures taps { self.new.taps ≡ self.old.taps }
     {
@@ -95,7 +95,7 @@ impl Window {
     /// Lends the samples of a channel in all frames.
     pub fn channel(&self, channel: usize) -> &[i32]
         requires { channel < self.now.channels }
-        ensures value { result.now ≡ channel_in channel (frames_in self.now) }
+        ensures value { result.now ≡ channel_in channel (window_frames self.now) }
         ensures len { length result.now ≡ self.now.taps }
     {
         let at = channel * PLACES + self.at;

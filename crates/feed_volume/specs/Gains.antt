@@ -1,22 +1,9 @@
--- A frame with a gain for each channel, where 65536 is one.
-use Rattle.std.specs.Prelude.{◌≤◌, ℕ, ℤ, pos, ◌*ℤ◌, List, length, map, take, All}
-use Rattle.std.specs.Simd.Lanes.{zip2}
-use Rattle.pcm_num.specs.Floor.{floor_div}
+-- The frames of samples with a gain for each channel.
+use Rattle.std.specs.Prelude.{ℕ, ℤ, List, length, map, take}
 use Rattle.pcm_format.specs.Frames.{Frame}
 use Rattle.pcm_feeder.specs.Streams.{frames_of}
-
--- a sample times a gain, rounded down
-abbrev pub scaled : ℕ → ℤ → ℤ
-scaled gain sample = floor_div (sample *ℤ pos gain) 65536
-
--- a frame, each sample times the gain of its channel
-abbrev pub at_gains : List ℕ → Frame → Frame
-at_gains gains frame = zip2 scaled gains frame
+use Rattle.pcm_gain.specs.Gains.{at_gains}
 
 -- the first n frames of samples, each times the gains of its channels
 abbrev pub first_at_gains : List ℕ → ℕ → List ℤ → List Frame
 first_at_gains gains n samples = map (at_gains gains) (take n (frames_of (length gains) samples))
-
--- no gain is above one
-abbrev pub AreGains : List ℕ → Type 0
-AreGains gains = All (λ gain. gain ≤ 65536) gains

@@ -1,14 +1,13 @@
 //! The volume stage.
 
-ghost use Rattle.std.specs.Prelude.{◌≡◌, ◌<◌, ◌≤◌, ◌*◌, length, map, take};
-ghost use Rattle.pcm_format.specs.Layouts.{channels_of, positions_of};
-ghost use Rattle.pcm_feeder.specs.Layouts.{side_gain};
-ghost use Rattle.pcm_feeder.specs.Limits.{IsGain};
+ghost use Rattle.std.specs.Prelude.{◌≡◌, ◌<◌, ◌≤◌, ◌*◌, length};
 ghost use Rattle.pcm_feeder.specs.Streams.{written};
-ghost use Rattle.feed_volume.specs.Gains.{at_gains, first_at_gains, scaled, AreGains};
+ghost use Rattle.pcm_gain.specs.Gains.{AreGains};
+ghost use Rattle.feed_volume.specs.Gains.{first_at_gains};
 
 use pcm_feeder::{FrameMap, Gain, Kind, MapFeeder, Spec};
 use pcm_format::Layout;
+use pcm_gain::{put_frame, side_gains};
 
 /// Multiplies each sample by the gain of its side.
 pub type VolumeFeeder = MapFeeder<Volume>;
@@ -60,20 +59,6 @@ impl FrameMap for Volume {
     }
 }
 
-// The gain of each channel of a layout. What follows them is of no use.
-fn side_gains(layout: Layout, gain: Gain) -> [u32; 8]
-    requires { IsGain gain }
-    ensures { take (channels_of layout) result ≡ map (side_gain gain) (positions_of layout) }
-{
-    let Gain { left, right } = gain;
-    let both = (left + right) / 2;
-    match layout {
-        Layout::One => [both; 8],
-        Layout::Two | Layout::Four => [left, right, left, right, left, right, left, right],
-        Layout::Six | Layout::Eight => [left, right, both, both, left, right, left, right],
-    }
-}
-
 // Puts the first frames of the input, with a gain for each channel, at the front of the output.
 fn put_at_gains(gains: &[u32], frames: usize, input: &[i32], output: &mut [i32])
     requires some { 0 < length gains.now }
@@ -91,24 +76,4 @@ fn put_at_gains(gains: &[u32], frames: usize, input: &[i32], output: &mut [i32])
             &mut output[at..at + channels],
         );
     }
-}
-
-// Puts one frame, with a gain for each channel.
-fn put_frame(gains: &[u32], frame: &[i32], output: &mut [i32])
-    requires limits { AreGains gains.now }
-    requires frame { length frame.now ≡ length gains.now }
-    requires room { length output.old ≡ length gains.now }
-    ensures { output.new ≡ at_gains gains.now frame.now }
-{
-    for (channel, gain) in gains.iter().enumerate() {
-        output[channel] = scaled(frame[channel], *gain);
-    }
-}
-
-// A sample times a gain of at most one, rounded down.
-fn scaled(sample: i32, gain: u32) -> i32
-    requires { gain ≤ 65536 }
-    ensures { result ≡ scaled gain sample }
-{
-    ((i64::from(sample) * i64::from(gain)) >> 16) as i32
 }

@@ -24,7 +24,7 @@ use Rattle.pcm_config.specs.declared.hardware.Hardware.{Hardware}
 use Rattle.pcm_config.specs.declared.limits.TheConstants.{CONFIG_BYTES}
 use Rattle.pcm_config.specs.declared.place.ConfigPlace.TheVariants as places
 use Rattle.pcm_config.specs.declared.slots.Slots.{Slots}
-use Rattle.pcm_config.specs.Judgements.{◌>>=◌, refused, required}
+use Rattle.pcm_config.specs.Judgements.{◌>>=◌, fault_at, required}
 use Rattle.pcm_config.specs.Places.{top_places, device_places, vchans_places}
 use Rattle.pcm_config.specs.Lookups.{has_only, table_in}
 use Rattle.pcm_config.specs.Values.{hardware_in, capture_in, slots_in}
@@ -96,10 +96,10 @@ config_with hardware capture slots files filters = record {
 -- many channels are mixed, which only those with a mapped area can make too many.
 abbrev pub whole_read : Config → Result Config ConfigRefusal
 whole_read config =
-    if not (can_hold config.container config.device.settings) then refused kinds.Container places.DeviceContainer
-    else if not (has_capture config.files config.capture) then refused kinds.Capture places.DeviceCapture
-    else if not (can_mix config.device) then refused kinds.Range places.VchansRate
-    else if not (has_slots config.device) then refused kinds.Range places.VchansMapped
+    if not (can_hold config.container config.device.settings) then fault_at kinds.Container places.DeviceContainer
+    else if not (has_capture config.files config.capture) then fault_at kinds.Capture places.DeviceCapture
+    else if not (can_mix config.device) then fault_at kinds.Range places.VchansRate
+    else if not (has_slots config.device) then fault_at kinds.Range places.VchansMapped
     else Ok config
 
 -- the files, the filters and the sections, beside what is settled of the device and the channels, and then the whole
@@ -121,10 +121,10 @@ values_read device vchans table tables eq = do
 -- the keys of the tables, and then their values
 unfoldable pub tables_read : Members → Members → Members → List Members → List Members → Result Config ConfigRefusal
 tables_read device vchans table tables eq =
-    if not (has_only device_places device) then refused kinds.Key places.Device
-    else if not (has_only vchans_places vchans) then refused kinds.Key places.Vchans
-    else if not (list_all (has_no_other filter_keys) tables) then refused kinds.Key places.Tables
-    else if not (list_all (has_no_other section_keys) eq) then refused kinds.Key places.Eq
+    if not (has_only device_places device) then fault_at kinds.Key places.Device
+    else if not (has_only vchans_places vchans) then fault_at kinds.Key places.Vchans
+    else if not (list_all (has_no_other filter_keys) tables) then fault_at kinds.Key places.Tables
+    else if not (list_all (has_no_other section_keys) eq) then fault_at kinds.Key places.Eq
     else values_read device vchans table tables eq
 
 -- the three tables and those of filters and of sections, and then what they settle
@@ -140,7 +140,7 @@ top_read top = do
 -- a document, which has no key but those of the top
 unfoldable pub document_read : Members → Result Config ConfigRefusal
 document_read top =
-    if not (has_only top_places top) then refused kinds.Key places.Top
+    if not (has_only top_places top) then fault_at kinds.Key places.Top
     else top_read top
 
 -- the document that bytes are, which must be UTF-8
@@ -150,7 +150,7 @@ document_of bytes = if is_utf8 bytes then parse_document bytes else None
 -- the configuration that bytes are
 unfoldable pub config_read : List ℕ → Result Config ConfigRefusal
 config_read bytes =
-    if nat_lt CONFIG_BYTES (length bytes) then refused kinds.Long places.Top
+    if nat_lt CONFIG_BYTES (length bytes) then fault_at kinds.Long places.Top
     else do
       top ← required kinds.Toml places.Top (document_of bytes)
       document_read top

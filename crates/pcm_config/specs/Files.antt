@@ -7,7 +7,7 @@ use Rattle.pcm_config.specs.declared.config.FilePath.{FilePath}
 use Rattle.pcm_config.specs.declared.fault.ConfigKind.TheVariants.{Kind, Name}
 use Rattle.pcm_config.specs.declared.fault.ConfigRefusal.{ConfigRefusal}
 use Rattle.pcm_config.specs.declared.place.ConfigPlace.TheVariants.{Files}
-use Rattle.pcm_config.specs.Judgements.{◌>>=◌, refused, required}
+use Rattle.pcm_config.specs.Judgements.{◌>>=◌, fault_at, required}
 use Rattle.pcm_config.specs.Lookups.{entries_of}
 
 -- a small letter, a digit or `_`
@@ -36,7 +36,7 @@ files_of ((name, path) ∷ entries) = with_file name (as_str path) (files_of ent
 abbrev pub files_in : Members → Result (List FilePath) ConfigRefusal
 files_in table = do
   files ← required Kind Files (files_of (entries_of table))
-  if list_all is_file files then Ok files else refused Name Files
+  if list_all is_file files then Ok files else fault_at Name Files
 
 -- the names of files
 abbrev pub names_of : List FilePath → List (List ℕ)

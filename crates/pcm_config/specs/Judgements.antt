@@ -11,12 +11,12 @@ Ok value >>= next = next value
 Err fault >>= next = Err fault
 
 -- a refusal, for a kind of fault at a place
-abbrev pub refused : {A : Type 0} → ConfigKind → ConfigPlace → Result A ConfigRefusal
-refused fault place = Err (record { kind = fault; place = place })
+abbrev pub fault_at : {A : Type 0} → ConfigKind → ConfigPlace → Result A ConfigRefusal
+fault_at fault place = Err (record { kind = fault; place = place })
 
 -- what must be there, else it is refused
 abbrev pub required : {A : Type 0} → ConfigKind → ConfigPlace → Option A → Result A ConfigRefusal
-required fault place None = refused fault place
+required fault place None = fault_at fault place
 required fault place (Some value) = Ok value
 
 -- what was judged, as it is seen

@@ -7,7 +7,7 @@ use Rattle.toml.specs.Data.{Members, get_member, as_table}
 use Rattle.pcm_config.specs.declared.fault.ConfigKind.TheVariants.{Count}
 use Rattle.pcm_config.specs.declared.fault.ConfigRefusal.{ConfigRefusal}
 use Rattle.pcm_config.specs.declared.place.ConfigPlace.{ConfigPlace}
-use Rattle.pcm_config.specs.Judgements.{◌>>=◌, refused}
+use Rattle.pcm_config.specs.Judgements.{◌>>=◌, fault_at}
 use Rattle.pcm_config.specs.Lookups.{entries_of, value_at, as_array_of}
 
 -- an array of tables, or the one without any
@@ -43,7 +43,7 @@ has_each keys table = list_all (λ key. is_some (get_member key table)) keys
 
 -- tables, of which there are only so many at a place
 abbrev pub few : ℕ → ConfigPlace → List Members → Result (List Members) ConfigRefusal
-few most place tables = if nat_lt most (length tables) then refused Count place else Ok tables
+few most place tables = if nat_lt most (length tables) then fault_at Count place else Ok tables
 
 -- what is read of tables, of each wholly before the next
 abbrev pub each_read : {A : Type 0} → (Members → Result A ConfigRefusal) → List Members → Result (List A) ConfigRefusal

@@ -7,7 +7,7 @@ use Rattle.pcm_config.specs.declared.fault.ConfigKind.TheVariants.{Kind, Range, 
 use Rattle.pcm_config.specs.declared.fault.ConfigRefusal.{ConfigRefusal}
 use Rattle.pcm_config.specs.declared.place.ConfigPlace.TheVariants.{Eq}
 use Rattle.pcm_config.specs.declared.section.Numbers.{Numbers}
-use Rattle.pcm_config.specs.Judgements.{◌>>=◌, refused, required}
+use Rattle.pcm_config.specs.Judgements.{◌>>=◌, fault_at, required}
 use Rattle.pcm_config.specs.Lists.{few_read, has_each}
 use Rattle.pcm_config.specs.Rows.{as_coef, in_range}
 
@@ -56,7 +56,7 @@ settled_section numbers = do
 -- the section of a table, which has each of the keys
 unfoldable pub section_in : Members → Result Section ConfigRefusal
 section_in table =
-    if not (has_each section_keys table) then refused Missing Eq
+    if not (has_each section_keys table) then fault_at Missing Eq
     else numbers_of table >>= settled_section
 
 -- the sections of tables, of which there are only so many

@@ -12,7 +12,7 @@ use Rattle.pcm_config.specs.declared.fault.ConfigRefusal.{ConfigRefusal}
 use Rattle.pcm_config.specs.declared.filter.Spelled.{Spelled}
 use Rattle.pcm_feeder.specs.declared.limits.TheConstants.{COEF_MOST, FILTERS, PHASES, SHIFT_MOST, TABLE_COEFS, TAPS}
 use Rattle.pcm_config.specs.declared.place.ConfigPlace.TheVariants.{Tables}
-use Rattle.pcm_config.specs.Judgements.{◌>>=◌, refused, required}
+use Rattle.pcm_config.specs.Judgements.{◌>>=◌, fault_at, required}
 use Rattle.pcm_config.specs.Lists.{few_read}
 use Rattle.pcm_config.specs.Lookups.{value_seen, of_kind, each_as, as_array_of}
 use Rattle.pcm_config.specs.Rows.{as_coef, in_range}
@@ -81,7 +81,7 @@ coefs_in rows = each_as filter_coef (flat_map (λ row. row) rows)
 -- a filter with these rates and this shift: first the rows have a shape, and then each coefficient is within its limit
 unfoldable pub shaped : ℕ → ℕ → ℕ → List (List ℤ) → Result Table ConfigRefusal
 shaped src dst shift rows =
-    if not (has_filter_shape rows) then refused Shape Tables
+    if not (has_filter_shape rows) then fault_at Shape Tables
     else do
       coefs ← required Coef Tables (coefs_in rows)
       Ok (record { src = src; dst = dst; phases = length rows; taps = taps_of rows; shift = shift; coefs = coefs })
@@ -104,8 +104,8 @@ come_together src dst = false
 abbrev pub filter_with : Option Data → Option Data → Option Data → Option Data → Result Table ConfigRefusal
 filter_with src dst (Some shift) (Some rows) =
     if come_together src dst then spelled_in src dst shift rows >>= settled_filter
-    else refused Missing Tables
-filter_with src dst shift rows = refused Missing Tables
+    else fault_at Missing Tables
+filter_with src dst shift rows = fault_at Missing Tables
 
 -- and of the values as the code holds them
 abbrev pub filter_held : Option (Bor Value) → Option (Bor Value) → Option (Bor Value) → Option (Bor Value) → Result Table ConfigRefusal

@@ -6,7 +6,7 @@ use Rattle.std.proofs.lemmas.List.{get_or-map, get_or_past, get_or-replicate, le
 use Rattle.std.proofs.lemmas.List.Quantifiers.{position-Some}
 use Rattle.pcm_format.specs.declared.settings.Settings.{Settings}
 use Rattle.pcm_oss.specs.declared.event.Event.{Event}
-use Rattle.pcm_oss.specs.declared.event.Event.TheVariants.{Open, Write, Poke, Read, Ioctl, Join, StartGroup, Close, Intr}
+use Rattle.pcm_oss.specs.declared.event.Event.TheVariants.{Open, Write, Poke, Read, Ioctl, Join, StartGroup, Close, Mixer, Intr}
 use Rattle.pcm_oss.specs.declared.event.Way.{Way}
 use Rattle.pcm_oss.specs.declared.event.Way.TheVariants.{Play, Record, Map}
 use Rattle.pcm_oss.specs.declared.reply.Errno.TheVariants.{Exist, Inval}
@@ -14,6 +14,7 @@ use Rattle.pcm_oss.specs.declared.request.Request.{Request}
 use Rattle.pcm_oss.specs.declared.request.Request.TheVariants.{SetTrigger}
 use Rattle.pcm_group.specs.declared.sync_groups.Groups.{Groups}
 use Rattle.pcm_group.specs.Groups.{change_in, with_group}
+use Rattle.pcm_mixdev.specs.Mixers.{Levels, mixer_after}
 use Rattle.pcm_group.proofs.Members.{get_or-change_in, length-change_in, used-some}
 use Rattle.pcm_desk.specs.declared.play_book.PlayBook.{PlayBook}
 use Rattle.pcm_desk.specs.declared.play_book.PlayState.{PlayState}
@@ -22,7 +23,7 @@ use Rattle.pcm_desk.specs.declared.record_book.RecordBook.{RecordBook}
 use Rattle.pcm_desk.specs.declared.map_book.MapBook.{MapBook}
 use Rattle.pcm_desk.specs.declared.device.Held.{Held}
 use Rattle.pcm_desk.specs.declared.limits.TheConstants.{DESCRIPTORS}
-use Rattle.pcm_desk.specs.Device.{DeviceSeen, mix_settings}
+use Rattle.pcm_desk.specs.Device.{DeviceSeen, mix_settings, mixed_slots}
 use Rattle.pcm_desk.specs.declared.turn.Turn.{Turn}
 use Rattle.pcm_desk.specs.PlayBooks.{is_play_free, play_begun, write_turn}
 use Rattle.pcm_desk.specs.RecordBooks as records
@@ -426,6 +427,15 @@ regrouped desk groups h = record { within = h.within; taken = λ fd held e. may_
     regrouped_in Record slot has = has
     regrouped_in Map slot has = has
 
+-- other volumes and mutes change nothing of it
+remixed : (desk : Desk) (mixer : Levels) → HoldApart desk → HoldApart (record desk { mixer = mixer })
+remixed desk mixer h = record { within = h.within; taken = λ fd held e. may_of held.way (record desk { mixer = mixer }) held.slot (remixed_in held.way held.slot (taken desk fd held h e)); apart = h.apart }
+  where
+    remixed_in : (way : Way) (slot : ℕ) → IsTaken desk way slot → IsTaken (record desk { mixer = mixer }) way slot
+    remixed_in Play slot has = has
+    remixed_in Record slot has = has
+    remixed_in Map slot has = has
+
 requested : (device : DeviceSeen) (request : Request) (desk : Desk) (fd : ℕ) → HoldApart desk → HoldApart (request_on device (held_by desk fd) desk request).desk
 requested device request desk fd h = by-asking device HoldApart (held_by desk fd) desk request h (λ groups. asked device request (record desk { groups = groups }) fd (regrouped desk groups h))
 
@@ -465,6 +475,7 @@ apart-after device desk (Ioctl fd request) h = requested device request desk fd 
 apart-after device desk (Join fd group) h = joined device desk fd group h
 apart-after device desk (StartGroup fd group) h = started device desk (held_by desk fd) group h
 apart-after device desk (Close fd) h = closed device (left (held_by desk fd) desk) fd (regrouped desk (leaving (held_by desk fd) desk.groups) h)
+apart-after device desk (Mixer request) h = remixed desk (mixer_after (mixed_slots device) request desk.mixer) h
 apart-after device desk (Intr n) h = passed device n desk h
 
 -- and after any events

@@ -6,9 +6,10 @@ use Rattle.std.proofs.lemmas.List.{get_or_past, set_past}
 use Rattle.std.proofs.lemmas.List.Quantifiers.{position-Some}
 use Rattle.pcm_format.specs.declared.settings.Settings.{Settings}
 use Rattle.pcm_oss.specs.declared.event.Event.{Event}
-use Rattle.pcm_oss.specs.declared.event.Event.TheVariants.{Open, Write, Poke, Read, Ioctl, Join, StartGroup, Close, Intr}
+use Rattle.pcm_oss.specs.declared.event.Event.TheVariants.{Open, Write, Poke, Read, Ioctl, Join, StartGroup, Close, Mixer, Intr}
 use Rattle.pcm_oss.specs.declared.event.Way.{Way}
 use Rattle.pcm_oss.specs.declared.event.Way.TheVariants.{Play, Record, Map}
+use Rattle.pcm_oss.specs.declared.mix_request.MixRequest.{MixRequest}
 use Rattle.pcm_oss.specs.declared.request.Request.{Request}
 use Rattle.pcm_oss.specs.declared.request.Request.TheVariants.{SetTrigger, Sync}
 use Rattle.pcm_oss.specs.declared.reply.Answer.TheVariants.{Done, Number}
@@ -218,6 +219,7 @@ turns device (Join at group) held desk fd n e there =
     rw (ap (held_by desk) (named-fd at fd n) ∙ e) (join_one device held.way held.slot desk (join_result (joining desk.groups held.way held.slot group) (rests device desk held)) there)
 turns device (StartGroup at group) held desk fd n e there = cc
 turns device (Close at) held desk fd n e there = rw (ap (held_by desk) (named-fd at fd n) ∙ e) (close_one device held.way held.slot desk at at there)
+turns device (Mixer request) held desk fd n e there = cc
 turns device (Intr frames) held desk fd n e there = cc
 
 -- an interrupt goes by each book alone
@@ -225,6 +227,12 @@ passed : (device : DeviceSeen) (desk : Desk) (frames : ℕ) (way : Way) (slot : 
 passed device desk frames Play slot = ap Playing (play_at-passing device desk frames slot)
 passed device desk frames Record slot = ap Recording (record_at-capturing device desk frames slot)
 passed device desk frames Map slot = ap Mapped (map_at-passing device desk frames slot)
+
+-- what the mixer device is asked leaves each
+remixed : (device : DeviceSeen) (desk : Desk) (request : MixRequest) (way : Way) (slot : ℕ) → channel_at device (after device desk (Mixer request)).desk (channel_named way slot) ≡ channel_at device desk (channel_named way slot)
+remixed device desk request Play slot = refl
+remixed device desk request Record slot = refl
+remixed device desk request Map slot = refl
 
 -- ---- what descriptors hold
 
@@ -256,6 +264,7 @@ holds_same device (Close at) desk fd other n differ =
     let apart : other ≢ at = λ same. differ (same ∙ named-fd at fd n) in
     by-turning (λ (d : Desk). held_by d other ≡ held_by desk other) (close_play device (left (held_by desk at) desk) at) (close_record device (left (held_by desk at) desk) at) (close_map device (left (held_by desk at) desk) at) (held_by desk at) (left (held_by desk at) desk) refl
     (λ slot. get_or-set_other desk.descriptors at other None None apart) (λ slot. get_or-set_other desk.descriptors at other None None apart) (λ slot. get_or-set_other desk.descriptors at other None None apart)
+holds_same device (Mixer request) desk fd other n differ = cc
 holds_same device (Intr frames) desk fd other n differ = cc
 
 -- a descriptor that holds something is there
@@ -292,6 +301,7 @@ holds_until device (StartGroup at group) desk fd held n e = cc
 holds_until device (Close at) desk fd held n e =
     subst (λ (k : ℕ). held_by (close_on device (held_by desk k) (left (held_by desk k) desk) k).desk fd ≡ None) (sym (named-fd at fd n))
     (subst (λ (h : Option Held). held_by (close_on device h (left h desk) fd).desk fd ≡ None) (sym e) (closed_shut device (left (Some held) desk) fd held (descriptor_there desk fd held e)))
+holds_until device (Mixer request) desk fd held n e = cc
 holds_until device (Intr frames) desk fd held n e = cc
 
 -- ---- the groups
@@ -333,6 +343,7 @@ groups_turned device (Join at group) held desk fd n e =
     rw (ap (held_by desk) (named-fd at fd n) ∙ e) (joined_groups device desk held (join_result (joining desk.groups held.way held.slot group) (rests device desk held)))
 groups_turned device (StartGroup at group) held desk fd n e = cc
 groups_turned device (Close at) held desk fd n e = rw (ap (held_by desk) (named-fd at fd n) ∙ e) (closed_groups device (Some held) (left (Some held) desk) at)
+groups_turned device (Mixer request) held desk fd n e = cc
 groups_turned device (Intr frames) held desk fd n e = cc
 
 -- an event of a descriptor that is shut leaves all
@@ -345,6 +356,7 @@ groups_shut device (Ioctl at request) desk fd n e = rw (ap (held_by desk) (named
 groups_shut device (Join at group) desk fd n e = rw (ap (held_by desk) (named-fd at fd n) ∙ e) refl
 groups_shut device (StartGroup at group) desk fd n e = cc
 groups_shut device (Close at) desk fd n e = rw (ap (held_by desk) (named-fd at fd n) ∙ e) refl
+groups_shut device (Mixer request) desk fd n e = cc
 groups_shut device (Intr frames) desk fd n e = cc
 
 -- ---- a descriptor that is shut
@@ -371,6 +383,7 @@ untaken_same device (Ioctl at request) desk fd other n e there differ = rw (ap (
 untaken_same device (Join at group) desk fd other n e there differ = rw (ap (held_by desk) (named-fd at fd n) ∙ e) refl
 untaken_same device (StartGroup at group) desk fd other n e there differ = cc
 untaken_same device (Close at) desk fd other n e there differ = rw (ap (held_by desk) (named-fd at fd n) ∙ e) refl
+untaken_same device (Mixer request) desk fd other n e there differ = cc
 untaken_same device (Intr frames) desk fd other n e there differ = cc
 
 -- no open takes a slot that some descriptor holds
@@ -414,6 +427,7 @@ shut_leaves device (Ioctl at request) desk fd other theirs h n e m = rw (ap (hel
 shut_leaves device (Join at group) desk fd other theirs h n e m = rw (ap (held_by desk) (named-fd at fd n) ∙ e) refl
 shut_leaves device (StartGroup at group) desk fd other theirs h n e m = cc
 shut_leaves device (Close at) desk fd other theirs h n e m = rw (ap (held_by desk) (named-fd at fd n) ∙ e) refl
+shut_leaves device (Mixer request) desk fd other theirs h n e m = cc
 shut_leaves device (Intr frames) desk fd other theirs h n e m = cc
 
 -- any event of a descriptor leaves what another one holds as it is
@@ -475,6 +489,7 @@ isolated device (Ioctl fd request) desk hold = by-descriptor device (Ioctl fd re
 isolated device (Join fd group) desk hold = by-descriptor device (Join fd group) desk fd hold refl
 isolated device (StartGroup fd group) desk hold = starts_together device (held_by desk fd) desk group
 isolated device (Close fd) desk hold = by-descriptor device (Close fd) desk fd hold refl
+isolated device (Mixer request) desk hold = record { each = λ held. remixed device desk request held.way held.slot; passes = λ fd. refl; groups = refl }
 isolated device (Intr n) desk hold = record { each = λ held. passed device desk n held.way held.slot; passes = λ fd. refl; groups = refl }
 
 -- ---- an opening

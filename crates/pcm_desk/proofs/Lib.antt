@@ -20,6 +20,7 @@ pub mod Members
 pub mod Apart
 pub mod Slots
 pub mod Turning
+pub mod MixerAlone
 pub mod Isolation
 pub mod OwnEvents
 pub mod Refused

@@ -7,7 +7,7 @@ use Rattle.std.proofs.lemmas.List.{get_or_past, get_or-replicate, length-replica
 use Rattle.std.proofs.lemmas.List.Quantifiers.{position-Some}
 use Rattle.pcm_format.specs.declared.settings.Settings.{Settings}
 use Rattle.pcm_oss.specs.declared.event.Event.{Event}
-use Rattle.pcm_oss.specs.declared.event.Event.TheVariants.{Open, Write, Poke, Read, Ioctl, Join, StartGroup, Close, Intr}
+use Rattle.pcm_oss.specs.declared.event.Event.TheVariants.{Open, Write, Poke, Read, Ioctl, Join, StartGroup, Close, Mixer, Intr}
 use Rattle.pcm_oss.specs.declared.event.Way.{Way}
 use Rattle.pcm_oss.specs.declared.event.Way.TheVariants.{Play, Record, Map}
 use Rattle.pcm_oss.specs.declared.event.TheConstants.{SLOTS}
@@ -257,6 +257,7 @@ own_waits device event held desk new own is waits member = at event own is
     at (Join fd group) own same = joining_by (joining desk.groups held.way held.slot group) (rests device desk held) refl same
     at (Close fd) own same = absurd (left same)
     at (StartGroup fd group) own same = absurd (own refl)
+    at (Mixer request) own same = absurd (own refl)
     at (Intr n) own same = absurd (own refl)
 
 -- ---- the groups of others
@@ -372,6 +373,7 @@ shut_waits device (Ioctl at request) desk fd n e waits = rw (ap (held_by desk) (
 shut_waits device (Join at group) desk fd n e waits = rw (ap (held_by desk) (named-fd at fd n) ∙ e) waits
 shut_waits device (StartGroup at group) desk fd n e waits = cc
 shut_waits device (Close at) desk fd n e waits = rw (ap (held_by desk) (named-fd at fd n) ∙ e) waits
+shut_waits device (Mixer request) desk fd n e waits = cc
 shut_waits device (Intr frames) desk fd n e waits = cc
 
 own_event_waits : (device : DeviceSeen) (event : Event) (desk : Desk) (fd : ℕ) (held : Option Held) → descriptor_of event ≡ Some fd → held_by desk fd ≡ held → HoldApart desk → MembersWait device desk → MembersWait device (after device desk event).desk
@@ -402,6 +404,9 @@ waits-after device desk (Join fd group) h waits = own_event_waits device (Join f
 waits-after device desk (StartGroup fd group) h waits =
     by-starting device (λ (t : DeskTurn). MembersWait device t.desk) (held_by desk fd) desk group (λ errno. waits) (λ used ready. started_waits_on device desk group (used-some desk.groups group used) waits)
 waits-after device desk (Close fd) h waits = own_event_waits device (Close fd) desk fd (held_by desk fd) refl refl h waits
+waits-after device desk (Mixer request) h waits = λ held member.
+    let goes : GoesByEach device (Mixer request) desk (after device desk (Mixer request)).desk = isolated device (Mixer request) desk h in
+    subst Waits (sym (goes.each held)) (waits held member)
 waits-after device desk (Intr n) h waits = λ held member.
     let goes : GoesByEach device (Intr n) desk (after device desk (Intr n)).desk = isolated device (Intr n) desk h in
     subst Waits (sym (goes.each held)) (passed_waits device desk.handed n (channel_at device desk held) (waits held member))

@@ -6,7 +6,7 @@ use Rattle.std.proofs.lemmas.Bool.Decides.{nat_tests}
 use Rattle.std.proofs.lemmas.List.Elements.{All-head, All-tail}
 use Rattle.pcm_format.specs.declared.settings.Settings.{Settings}
 use Rattle.pcm_oss.specs.declared.event.Event.{Event}
-use Rattle.pcm_oss.specs.declared.event.Event.TheVariants.{Open, Write, Poke, Read, Ioctl, Join, StartGroup, Close, Intr}
+use Rattle.pcm_oss.specs.declared.event.Event.TheVariants.{Open, Write, Poke, Read, Ioctl, Join, StartGroup, Close, Mixer, Intr}
 use Rattle.pcm_oss.specs.declared.event.Way.{Way}
 use Rattle.pcm_oss.specs.declared.reply.Answer.{Answer}
 use Rattle.pcm_oss.specs.declared.reply.Errno.{Errno}
@@ -49,6 +49,7 @@ unnamed_taken (Ioctl fd request) = refl
 unnamed_taken (Join fd group) = refl
 unnamed_taken (StartGroup fd group) = refl
 unnamed_taken (Close fd) = refl
+unnamed_taken (Mixer request) = refl
 unnamed_taken (Intr n) = refl
 
 -- what is told behind an event and behind that event without its number
@@ -72,6 +73,7 @@ others_take (Ioctl at request) fd e = refl
 others_take (Join at group) fd e = refl
 others_take (StartGroup at group) fd e = refl
 others_take (Close at) fd e = refl
+others_take (Mixer request) fd e = refl
 others_take (Intr n) fd e = cc
 
 -- ---- who is in no group
@@ -154,6 +156,7 @@ isolated_by device event desk named n starts h =
     by_kind (Ioctl fd request) starts = isolated device (Ioctl fd request) desk h
     by_kind (Join fd group) starts = isolated device (Join fd group) desk h
     by_kind (Close fd) starts = isolated device (Close fd) desk h
+    by_kind (Mixer request) starts = isolated device (Mixer request) desk h
     by_kind (Intr n) starts = isolated device (Intr n) desk h
 
 -- the groups have no part in an event that concerns a channel of none
@@ -206,6 +209,7 @@ mine_named fd (Some at) e = inr (ap (λ (k : ℕ). Some k) (eqb-true at fd e))
 concerned : (fd : ℕ) (event : Event) → concerns fd event ≡ true → names fd (descriptor_of event) ≡ true
 concerned fd (Join at group) e = cc
 concerned fd (StartGroup at group) e = cc
+concerned fd (Mixer request) e = cc
 concerned fd _ e = e
 
 pub mine-turns : (device : DeviceSeen) (event : Event) (desk : Desk) (fd : ℕ) (held : Held) → concerns fd event ≡ true → HoldApart desk → held_by desk fd ≡ Some held → IsAlone desk held → IsMine device event held fd desk
@@ -258,6 +262,9 @@ other-stays device (Poke at offset from count) desk fd held e refused h m a = ot
 other-stays device (Read at count) desk fd held e refused h m a = other_by device (Read at count) desk fd at held refl (λ same. grind (arith, nat_tests)) h m a
 other-stays device (Ioctl at request) desk fd held e refused h m a = other_by device (Ioctl at request) desk fd at held refl (λ same. grind (arith, nat_tests)) h m a
 other-stays device (Close at) desk fd held e refused h m a = other_by device (Close at) desk fd at held refl (λ same. grind (arith, nat_tests)) h m a
+other-stays device (Mixer request) desk fd held e refused h m a =
+    let goes : GoesByEach device (Mixer request) desk (after device desk (Mixer request)).desk = isolated device (Mixer request) desk h in
+    record { channel = goes.each held; holds = goes.passes fd ∙ m; alone = ap (λ (g : Groups). group_of (record desk { groups = g }) held) goes.groups ∙ a }
 other-stays device (Intr n) desk fd held e refused h m a = cc
 
 -- ---- a list of events
@@ -371,6 +378,7 @@ holds_still device (Ioctl at request) desk fd held h m still = holds_named devic
 holds_still device (Join at group) desk fd held h m still = holds_named device (Join at group) desk fd at held refl h m still
 holds_still device (StartGroup at group) desk fd held h m still = (isolated device (StartGroup at group) desk h).passes fd ∙ m
 holds_still device (Close at) desk fd held h m still = holds_named device (Close at) desk fd at held refl h m still
+holds_still device (Mixer request) desk fd held h m still = m
 holds_still device (Intr n) desk fd held h m still = m
 
 -- As long as it isn't closed, a descriptor holds its channel,

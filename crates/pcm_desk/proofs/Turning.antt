@@ -3,7 +3,7 @@ use Rattle.std.proofs.Common.{◌≡◌, ℕ, ◌+◌, Bool, true, false, cond, 
 use Rattle.std.specs.Prelude.{is_some}
 use Rattle.pcm_format.specs.declared.settings.Settings.{Settings}
 use Rattle.pcm_oss.specs.declared.event.Event.{Event}
-use Rattle.pcm_oss.specs.declared.event.Event.TheVariants.{Open, Write, Poke, Read, Ioctl, Join, StartGroup, Close, Intr}
+use Rattle.pcm_oss.specs.declared.event.Event.TheVariants.{Open, Write, Poke, Read, Ioctl, Join, StartGroup, Close, Mixer, Intr}
 use Rattle.pcm_oss.specs.declared.event.Way.{Way}
 use Rattle.pcm_oss.specs.declared.event.Way.TheVariants.{Play, Record, Map}
 use Rattle.pcm_oss.specs.declared.reply.Errno.TheVariants.{Exist, Inval}
@@ -91,4 +91,5 @@ handed-taken device desk (StartGroup fd group) = by-starting device (λ (t : Des
 handed-taken device desk (Close fd) =
     let closing : Desk = left (held_by desk fd) desk in
     by-turning (λ (d : Desk). d.handed ≡ desk.handed + 0) (close_play device closing fd) (close_record device closing fd) (close_map device closing fd) (held_by desk fd) closing (omega arith) (λ slot. omega arith) (λ slot. omega arith) (λ slot. omega arith)
+handed-taken device desk (Mixer request) = omega arith
 handed-taken device desk (Intr n) = refl

@@ -1,10 +1,11 @@
--- The desk: the books by slot, who holds which and who starts with whom, and how far the device is. An event gives a new desk and a reply.
+-- The desk: the books by slot, who holds which and who starts with whom, how loud all is, and how far the device is. An event gives a new desk and a reply.
 use Rattle.std.specs.Prelude.{ℕ, zero, suc, ◌+◌, ◌-◌, Bool, true, not, nat_lt, Option, Some, None, is_some, if◌then◌else◌, List, length, map, position, replicate, slice_index_or, slice_set, Result, Ok, Err}
 use Rattle.pcm_format.specs.declared.settings.Settings.{Settings}
 use Rattle.pcm_oss.specs.declared.event.Event.{Event}
-use Rattle.pcm_oss.specs.declared.event.Event.TheVariants.{Open, Write, Poke, Read, Ioctl, Join, StartGroup, Close, Intr}
+use Rattle.pcm_oss.specs.declared.event.Event.TheVariants.{Open, Write, Poke, Read, Ioctl, Join, StartGroup, Close, Mixer, Intr}
 use Rattle.pcm_oss.specs.declared.event.Way.{Way}
 use Rattle.pcm_oss.specs.declared.event.Way.TheVariants.{Play, Record, Map}
+use Rattle.pcm_oss.specs.declared.mix_request.MixRequest.{MixRequest}
 use Rattle.pcm_oss.specs.declared.request.Request.{Request}
 use Rattle.pcm_oss.specs.declared.request.Request.TheVariants.{SetTrigger, Sync}
 use Rattle.pcm_oss.specs.declared.reply.Answer.{Answer}
@@ -14,6 +15,7 @@ use Rattle.pcm_oss.specs.declared.reply.Errno.TheVariants.{BadF, Busy, Exist, In
 use Rattle.pcm_rate.specs.declared.rate.Rate.{Rate}
 use Rattle.pcm_group.specs.declared.sync_groups.Groups.{Groups}
 use Rattle.pcm_group.specs.Groups.{all_in, change_in, dissolved, group_at, is_used, joining, may_join, no_groups, with_group}
+use Rattle.pcm_mixdev.specs.Mixers.{Levels, full_mixer, mixer_after, mixer_reply}
 use Rattle.pcm_desk.specs.declared.play_book.PlayBook.{PlayBook}
 use Rattle.pcm_desk.specs.declared.play_book.PlayState.TheVariants.{Free}
 use Rattle.pcm_desk.specs.declared.record_book.RecordBook.{RecordBook}
@@ -25,7 +27,7 @@ use Rattle.pcm_desk.specs.declared.here.Here.{Here}
 use Rattle.pcm_desk.specs.declared.limits.TheConstants.{DESCRIPTORS}
 use Rattle.pcm_desk.specs.declared.play_requests.TheConstants.{PLAY_BIT}
 use Rattle.pcm_desk.specs.declared.record_requests.TheConstants.{RECORD_BIT}
-use Rattle.pcm_desk.specs.Device.{DeviceSeen, device_settings, here_at, mix_settings, mixed_for, map_slots, passed_for, play_slots, play_rate_between, record_rate_between, record_slots}
+use Rattle.pcm_desk.specs.Device.{DeviceSeen, device_settings, here_at, mix_settings, mixed_for, mixed_slots, map_slots, passed_for, play_slots, play_rate_between, record_rate_between, record_slots}
 use Rattle.pcm_desk.specs.declared.turn.Turn.{Turn}
 use Rattle.pcm_desk.specs.PlayBooks.{close_turn, is_play_free, is_play_setup, play_begun, play_is_ready, play_settled, refilled, write_turn}
 use Rattle.pcm_desk.specs.PlayRequests.{play_ask}
@@ -46,6 +48,8 @@ pub record Desk : Type 0 where
   pub descriptors : List (Option Held)
   -- which channels start together
   pub groups : Groups
+  -- the volumes and mutes of the mixer device
+  pub mixer : Levels
   -- the frames of all interrupts so far
   pub handed : ℕ
   -- the frames mixed so far
@@ -76,6 +80,7 @@ desk_at_start device = record {
   mapped = replicate (map_slots device) (map_unopened device);
   descriptors = replicate DESCRIPTORS None;
   groups = no_groups;
+  mixer = full_mixer;
   handed = 0;
   mixed = 0;
 }
@@ -391,6 +396,20 @@ interrupt_turn device desk n =
       reply = Ok (Number n);
     }
 
+-- ---- the mixer device
+
+-- a request of it, beside the slots that are mixed, changes nothing else
+abbrev pub mixer_turn : DeviceSeen → Desk → MixRequest → DeskTurn
+mixer_turn device desk request = record {
+  desk = record desk { mixer = mixer_after (mixed_slots device) request desk.mixer };
+  reply = mixer_reply (mixed_slots device) request desk.mixer;
+}
+
+-- the volumes and mutes after an event: no other event sets them
+abbrev pub mixer_by : DeviceSeen → Event → Levels → Levels
+mixer_by device (Mixer request) mixer = mixer_after (mixed_slots device) request mixer
+mixer_by device event mixer = mixer
+
 -- what an event does
 abbrev pub after : DeviceSeen → Desk → Event → DeskTurn
 after device desk (Open fd way settings) = open_turn desk fd way settings
@@ -401,4 +420,5 @@ after device desk (Ioctl fd request) = request_on device (held_by desk fd) desk 
 after device desk (Join fd group) = join_on device (held_by desk fd) desk group
 after device desk (StartGroup fd group) = start_on device (held_by desk fd) desk group
 after device desk (Close fd) = close_on device (held_by desk fd) (left (held_by desk fd) desk) fd
+after device desk (Mixer request) = mixer_turn device desk request
 after device desk (Intr frames) = interrupt_turn device desk frames

@@ -2,7 +2,7 @@
 use Rattle.std.specs.Prelude.{ℕ, ◌*◌, ◌<◌, ◌≤◌, List, [], ◌∷◌}
 use Rattle.std.specs.List.{sum_by}
 use Rattle.pcm_oss.specs.declared.event.Event.{Event}
-use Rattle.pcm_oss.specs.declared.event.Event.TheVariants.{Open, Write, Poke, Read, Ioctl, Join, StartGroup, Close, Intr}
+use Rattle.pcm_oss.specs.declared.event.Event.TheVariants.{Open, Write, Poke, Read, Ioctl, Join, StartGroup, Close, Mixer, Intr}
 use Rattle.pcm_wave.specs.declared.pool.Pool.{Pool}
 use Rattle.pcm_wave.specs.declared.pool.Source.{Source}
 use Rattle.pcm_wave.specs.declared.pool.Source.TheVariants.{Inline, File}
@@ -27,6 +27,7 @@ Fits device pool (Ioctl fd request) = fd < DESCRIPTORS
 Fits device pool (Join fd group) = fd < DESCRIPTORS
 Fits device pool (StartGroup fd group) = fd < DESCRIPTORS
 Fits device pool (Close fd) = fd < DESCRIPTORS
+Fits device pool (Mixer request) = Unit {0}
 Fits device pool (Intr frames) = (0 < frames) × (frames ≤ ring_frames device)
 
 -- the frames that an event takes out of the device's ring

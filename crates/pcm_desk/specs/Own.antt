@@ -1,7 +1,7 @@
 -- What a client is told, and what becomes of its book, is a matter of that book and its own events alone, but for the group that it joins.
 use Rattle.std.specs.Prelude.{◌≡◌, ◌≢◌, ◌<◌, ℕ, Bool, true, false, not, Option, Some, None, Result, Ok, Err, OnErr, OnOk, length, slice_index_or}
 use Rattle.pcm_oss.specs.declared.event.Event.{Event}
-use Rattle.pcm_oss.specs.declared.event.Event.TheVariants.{Open, Write, Poke, Read, Ioctl, Join, StartGroup, Close, Intr}
+use Rattle.pcm_oss.specs.declared.event.Event.TheVariants.{Open, Write, Poke, Read, Ioctl, Join, StartGroup, Close, Mixer, Intr}
 use Rattle.pcm_oss.specs.declared.event.Way.{Way}
 use Rattle.pcm_oss.specs.declared.event.Way.TheVariants.{Play, Record, Map}
 use Rattle.pcm_oss.specs.declared.request.Request.{Request}
@@ -30,7 +30,8 @@ use Rattle.pcm_desk.specs.MapBooks.{is_map_free, map_closed, poke_turn}
 use Rattle.pcm_desk.specs.MapRequests.{map_ask}
 use Rattle.pcm_desk.specs.Desk.{Desk, asking, play_at, by_way, capturing, closing, group_of, held_by, is_member, join_result, leaving, left_by, map_at, map_passing, member_refusal, play_passing, play_starting, record_at, record_starting, rests}
 
--- The descriptor whose channel an event is of. An interrupt is of all channels, and a start of a group is of its members.
+-- The descriptor whose channel an event is of. An interrupt is of all channels, a start of a group is of its members, and what the
+-- mixer device is asked is of none.
 abbrev pub descriptor_of : Event → Option ℕ
 descriptor_of (Open fd way settings) = Some fd
 descriptor_of (Write fd source at count) = Some fd
@@ -40,6 +41,7 @@ descriptor_of (Ioctl fd request) = Some fd
 descriptor_of (Join fd group) = Some fd
 descriptor_of (Close fd) = Some fd
 descriptor_of (StartGroup fd group) = None
+descriptor_of (Mixer request) = None
 descriptor_of (Intr n) = None
 
 -- the book of a channel, of whichever way
@@ -53,17 +55,17 @@ abbrev pub channel_at : DeviceSeen → Desk → Held → Channel
 channel_at device desk held = by_way held.way (Playing (play_at device desk held.slot)) (Recording (record_at device desk held.slot)) (Mapped (map_at device desk held.slot))
 
 -- a turn of a book that plays, of one that records, or of a mapped one
-abbrev pub played : Turn PlayBook → Turn Channel
-played turn = record { book = Playing turn.book; reply = turn.reply }
+abbrev pub turned_play : Turn PlayBook → Turn Channel
+turned_play turn = record { book = Playing turn.book; reply = turn.reply }
 
-abbrev pub recorded : Turn RecordBook → Turn Channel
-recorded turn = record { book = Recording turn.book; reply = turn.reply }
+abbrev pub turned_record : Turn RecordBook → Turn Channel
+turned_record turn = record { book = Recording turn.book; reply = turn.reply }
 
 abbrev pub turned_map : Turn MapBook → Turn Channel
 turned_map turn = record { book = Mapped turn.book; reply = turn.reply }
 
 abbrev pub own_write : Here → ℕ → Channel → Turn Channel
-own_write here count (Playing book) = played (write_turn here count book)
+own_write here count (Playing book) = turned_play (write_turn here count book)
 own_write here count (Recording book) = refused Inval (Recording book)
 own_write here count (Mapped book) = refused Inval (Mapped book)
 
@@ -74,12 +76,12 @@ own_poke offset count (Mapped book) = turned_map (poke_turn offset count book)
 
 abbrev pub own_read : ℕ → Channel → Turn Channel
 own_read count (Playing book) = refused Inval (Playing book)
-own_read count (Recording book) = recorded (records.read_turn count book)
+own_read count (Recording book) = turned_record (records.read_turn count book)
 own_read count (Mapped book) = refused Inval (Mapped book)
 
 abbrev pub own_ioctl : DeviceSeen → Here → Request → Channel → Turn Channel
-own_ioctl device here request (Playing book) = played (asking device here request book)
-own_ioctl device here request (Recording book) = recorded (record_ask request book)
+own_ioctl device here request (Playing book) = turned_play (asking device here request book)
+own_ioctl device here request (Recording book) = turned_record (record_ask request book)
 own_ioctl device here request (Mapped book) = turned_map (map_ask request book)
 
 abbrev pub own_request : DeviceSeen → Here → Request → Option Errno → Channel → Turn Channel
@@ -129,6 +131,7 @@ own_turn device handed grouping (Ioctl fd request) channel =
 own_turn device handed grouping (Join fd group) channel = own_join device (here_at device handed) (grouping.joins group) channel
 own_turn device handed grouping (StartGroup fd group) channel = doing channel
 own_turn device handed grouping (Close fd) channel = doing (closing_own device (here_at device handed) channel)
+own_turn device handed grouping (Mixer request) channel = doing channel
 own_turn device handed grouping (Intr n) channel = telling (Number n) (passing device handed n channel)
 
 -- a channel that a descriptor may hold: it isn't free, and doesn't drain behind a close
@@ -188,7 +191,7 @@ pub record GoesByDescriptor (device : DeviceSeen) (event : Event) (old new : Des
   pub holds : (other : ℕ) → other ≢ fd → held_by new other ≡ held_by old other
   pub strangers : (other : ℕ) (theirs : Held) → other ≢ fd → held_by old other ≡ Some theirs → channel_at device new theirs ≡ channel_at device old theirs
 
--- Of an interrupt: it goes by each channel alone, and leaves what every descriptor holds, or that it is shut, and the groups.
+-- Of an interrupt, and of what the mixer device is asked: it goes by each channel alone, and leaves what every descriptor holds, or that it is shut, and the groups.
 pub record GoesByEach (device : DeviceSeen) (event : Event) (old new : Desk) : Type 0 where
   pub each : (held : Held) → channel_at device new held ≡ (own_turn device old.handed (grouping_at device old held) event (channel_at device old held)).book
   pub passes : (fd : ℕ) → held_by new fd ≡ held_by old fd

@@ -2,7 +2,7 @@
 use Rattle.std.specs.Prelude.{◌≡◌, ℕ, ◌+◌, Bool, true, false, ◌==◌, if◌then◌else◌, List, [], ◌∷◌, Option, Some, None, Result, IsErr}
 use Rattle.pcm_format.specs.declared.settings.Settings.{Settings}
 use Rattle.pcm_oss.specs.declared.event.Event.{Event}
-use Rattle.pcm_oss.specs.declared.event.Event.TheVariants.{Open, Write, Poke, Read, Ioctl, Join, StartGroup, Close, Intr}
+use Rattle.pcm_oss.specs.declared.event.Event.TheVariants.{Open, Write, Poke, Read, Ioctl, Join, StartGroup, Close, Mixer, Intr}
 use Rattle.pcm_oss.specs.declared.event.Way.{Way}
 use Rattle.pcm_oss.specs.declared.reply.Answer.{Answer}
 use Rattle.pcm_oss.specs.declared.reply.Errno.{Errno}
@@ -22,10 +22,11 @@ abbrev pub names : ℕ → Option ℕ → Bool
 names fd None = true
 names fd (Some at) = at == fd
 
--- an event of the descriptor that has nothing to do with groups, or an interrupt
+-- an event of the descriptor that has nothing to do with groups, or an interrupt; what the mixer device is asked is nobody's
 abbrev pub concerns : ℕ → Event → Bool
 concerns fd (Join at group) = false
 concerns fd (StartGroup at group) = false
+concerns fd (Mixer request) = false
 concerns fd event = names fd (descriptor_of event)
 
 -- a join of the descriptor
@@ -48,6 +49,7 @@ unnamed (Ioctl fd request) = Ioctl 0 request
 unnamed (Join fd group) = Join 0 group
 unnamed (StartGroup fd group) = StartGroup 0 group
 unnamed (Close fd) = Close 0
+unnamed (Mixer request) = Mixer request
 unnamed (Intr n) = Intr n
 
 -- the events of an open descriptor and the interrupts between them, until it is closed

@@ -3,10 +3,13 @@
 ghost use Rattle.std.specs.Prelude.{◌≡◌, ◌<◌, ◌≤◌, ◌+◌, ◌^◌, ℕ, ℤ, false, true, All, List, Some};
 ghost use Rattle.pcm_format.specs.declared.settings.Settings.{Settings};
 ghost use Rattle.pcm_oss.specs.declared.event.Event.{Event};
+ghost use Rattle.pcm_oss.specs.declared.event.Event.TheVariants.{Mixer};
 ghost use Rattle.pcm_oss.specs.declared.event.Way.{Way};
+ghost use Rattle.pcm_oss.specs.declared.mix_request.MixRequest.{MixRequest};
 ghost use Rattle.pcm_oss.specs.declared.request.Request.{Request};
 ghost use Rattle.pcm_rate.specs.declared.rate.Rate.{Rate};
 ghost use Rattle.pcm_rate.specs.Rates.{IsRatio};
+ghost use Rattle.pcm_mixdev.specs.Mixers.{mixer_after};
 ghost use Rattle.pcm_desk.specs.declared.here.Here.{Here};
 ghost use Rattle.pcm_desk.specs.Here.{IsHere};
 ghost use Rattle.pcm_desk.specs.declared.play_book.PlayBook.{PlayBook};
@@ -22,9 +25,9 @@ ghost use Rattle.pcm_desk.specs.declared.map_book.MapBook.{MapBook};
 ghost use Rattle.pcm_desk.specs.MapBooks.{is_map_setup, map_begun, map_closed, map_refilled, poke_turn};
 ghost use Rattle.pcm_desk.specs.MapRequests.{map_ask};
 ghost use Rattle.pcm_desk.specs.MapSafe.{MapIsSafe};
-ghost use Rattle.pcm_desk.specs.Device.{DeviceSeen, IsInLimits, here_at, mixed_for};
+ghost use Rattle.pcm_desk.specs.Device.{DeviceSeen, IsInLimits, here_at, mixed_for, mixed_slots};
 ghost use Rattle.pcm_desk.specs.declared.device.Held.{Held};
-ghost use Rattle.pcm_desk.specs.Desk.{Desk, after, desk_at_start, held_by, is_member};
+ghost use Rattle.pcm_desk.specs.Desk.{Desk, after, desk_at_start, held_by, is_member, mixer_by};
 ghost use Rattle.pcm_desk.specs.Events.{after_all};
 ghost use Rattle.pcm_desk.specs.Own.{HoldApart, IsIsolated, MembersWait, channel_at};
 ghost use Rattle.pcm_desk.specs.OwnEvents.{JoinsNone, Opens, channel_begun, closes, own_after, own_events, own_replies, replies_to};
@@ -116,6 +119,15 @@ pub fn members_wait_for_their_group()
         → MembersWait device (after device desk event).desk }
     ensures always { (device : DeviceSeen) (events : List Event)
         → MembersWait device (after_all device (desk_at_start device) events) }
+{}
+
+/// The volumes and mutes of the mixer device change by its own requests alone, which change nothing else: they stay when their slot is closed.
+pub fn the_mixer_alone_sets_volumes()
+    ensures stay { (device : DeviceSeen) (desk : Desk) (event : Event)
+        → (after device desk event).desk.mixer ≡ mixer_by device event desk.mixer }
+    ensures alone { (device : DeviceSeen) (desk : Desk) (request : MixRequest)
+        → (after device desk (Mixer request)).desk
+        ≡ record desk { mixer = mixer_after (mixed_slots device) request desk.mixer } }
 {}
 
 /// No client is told what others do, but that no slot is free and which one it got, and what a group that it joins is: what it is told goes by its

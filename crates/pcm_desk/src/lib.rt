@@ -23,7 +23,7 @@ pub use here::Here;
 pub use laws::{
     books_stay_here, books_stay_in_order, descriptors_hold_apart, devices_hold_what_is_mixed,
     map_books_stay_in_order, members_wait_for_their_group, openings_stand_alone,
-    record_books_stay_in_order,
+    record_books_stay_in_order, the_mixer_alone_sets_volumes,
 };
 pub use limits::{
     DESCRIPTORS, DEVICE_BYTES, EVENTS, MIX_FRAMES, READ_BYTES, RING_FRAMES, WRITE_BYTES,

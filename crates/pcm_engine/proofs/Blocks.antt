@@ -1,17 +1,22 @@
 -- The block that an interrupt mixes, folded over the slots, is the mix of its positions.
 use Rattle.std.proofs.Common.{◌≡◌, ℕ, zero, suc, ◌+◌, ◌*◌, ◌<◌, ◌≤◌, Bool, true, false, cond, eqb, List, [], ◌∷◌, ◌++◌, replicate, fold, ℤ, pos, refl, sym, ap, ◌∙◌, subst, arith, zero-add}
-use Rattle.std.specs.Prelude.{All, IfSome, ◌-◌, ◌&&◌, ◌||◌, nat_lt, not}
+use Rattle.std.specs.Prelude.{All, IfSome, Option, option_map, ◌-◌, ◌&&◌, ◌||◌, nat_lt, not}
 use Rattle.std.specs.List.{range_with_len, flat_map}
 use Rattle.std.proofs.lemmas.Bool.Decides.{nat_tests}
 use Rattle.std.proofs.lemmas.List.{replicate-append-replicate}
 use Rattle.std.proofs.lemmas.List.Sums.{fold-append}
 use Rattle.pcm_oss.specs.declared.event.Event.TheVariants.{Intr}
 use Rattle.pcm_wave.specs.declared.pool.Pool.{Pool}
+use Rattle.pcm_format.specs.declared.layout.Layout.{Layout}
 use Rattle.pcm_format.specs.Formats.{bits_of}
 use Rattle.pcm_format.specs.Layouts.{channels_of}
 use Rattle.pcm_format.specs.Frames.{Frame}
-use Rattle.pcm_format.proofs.Ranges.{flat_map-range-same, flat_map-range-shift, range-add}
+use Rattle.pcm_format.proofs.Ranges.{flat_map-range-same, range-add}
 use Rattle.pcm_rate.specs.declared.rate.Rate.{Rate}
+use Rattle.pcm_feeder.specs.declared.stage.Gain.{Gain}
+use Rattle.pcm_feeder.specs.Layouts.{at_gain}
+use Rattle.pcm_mixdev.specs.Fades.{faded}
+use Rattle.pcm_mixdev.specs.Mixers.{Levels, master_gain, slot_gain}
 use Rattle.pcm_desk.specs.declared.play_book.PlayBook.{PlayBook}
 use Rattle.pcm_desk.specs.declared.play_book.PlayState.{PlayState}
 use Rattle.pcm_desk.specs.declared.play_book.PlayState.TheVariants.{Free, Setup, Primed, Running, Draining}
@@ -28,10 +33,11 @@ use Rattle.pcm_sound.specs.Runs.{Run, marking, playing, sounding}
 use Rattle.pcm_sound.specs.MapRuns.{map_marking, map_playing}
 use Rattle.pcm_sound.specs.Story.{Story, by_number, mixed_gains, told}
 use Rattle.pcm_sound.specs.Mix.{Table, adding, mix_of}
-use Rattle.pcm_sound.specs.DeviceList.{table_of, silence_in, mix_at}
+use Rattle.pcm_sound.specs.DeviceList.{mix_at, silence_in, sum_at, table_of}
 use Rattle.pcm_sound.specs.Added.{map_turned, turned}
 use Rattle.pcm_sound.specs.Valid.{HasRate, StoryIsValid}
 use Rattle.pcm_sound.proofs.DeviceLists.{IsMixedFrame, mix_of-same, mix_of-more, mix_of-frame, sounding-frame}
+use Rattle.pcm_sound.proofs.FadedBlocks.{mixer_table, mixer_table-frames, sums-faded}
 use Rattle.pcm_sound.proofs.MapSlots.{map-mixed}
 use Rattle.pcm_sound.proofs.MapStories.{sounding-map_marking}
 use Rattle.pcm_sound.proofs.MapTurns.{map-turn}
@@ -39,7 +45,7 @@ use Rattle.pcm_sound.proofs.Numbers.{by-number}
 use Rattle.pcm_sound.proofs.Slots.{playing-own}
 use Rattle.pcm_sound.proofs.Sounding.{sounding-marking}
 use Rattle.pcm_sound.proofs.Turns.{turn}
-use Rattle.pcm_vchan.specs.Blocks.{silent_samples, mapped_onto, mixed_onto, block_of}
+use Rattle.pcm_vchan.specs.Blocks.{block_of, map_gains, mapped_onto, mixed_onto, silent_samples}
 use Rattle.pcm_engine.specs.Stands.{bytes_counted, map_bytes_counted}
 use Rattle.pcm_engine.proofs.Counted.{counted-newest, counted-taken}
 
@@ -57,26 +63,37 @@ next_play device story n slot = playing device story.desk.mixed n (play_at devic
 abbrev pub next_map : DeviceSeen → Story → ℕ → ℕ → List Run
 next_map device story n slot = map_playing device story.desk.mixed n (map_at device story.desk slot) (story.areas slot) (story.map_runs slot)
 
--- the table of a story after an interrupt that mixes n frames
-abbrev pub next_table : DeviceSeen → Story → ℕ → Table
-next_table device story n slot position =
+-- what each slot of a story gives after an interrupt that mixes n frames
+abbrev pub next_sounds : DeviceSeen → Story → ℕ → Table
+next_sounds device story n slot position =
     sounding device (last_gain (mixed_gains device story slot) position) (by_number device (next_play device story n) (next_map device story n) slot) position
 
-next_frames : (device : DeviceSeen) (story : Story) (n : ℕ) → StoryIsValid device story → (slot position : ℕ) → IfSome (next_table device story n slot position) (IsMixedFrame device)
-next_frames device story n v slot position =
+-- and at the gain that the mixer device gives it
+abbrev pub next_table : DeviceSeen → Story → ℕ → Table
+next_table device story n = mixer_table device story.desk.mixer (next_sounds device story n)
+
+sounds_frames : (device : DeviceSeen) (story : Story) (n : ℕ) → StoryIsValid device story → (slot position : ℕ) → IfSome (next_sounds device story n slot position) (IsMixedFrame device)
+sounds_frames device story n v slot position =
     sounding-frame device (last_gain (mixed_gains device story slot) position) (by_number device (next_play device story n) (next_map device story n) slot) position v.limits
     (by-number (All HasRate) device (next_play device story n) (next_map device story n) slot
     (λ at. playing-own device story.desk.mixed n (play_at device story.desk at) (story.runs at) (v.slots at).own)
     (λ at. (map-mixed device story.desk.mixed n (map_at device story.desk at) (story.areas at) (story.map_runs at) v.limits (v.maps at)).own))
 
+next_frames : (device : DeviceSeen) (story : Story) (n : ℕ) → StoryIsValid device story → (slot position : ℕ) → IfSome (next_table device story n slot position) (IsMixedFrame device)
+next_frames device story n v slot position = mixer_table-frames device story.desk.mixer (next_sounds device story n) (sounds_frames device story n v) slot position
+
+-- a frame at the gain of a slot
+abbrev pub slot_faded : DeviceSeen → Story → ℕ → Option Frame → Option Frame
+slot_faded device story slot given = option_map (at_gain (mix_settings device).layout (slot_gain story.desk.mixer slot)) given
+
 -- in the slots that play it has what these give
 next_playing : (device : DeviceSeen) (story : Story) (n slot position : ℕ) → slot < play_slots device
-    → next_table device story n slot position ≡ sounding device (last_gain (story.gains slot) position) (next_play device story n slot) position
+    → next_table device story n slot position ≡ slot_faded device story slot (sounding device (last_gain (story.gains slot) position) (next_play device story n slot) position)
 next_playing device story n slot position below = let plays : nat_lt slot (play_slots device) ≡ true = grind (arith, nat_tests) in rw plays refl
 
 -- and behind them what the mapped ones give
 next_mapped : (device : DeviceSeen) (story : Story) (n slot position : ℕ)
-    → next_table device story n (play_slots device + slot) position ≡ sounding device (last_gain (story.map_gains slot) position) (next_map device story n slot) position
+    → next_table device story n (play_slots device + slot) position ≡ slot_faded device story (play_slots device + slot) (sounding device (last_gain (story.map_gains slot) position) (next_map device story n slot) position)
 next_mapped device story n slot position =
     let behind : nat_lt (play_slots device + slot) (play_slots device) ≡ false = grind (arith, nat_tests) in
     let place : play_slots device + slot - play_slots device ≡ slot = omega arith in
@@ -88,24 +105,25 @@ front_mix device story n slots k = mix_of (bits_of (mix_settings device).format)
 
 -- the block of the first slots is their mix
 fold-front : (device : DeviceSeen) (story : Story) (n j : ℕ) → j ≤ play_slots device → StoryIsValid device story
-    → mixed_onto device n story.desk.play (bytes_counted device story) j (silent_samples (mix_settings device) n) ≡ flat_map (front_mix device story n j) (range_with_len 0 n)
+    → mixed_onto device n (slot_gain story.desk.mixer) story.desk.play (bytes_counted device story) j (silent_samples (mix_settings device) n) ≡ flat_map (front_mix device story n j) (range_with_len 0 n)
 fold-front device story n zero few v = sym (silence-joined (channels_of (mix_settings device).layout) 0 n)
 fold-front device story n (suc j) few v =
     let book : PlayBook = play_at device story.desk j in
     let bytes : List ℕ = bytes_counted device story j in
-    let onto : List ℤ → ℕ → List ℤ = λ sum slot. turned device n (play_at device story.desk slot) (bytes_counted device story slot) sum in
+    let gain : Gain = slot_gain story.desk.mixer j in
+    let onto : List ℤ → ℕ → List ℤ = λ sum slot. turned device n (slot_gain story.desk.mixer slot) (play_at device story.desk slot) (bytes_counted device story slot) sum in
     let sum : ℕ → Frame = front_mix device story n j in
     let next : suc j ≡ j + 1 = omega arith in
-    let added = turn device story.desk.mixed n book (story.runs j) (λ k. last_gain (story.gains j) (story.desk.mixed + k)) bytes sum v.limits (v.slots j)
+    let added = turn device story.desk.mixed n book (story.runs j) (λ k. last_gain (story.gains j) (story.desk.mixed + k)) (λ k. gain) gain bytes sum v.limits (v.slots j)
     (λ some. counted-newest device story.desk.mixed book (story.runs j) (v.slots j) some)
-    (λ k l. v.gains j (story.desk.mixed + k) (omega arith))
+    (λ k l. v.gains j (story.desk.mixed + k) (omega arith)) (λ k l. refl)
     (λ k l. mix_of-frame device (bits_of (mix_settings device).format) (next_table device story n) j (story.desk.mixed + k) (λ slot. next_frames device story n v slot (story.desk.mixed + k))) in
     ap (λ m. fold onto (silent_samples (mix_settings device) n) (range_with_len 0 m)) next
     ∙ ap (fold onto (silent_samples (mix_settings device) n)) (range-add 0 j 1 ∙ ap (λ a. range_with_len 0 j ++ a ∷ []) (zero-add j))
     ∙ fold-append onto (silent_samples (mix_settings device) n) (range_with_len 0 j) (j ∷ [])
-    ∙ ap (turned device n book bytes) (fold-front device story n j (omega arith) v)
+    ∙ ap (turned device n gain book bytes) (fold-front device story n j (omega arith) v)
     ∙ sym added
-    ∙ flat_map-range-same (λ k. adding (bits_of (mix_settings device).format) (sum k) (sounding device (last_gain (story.gains j) (story.desk.mixed + k)) (next_play device story n j) (story.desk.mixed + k)))
+    ∙ flat_map-range-same (λ k. adding (bits_of (mix_settings device).format) (sum k) (slot_faded device story j (sounding device (last_gain (story.gains j) (story.desk.mixed + k)) (next_play device story n j) (story.desk.mixed + k))))
     (λ k. adding (bits_of (mix_settings device).format) (sum k) (next_table device story n j (story.desk.mixed + k))) 0 n
     (λ k l. ap (adding (bits_of (mix_settings device).format) (sum (0 + k))) (sym (next_playing device story n j (story.desk.mixed + (0 + k)) (omega arith))))
     ∙ flat_map-range-same (λ k. adding (bits_of (mix_settings device).format) (sum k) (next_table device story n j (story.desk.mixed + k))) (front_mix device story n (suc j)) 0 n
@@ -114,27 +132,28 @@ fold-front device story n (suc j) few v =
 
 -- and so is that with the first mapped slots behind them
 fold-back : (device : DeviceSeen) (story : Story) (n j : ℕ) → StoryIsValid device story → (front : List ℤ) → front ≡ flat_map (front_mix device story n (play_slots device)) (range_with_len 0 n)
-    → mapped_onto device n story.desk.mapped (map_bytes_counted device story) story.areas j front ≡ flat_map (front_mix device story n (play_slots device + j)) (range_with_len 0 n)
+    → mapped_onto device n (map_gains story.desk.mixer (play_slots device)) story.desk.mapped (map_bytes_counted device story) story.areas j front ≡ flat_map (front_mix device story n (play_slots device + j)) (range_with_len 0 n)
 fold-back device story n zero v front is = is ∙ ap (λ slots. flat_map (front_mix device story n slots) (range_with_len 0 n)) (let e : play_slots device ≡ play_slots device + 0 = omega arith in e)
 fold-back device story n (suc j) v front is =
     let book : MapBook = map_at device story.desk j in
     let bytes : List ℕ = map_bytes_counted device story j in
     let area : List ℕ = story.areas j in
     let bits : ℕ = bits_of (mix_settings device).format in
-    let onto : List ℤ → ℕ → List ℤ = λ sum slot. map_turned device n (map_at device story.desk slot) (map_bytes_counted device story slot) (story.areas slot) sum in
+    let gain : Gain = slot_gain story.desk.mixer (play_slots device + j) in
+    let onto : List ℤ → ℕ → List ℤ = λ sum slot. map_turned device n (slot_gain story.desk.mixer (play_slots device + slot)) (map_at device story.desk slot) (map_bytes_counted device story slot) (story.areas slot) sum in
     let sum : ℕ → Frame = front_mix device story n (play_slots device + j) in
     let next : suc j ≡ j + 1 = omega arith in
     let last : play_slots device + suc j ≡ play_slots device + j + 1 = omega arith in
-    let added = map-turn device story.desk.mixed n book (story.map_runs j) (λ k. last_gain (story.map_gains j) (story.desk.mixed + k)) bytes area sum v.limits (v.maps j)
+    let added = map-turn device story.desk.mixed n book (story.map_runs j) (λ k. last_gain (story.map_gains j) (story.desk.mixed + k)) (λ k. gain) gain bytes area sum v.limits (v.maps j)
     (λ on. counted-taken device story.desk.mixed book (story.map_runs j) (v.maps j) on)
-    (λ k l. v.map_gains j (story.desk.mixed + k) (omega arith))
+    (λ k l. v.map_gains j (story.desk.mixed + k) (omega arith)) (λ k l. refl)
     (λ k l. mix_of-frame device bits (next_table device story n) (play_slots device + j) (story.desk.mixed + k) (λ slot. next_frames device story n v slot (story.desk.mixed + k))) in
     ap (λ m. fold onto front (range_with_len 0 m)) next
     ∙ ap (fold onto front) (range-add 0 j 1 ∙ ap (λ a. range_with_len 0 j ++ a ∷ []) (zero-add j))
     ∙ fold-append onto front (range_with_len 0 j) (j ∷ [])
-    ∙ ap (map_turned device n book bytes area) (fold-back device story n j v front is)
+    ∙ ap (map_turned device n gain book bytes area) (fold-back device story n j v front is)
     ∙ sym added
-    ∙ flat_map-range-same (λ k. adding bits (sum k) (sounding device (last_gain (story.map_gains j) (story.desk.mixed + k)) (next_map device story n j) (story.desk.mixed + k))) (front_mix device story n (play_slots device + suc j)) 0 n
+    ∙ flat_map-range-same (λ k. adding bits (sum k) (slot_faded device story (play_slots device + j) (sounding device (last_gain (story.map_gains j) (story.desk.mixed + k)) (next_map device story n j) (story.desk.mixed + k)))) (front_mix device story n (play_slots device + suc j)) 0 n
     (λ k l. ap (adding bits (sum (0 + k))) (sym (next_mapped device story n j (story.desk.mixed + (0 + k))))
     ∙ sym (ap (λ slots. mix_of bits (silence_in (mix_settings device)) (next_table device story n) slots (story.desk.mixed + (0 + k))) last
     ∙ mix_of-more bits (silence_in (mix_settings device)) (next_table device story n) (play_slots device + j) (story.desk.mixed + (0 + k))))
@@ -243,7 +262,7 @@ told_map device pool story n slot position =
 
 told_table : (device : DeviceSeen) (pool : Pool) (story : Story) (n slot position : ℕ)
     → table_of device (told device pool story (Intr n)) slot position
-    ≡ next_table device story (mixed_by device story.desk.handed n) slot position
+    ≡ next_sounds device story (mixed_by device story.desk.handed n) slot position
 told_table device pool story n slot position =
     let new : Story = told device pool story (Intr n) in
     let q : ℕ = mixed_by device story.desk.handed n in
@@ -261,30 +280,33 @@ pub told-frames : (device : DeviceSeen) (pool : Pool) (story : Story) (n : ℕ) 
     → IfSome (table_of device (told device pool story (Intr n)) slot position) (IsMixedFrame device)
 told-frames device pool story n v slot position =
     subst (λ given. IfSome given (IsMixedFrame device)) (sym (told_table device pool story n slot position))
-    (next_frames device story (mixed_by device story.desk.handed n) v slot position)
+    (sounds_frames device story (mixed_by device story.desk.handed n) v slot position)
 
--- the block that an interrupt of n frames mixes, from the books and the bytes of a story
+-- the block that an interrupt of n frames mixes, from the mixer device, the books and the bytes of a story
 abbrev pub story_block : DeviceSeen → Story → ℕ → List ℤ
 story_block device story n =
     let q : ℕ = mixed_by device story.desk.handed n in
-    mapped_onto device q story.desk.mapped (map_bytes_counted device story) story.areas (map_slots device)
-    (block_of device q story.desk.play (bytes_counted device story) (play_slots device))
+    let mixer : Levels = story.desk.mixer in
+    faded (mix_settings device).layout (master_gain mixer)
+    (mapped_onto device q (map_gains mixer (play_slots device)) story.desk.mapped (map_bytes_counted device story) story.areas (map_slots device)
+    (block_of device q (slot_gain mixer) story.desk.play (bytes_counted device story) (play_slots device)))
 
 -- it is the mix of its positions
 pub block-mixed : (device : DeviceSeen) (pool : Pool) (story : Story) (n : ℕ) → StoryIsValid device story
     → story_block device story n
-    ≡ flat_map (mix_at device (table_of device (told device pool story (Intr n))))
+    ≡ flat_map (mix_at device (told device pool story (Intr n)).faders (table_of device (told device pool story (Intr n))))
     (range_with_len story.desk.mixed (mixed_by device story.desk.handed n))
 block-mixed device pool story n v =
     let slots : ℕ = mixed_slots device in
     let q : ℕ = mixed_by device story.desk.handed n in
+    let mixer : Levels = story.desk.mixer in
+    let layout : Layout = (mix_settings device).layout in
     let position : ℕ = story.desk.mixed in
     let now : Table = table_of device (told device pool story (Intr n)) in
     let next : Table = next_table device story q in
-    let none : position + 0 ≡ position = omega arith in
-    fold-back device story q (map_slots device) v (block_of device q story.desk.play (bytes_counted device story) (play_slots device)) (fold-front device story q (play_slots device) (omega arith) v)
-    ∙ flat_map-range-same (front_mix device story q slots) (λ k. mix_at device now (position + k)) 0 q
-    (λ k l. sym (mix_of-same (bits_of (mix_settings device).format) (silence_in (mix_settings device)) now next slots
-    (position + (0 + k)) (λ slot. told_table device pool story n slot (position + (0 + k)))))
-    ∙ flat_map-range-shift (mix_at device now) position 0 q
-    ∙ ap (λ from. flat_map (mix_at device now) (range_with_len from q)) none
+    ap (faded layout (master_gain mixer))
+    (fold-back device story q (map_slots device) v (block_of device q (slot_gain mixer) story.desk.play (bytes_counted device story) (play_slots device)) (fold-front device story q (play_slots device) (omega arith) v)
+    ∙ flat_map-range-same (front_mix device story q slots) (λ k. sum_at device (mixer_table device mixer now) (position + k)) 0 q
+    (λ k l. sym (mix_of-same (bits_of (mix_settings device).format) (silence_in (mix_settings device)) (mixer_table device mixer now) next slots
+    (position + (0 + k)) (λ slot. ap (slot_faded device story slot) (told_table device pool story n slot (position + (0 + k)))))))
+    ∙ sums-faded device pool story n q now v (told-frames device pool story n v)

@@ -9,7 +9,7 @@ use Rattle.pcm_format.specs.Frames.{frame_bytes}
 use Rattle.pcm_rate.specs.declared.rate.Rate.{Rate}
 use Rattle.pcm_rate.specs.Rates.{need}
 use Rattle.pcm_oss.specs.declared.event.Event.{Event}
-use Rattle.pcm_oss.specs.declared.event.Event.TheVariants.{Open, Write, Poke, Read, Ioctl, Join, StartGroup, Close, Intr}
+use Rattle.pcm_oss.specs.declared.event.Event.TheVariants.{Open, Write, Poke, Read, Ioctl, Join, StartGroup, Close, Mixer, Intr}
 use Rattle.pcm_wave.specs.declared.pool.Pool.{Pool}
 use Rattle.pcm_feeder.specs.declared.kind.Kind.{Kind}
 use Rattle.pcm_feeder.specs.Filters.{Filters}
@@ -213,6 +213,8 @@ map-told kind kept plain filters pool story (StartGroup fd group) before now slo
     stands_kept kind kept (seen filters plain) pool story (StartGroup fd group) slot (get_or before slot other) (get_or now slot other) fits refl v refl (moves slot other there)
 map-told kind kept plain filters pool story (Close fd) before now slot other fits v own there moves =
     stands_kept kind kept (seen filters plain) pool story (Close fd) slot (get_or before slot other) (get_or now slot other) fits refl v refl (moves slot other there)
+map-told kind kept plain filters pool story (Mixer request) before now slot other fits v own there moves =
+    stands_kept kind kept (seen filters plain) pool story (Mixer request) slot (get_or before slot other) (get_or now slot other) fits refl v refl (moves slot other there)
 map-told kind kept plain filters pool story (Intr n) before now slot other fits v own there moves =
     stands_played kind kept plain filters pool story n slot (get_or before slot other) (get_or now slot other) v own (moves slot other there)
 
@@ -311,5 +313,6 @@ maps-ready {B = B} kind kept plain filters pool desk event before now same moves
     at (Join fd group) each = still untouched each
     at (StartGroup fd group) each = still untouched each
     at (Close fd) each = still untouched each
+    at (Mixer request) each = still untouched each
     at (Intr n) each = λ slot other within.
         map-ready-moved kind kept filters _ _ (get_or before slot other) (get_or now slot other) (each slot other (omega arith)).moves (ready slot other (omega arith))

@@ -1,101 +1,47 @@
 -- The frames that a story mixes, as it goes on, and the device's ring, which gets what the plan makes of them.
-use Rattle.std.proofs.Common.{◌≡◌, ℕ, ◌+◌, ◌*◌, ◌≤◌, List, [], ◌∷◌, ◌++◌, length, get_or, map, drop, fold, All, Option, Some, None, ℤ, pos, refl, sym, ap, ◌∙◌, arith}
+use Rattle.std.proofs.Common.{◌≡◌, ℕ, ◌+◌, ◌*◌, ◌≤◌, List, [], ◌++◌, length, get_or, map, drop, refl, sym, ap, ◌∙◌, arith}
 use Rattle.std.specs.List.{range_with_len}
 use Rattle.std.proofs.Math.Nat.{mul-le-mul_right}
 use Rattle.std.proofs.lemmas.List.{drop-append-le, drop-drop}
-use Rattle.std.proofs.lemmas.List.Elements.{All-map, All-replicate, All-weaker}
+use Rattle.std.proofs.lemmas.List.Elements.{All-map}
 use Rattle.std.proofs.lemmas.List.Folds.{flat_map-map}
 use Rattle.std.proofs.lemmas.Simd.{map-map}
 use Rattle.pcm_oss.specs.declared.event.Event.{Event}
 use Rattle.pcm_oss.specs.declared.event.Event.TheVariants.{Intr}
 use Rattle.pcm_wave.specs.declared.pool.Pool.{Pool}
-use Rattle.pcm_num.specs.Limit.{FitsBits}
-use Rattle.pcm_num.proofs.Limits.{FitsBits-mul_pow}
-use Rattle.pcm_format.specs.Formats.{bits_of}
 use Rattle.pcm_format.specs.Layouts.{channels_of}
 use Rattle.pcm_format.specs.Frames.{Frame}
-use Rattle.pcm_format.specs.Samples.{at_full}
-use Rattle.pcm_format.proofs.Spelling.{bits_of-above, bits_of-within, silence-fits}
 use Rattle.pcm_format.proofs.Streams.{channels_of-above}
 use Rattle.pcm_feeder.specs.Streams.{HaveChannels, interleaved}
 use Rattle.pcm_feeder.proofs.Frames.{frames_of-interleaved}
-use Rattle.pcm_plan.specs.Fits.{HaveBits}
 use Rattle.pcm_plan.specs.Through.{recs}
-use Rattle.pcm_mix.proofs.Blocks.{mixed-fits}
-use Rattle.pcm_desk.specs.Device.{DeviceSeen, device_frame_bytes, device_settings, filters_of, full_frame, mix_settings, mixed_for, mixed_slots, parent_plan, ring_frames}
+use Rattle.pcm_desk.specs.Device.{DeviceSeen, device_frame_bytes, device_settings, filters_of, full_frame, mix_settings, mixed_for, parent_plan, ring_frames}
 use Rattle.pcm_desk.specs.Desk.{mixed_by}
 use Rattle.pcm_desk.proofs.Ratios.{mixed-behind}
 use Rattle.pcm_sound.specs.Story.{Story, told}
-use Rattle.pcm_sound.specs.Mix.{Table, adding}
-use Rattle.pcm_sound.specs.DeviceList.{device_bytes, mix_at, mixed_frames, silence_in, table_of}
+use Rattle.pcm_sound.specs.DeviceList.{device_bytes, mix_at, mixed_frames, table_of}
 use Rattle.pcm_sound.specs.Valid.{StoryIsValid}
-use Rattle.pcm_sound.proofs.DeviceLists.{device_bytes-interrupt, length-device_bytes, mix_of-frame, mixed_frames-more, mixed_frames-told, new_block}
+use Rattle.pcm_sound.proofs.DeviceLists.{device_bytes-interrupt, length-device_bytes, mix_at-frame, mixed_frames-more, mixed_frames-told, new_block}
 use Rattle.pcm_vchan.specs.Blocks.{block_bytes, turned_ring}
 use Rattle.pcm_vchan.specs.Handovers.{raised_frames}
 use Rattle.pcm_engine.specs.Stands.{story_frames}
 use Rattle.pcm_engine.proofs.Blocks.{block-mixed, story_block, told-frames}
 
--- ---- the frames of a mix
-
--- a slot more keeps the bits of the sum
-adding-bits : (bits : ℕ) (sum : Frame) (given : Option Frame) → All (FitsBits bits) sum
-    → All (FitsBits bits) (adding bits sum given)
-adding-bits bits sum None fits = fits
-adding-bits bits sum (Some frame) fits = mixed-fits bits sum frame
-
--- and so do all slots
-adding_all-bits : (bits : ℕ) (table : Table) (position : ℕ) (sum : Frame) (slots : List ℕ) → All (FitsBits bits) sum
-    → All (FitsBits bits) (fold (λ sum slot. adding bits sum (table slot position)) sum slots)
-adding_all-bits bits table position sum [] fits = fits
-adding_all-bits bits table position sum (slot ∷ slots) fits =
-    adding_all-bits bits table position (adding bits sum (table slot position)) slots
-    (adding-bits bits sum (table slot position) fits)
-
--- each mixed frame has the bits of the mix
-mix_at-bits : (device : DeviceSeen) (table : Table) (position : ℕ)
-    → All (FitsBits (bits_of (mix_settings device).format)) (mix_at device table position)
-mix_at-bits device table position =
-    let from = mix_settings device in
-    let bits : ℕ = bits_of from.format in
-    adding_all-bits bits table position (silence_in from) (range_with_len 0 (mixed_slots device))
-    (All-replicate (FitsBits bits) (channels_of from.layout) (pos 0) (silence-fits bits))
-
--- at 32 bits it has these
-full-bits : (device : DeviceSeen) (frame : Frame) → All (FitsBits (bits_of (mix_settings device).format)) frame
-    → All (FitsBits 32) (full_frame device frame)
-full-bits device frame fits =
-    let format = (mix_settings device).format in
-    let bits : ℕ = bits_of format in
-    let full : ℤ → ℤ = at_full bits in
-    All-map (FitsBits 32) full frame (All-weaker (FitsBits bits) (λ z. FitsBits 32 (full z))
-    (λ z within. FitsBits-mul_pow bits z (bits_of-above format) (bits_of-within format) within) frame fits)
-
--- so all frames have them
-pub mixed_frames-bits : (device : DeviceSeen) (table : Table) (count : ℕ)
-    → HaveBits 32 (mixed_frames device (mix_at device table) count)
-mixed_frames-bits device table count =
-    let positions : List ℕ = range_with_len 0 count in
-    All-map (λ (frame : Frame). All (FitsBits 32) frame) (λ position. full_frame device (mix_at device table position))
-    positions (λ k d l. (let position : ℕ = get_or positions k d in
-    full-bits device (mix_at device table position) (mix_at-bits device table position)))
-
 -- ---- what a story mixes
 
 -- the mix of a story, by position
 abbrev pub story_mix : DeviceSeen → Story → ℕ → Frame
-story_mix device story = mix_at device (table_of device story)
+story_mix device story = mix_at device story.faders (table_of device story)
 
 -- at an interrupt they have the channels of the mix
 told-channels : (device : DeviceSeen) (pool : Pool) (story : Story) (n from count : ℕ) → StoryIsValid device story
     → HaveChannels (channels_of (mix_settings device).layout)
     (map (story_mix device (told device pool story (Intr n))) (range_with_len from count))
 told-channels device pool story n from count v =
-    let now : Table = table_of device (told device pool story (Intr n)) in
+    let new : Story = told device pool story (Intr n) in
     let positions : List ℕ = range_with_len from count in
-    All-map (λ (frame : Frame). length frame ≡ channels_of (mix_settings device).layout) (mix_at device now) positions
-    (λ k d l. (let position : ℕ = get_or positions k d in
-    mix_of-frame device (bits_of (mix_settings device).format) now (mixed_slots device) position
-    (λ slot. told-frames device pool story n v slot position)))
+    All-map (λ (frame : Frame). length frame ≡ channels_of (mix_settings device).layout) (story_mix device new) positions
+    (λ k d l. mix_at-frame device new.faders (table_of device new) (get_or positions k d) (λ slot. told-frames device pool story n v slot (get_or positions k d)))
 
 -- the block of an interrupt, at 32 bits, is the mix of its positions
 pub raised-block : (device : DeviceSeen) (pool : Pool) (story : Story) (n : ℕ) → StoryIsValid device story

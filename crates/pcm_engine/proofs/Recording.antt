@@ -3,7 +3,7 @@ use Rattle.std.proofs.Common.{◌≡◌, ℕ, ◌<◌, Bool, true, false, List, 
 use Rattle.std.specs.Prelude.{All}
 use Rattle.std.proofs.lemmas.List.{append-nil, get_or-map, take_all}
 use Rattle.pcm_oss.specs.declared.event.Event.{Event}
-use Rattle.pcm_oss.specs.declared.event.Event.TheVariants.{Open, Write, Poke, Read, Ioctl, Join, StartGroup, Close, Intr}
+use Rattle.pcm_oss.specs.declared.event.Event.TheVariants.{Open, Write, Poke, Read, Ioctl, Join, StartGroup, Close, Mixer, Intr}
 use Rattle.pcm_oss.specs.declared.event.Way.{Way}
 use Rattle.pcm_oss.specs.declared.event.Way.TheVariants.{Play, Record, Map}
 use Rattle.pcm_oss.specs.declared.reply.Answer.{Answer}
@@ -134,6 +134,7 @@ slots_stand kind kept device own pool story (Ioctl fd request) before now d c fi
 slots_stand kind kept device own pool story (Join fd group) before now d c fits seen_is are b n same moves s = still kind kept device pool story (Join fd group) before now fits refl b n same moves s
 slots_stand kind kept device own pool story (StartGroup fd group) before now d c fits seen_is are b n same moves s = still kind kept device pool story (StartGroup fd group) before now fits refl b n same moves s
 slots_stand kind kept device own pool story (Close fd) before now d c fits seen_is are b n same moves s = still kind kept device pool story (Close fd) before now fits refl b n same moves s
+slots_stand kind kept device own pool story (Mixer request) before now d c fits seen_is are b n same moves s = still kind kept device pool story (Mixer request) before now fits refl b n same moves s
 slots_stand kind kept device own pool story (Intr frames) before now d c fits seen_is are b n same moves s = heard kind kept device own pool story frames before now d c seen_is are b n same moves s
 
 -- What stood for a story stands, one step on, for the story with one event more.
@@ -173,6 +174,7 @@ recorders-ready {B = B} kind kept device pool handed event before now same moves
     at (Join fd group) each = plain each
     at (StartGroup fd group) each = plain each
     at (Close fd) each = plain each
+    at (Mixer request) each = plain each
     at (Intr n) each = λ slot other within.
         record-ready-moved kind kept (filters_of device) _ _ (get_or before slot other) (get_or now slot other) (each slot other (omega arith)).moves (ready slot other (omega arith))
 
@@ -214,6 +216,7 @@ answered-told device pool story (Ioctl fd request) v = refl
 answered-told device pool story (Join fd group) v = refl
 answered-told device pool story (StartGroup fd group) v = refl
 answered-told device pool story (Close fd) v = refl
+answered-told device pool story (Mixer request) v = refl
 answered-told device pool story (Intr n) v = refl
 
 -- a reply that has this result and these bytes

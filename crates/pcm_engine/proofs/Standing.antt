@@ -1,18 +1,20 @@
 -- A desk, channels and a ring that stand for a story stand for it with one event more.
-use Rattle.std.proofs.Common.{◌≡◌, ℕ, ◌+◌, ◌*◌, ◌<◌, ◌≤◌, List, ◌++◌, length, get_or, take, drop, refl, sym, ap, ◌∙◌, subst, arith}
+use Rattle.std.proofs.Common.{◌≡◌, ℕ, ◌+◌, ◌*◌, ◌<◌, ◌≤◌, List, ◌++◌, length, get_or, take, drop, ℤ, refl, sym, ap, ◌∙◌, subst, arith}
 use Rattle.std.proofs.lemmas.List.{append-nil, take-append-le, get_or-map}
 use Rattle.std.proofs.Math.Seq.{take-add}
 use Rattle.std.proofs.Math.Nat.{mul-le-mul_right}
 use Rattle.pcm_oss.specs.declared.event.Event.{Event}
-use Rattle.pcm_oss.specs.declared.event.Event.TheVariants.{Open, Write, Poke, Read, Ioctl, Join, StartGroup, Close, Intr}
+use Rattle.pcm_oss.specs.declared.event.Event.TheVariants.{Open, Write, Poke, Read, Ioctl, Join, StartGroup, Close, Mixer, Intr}
 use Rattle.pcm_wave.specs.declared.pool.Pool.{Pool}
 use Rattle.pcm_feeder.specs.declared.kind.Kind.{Kind}
 use Rattle.pcm_feeder.specs.Kept.{Kept}
 use Rattle.pcm_feeder.specs.Filters.{Filters}
+use Rattle.pcm_mixdev.specs.Fades.{faded}
+use Rattle.pcm_mixdev.specs.Mixers.{Levels, master_gain, slot_gain}
 use Rattle.pcm_desk.specs.declared.device.Device.{Device}
 use Rattle.pcm_desk.specs.declared.map_book.MapBook.{MapBook}
 use Rattle.pcm_desk.specs.declared.play_book.PlayBook.{PlayBook}
-use Rattle.pcm_desk.specs.Device.{DeviceSeen, device_frame_bytes, device_settings, filters_of, map_slots, parent_plan, play_slots, ring_frames, seen}
+use Rattle.pcm_desk.specs.Device.{DeviceSeen, device_frame_bytes, device_settings, filters_of, map_slots, mix_settings, parent_plan, play_slots, ring_frames, seen}
 use Rattle.pcm_desk.specs.Desk.{Desk, play_at, play_unopened, held_by, after, mixed_by}
 use Rattle.pcm_desk.specs.Events.{Fits, bytes_handed, frames_taken}
 use Rattle.pcm_sound.specs.Runs.{carrying, newest_bytes}
@@ -31,7 +33,7 @@ use Rattle.pcm_feeder.specs.Streams.{interleaved}
 use Rattle.pcm_plan.specs.Through.{recs}
 use Rattle.pcm_chain.specs.declared.chain.ChainOf.{ChainOf}
 use Rattle.pcm_engine.specs.Steps.{BusMoves, bytes_brought, ChannelsMove, MapsMove}
-use Rattle.pcm_vchan.specs.Blocks.{block_bytes, block_of, mapped_onto, turned_ring, Sources}
+use Rattle.pcm_vchan.specs.Blocks.{block_bytes, block_of, map_gains, mapped_onto, turned_ring, Sources}
 use Rattle.pcm_vchan.specs.Buses.{mixed_at_once}
 use Rattle.pcm_vchan.specs.Handovers.{HasMade, raised_frames}
 use Rattle.pcm_engine.specs.Stands.{bytes_counted, map_bytes_counted, story_frames, MapSlotStands, PartsStand}
@@ -69,7 +71,7 @@ pub record Stepped {B : Type 0} (kind : B → Kind) (kept : B → Kept) (plain :
   pub all_mapped : length before.maps ≡ plain.map_slots
   pub own : MapAreOf plain before.maps
   pub maps : MapsMove kind kept filters plain pool old event before.maps now.maps
-  pub bus : BusMoves kept (seen filters plain) old.handed event before.channels before.maps before.chain now.chain before.ring now.ring
+  pub bus : BusMoves kept (seen filters plain) old.handed old.mixer event before.channels before.maps before.chain now.chain before.ring now.ring
 
 -- the part of a step that is about a story: its own desks stand at both ends
 abbrev StoryStep : {B : Type 0} → (B → Kind) → (B → Kept) → Device → Filters → Pool → Story → Event → Parts B → Parts B → Type 0
@@ -128,6 +130,10 @@ counts_told device pool story (StartGroup fd group) slot fits v more = record {
 counts_told device pool story (Close fd) slot fits v more = record {
   are = marks device pool story (Close fd) slot
       ∙ counted-kept (play_at device story.desk slot) (play_at device (told device pool story (Close fd)).desk slot).written (newest_bytes (story.runs slot)) (omega arith);
+}
+counts_told device pool story (Mixer request) slot fits v more = record {
+  are = marks device pool story (Mixer request) slot
+      ∙ counted-kept (play_at device story.desk slot) (play_at device (told device pool story (Mixer request)).desk slot).written (newest_bytes (story.runs slot)) (omega arith);
 }
 counts_told device pool story (Intr n) slot fits v more =
     let old : PlayBook = play_at device story.desk slot in
@@ -222,6 +228,8 @@ bus_told kind kept plain filters pool story (StartGroup fd group) before now fit
     bus_kept kept (seen filters plain) pool story (StartGroup fd group) before now fits refl st.bus s.valid (bus_before kept (seen filters plain) story before s)
 bus_told kind kept plain filters pool story (Close fd) before now fits st s =
     bus_kept kept (seen filters plain) pool story (Close fd) before now fits refl st.bus s.valid (bus_before kept (seen filters plain) story before s)
+bus_told kind kept plain filters pool story (Mixer request) before now fits st s =
+    bus_kept kept (seen filters plain) pool story (Mixer request) before now fits refl st.bus s.valid (bus_before kept (seen filters plain) story before s)
 bus_told kind kept plain filters pool story (Intr n) before now fits st s =
     let device : DeviceSeen = seen filters plain in
     let handed : ℕ = story.desk.handed in
@@ -231,11 +239,13 @@ bus_told kind kept plain filters pool story (Intr n) before now fits st s =
     let sources : Sources = record { played = streams; taken = taken; areas = story.areas } in
     let x : List Frame = story_frames device story handed in
     let turned = st.bus sources x (record { playing = all_stand kept device story before st.play_before s; mapped = all-map kept device story before.maps st.map_before s.mapped }) s.bus in
-    let all : x ++ mixed_at_once device handed n before.channels before.maps sources ≡ story_frames device (told device pool story (Intr n)) (handed + n) =
-    ap (λ (books : List PlayBook). x ++ raised_frames device (mapped_onto device q (map_books_of before.maps) taken story.areas (length before.maps) (block_of device q books streams (length before.channels)))) (sym st.play_before)
-    ∙ ap (λ slots. x ++ raised_frames device (mapped_onto device q (map_books_of before.maps) taken story.areas (length before.maps) (block_of device q story.desk.play streams slots))) st.all_slots
-    ∙ ap (λ (books : List MapBook). x ++ raised_frames device (mapped_onto device q books taken story.areas (length before.maps) (block_of device q story.desk.play streams plain.play_slots))) (sym st.map_before)
-    ∙ ap (λ slots. x ++ raised_frames device (mapped_onto device q story.desk.mapped taken story.areas slots (block_of device q story.desk.play streams plain.play_slots))) st.all_mapped
+    let mixer : Levels = story.desk.mixer in
+    let at_master : List ℤ → List Frame = λ block. x ++ raised_frames device (faded (mix_settings device).layout (master_gain mixer) block) in
+    let all : x ++ mixed_at_once device handed n mixer before.channels before.maps sources ≡ story_frames device (told device pool story (Intr n)) (handed + n) =
+    ap (λ (books : List PlayBook). at_master (mapped_onto device q (map_gains mixer (length before.channels)) (map_books_of before.maps) taken story.areas (length before.maps) (block_of device q (slot_gain mixer) books streams (length before.channels)))) (sym st.play_before)
+    ∙ ap (λ slots. at_master (mapped_onto device q (map_gains mixer slots) (map_books_of before.maps) taken story.areas (length before.maps) (block_of device q (slot_gain mixer) story.desk.play streams slots))) st.all_slots
+    ∙ ap (λ (books : List MapBook). at_master (mapped_onto device q (map_gains mixer plain.play_slots) books taken story.areas (length before.maps) (block_of device q (slot_gain mixer) story.desk.play streams plain.play_slots))) (sym st.map_before)
+    ∙ ap (λ slots. at_master (mapped_onto device q (map_gains mixer plain.play_slots) story.desk.mapped taken story.areas slots (block_of device q (slot_gain mixer) story.desk.play streams plain.play_slots))) st.all_mapped
     ∙ mixed-on device pool story n s.valid in (
       subst (λ (frames : List Frame). HasMade kept device now.chain frames (handed + n)) all turned.made,
       turned.ring
@@ -293,6 +303,7 @@ body-told kept device pool story (Ioctl fd request) desk parts fits s = body_kep
 body-told kept device pool story (Join fd group) desk parts fits s = body_kept device pool story (Join fd group) parts.ring fits refl s.valid
 body-told kept device pool story (StartGroup fd group) desk parts fits s = body_kept device pool story (StartGroup fd group) parts.ring fits refl s.valid
 body-told kept device pool story (Close fd) desk parts fits s = body_kept device pool story (Close fd) parts.ring fits refl s.valid
+body-told kept device pool story (Mixer request) desk parts fits s = body_kept device pool story (Mixer request) parts.ring fits refl s.valid
 body-told kept device pool story (Intr n) desk parts fits s =
     let z : ℕ = device_frame_bytes device in
     let handed : ℕ = story.desk.handed in

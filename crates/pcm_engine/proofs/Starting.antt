@@ -12,6 +12,7 @@ use Rattle.pcm_feeder.specs.declared.kind.Kind.{Kind}
 use Rattle.pcm_feeder.specs.Filters.{Filters}
 use Rattle.pcm_feeder.specs.Kept.{Kept}
 use Rattle.pcm_group.specs.Groups.{no_groups}
+use Rattle.pcm_mixdev.specs.Mixers.{full_mixer}
 use Rattle.pcm_desk.specs.declared.play_book.PlayBook.{PlayBook}
 use Rattle.pcm_desk.specs.declared.device.Device.{Device}
 use Rattle.pcm_desk.specs.declared.limits.TheConstants.{DESCRIPTORS}
@@ -114,6 +115,7 @@ pub record IsUnopened {B : Type 0} (kind : B → Kind) (kept : B → Kept) (filt
   pub maps : All (IsMapUnopened kind kept filters device) (map_channels parent)
   pub shut : descriptors.held ≡ replicate DESCRIPTORS None
   pub groups : descriptors.groups ≡ no_groups
+  pub mixer : parent.mixer ≡ full_mixer
   pub made : HasMade kept (seen filters device) parent.bus.chain [] 0
   pub ring : parent.ring.bytes ≡ silent_ring (seen filters device)
   pub handed : parent.handed ≡ 0
@@ -124,7 +126,7 @@ unopened_desk : {B : Type 0} (kind : B → Kind) (kept : B → Kept) (filters : 
 unopened_desk kind kept filters device parent descriptors u =
     let play = play_books_of-play_unopened kind kept filters device (play_channels parent) u.slots u.channels in
     let mapped = map_books_of-unopened kind kept filters device (map_channels parent) u.mapped u.maps in
-    λ i. record { play = play i; recording = u.recorders i; mapped = mapped i; descriptors = u.shut i; groups = u.groups i; handed = u.handed i; mixed = u.mixed i }
+    λ i. record { play = play i; recording = u.recorders i; mapped = mapped i; descriptors = u.shut i; groups = u.groups i; mixer = u.mixer i; handed = u.handed i; mixed = u.mixed i }
 
 unopened_stands : {B : Type 0} (kind : B → Kind) (kept : B → Kept) (filters : Filters) (device : Device) (parent : ParentOf B) (descriptors : Descriptors) → IsDevice (seen filters device) → IsUnopened kind kept filters device parent descriptors
     → PartsStand kept (seen filters device) (desk_with parent descriptors) (play_channels parent) (map_channels parent) parent.bus.chain parent.ring.bytes (story_at_start (seen filters device))

@@ -30,6 +30,7 @@ desk_with parent descriptors = record {
   mapped = map_books parent;
   descriptors = descriptors.held;
   groups = descriptors.groups;
+  mixer = parent.mixer;
   handed = parent.handed;
   mixed = parent.mixed;
 }

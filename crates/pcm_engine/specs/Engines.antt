@@ -122,7 +122,7 @@ StepMaps kind kept pool event old new =
 -- and of its bus and the device's ring, whatever bytes its channels stand for
 abbrev pub StepTurns : {B : Type 0} → (B → Kept) → Event → EngineOf B → EngineOf B → Type 0
 StepTurns kept event old new =
-    BusMoves kept (device_of old) old.parent.handed event (play_channels old.parent) (map_channels old.parent) old.parent.bus.chain new.parent.bus.chain old.parent.ring.bytes new.parent.ring.bytes
+    BusMoves kept (device_of old) old.parent.handed old.parent.mixer event (play_channels old.parent) (map_channels old.parent) old.parent.bus.chain new.parent.bus.chain old.parent.ring.bytes new.parent.ring.bytes
 
 -- ---- what holds of every engine
 

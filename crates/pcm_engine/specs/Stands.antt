@@ -35,7 +35,7 @@ pub record MapSlotStands {B : Type 0} (kept : B → Kept) (device : DeviceSeen) 
 
 -- all frames that a story has mixed, at 32 bits, as many as those that were handed over need
 abbrev pub story_frames : DeviceSeen → Story → ℕ → List Frame
-story_frames device story handed = mixed_frames device (mix_at device (table_of device story)) (mixed_for device handed)
+story_frames device story handed = mixed_frames device (mix_at device story.faders (table_of device story)) (mixed_for device handed)
 
 -- A desk, channels, the chain between the mix and the device, and a device's ring stand for a story: the desk is the story's, each
 -- channel stands for its slot's book and the bytes that it counts, and a mapped one for its area besides, the chain has made what was handed over of what was mixed, and the

@@ -8,6 +8,7 @@ use Rattle.pcm_feeder.specs.declared.kind.Kind.{Kind}
 use Rattle.pcm_feeder.specs.Filters.{Filters}
 use Rattle.pcm_feeder.specs.Kept.{Kept}
 use Rattle.pcm_feeder.specs.Streams.{interleaved}
+use Rattle.pcm_mixdev.specs.Mixers.{Levels}
 use Rattle.pcm_desk.specs.declared.device.Held.{Held}
 use Rattle.pcm_chain.specs.declared.chain.ChainOf.{ChainOf}
 use Rattle.pcm_desk.specs.Device.{DeviceSeen, device_settings, filters_of, seen}
@@ -44,9 +45,9 @@ ChannelsMove kind kept device pool handed event old new =
     Each (PlayMoves kind kept (filters_of device) (bytes_brought pool event) (frames_mixed device handed event)) old new
 
 -- the chain between the mix and the device, and the device's ring, after an event
-abbrev pub BusMoves : {B : Type 0} → (B → Kept) → DeviceSeen → ℕ → Event → List (PlayChannelOf B) → List (MapChannelOf B) → ChainOf B → ChainOf B → List ℕ → List ℕ → Type 0
-BusMoves kept device handed (Intr n) channels maps old new ring after = TurnsBus kept device handed n channels maps old new ring after
-BusMoves kept device handed event channels maps old new ring after = (new ≡ old) × (after ≡ ring)
+abbrev pub BusMoves : {B : Type 0} → (B → Kept) → DeviceSeen → ℕ → Levels → Event → List (PlayChannelOf B) → List (MapChannelOf B) → ChainOf B → ChainOf B → List ℕ → List ℕ → Type 0
+BusMoves kept device handed mixer (Intr n) channels maps old new ring after = TurnsBus kept device handed n mixer channels maps old new ring after
+BusMoves kept device handed mixer event channels maps old new ring after = (new ≡ old) × (after ≡ ring)
 
 -- the mapped channels after an event at a desk: an interrupt takes what stands in their areas, and another event writes into these what the
 -- rules say

@@ -19,6 +19,7 @@ use crate::clients::{answer_read, close, open, poke, write};
 use crate::descriptors::Descriptors;
 use crate::grouped::{ioctl, join, start_group};
 use crate::interrupts::interrupt;
+use crate::mixer_calls::ask_mixer;
 use pcm_desk::Device;
 use pcm_feeder::{Feeder, RacksOf, Tables};
 use pcm_fixed::Fixed;
@@ -228,6 +229,7 @@ impl<B: Feeder> EngineOf<B> {
                 )
             }
             Event::Close { fd } => tell(reply, close(parent, descriptors, fd, here)),
+            Event::Mixer { request } => tell(reply, ask_mixer(parent, request)),
             Event::Intr { frames } => {
                 reply.keep(Ok(Answer::Number(frames)), &[]);
                 interrupt(parent, tables, pool, frames, &mut self.captured, out)

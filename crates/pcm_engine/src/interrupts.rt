@@ -43,6 +43,7 @@ pub fn interrupt<B: Feeder>(
     ensures maps_own { MapAreOf parent.new.device (map_channels parent.new) }
     ensures maps_slots { length (map_channels parent.new) ≡ length (map_channels parent.old) }
     ensures maps { EachMapPlays B.kind B.kept tables.now frames parent.old parent.new }
+    ensures mixer { parent.new.mixer ≡ parent.old.mixer }
     ensures handed { parent.new.handed ≡ parent.old.handed + frames }
     ensures mixed { parent.new.mixed ≡ parent.old.mixed + mixed_in tables.now frames parent.old }
     ensures count { result ≡ frames * frame_bytes parent.old.device.settings }

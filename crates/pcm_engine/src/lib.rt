@@ -9,6 +9,7 @@ mod grouped;
 mod interrupts;
 mod laws;
 mod limits;
+mod mixer_calls;
 
 pub use engine::{Engine, EngineOf};
 pub use laws::engines_stand_with_alike_pools;

@@ -3,16 +3,19 @@ use Rattle.std.proofs.Common.{◌≡◌, ℕ, ℤ, ◌+◌, ◌-◌, ◌*◌, �
 use Rattle.std.specs.List.{range_with_len}
 use Rattle.std.proofs.Math.Nat.{zero-div}
 use Rattle.std.proofs.lemmas.List.{append-nil, drop_all, take_all, take_at}
+use Rattle.pcm_format.specs.declared.layout.Layout.{Layout}
 use Rattle.pcm_format.specs.declared.settings.Settings.{Settings}
 use Rattle.pcm_format.specs.Formats.{bits_of}
 use Rattle.pcm_format.specs.Frames.{Frame, frame_at, frame_bytes, frames}
 use Rattle.pcm_format.specs.Layouts.{channels_of}
 use Rattle.pcm_feeder.specs.declared.kind.Kind.{Kind}
+use Rattle.pcm_feeder.specs.declared.stage.Gain.{Gain}
 use Rattle.pcm_feeder.specs.Filters.{Filters}
 use Rattle.pcm_feeder.specs.Kept.{Kept}
 use Rattle.pcm_feeder.specs.Limits.{IsRate}
 use Rattle.pcm_feeder.specs.Racks.{HaveKinds}
 use Rattle.pcm_mix.specs.Mix.{mixed}
+use Rattle.pcm_mixdev.specs.Fades.{faded}
 use Rattle.pcm_oss.specs.declared.event.Way.TheVariants.{Map}
 use Rattle.pcm_oss.specs.declared.request.Request.{Request}
 use Rattle.pcm_rate.specs.declared.rate.Rate.{Rate}
@@ -154,33 +157,36 @@ moves-given {B = B} kind kept filters n old new samples some running g =
       given = omega (arith, given);
     }
 
--- it adds its frames to the block
-pub turned-given : {B : Type 0} (kind : B → Kind) (kept : B → Kept) (filters : Filters) (n : ℕ) (old new : MapChannelOf B) (samples sum acc : List ℤ) (bits : ℕ) → 0 < n → is_map_running old.book.state ≡ true → MapGives kind kept filters n old new samples
-    → length samples ≡ n * channels_of old.path.device.mix.layout → length sum ≡ n * channels_of old.path.device.mix.layout → bits ≡ bits_of old.path.device.mix.format → acc ≡ mixed bits sum samples
-    → (bytes : List ℕ) → MapStands kept filters old old.book bytes → acc ≡ map_turned (seen filters old.path.device) n old.book bytes (area_of old) sum
-turned-given kind kept filters n old new samples sum acc bits some running g samples_long sum_long bits_is acc_is bytes s =
+-- it adds its frames to the block, at the gain of its slot
+pub turned-given : {B : Type 0} (kind : B → Kind) (kept : B → Kept) (filters : Filters) (n : ℕ) (fader : Gain) (old new : MapChannelOf B) (samples sum acc : List ℤ) (bits : ℕ) → 0 < n → is_map_running old.book.state ≡ true → MapGives kind kept filters n old new samples
+    → length samples ≡ n * channels_of old.path.device.mix.layout → length sum ≡ n * channels_of old.path.device.mix.layout → bits ≡ bits_of old.path.device.mix.format → acc ≡ mixed bits sum (faded old.path.device.mix.layout fader samples)
+    → (bytes : List ℕ) → MapStands kept filters old old.book bytes → acc ≡ map_turned (seen filters old.path.device) n fader old.book bytes (area_of old) sum
+turned-given kind kept filters n fader old new samples sum acc bits some running g samples_long sum_long bits_is acc_is bytes s =
     let d : DeviceSeen = seen filters old.path.device in
     let settings : Settings = old.book.opening.settings in
-    let size : ℕ = channels_of old.path.device.mix.layout in
+    let layout : Layout = old.path.device.mix.layout in
+    let size : ℕ = channels_of layout in
     let deep : ℕ = bits_of old.path.device.mix.format in
-    let given : List ℤ = given_samples d (map_gain old.book) settings (bytes ++ taken_for filters n old) old.book.given n in
-    let samples_are : samples ≡ given = sym (take_all (n * size) samples (omega (arith, samples_long))) ∙ g.samples_are bytes s in
+    let given : List ℕ → ℕ → List ℤ = λ more k. faded layout fader (given_samples d (map_gain old.book) settings (bytes ++ more) old.book.given k) in
+    let taken : List ℕ = taken_for filters n old in
+    let samples_are : samples ≡ given_samples d (map_gain old.book) settings (bytes ++ taken) old.book.given n = sym (take_all (n * size) samples (omega (arith, samples_long))) ∙ g.samples_are bytes s in
     let front : take (n * size) sum ≡ sum = take_all (n * size) sum (omega (arith, sum_long)) in
     let back : drop (n * size) sum ≡ [] = drop_all (n * size) sum (omega (arith, sum_long)) in
-    acc_is ∙ ap (λ (b : ℕ). mixed b sum samples) bits_is ∙ ap (λ (list : List ℤ). mixed deep sum list) samples_are
-    ∙ ap (λ (list : List ℤ). mixed deep list given) (sym front)
-    ∙ sym (append-nil (mixed deep (take (n * size) sum) given))
-    ∙ ap (λ (rest : List ℤ). mixed deep (take (n * size) sum) given ++ rest) (sym back)
-    ∙ ap (λ (more : List ℕ). mixed deep (take (n * size) sum) (given_samples d (map_gain old.book) settings (bytes ++ more) old.book.given n) ++ drop (n * size) sum) (sym (taken-mixing filters n old some running))
-    ∙ ap (λ (k : ℕ). mixed deep (take (k * size) sum) (given_samples d (map_gain old.book) settings (bytes ++ area_taken d n old.book (area_of old)) old.book.given k) ++ drop (k * size) sum)
+    acc_is ∙ ap (λ (b : ℕ). mixed b sum (faded layout fader samples)) bits_is ∙ ap (λ (list : List ℤ). mixed deep sum (faded layout fader list)) samples_are
+    ∙ ap (λ (list : List ℤ). mixed deep list (given taken n)) (sym front)
+    ∙ sym (append-nil (mixed deep (take (n * size) sum) (given taken n)))
+    ∙ ap (λ (rest : List ℤ). mixed deep (take (n * size) sum) (given taken n) ++ rest) (sym back)
+    ∙ ap (λ (more : List ℕ). mixed deep (take (n * size) sum) (given more n) ++ drop (n * size) sum) (sym (taken-mixing filters n old some running))
+    ∙ ap (λ (k : ℕ). mixed deep (take (k * size) sum) (given (area_taken d n old.book (area_of old)) k) ++ drop (k * size) sum)
     (ap (λ b. cond b n 0) (sym running))
 
 -- a channel that isn't started adds nothing to a block
-pub turned-none : (device : DeviceSeen) (n : ℕ) (book : MapBook) (bytes area : List ℕ) (sum : List ℤ) → is_map_running book.state ≡ false → sum ≡ map_turned device n book bytes area sum
-turned-none device n book bytes area sum idle =
-    let size : ℕ = channels_of (mix_settings device).layout in
+pub turned-none : (device : DeviceSeen) (n : ℕ) (fader : Gain) (book : MapBook) (bytes area : List ℕ) (sum : List ℤ) → is_map_running book.state ≡ false → sum ≡ map_turned device n fader book bytes area sum
+turned-none device n fader book bytes area sum idle =
+    let layout : Layout = (mix_settings device).layout in
+    let size : ℕ = channels_of layout in
     let bits : ℕ = bits_of (mix_settings device).format in
     let none : 0 * size ≡ 0 = omega arith in
-    let samples : ℕ → List ℤ = given_samples device (map_gain book) book.opening.settings (bytes ++ area_taken device n book area) book.given in
+    let samples : ℕ → List ℤ = λ k. faded layout fader (given_samples device (map_gain book) book.opening.settings (bytes ++ area_taken device n book area) book.given k) in
     sym (ap (λ (k : ℕ). mixed bits (take (k * size) sum) (samples k) ++ drop (k * size) sum) (ap (λ b. cond b n 0) idle)
     ∙ ap (λ (m : ℕ). mixed bits (take m sum) (samples 0) ++ drop m sum) none)

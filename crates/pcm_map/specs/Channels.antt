@@ -3,6 +3,7 @@ use Rattle.std.specs.Prelude.{◌≡◌, ℕ, ◌+◌, ◌≤◌, ℤ, if◌then
 use Rattle.pcm_fixed.specs.Fixed.{fixed_items}
 use Rattle.pcm_format.specs.Frames.{frames}
 use Rattle.pcm_feeder.specs.declared.kind.Kind.{Kind}
+use Rattle.pcm_feeder.specs.declared.stage.Gain.{Gain}
 use Rattle.pcm_feeder.specs.Filters.{Filters}
 use Rattle.pcm_feeder.specs.Kept.{Kept}
 use Rattle.pcm_feeder.specs.Racks.{HaveKinds}
@@ -45,10 +46,10 @@ pub record IsMapReady {B : Type 0} (kind : B → Kind) (kept : B → Kept) (filt
   pub planned : IsMapPlanned filters channel
   pub stands : MapStandsForSome kept filters channel
 
--- whatever bytes were taken before, a channel adds to a block of so many frames what the rules say of them and of its area
-abbrev pub MapAddsTo : {B : Type 0} → (B → Kept) → Filters → Device → ℕ → List ℤ → List ℤ → MapChannelOf B → Type 0
-MapAddsTo kept filters device n old new channel = (bytes : List ℕ) → MapStands kept filters channel channel.book bytes
-    → new ≡ map_turned (seen filters device) n channel.book bytes (area_of channel) old
+-- whatever bytes were taken before, a channel adds to a block of so many frames what the rules say of them and of its area, at a gain
+abbrev pub MapAddsTo : {B : Type 0} → (B → Kept) → Filters → Device → ℕ → Gain → List ℤ → List ℤ → MapChannelOf B → Type 0
+MapAddsTo kept filters device n gain old new channel = (bytes : List ℕ) → MapStands kept filters channel channel.book bytes
+    → new ≡ map_turned (seen filters device) n gain channel.book bytes (area_of channel) old
 
 -- a request leaves the area, but for one by which the area has another format, other channels or another size
 abbrev pub RecutsArea : {B : Type 0} → MapChannelOf B → MapChannelOf B → Type 0

@@ -5,7 +5,7 @@ ghost use Rattle.pcm_fixed.specs.Fixed.{fixed_len};
 ghost use Rattle.pcm_format.specs.Formats.{bits_of};
 ghost use Rattle.pcm_format.specs.Layouts.{channels_of};
 ghost use Rattle.pcm_num.specs.Limit.{FitsBits};
-ghost use Rattle.pcm_feeder.specs.Limits.{IsRate};
+ghost use Rattle.pcm_feeder.specs.Limits.{IsGain, IsRate};
 ghost use Rattle.pcm_feeder.specs.Racks.{HaveKinds, IsRack};
 ghost use Rattle.pcm_oss.specs.declared.event.Way.TheVariants.{Map};
 ghost use Rattle.pcm_oss.specs.declared.fragments.TheConstants.{RING_BYTES};
@@ -26,10 +26,11 @@ ghost use Rattle.pcm_sound.specs.Areas.{poked, silent_area};
 
 use crate::area::{put_round, recut, silence};
 use pcm_desk::{Device, MapBook, MapState, Opening};
-use pcm_feeder::{Feeder, RackOf, Tables};
+use pcm_feeder::{Feeder, Gain, RackOf, Tables};
 use pcm_fixed::Fixed;
 use pcm_format::Settings;
 use pcm_mix::mix_into;
+use pcm_mixdev::apply_gain;
 use pcm_oss::{Answer, Errno, RING_BYTES, Request, Way, gain_of};
 use pcm_path::PathOf;
 use std::alloc::{AllocError, Global};
@@ -160,10 +161,18 @@ impl<B: Feeder> MapChannelOf<B> {
         self.path.restart();
     }
 
-    /// Adds the channel's frames to a block of the mix, as many as an interrupt that mixes `n` frames gets: what they need is taken out of the
-    /// area as it stands. `frames` holds them meanwhile.
-    pub fn refill(&mut self, tables: &Tables, n: usize, frames: &mut [i32], sum: &mut [i32])
+    /// Adds the channel's frames to a block of the mix at the gain of its slot, as many as an interrupt that mixes `n` frames gets: what they
+    /// need is taken out of the area as it stands. `frames` holds them meanwhile.
+    pub fn refill(
+        &mut self,
+        tables: &Tables,
+        n: usize,
+        slot_gain: Gain,
+        frames: &mut [i32],
+        sum: &mut [i32],
+    )
         requires some { 0 < n }
+        requires gain { IsGain slot_gain }
         requires ready { IsMapReady B.kind B.kept tables.now self.old }
         requires block { HoldBlock self.old.path.device n frames.old sum.old }
         requires count { self.old.book.given + n < 2 ^ 50 }
@@ -171,14 +180,16 @@ impl<B: Feeder> MapChannelOf<B> {
         ensures device { self.new.path.device ≡ self.old.path.device }
         ensures area { area_of self.new ≡ area_of self.old }
         ensures moves { MapTakes B.kind B.kept tables.now n self.old self.new }
-        ensures sum { MapAddsTo B.kept tables.now self.old.path.device n sum.old sum.new self.old }
+        ensures sum { MapAddsTo B.kept tables.now self.old.path.device n slot_gain sum.old sum.new self.old }
         ensures fits { All (FitsBits (bits_of self.old.path.device.mix.format)) sum.new }
     {
         if !self.book.is_running() {
             return;
         }
+        let settings = self.path.device.mix;
         self.give(tables, n, frames);
-        mix_into(sum, frames, self.path.device.mix.format.bits());
+        apply_gain(slot_gain, settings.layout, frames);
+        mix_into(sum, frames, settings.format.bits());
     }
 
     // A started channel gives its next frames, piece by piece.

@@ -1,6 +1,6 @@
 //! The events of a script, each an indivisible step.
 
-use crate::Request;
+use crate::{MixRequest, Request};
 use pcm_format::Settings;
 use pcm_wave::Source;
 
@@ -65,6 +65,10 @@ pub enum Event {
     /// A client closes a descriptor.
     Close {
         fd: u8,
+    },
+    /// The mixer device is asked something. It needs no descriptor.
+    Mixer {
+        request: MixRequest,
     },
     /// The device takes `frames` frames out of its ring and wants as many new ones.
     Intr {

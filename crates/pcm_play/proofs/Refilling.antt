@@ -1,6 +1,7 @@
 -- What a refill leaves of a channel, from what a pull of its chain means.
 use Rattle.std.proofs.Common.{◌≡◌, ℕ, ◌+◌, ◌-◌, ◌*◌, ◌<◌, ◌≤◌, Bool, true, false, List, [], ◌++◌, length, take, drop, ℤ, sym, ap, ◌∙◌, subst, arith}
 use Rattle.std.proofs.lemmas.List.{take-append-drop, drop_all}
+use Rattle.pcm_format.specs.declared.layout.Layout.{Layout}
 use Rattle.pcm_format.specs.declared.settings.Settings.{Settings}
 use Rattle.pcm_format.specs.Formats.{bits_of}
 use Rattle.pcm_format.specs.Layouts.{channels_of}
@@ -16,6 +17,7 @@ use Rattle.pcm_feeder.specs.Racks.{HaveKinds}
 use Rattle.pcm_feeder.specs.Limits.{IsRate}
 use Rattle.pcm_feeder.specs.Streams.{interleaved, written}
 use Rattle.pcm_mix.specs.Mix.{mixed}
+use Rattle.pcm_mixdev.specs.Fades.{faded}
 use Rattle.pcm_plan.specs.Plans.{PlanSeen, rate_in_plan}
 use Rattle.pcm_plan.specs.Through.{outs}
 use Rattle.pcm_plan.proofs.Through.{outs-channels, length-outs}
@@ -122,31 +124,35 @@ ring-refilled device n old new pulled safe go counted =
     }
 
 -- a channel that isn't started adds nothing to a block
-pub turned-none : (device : DeviceSeen) (n : ℕ) (book : PlayBook) (bytes : List ℕ) (sum : List ℤ) → is_started book.state ≡ false → sum ≡ turned device n book bytes sum
-turned-none device n book bytes sum idle =
-    let size : ℕ = channels_of (mix_settings device).layout in
+pub turned-none : (device : DeviceSeen) (n : ℕ) (fader : Gain) (book : PlayBook) (bytes : List ℕ) (sum : List ℤ) → is_started book.state ≡ false → sum ≡ turned device n fader book bytes sum
+turned-none device n fader book bytes sum idle =
+    let layout : Layout = (mix_settings device).layout in
+    let size : ℕ = channels_of layout in
     let bits : ℕ = bits_of (mix_settings device).format in
     let none : 0 * size ≡ 0 = omega arith in
-    let samples : ℕ → List ℤ = given_samples device (book_gain book) book.opening.settings bytes book.given in
+    let samples : ℕ → List ℤ = λ k. faded layout fader (given_samples device (book_gain book) book.opening.settings bytes book.given k) in
     sym (ap (λ (k : ℕ). mixed bits (take (k * size) sum) (samples k) ++ drop (k * size) sum) (giving-none (play_rate_at device book) n book idle)
     ∙ ap (λ (m : ℕ). mixed bits (take m sum) (samples 0) ++ drop m sum) none)
 
--- what a channel adds to a block: the samples that its chain gave
-pub turned-pulled : {B : Type 0} (kept : B → Kept) (device : DeviceSeen) (gain : Gain) (n : ℕ) (book : PlayBook) (bytes : List ℕ) (new : ChainOf B) (pulled : Pulled) (out_old out_new sum acc : List ℤ) (size bits : ℕ)
+-- what a channel adds to a block: the samples that its chain gave, at the gain of its slot
+pub turned-pulled : {B : Type 0} (kept : B → Kept) (device : DeviceSeen) (gain fader : Gain) (n : ℕ) (book : PlayBook) (bytes : List ℕ) (new : ChainOf B) (pulled : Pulled) (out_old out_new sum acc : List ℤ) (size bits : ℕ)
     → IsDevice device → IsRate book.opening.settings.rate → gain ≡ book_gain book → PullsRun kept device gain n book bytes new pulled out_old out_new → size ≡ channels_of (mix_settings device).layout → bits ≡ bits_of (mix_settings device).format
-    → acc ≡ mixed bits (take (pulled.given * size) sum) (take (pulled.given * size) out_new) → acc ++ drop (pulled.given * size) sum ≡ turned device n book bytes sum
-turned-pulled kept device gain n book bytes new pulled out_old out_new sum acc size bits d rate gain_is p size_is bits_is acc_is =
-    let c : ℕ = channels_of (mix_settings device).layout in
+    → acc ≡ mixed bits (take (pulled.given * size) sum) (faded (mix_settings device).layout fader (take (pulled.given * size) out_new)) → acc ++ drop (pulled.given * size) sum ≡ turned device n fader book bytes sum
+turned-pulled kept device gain fader n book bytes new pulled out_old out_new sum acc size bits d rate gain_is p size_is bits_is acc_is =
+    let layout : Layout = (mix_settings device).layout in
+    let c : ℕ = channels_of layout in
+    let deep : ℕ = bits_of (mix_settings device).format in
+    let onto : ℕ → List ℤ → List ℤ = λ k more. mixed deep (take (k * c) sum) (faded layout fader more) ++ drop (k * c) sum in
     let given : List Frame = outs (play_plan_between device book.opening.settings) (filters_of device) gain (frames book.opening.settings bytes) book.given pulled.given in
     let have = outs-channels (play_plan_between device book.opening.settings) (filters_of device) gain (frames book.opening.settings bytes) book.given pulled.given (plan-between-fits device book.opening.settings d rate) (frames-channels book.opening.settings bytes) in
     let front : take (pulled.given * c) out_new ≡ interleaved given =
     ap (take (pulled.given * c)) p.samples ∙ front-written c pulled.given given out_old have (length-outs (play_plan_between device book.opening.settings) (filters_of device) gain (frames book.opening.settings bytes) book.given pulled.given) in
     ap (λ a. a ++ drop (pulled.given * size) sum) acc_is
-    ∙ ap (λ s. mixed bits (take (pulled.given * s) sum) (take (pulled.given * s) out_new) ++ drop (pulled.given * s) sum) size_is
-    ∙ ap (λ b. mixed b (take (pulled.given * c) sum) (take (pulled.given * c) out_new) ++ drop (pulled.given * c) sum) bits_is
-    ∙ ap (λ f. mixed (bits_of (mix_settings device).format) (take (pulled.given * c) sum) f ++ drop (pulled.given * c) sum) front
-    ∙ ap (λ count. mixed (bits_of (mix_settings device).format) (take (count * c) sum) (given_samples device gain book.opening.settings bytes book.given count) ++ drop (count * c) sum) p.counted.given
-    ∙ ap (λ (g : Gain). mixed (bits_of (mix_settings device).format) (take (giving (play_rate_at device book) n book * c) sum) (given_samples device g book.opening.settings bytes book.given (giving (play_rate_at device book) n book)) ++ drop (giving (play_rate_at device book) n book * c) sum) gain_is
+    ∙ ap (λ s. mixed bits (take (pulled.given * s) sum) (faded layout fader (take (pulled.given * s) out_new)) ++ drop (pulled.given * s) sum) size_is
+    ∙ ap (λ b. mixed b (take (pulled.given * c) sum) (faded layout fader (take (pulled.given * c) out_new)) ++ drop (pulled.given * c) sum) bits_is
+    ∙ ap (onto pulled.given) front
+    ∙ ap (λ count. onto count (given_samples device gain book.opening.settings bytes book.given count)) p.counted.given
+    ∙ ap (λ (g : Gain). onto (giving (play_rate_at device book) n book) (given_samples device g book.opening.settings bytes book.given (giving (play_rate_at device book) n book))) gain_is
 
 -- a channel whose run goes on, once its chain was pulled
 pub moves-pulled : {B : Type 0} (kind : B → Kind) (kept : B → Kept) (filters : Filters) (old new : PlayChannelOf B) (n : ℕ) (pulled : Pulled) (gain : Gain) (out_old out_new : List ℤ)

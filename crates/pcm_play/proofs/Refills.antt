@@ -5,7 +5,6 @@ use Rattle.pcm_format.specs.Frames.{frames, whole_frames}
 use Rattle.pcm_format.proofs.Streams.{length-frames}
 use Rattle.pcm_rate.specs.declared.rate.Rate.{Rate}
 use Rattle.pcm_rate.specs.Rates.{can, len}
-use Rattle.pcm_feeder.specs.Streams.{written}
 use Rattle.pcm_chain.specs.declared.chain.Pulled.{Pulled}
 use Rattle.pcm_chain.specs.Pulls.{PullsAsFar}
 use Rattle.pcm_desk.specs.declared.play_book.PlayBook.{PlayBook}

@@ -2,6 +2,7 @@
 use Rattle.std.specs.Prelude.{◌≡◌, ℕ, ◌+◌, ◌*◌, ◌<◌, ◌≤◌, true, ℤ, List, [], ◌++◌, length, take, drop}
 use Rattle.pcm_format.specs.Frames.{frame_bytes, frames}
 use Rattle.pcm_feeder.specs.declared.kind.Kind.{Kind}
+use Rattle.pcm_feeder.specs.declared.stage.Gain.{Gain}
 use Rattle.pcm_feeder.specs.Filters.{Filters}
 use Rattle.pcm_feeder.specs.Kept.{Kept}
 use Rattle.pcm_feeder.specs.Racks.{HaveKinds}
@@ -48,9 +49,9 @@ pub record IsPlayReady {B : Type 0} (kind : B → Kind) (kept : B → Kept) (fil
   pub planned : IsPlayPlanned filters channel
   pub stands : PlayStandsForSome kept filters channel
 
--- whatever bytes a channel stands for, it adds what the rules say of them to a block of so many frames
-abbrev pub AddsTo : {B : Type 0} → (B → Kept) → Filters → Device → ℕ → List ℤ → List ℤ → PlayChannelOf B → Type 0
-AddsTo kept filters device n old new channel = (bytes : List ℕ) → PlayStands kept filters channel channel.book bytes → new ≡ turned (seen filters device) n channel.book bytes old
+-- whatever bytes a channel stands for, it adds what the rules say of them, at a gain, to a block of so many frames
+abbrev pub AddsTo : {B : Type 0} → (B → Kept) → Filters → Device → ℕ → Gain → List ℤ → List ℤ → PlayChannelOf B → Type 0
+AddsTo kept filters device n gain old new channel = (bytes : List ℕ) → PlayStands kept filters channel channel.book bytes → new ≡ turned (seen filters device) n gain channel.book bytes old
 
 -- where the mix and the device are, the channel's run gave no frame past what is mixed, and isn't over
 abbrev pub IsPlayHere : {B : Type 0} → Filters → Here → PlayChannelOf B → Type 0

@@ -4,7 +4,7 @@ ghost use Rattle.std.specs.Prelude.{◌≡◌, ◌+◌, ◌*◌, ◌^◌, ◌<�
 ghost use Rattle.pcm_format.specs.Formats.{bits_of};
 ghost use Rattle.pcm_format.specs.Frames.{frame_bytes};
 ghost use Rattle.pcm_num.specs.Limit.{FitsBits};
-ghost use Rattle.pcm_feeder.specs.Limits.{IsRate};
+ghost use Rattle.pcm_feeder.specs.Limits.{IsGain, IsRate};
 ghost use Rattle.pcm_feeder.specs.Racks.{HaveKinds, IsRack};
 ghost use Rattle.pcm_plan.specs.Plans.{rate_in_plan};
 ghost use Rattle.pcm_chain.specs.Chains.{boxes_in, plan_in};
@@ -18,9 +18,10 @@ ghost use Rattle.pcm_desk.specs.Desk.{asking, mixing, play_unopened};
 ghost use Rattle.pcm_desk.specs.Here.{IsHere};
 
 use pcm_desk::{Device, Here, PlayBook, PlayState};
-use pcm_feeder::{Feeder, RackOf, Tables};
+use pcm_feeder::{Feeder, Gain, RackOf, Tables};
 use pcm_format::Settings;
 use pcm_mix::mix_into;
+use pcm_mixdev::apply_gain;
 use pcm_oss::{Answer, Errno, Request, Way, gain_of};
 use pcm_path::PathOf;
 use std::alloc::{AllocError, Global};
@@ -172,17 +173,19 @@ impl<B: Feeder> PlayChannelOf<B> {
         }
     }
 
-    /// Adds the channel's frames to the front of a block of the mix, as many as an interrupt that mixes `n` frames gets, where the mix was
-    /// before it. `frames` holds them meanwhile.
+    /// Adds the channel's frames to the front of a block of the mix at the gain of its slot, as many as an interrupt that mixes `n` frames
+    /// gets, where the mix was before it. `frames` holds them meanwhile.
     pub fn refill(
         &mut self,
         tables: &Tables,
         n: usize,
         here: Here,
+        slot_gain: Gain,
         frames: &mut [i32],
         sum: &mut [i32],
     )
         requires some { 0 < n }
+        requires gain { IsGain slot_gain }
         requires ready { IsPlayReady B.kind B.kept tables.now self.old }
         requires block { HoldBlock self.old.path.device n frames.old sum.old }
         requires count { self.old.book.given + n < 2 ^ 64 }
@@ -190,7 +193,7 @@ impl<B: Feeder> PlayChannelOf<B> {
         ensures book { self.new.book ≡ mixing (seen tables.now self.old.path.device) here.mixed n self.old.book }
         ensures device { self.new.path.device ≡ self.old.path.device }
         ensures moves { PlayMoves B.kind B.kept tables.now [] n self.old self.new }
-        ensures sum { AddsTo B.kept tables.now self.old.path.device n sum.old sum.new self.old }
+        ensures sum { AddsTo B.kept tables.now self.old.path.device n slot_gain sum.old sum.new self.old }
         ensures fits { All (FitsBits (bits_of self.old.path.device.mix.format)) sum.new }
     {
         if !self.book.is_started() {
@@ -203,11 +206,9 @@ impl<B: Feeder> PlayChannelOf<B> {
         let PathOf { ring, chain, .. } = &mut self.path;
         let pulled = chain.pull(tables, gain, ring, format, ended, n, frames);
         let samples = pulled.given * settings.layout.channels();
-        mix_into(
-            &mut sum[..samples],
-            &frames[..samples],
-            settings.format.bits(),
-        );
+        let given = &mut frames[..samples];
+        apply_gain(slot_gain, settings.layout, given);
+        mix_into(&mut sum[..samples], given, settings.format.bits());
         self.book = self
             .book
             .refilled(self.path.chain.plan().rate(), here.mixed, n as u64);

@@ -4,7 +4,7 @@ use Rattle.pcm_fixed.specs.Fixed.{fixed_len}
 use Rattle.std.proofs.Math.Nat.{mul-le-mul_right}
 use Rattle.std.proofs.lemmas.List.{take_more}
 use Rattle.pcm_oss.specs.declared.event.Event.{Event}
-use Rattle.pcm_oss.specs.declared.event.Event.TheVariants.{Open, Write, Poke, Read, Ioctl, Join, StartGroup, Close, Intr}
+use Rattle.pcm_oss.specs.declared.event.Event.TheVariants.{Open, Write, Poke, Read, Ioctl, Join, StartGroup, Close, Mixer, Intr}
 use Rattle.pcm_wave.specs.declared.pool.Pool.{Pool}
 use Rattle.pcm_oss.specs.Replies.{Reply}
 use Rattle.pcm_desk.specs.Device.{DeviceSeen, device_frame_bytes}
@@ -124,6 +124,7 @@ takes-none (Ioctl fd request) not = refl
 takes-none (Join fd group) not = refl
 takes-none (StartGroup fd group) not = refl
 takes-none (Close fd) not = refl
+takes-none (Mixer request) not = refl
 takes-none (Intr frames) not = absurd (not frames refl)
 
 -- the greatest interrupt once one event more was looked at

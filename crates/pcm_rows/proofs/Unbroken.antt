@@ -1,13 +1,20 @@
 -- Runs without a shortage, and scripts that sound alike: slot by slot, since nothing is ever heard of those behind the first.
-use Rattle.std.proofs.Common.{◌≡◌, ◌-◌, ℕ, zero, suc, Bool, true, false, cond, [], ◌∷◌, Some, None, All, refl, ap, arith}
+use Rattle.std.proofs.Common.{◌≡◌, ◌-◌, ℕ, zero, suc, Bool, true, false, cond, List, [], ◌∷◌, Some, None, All, refl, sym, ◌∙◌, ap, arith}
 use Rattle.std.specs.Prelude.{◌≢◌, nat_lt}
 use Rattle.std.proofs.lemmas.Bool.Decides.{nat_tests}
 use Rattle.std.proofs.lemmas.List.Elements.{All-from_recursion, All-nil}
+use Rattle.pcm_feeder.specs.declared.stage.Gain.{Gain}
+use Rattle.pcm_feeder.specs.Layouts.{unity}
+use Rattle.pcm_oss.specs.declared.event.TheConstants.{SLOTS}
+use Rattle.pcm_oss.specs.declared.volume.TheConstants.{VOLUME}
+use Rattle.pcm_oss.specs.Volumes.{gain_of}
+use Rattle.pcm_mixdev.specs.Mixers.{full_mixer, no_gain, slot_gain, slot_volume}
 use Rattle.pcm_desk.specs.Device.{play_slots}
-use Rattle.pcm_sound.specs.Gains.{last_gain}
+use Rattle.pcm_sound.specs.Gains.{GainSet, fader_after, last_gain}
 use Rattle.pcm_sound.specs.Plain.{HasNoShortage, IsUnbroken, SoundAlike, Span, is_within, span_at, spans_of}
 use Rattle.pcm_sound.specs.Runs.{Piece}
 use Rattle.pcm_sound.specs.Story.{Story}
+use Rattle.pcm_sound.proofs.Stories.{get_or-same}
 use Rattle.pcm_rows.specs.Calls.{piece, small_device, story_after}
 use Rattle.pcm_rows.specs.PlainRows.{behind_script, brief_script, four_frames, span, usual_plan, whole_script}
 
@@ -43,6 +50,26 @@ brief-unbroken = by_four (λ slot. All IsUnbroken (brief.runs slot))
     (All-from_recursion IsUnbroken (brief.runs 0) (All-from_recursion IsFull (piece 3 3 1 0 ∷ piece 1 1 2 0 ∷ piece 0 0 1 0 ∷ []) (refl, (refl, (refl, tt))), tt))
     (All-nil IsUnbroken) (All-nil IsUnbroken) (All-nil IsUnbroken) (λ slot. All-nil IsUnbroken)
 
+-- ---- nothing is asked of the mixer device
+
+-- a fader's gains after events that leave it at its gain, where so many frames were mixed before each
+abbrev kept_at : List ℕ → Gain → List GainSet
+kept_at [] gain = []
+kept_at (position ∷ positions) gain = fader_after position gain gain (kept_at positions gain)
+
+-- each slot is at full volume
+full_gain : (slot : ℕ) → slot_gain full_mixer slot ≡ unity
+full_gain slot = ap (λ (muted : Bool). cond muted no_gain (gain_of (slot_volume full_mixer slot))) (get_or-same SLOTS slot false) ∙ ap gain_of (get_or-same SLOTS slot VOLUME)
+
+whole-kept : (slot : ℕ) → whole.faders.slots slot ≡ []
+whole-kept slot = ap (kept_at (4 ∷ 0 ∷ 0 ∷ 0 ∷ 0 ∷ [])) (full_gain slot)
+
+brief-kept : (slot : ℕ) → brief.faders.slots slot ≡ []
+brief-kept slot = ap (kept_at (3 ∷ 1 ∷ 1 ∷ 1 ∷ 0 ∷ 0 ∷ 0 ∷ 0 ∷ 0 ∷ [])) (full_gain slot)
+
+behind-kept : (slot : ℕ) → behind.faders.slots slot ≡ []
+behind-kept slot = ap (kept_at (4 ∷ 4 ∷ 0 ∷ 0 ∷ 0 ∷ 0 ∷ [])) (full_gain slot)
+
 -- ---- the same is heard
 
 -- what two stories give by number, where no channel is mapped: that of the slots that play
@@ -66,6 +93,8 @@ brief-alike = record {
     | true ↦ by_four (AlikeAt whole brief position true) (λ heard. refl) (λ heard. refl) (λ heard. refl) (λ heard. refl) (λ other heard. refl) slot
     | false ↦ λ heard. refl
   ];
+  faders = λ slot position heard. ap (λ (gains : List GainSet). last_gain gains position) (whole-kept slot ∙ sym (brief-kept slot));
+  master = λ position below. refl;
 }
 
 -- its only span
@@ -92,4 +121,6 @@ behind-alike = record {
     | true ↦ by_four (AlikeAt whole behind position true) (behind_first position) (λ not. refl) (λ not. refl) (λ not. refl) (λ other not. refl) slot
     | false ↦ λ heard. refl
   ];
+  faders = λ slot position heard. ap (λ (gains : List GainSet). last_gain gains position) (whole-kept slot ∙ sym (behind-kept slot));
+  master = λ position below. refl;
 }

@@ -19,6 +19,7 @@ pub mod FilterRows
 pub mod EqualiserRows
 pub mod RecordingRows
 pub mod MixRows
+pub mod MixerRows
 pub mod Waves
 pub mod Configurations
 pub mod ConversionRows

@@ -19,6 +19,7 @@ use Rattle.pcm_feeder.specs.declared.stage.Spec.TheVariants.{Depth, Linear}
 use Rattle.pcm_feeder.specs.Streams.{stream_of}
 use Rattle.pcm_plan.specs.Plans.{PlanSeen}
 use Rattle.pcm_sound.specs.DeviceList.{mix_at, silence_in}
+use Rattle.pcm_sound.specs.Gains.{Faders}
 use Rattle.pcm_sound.specs.Mix.{Table}
 use Rattle.pcm_sound.specs.Runs.{Run}
 use Rattle.pcm_sound.specs.Story.{Story, story_of}
@@ -75,10 +76,10 @@ abbrev pub mix_with : List Frame → ℕ → Frame
 mix_with frames position = stream_of 1 frames (pos position)
 
 -- the silence of the ring, and then as many frames of a mix as were handed over
-abbrev pub mix_behind_silence : DeviceSeen → Table → ℕ → List Frame
-mix_behind_silence device table handed =
+abbrev pub mix_behind_silence : DeviceSeen → Faders → Table → ℕ → List Frame
+mix_behind_silence device faders table handed =
     replicate (ring_frames device) (silence_in (device_settings device))
-    ++ map (mix_at device table) (range_with_len 0 handed)
+    ++ map (mix_at device faders table) (range_with_len 0 handed)
 
 -- ---- plans
 

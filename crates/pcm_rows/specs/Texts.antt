@@ -1,9 +1,10 @@
 -- Texts that say the same in other words.
 use Rattle.std.specs.Prelude.{ℕ, List, [], ◌∷◌, ◌++◌, codes, map}
-use Rattle.pcm_oss.specs.declared.event.Event.TheVariants.{Write, Ioctl, Close, Intr}
+use Rattle.pcm_oss.specs.declared.event.Event.TheVariants.{Write, Ioctl, Close, Mixer, Intr}
 use Rattle.pcm_wave.specs.declared.pool.Source.TheVariants.{Inline}
 use Rattle.pcm_oss.specs.declared.request.Request.{Request}
 use Rattle.pcm_oss.specs.declared.request.Request.TheVariants.{SetFmt, Speed, Channels, GetFmts, GetCaps, GetBlkSize, SetFragment, GetOSpace, GetISpace, GetOPtr, GetIPtr, GetODelay, GetError, SetTrigger, GetTrigger, SetPlayVol, GetPlayVol, Post, Sync, Halt}
+use Rattle.pcm_oss.specs.declared.mix_request.MixRequest.TheVariants.{SetMaster, GetMaster, SetSlot, GetSlot, Mute}
 use Rattle.pcm_script.specs.declared.script.Script.{Script}
 use Rattle.pcm_rows.specs.Calls.{opens, joined}
 
@@ -65,3 +66,18 @@ abbrev pub numbered_requests : List Request
 numbered_requests =
     SetFmt 131072 ∷ SetFmt 131072 ∷ SetFmt 3 ∷ Speed 44100 ∷ Channels 0 ∷ SetFragment 4294967295 ∷ SetTrigger 4294967295 ∷
     SetPlayVol 25700 ∷ []
+
+-- all that is asked of the mixer device, with the least and the greatest number among them
+abbrev pub mixer_text : List ℕ
+mixer_text = joined (
+    codes "mixer master 0x3232" ∷ codes "mixer master" ∷ codes "mixer slot 1 0x3264" ∷ codes "mixer slot 4294967295" ∷
+    codes "mixer mute 15 1" ∷ codes "mixer mute 0 0xFFFFFFFF" ∷ [])
+
+abbrev pub mixer_script : Script
+mixer_script = record {
+  events =
+      Mixer (SetMaster 12850) ∷ Mixer GetMaster ∷ Mixer (SetSlot 1 12900) ∷ Mixer (GetSlot 4294967295) ∷ Mixer (Mute 15 1) ∷
+      Mixer (Mute 0 4294967295) ∷ [];
+  inline_bytes = [];
+  device_frames = 0;
+}

@@ -8,6 +8,7 @@ ghost use Rattle.pcm_desk.specs.Device.{DeviceSeen, is_straight, mixed_for, pare
 ghost use Rattle.pcm_desk.specs.Usual.{usual_device, usual_settings};
 ghost use Rattle.pcm_feeder.specs.declared.stage.Spec.TheVariants.{Matrix, Linear};
 ghost use Rattle.pcm_sound.specs.DeviceList.{device_frames, device_list};
+ghost use Rattle.pcm_sound.specs.Gains.{Faders};
 ghost use Rattle.pcm_sound.specs.Mix.{Table};
 ghost use Rattle.pcm_verdict.specs.Transcript.{transcript};
 ghost use Rattle.pcm_rows.specs.Calls.{accepted, book_after, judged, little_endian, plainly_played, played, printed, softer_from, stereo_bytes, story_after, told_at, unity_from};
@@ -43,8 +44,8 @@ pub fn plans_into_the_mix()
 
 /// Whatever is mixed in the channels, the rate and the bits of the device is handed over as it is.
 pub fn a_straight_device_gets_the_mix()
-    ensures list { (device : DeviceSeen) (table : Table) (handed : ℕ) → is_straight device ≡ true
-        → device_list device table handed ≡ mix_behind_silence device table handed }
+    ensures list { (device : DeviceSeen) (faders : Faders) (table : Table) (handed : ℕ) → is_straight device ≡ true
+        → device_list device faders table handed ≡ mix_behind_silence device faders table handed }
     ensures usual { is_straight usual_device ≡ true }
 {}
 

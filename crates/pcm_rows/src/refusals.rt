@@ -57,3 +57,19 @@ pub fn faults_of_requests()
     ensures code { script_in "ioctl 0 setfmt 4294967296" ≡ refused_at 1 Range }
     ensures long { script_in "ioctl 0 setfmt 42949672960" ≡ refused_at 1 Name }
 {}
+
+/// What is asked of the mixer device has its own number of words: one that it doesn't have is judged before the numbers.
+pub fn faults_of_the_mixer_device()
+    ensures alone { script_in "mixer" ≡ refused_at 1 Count }
+    ensures name { script_in "mixer volume 1" ≡ refused_at 1 Name }
+    ensures capital { script_in "mixer Master" ≡ refused_at 1 Name }
+    ensures master { script_in "mixer master 1 2" ≡ refused_at 1 Count }
+    ensures slot { script_in "mixer slot" ≡ refused_at 1 Count }
+    ensures mute { script_in "mixer mute x" ≡ refused_at 1 Count }
+    ensures mute_alone { script_in "mixer mute" ≡ refused_at 1 Count }
+    ensures many { script_in "mixer nosuch 1 2 3" ≡ refused_at 1 Count }
+    ensures number { script_in "mixer slot 0x x" ≡ refused_at 1 Number }
+    ensures range { script_in "mixer slot 4294967296 x" ≡ refused_at 1 Range }
+    ensures volume { script_in "mixer slot 16 0x100000000" ≡ refused_at 1 Number }
+    ensures on { script_in "mixer mute 0 4294967296" ≡ refused_at 1 Range }
+{}

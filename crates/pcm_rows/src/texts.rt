@@ -4,7 +4,7 @@
 ghost use Rattle.std.specs.Prelude.{◌≡◌};
 ghost use Rattle.pcm_desk.specs.Usual.{usual_device};
 ghost use Rattle.pcm_rows.specs.Calls.{accepted, judged};
-ghost use Rattle.pcm_rows.specs.Texts.{decorated_text, decorated_script, hex_text, hex_script, interrupts_text, interrupts_script, ask_lines, ask_script, plain_words, plain_requests, numbered_words, numbered_requests};
+ghost use Rattle.pcm_rows.specs.Texts.{decorated_text, decorated_script, hex_text, hex_script, interrupts_text, interrupts_script, ask_lines, ask_script, mixer_script, mixer_text, plain_words, plain_requests, numbered_words, numbered_requests};
 
 /// Comments, empty lines, blanks and a carriage return at a line's end say nothing.
 pub fn comments_and_empty_lines()
@@ -26,4 +26,10 @@ pub fn interrupt_without_a_number()
 pub fn line_for_each_request()
     ensures plain { judged usual_device (ask_lines plain_words) ≡ accepted (ask_script plain_requests) }
     ensures numbered { judged usual_device (ask_lines numbered_words) ≡ accepted (ask_script numbered_requests) }
+{}
+
+/// What is asked of the mixer device has no descriptor, and a volume is asked for where none is told. Whether
+/// there is such a slot is no matter of the text.
+pub fn lines_of_the_mixer_device()
+    ensures verdict { judged usual_device mixer_text ≡ accepted mixer_script }
 {}

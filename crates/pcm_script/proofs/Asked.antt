@@ -17,7 +17,7 @@ use Rattle.pcm_desk.specs.Device.{DeviceSeen, block_frames, ring_frames}
 use Rattle.pcm_script.specs.declared.fault.ScriptKind.TheVariants.{Word, Name}
 use Rattle.pcm_script.specs.declared.fault.LineFault.{LineFault}
 use Rattle.pcm_script.specs.declared.line_event.LineEvent.{LineEvent}
-use Rattle.pcm_script.specs.declared.line_event.LineEvent.TheVariants.{Open, Write, Send, Poke, Read, Ioctl, Join, StartGroup, Close, Intr}
+use Rattle.pcm_script.specs.declared.line_event.LineEvent.TheVariants.{Open, Write, Send, Poke, Read, Ioctl, Join, StartGroup, Close, Mixer, Intr}
 use Rattle.pcm_script.specs.declared.names.Command.{Command}
 use Rattle.pcm_script.specs.declared.names.Command.TheVariants as commands
 use Rattle.pcm_script.specs.declared.request.Setter.{Setter}
@@ -25,7 +25,7 @@ use Rattle.pcm_script.specs.declared.request.Setter.TheVariants as setters
 use Rattle.pcm_script.specs.Names.{command_named}
 use Rattle.pcm_script.specs.Numbers.{number_in, within, number_within}
 use Rattle.pcm_script.specs.Requests.{as_full, as_plain, asked_with, request_named}
-use Rattle.pcm_script.specs.Commands.{descriptor_in, way_in, or_fault, format_in, layout_in, rate_in, short_bytes, bytes_in, argument_in, ending_within, file_in, is_file_named, length_in, size_of, open_line, write_line, most_offset, send_line, poke_line, read_line, ioctl_line, close_line, interrupt_line, asked_by, command_line, line_event}
+use Rattle.pcm_script.specs.Commands.{descriptor_in, way_in, or_fault, format_in, layout_in, rate_in, short_bytes, bytes_in, argument_in, ending_within, file_in, is_file_named, length_in, size_of, open_line, write_line, most_offset, send_line, poke_line, read_line, ioctl_line, close_line, asked_alone, asked_of_one, asked_of_two, control_in, mixer_line, interrupt_line, asked_by, command_line, line_event}
 use Rattle.pcm_script.specs.Answers.{Asks}
 use Rattle.pcm_script.specs.Collecting.{own_bytes}
 use Rattle.pcm_script.proofs.Judgements.{IfOk-then, IfOk-after, IfOk-either}
@@ -45,6 +45,7 @@ IsWithin device files (Ioctl fd request) = fd < DESCRIPTORS
 IsWithin device files (Join fd group) = fd < DESCRIPTORS
 IsWithin device files (StartGroup fd group) = fd < DESCRIPTORS
 IsWithin device files (Close fd) = fd < DESCRIPTORS
+IsWithin device files (Mixer request) = Unit {0}
 IsWithin device files (Intr frames) = HasBlocks device → (0 < frames) × (frames ≤ ring_frames device)
 
 -- ---- words
@@ -185,6 +186,21 @@ close_line-within device files [] = tt
 close_line-within device files (d ∷ []) = IfOk-then (descriptor_in d) _ _ (IsWithin device files) (descriptor-range d) (λ fd low. low)
 close_line-within device files (d ∷ x ∷ more) = tt
 
+-- what is asked of the mixer device is always within
+mixer_line-within : (device : DeviceSeen) (files : List DataFileSeen) (arguments : List (List ℕ)) → IfOk (mixer_line arguments) (IsWithin device files)
+unfolding mixer_line
+mixer_line-within device files [] = tt
+mixer_line-within device files (c ∷ []) =
+    IfOk-after (control_in c) _ (IsWithin device files)
+    (λ control. IfOk-after (asked_alone control) _ (IsWithin device files) (λ request. tt))
+mixer_line-within device files (c ∷ a ∷ []) =
+    IfOk-after (control_in c) _ (IsWithin device files)
+    (λ control. IfOk-after (asked_of_one control a) _ (IsWithin device files) (λ request. tt))
+mixer_line-within device files (c ∷ s ∷ a ∷ []) =
+    IfOk-after (control_in c) _ (IsWithin device files)
+    (λ control. IfOk-after (asked_of_two control s a) _ (IsWithin device files) (λ request. tt))
+mixer_line-within device files (c ∷ s ∷ a ∷ x ∷ more) = tt
+
 interrupt_line-within : (device : DeviceSeen) (files : List DataFileSeen) (arguments : List (List ℕ)) → IfOk (interrupt_line device arguments) (IsWithin device files)
 unfolding interrupt_line
 interrupt_line-within device files [] = λ blocks. (blocks.some, blocks.room)
@@ -201,6 +217,7 @@ asked_by-within device files commands.Poke arguments = poke_line-within device f
 asked_by-within device files commands.Read arguments = read_line-within device files arguments
 asked_by-within device files commands.Ioctl arguments = ioctl_line-within device files arguments
 asked_by-within device files commands.Close arguments = close_line-within device files arguments
+asked_by-within device files commands.Mixer arguments = mixer_line-within device files arguments
 asked_by-within device files commands.Intr arguments = interrupt_line-within device files arguments
 
 command_line-within : (device : DeviceSeen) (files : List DataFileSeen) (word : List ℕ) (arguments : List (List ℕ))
@@ -228,6 +245,7 @@ own_bytes-room device files (Ioctl fd request) within = omega arith
 own_bytes-room device files (Join fd group) within = omega arith
 own_bytes-room device files (StartGroup fd group) within = omega arith
 own_bytes-room device files (Close fd) within = omega arith
+own_bytes-room device files (Mixer request) within = omega arith
 own_bytes-room device files (Intr frames) within = omega arith
 
 -- no line names more bytes than a write has

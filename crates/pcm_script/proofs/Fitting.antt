@@ -2,7 +2,7 @@
 use Rattle.std.proofs.Common.{◌≡◌, ℕ, ◌+◌, ◌<◌, ◌≤◌, All, List, length, slice_get, Option, arith, refl, subst}
 use Rattle.std.proofs.lemmas.List.Elements.{All-weaker}
 use Rattle.pcm_oss.specs.declared.event.Event.{Event}
-use Rattle.pcm_oss.specs.declared.event.Event.TheVariants.{Open, Write, Poke, Read, Ioctl, Join, StartGroup, Close, Intr}
+use Rattle.pcm_oss.specs.declared.event.Event.TheVariants.{Open, Write, Poke, Read, Ioctl, Join, StartGroup, Close, Mixer, Intr}
 use Rattle.pcm_wave.specs.declared.pool.Pool.{Pool}
 use Rattle.pcm_wave.specs.declared.pool.Source.{Source}
 use Rattle.pcm_wave.specs.declared.pool.Source.TheVariants.{Inline, File}
@@ -27,6 +27,7 @@ Fits-filtered filters device pool (Ioctl fd request) fits = fits
 Fits-filtered filters device pool (Join fd group) fits = fits
 Fits-filtered filters device pool (StartGroup fd group) fits = fits
 Fits-filtered filters device pool (Close fd) fits = fits
+Fits-filtered filters device pool (Mixer request) fits = fits
 Fits-filtered filters device pool (Intr frames) fits = fits
 
 -- the same of all events of a script
@@ -57,6 +58,7 @@ Fits-more device few many (Ioctl fd request) same more fits = fits
 Fits-more device few many (Join fd group) same more fits = fits
 Fits-more device few many (StartGroup fd group) same more fits = fits
 Fits-more device few many (Close fd) same more fits = fits
+Fits-more device few many (Mixer request) same more fits = fits
 Fits-more device few many (Intr frames) same more fits = fits
 
 -- another file that is recorded from changes nothing of what fits

@@ -14,7 +14,7 @@ use Rattle.pcm_script.specs.declared.fault.ScriptKind.{ScriptKind}
 use Rattle.pcm_script.specs.declared.fault.ScriptKind.TheVariants.{Long}
 use Rattle.pcm_script.specs.declared.limits.TheConstants.{TEXT_BYTES}
 use Rattle.pcm_script.specs.declared.line_event.LineEvent.{LineEvent}
-use Rattle.pcm_script.specs.declared.line_event.LineEvent.TheVariants.{Open, Write, Send, Poke, Read, Ioctl, Join, StartGroup, Close, Intr}
+use Rattle.pcm_script.specs.declared.line_event.LineEvent.TheVariants.{Open, Write, Send, Poke, Read, Ioctl, Join, StartGroup, Close, Mixer, Intr}
 use Rattle.pcm_script.specs.declared.script.Script.{Script}
 use Rattle.pcm_script.specs.Words.{lines_of, words_of}
 use Rattle.pcm_script.specs.Commands.{line_event}
@@ -46,6 +46,7 @@ event_at-fits device files script (Ioctl fd request) blocks within = within
 event_at-fits device files script (Join fd group) blocks within = within
 event_at-fits device files script (StartGroup fd group) blocks within = within
 event_at-fits device files script (Close fd) blocks within = within
+event_at-fits device files script (Mixer request) blocks within = within
 event_at-fits device files script (Intr frames) blocks within = within blocks
 
 -- the place of its bytes changes nothing of the frames that an event takes
@@ -59,6 +60,7 @@ frames_taken-event_at place (Ioctl fd request) = refl
 frames_taken-event_at place (Join fd group) = refl
 frames_taken-event_at place (StartGroup fd group) = refl
 frames_taken-event_at place (Close fd) = refl
+frames_taken-event_at place (Mixer request) = refl
 frames_taken-event_at place (Intr frames) = refl
 
 script_with-sound : (device : DeviceSeen) (files : List DataFileSeen) (script : Script) (line : LineEvent) → IsSound device files script

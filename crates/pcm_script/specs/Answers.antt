@@ -23,7 +23,7 @@ abbrev pub Asks : {A : Type 0} → Result A LineFault → Result A ScriptKind �
 Asks answer judged = Gives (λ asked. asked) answer judged
 
 -- The script that a text is, or its refusal. Where memory ran out, nothing is said of the text.
-abbrev pub Reads : Result Script ScriptFault → Result Script Refusal → Type 0
-Reads (Ok script) read = read ≡ Ok script
-Reads (Err (TextRefused refusal)) read = read ≡ Err refusal
-Reads (Err TextMemory) read = Unit {0}
+abbrev pub ReadsScript : Result Script ScriptFault → Result Script Refusal → Type 0
+ReadsScript (Ok script) read = read ≡ Ok script
+ReadsScript (Err (TextRefused refusal)) read = read ≡ Err refusal
+ReadsScript (Err TextMemory) read = Unit {0}

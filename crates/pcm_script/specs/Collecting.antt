@@ -10,7 +10,7 @@ use Rattle.pcm_desk.specs.Events.{frames_taken}
 use Rattle.pcm_script.specs.declared.fault.ScriptKind.{ScriptKind}
 use Rattle.pcm_script.specs.declared.fault.ScriptKind.TheVariants.{Long}
 use Rattle.pcm_script.specs.declared.line_event.LineEvent.{LineEvent}
-use Rattle.pcm_script.specs.declared.line_event.LineEvent.TheVariants.{Open, Write, Send, Poke, Read, Ioctl, Join, StartGroup, Close, Intr}
+use Rattle.pcm_script.specs.declared.line_event.LineEvent.TheVariants.{Open, Write, Send, Poke, Read, Ioctl, Join, StartGroup, Close, Mixer, Intr}
 use Rattle.pcm_script.specs.declared.script.Script.{Script}
 use Rattle.pcm_script.specs.Commands.{line_event}
 use Rattle.pcm_script.specs.Words.{words_of}
@@ -32,6 +32,7 @@ event_at place (Ioctl fd request) = events.Ioctl fd request
 event_at place (Join fd group) = events.Join fd group
 event_at place (StartGroup fd group) = events.StartGroup fd group
 event_at place (Close fd) = events.Close fd
+event_at place (Mixer request) = events.Mixer request
 event_at place (Intr frames) = events.Intr frames
 
 -- the frames that a line takes out of the device's ring

@@ -10,6 +10,8 @@ use Rattle.pcm_format.specs.declared.settings.TheConstants.{RATE_LEAST, RATE_MOS
 use Rattle.pcm_format.specs.Formats.{code_of, format_named}
 use Rattle.pcm_format.specs.Layouts.{layout_of}
 use Rattle.pcm_oss.specs.declared.event.Way.{Way}
+use Rattle.pcm_oss.specs.declared.mix_request.MixRequest.{MixRequest}
+use Rattle.pcm_oss.specs.declared.mix_request.MixRequest.TheVariants as mixes
 use Rattle.pcm_wave.specs.DataFiles.{DataFileSeen}
 use Rattle.pcm_wave.specs.Pools.{body_in}
 use Rattle.pcm_desk.specs.declared.device.TheConstants.{OPENING}
@@ -18,14 +20,16 @@ use Rattle.pcm_desk.specs.Device.{DeviceSeen, block_frames, ring_frames}
 use Rattle.pcm_script.specs.declared.fault.ScriptKind.{ScriptKind}
 use Rattle.pcm_script.specs.declared.fault.ScriptKind.TheVariants.{Word, Count, Name, Hex, Range}
 use Rattle.pcm_script.specs.declared.line_event.LineEvent.{LineEvent}
-use Rattle.pcm_script.specs.declared.line_event.LineEvent.TheVariants.{Open, Write, Send, Poke, Read, Ioctl, Close, Intr}
+use Rattle.pcm_script.specs.declared.line_event.LineEvent.TheVariants.{Open, Write, Send, Poke, Read, Ioctl, Close, Mixer, Intr}
 use Rattle.pcm_script.specs.declared.names.Command.{Command}
 use Rattle.pcm_script.specs.declared.names.Command.TheVariants as commands
+use Rattle.pcm_script.specs.declared.names.Control.{Control}
+use Rattle.pcm_script.specs.declared.names.Control.TheVariants.{Master, Slot, Mute}
 use Rattle.pcm_script.specs.declared.request.Setter.{Setter}
 use Rattle.pcm_script.specs.declared.request.Setter.TheVariants.{SetFmt}
 use Rattle.pcm_script.specs.Steps.{◌>>=◌}
 use Rattle.pcm_script.specs.Numbers.{number_in, number_within, within}
-use Rattle.pcm_script.specs.Names.{command_named, way_named}
+use Rattle.pcm_script.specs.Names.{command_named, control_named, way_named}
 use Rattle.pcm_script.specs.Requests.{as_full, as_plain, asked_with, request_named}
 
 -- a descriptor
@@ -181,6 +185,58 @@ close_line (d ∷ []) = do
   Ok (Close fd)
 close_line arguments = Err Count
 
+-- what is asked of the mixer device
+abbrev pub control_in : List ℕ → Result Control ScriptKind
+control_in word = or_fault (control_named word) Name
+
+-- a number of the mixer device: a slot, a volume, or whether a slot is muted
+abbrev pub setting_in : List ℕ → Result ℕ ScriptKind
+setting_in word = number_within 0 most_argument word
+
+-- without a number the master volume is asked for
+abbrev pub asked_alone : Control → Result MixRequest ScriptKind
+asked_alone Master = Ok mixes.GetMaster
+asked_alone Slot = Err Count
+asked_alone Mute = Err Count
+
+-- with one number it is set, or the volume of a slot is asked for
+abbrev pub asked_of_one : Control → List ℕ → Result MixRequest ScriptKind
+asked_of_one Master a = do
+  volume ← setting_in a
+  Ok (mixes.SetMaster volume)
+asked_of_one Slot s = do
+  slot ← setting_in s
+  Ok (mixes.GetSlot slot)
+asked_of_one Mute s = Err Count
+
+-- with two numbers something of a slot is set
+abbrev pub asked_of_two : Control → List ℕ → List ℕ → Result MixRequest ScriptKind
+asked_of_two Master s a = Err Count
+asked_of_two Slot s a = do
+  slot ← setting_in s
+  volume ← setting_in a
+  Ok (mixes.SetSlot slot volume)
+asked_of_two Mute s a = do
+  slot ← setting_in s
+  on ← setting_in a
+  Ok (mixes.Mute slot on)
+
+-- `mixer master`, `mixer master A`, `mixer slot S`, `mixer slot S A` and `mixer mute S A`. The second word says how many words there are.
+unfoldable pub mixer_line : List (List ℕ) → Result LineEvent ScriptKind
+mixer_line (c ∷ []) = do
+  control ← control_in c
+  request ← asked_alone control
+  Ok (Mixer request)
+mixer_line (c ∷ a ∷ []) = do
+  control ← control_in c
+  request ← asked_of_one control a
+  Ok (Mixer request)
+mixer_line (c ∷ s ∷ a ∷ []) = do
+  control ← control_in c
+  request ← asked_of_two control s a
+  Ok (Mixer request)
+mixer_line arguments = Err Count
+
 -- `intr` and `intr N`
 unfoldable pub interrupt_line : DeviceSeen → List (List ℕ) → Result LineEvent ScriptKind
 interrupt_line device [] = Ok (Intr (block_frames device))
@@ -198,6 +254,7 @@ asked_by device files commands.Poke arguments = poke_line arguments
 asked_by device files commands.Read arguments = read_line arguments
 asked_by device files commands.Ioctl arguments = ioctl_line arguments
 asked_by device files commands.Close arguments = close_line arguments
+asked_by device files commands.Mixer arguments = mixer_line arguments
 asked_by device files commands.Intr arguments = interrupt_line device arguments
 
 -- a command by its first word

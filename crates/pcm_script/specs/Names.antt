@@ -1,4 +1,4 @@
--- The words of a script's language: commands, ways, requests and what is asked of groups, each with the one word that names it.
+-- The words of a script's language: commands, ways, requests, what is asked of groups and of the mixer device, each with the one word that names it.
 use Rattle.std.specs.Prelude.{ℕ, List, [], ◌∷◌, Option, find, codes}
 use Rattle.std.specs.Str.{bytes_eq}
 use Rattle.pcm_oss.specs.declared.event.Way.{Way}
@@ -6,7 +6,9 @@ use Rattle.pcm_oss.specs.declared.event.Way.TheVariants.{Play, Record, Map}
 use Rattle.pcm_oss.specs.declared.request.Request.{Request}
 use Rattle.pcm_oss.specs.declared.request.Request.TheVariants as requests
 use Rattle.pcm_script.specs.declared.names.Command.{Command}
-use Rattle.pcm_script.specs.declared.names.Command.TheVariants.{Open, Write, Send, Poke, Read, Ioctl, Close, Intr}
+use Rattle.pcm_script.specs.declared.names.Command.TheVariants.{Open, Write, Send, Poke, Read, Ioctl, Close, Mixer, Intr}
+use Rattle.pcm_script.specs.declared.names.Control.{Control}
+use Rattle.pcm_script.specs.declared.names.Control.TheVariants.{Master, Slot, Mute}
 
 -- the word that names a command
 abbrev pub command_name : Command → List ℕ
@@ -17,10 +19,11 @@ command_name Poke = codes "poke"
 command_name Read = codes "read"
 command_name Ioctl = codes "ioctl"
 command_name Close = codes "close"
+command_name Mixer = codes "mixer"
 command_name Intr = codes "intr"
 
 abbrev pub all_commands : List Command
-all_commands = Open ∷ Write ∷ Send ∷ Poke ∷ Read ∷ Ioctl ∷ Close ∷ Intr ∷ []
+all_commands = Open ∷ Write ∷ Send ∷ Poke ∷ Read ∷ Ioctl ∷ Close ∷ Mixer ∷ Intr ∷ []
 
 -- the command that a word names
 abbrev pub command_named : List ℕ → Option Command
@@ -69,3 +72,16 @@ join_name = codes "syncgroup"
 -- the word by which a client starts all members of a group
 abbrev pub start_group_name : List ℕ
 start_group_name = codes "syncstart"
+
+-- the word that names what is asked of the mixer device
+abbrev pub control_name : Control → List ℕ
+control_name Master = codes "master"
+control_name Slot = codes "slot"
+control_name Mute = codes "mute"
+
+abbrev pub all_controls : List Control
+all_controls = Master ∷ Slot ∷ Mute ∷ []
+
+-- what a word names of it
+abbrev pub control_named : List ℕ → Option Control
+control_named word = find (λ control. bytes_eq (control_name control) word) all_controls

@@ -13,6 +13,7 @@ use crate::argument::{
 };
 use crate::fault::LineFault;
 use crate::line_event::LineEvent;
+use crate::mixer::mixer_line;
 use crate::names::Command;
 use crate::number::{number_in, number_within};
 use crate::request::{full_request, plain_request};
@@ -71,6 +72,7 @@ fn asked_by(
         Command::Read => Ok(read_line(arguments)?),
         Command::Ioctl => Ok(ioctl_line(arguments)?),
         Command::Close => Ok(close_line(arguments)?),
+        Command::Mixer => Ok(mixer_line(arguments)?),
         Command::Intr => Ok(interrupt_line(device, arguments)?),
     }
 }

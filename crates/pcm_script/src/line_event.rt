@@ -5,7 +5,7 @@ ghost use Rattle.pcm_desk.specs.declared.limits.TheConstants.{WRITE_BYTES};
 
 use crate::names::{join_name, request_name, start_group_name};
 use pcm_format::{Bytes, Settings};
-use pcm_oss::{Event, Request, Way};
+use pcm_oss::{Event, MixRequest, Request, Way};
 use pcm_wave::Source;
 
 /// An event with the bytes that its line spells, and not yet a place for them.
@@ -49,6 +49,9 @@ pub enum LineEvent {
     },
     Close {
         fd: u8,
+    },
+    Mixer {
+        request: MixRequest,
     },
     Intr {
         frames: u32,
@@ -130,6 +133,7 @@ impl LineEvent {
             LineEvent::Join { fd, group } => Event::Join { fd, group },
             LineEvent::StartGroup { fd, group } => Event::StartGroup { fd, group },
             LineEvent::Close { fd } => Event::Close { fd },
+            LineEvent::Mixer { request } => Event::Mixer { request },
             LineEvent::Intr { frames } => Event::Intr { frames },
         }
     }

@@ -15,11 +15,12 @@ pub enum Command {
     Read,
     Ioctl,
     Close,
+    Mixer,
     Intr,
 }
 
 // All commands, in the order of the language's table.
-const COMMANDS: [Command; 8] = [
+const COMMANDS: [Command; 9] = [
     Command::Open,
     Command::Write,
     Command::Send,
@@ -27,6 +28,7 @@ const COMMANDS: [Command; 8] = [
     Command::Read,
     Command::Ioctl,
     Command::Close,
+    Command::Mixer,
     Command::Intr,
 ];
 
@@ -45,6 +47,7 @@ impl Command {
             Command::Read => b"read",
             Command::Ioctl => b"ioctl",
             Command::Close => b"close",
+            Command::Mixer => b"mixer",
             Command::Intr => b"intr",
         }
     }
@@ -121,4 +124,40 @@ pub fn start_group_name() -> &'static [u8]
     ensures { result.now ≡ start_group_name }
 {
     b"syncstart"
+}
+
+/// What a line asks of the mixer device, by the word behind its command.
+#[derive(Clone, Copy, Debug, PartialEq, Eq)]
+pub enum Control {
+    Master,
+    Slot,
+    Mute,
+}
+
+// All that can be asked of it.
+const CONTROLS: [Control; 3] = [Control::Master, Control::Slot, Control::Mute];
+
+impl Control {
+    ghost use Rattle.pcm_script.specs.Names.{control_name, control_named};
+
+    /// The word that names it.
+    pub fn name(self) -> &'static [u8]
+        ensures { result.now ≡ control_name self }
+    {
+        match self {
+            Control::Master => b"master",
+            Control::Slot => b"slot",
+            Control::Mute => b"mute",
+        }
+    }
+
+    // What a word names.
+    pub(crate) fn from_name(word: &[u8]) -> Option<Control>
+        ensures { result ≡ control_named word.now }
+    {
+        CONTROLS
+            .iter()
+            .copied()
+            .find(|control| control.name() == word)
+    }
 }

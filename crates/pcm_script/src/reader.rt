@@ -4,7 +4,7 @@ ghost use Rattle.std.specs.Prelude.{◌≡◌, ◌<◌, ◌≤◌, length, IfOk}
 ghost use Rattle.pcm_desk.specs.declared.limits.TheConstants.{DEVICE_BYTES, EVENTS};
 ghost use Rattle.pcm_desk.specs.Device.{unfiltered};
 ghost use Rattle.pcm_desk.specs.Events.{all_frames_taken};
-ghost use Rattle.pcm_script.specs.Answers.{Leaves, Reads};
+ghost use Rattle.pcm_script.specs.Answers.{Leaves, ReadsScript};
 ghost use Rattle.pcm_script.specs.Collecting.{with_text};
 ghost use Rattle.pcm_script.specs.Lines.{AllFit, bytes_taken, script_read};
 
@@ -30,7 +30,7 @@ pub fn script_of(
     requires ring { device.now.block_frames ≤ device.now.ring_frames }
 
     // Only memory is free: else the answer is the one that the text, the device and the files determine.
-    ensures read { Reads result (script_read (unfiltered device.now) files.now bytes.now) }
+    ensures read { ReadsScript result (script_read (unfiltered device.now) files.now bytes.now) }
 
     // What a script keeps.
     ensures fits { IfOk result (λ script. AllFit (unfiltered device.now) files.now script) }

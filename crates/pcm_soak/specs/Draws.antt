@@ -15,12 +15,12 @@ unfoldable pub next_state : ℕ → ℕ
 next_state state = (state * 6364136223846793005 + 1442695040888963407) % 2 ^ 64
 
 -- the number of a state: its upper 31 bits
-unfoldable pub number_of : ℕ → ℕ
-number_of state = state / 2 ^ 33
+unfoldable pub state_number : ℕ → ℕ
+state_number state = state / 2 ^ 33
 
 -- the next number, modulo a bound
 abbrev pub drawn_below : ℕ → Draw ℕ
-drawn_below bound state = record { value = number_of (next_state state) % bound; state = next_state state }
+drawn_below bound state = record { value = state_number (next_state state) % bound; state = next_state state }
 
 -- a draw, and then another one that may depend on what the first gave
 infixl 10 ◌>>=◌
@@ -28,5 +28,5 @@ abbrev pub ◌>>=◌ : {A B : Type 0} → Draw A → (A → Draw B) → Draw B
 draw >>= next = λ state. next (draw state).value (draw state).state
 
 -- what needs no further draw
-abbrev pub given : {A : Type 0} → A → Draw A
-given value = λ state. record { value = value; state = state }
+abbrev pub without_draw : {A : Type 0} → A → Draw A
+without_draw value = λ state. record { value = value; state = state }

@@ -5,7 +5,7 @@ use Rattle.pcm_oss.specs.declared.event.Event.TheVariants.{Write, Read, Ioctl, I
 use Rattle.pcm_oss.specs.declared.request.Request.{Request}
 use Rattle.pcm_oss.specs.declared.request.Request.TheVariants.{Speed, GetCaps, GetOSpace, GetOPtr, GetODelay, GetError, SetTrigger, SetPlayVol, Post, Sync, Halt}
 use Rattle.pcm_wave.specs.declared.pool.Source.TheVariants.{Inline}
-use Rattle.pcm_soak.specs.Draws.{Draw, ◌>>=◌, drawn_below, given}
+use Rattle.pcm_soak.specs.Draws.{Draw, ◌>>=◌, drawn_below, without_draw}
 
 -- a write of one of the four that play, of up to 4096 bytes from one of the first 4096 places on
 abbrev pub write_event : Draw Event
@@ -13,20 +13,20 @@ write_event = do
   fd ← drawn_below 4
   at ← drawn_below 4096
   len ← drawn_below 4097
-  given (Write fd Inline at len)
+  without_draw (Write fd Inline at len)
 
 -- an interrupt of 1 to 256 frames
 abbrev pub interrupt_event : Draw Event
 interrupt_event = do
   more ← drawn_below 256
-  given (Intr (1 + more))
+  without_draw (Intr (1 + more))
 
 -- a read of one of the two that record, of up to 4096 bytes
 abbrev pub read_event : Draw Event
 read_event = do
   place ← drawn_below 2
   len ← drawn_below 4097
-  given (Read (4 + place) len)
+  without_draw (Read (4 + place) len)
 
 -- what is asked for a number below 4
 abbrev pub question_for : ℕ → Request
@@ -41,7 +41,7 @@ abbrev pub request_event : ℕ → ℕ → (ℕ → Request) → Draw Event
 request_event fds choices request_for = do
   fd ← drawn_below fds
   choice ← drawn_below choices
-  given (Ioctl fd (request_for choice))
+  without_draw (Ioctl fd (request_for choice))
 
 -- one of all six is asked something
 abbrev pub question_event : Draw Event
@@ -53,7 +53,7 @@ volume_event = do
   fd ← drawn_below 4
   left ← drawn_below 101
   right ← drawn_below 101
-  given (Ioctl fd (SetPlayVol (left + 256 * right)))
+  without_draw (Ioctl fd (SetPlayVol (left + 256 * right)))
 
 -- what is ordered for a number below 8; the last one is refused
 abbrev pub order_for : ℕ → Request

@@ -11,7 +11,7 @@ pub(crate) struct Draws {
 
 impl Draws {
     // The next draw, taken modulo a bound.
-    #[tactic(auto, unfolding(crate::specs::Draws::next_state, crate::specs::Draws::number_of))]
+    #[tactic(auto, unfolding(crate::specs::Draws::next_state, crate::specs::Draws::state_number))]
     pub(crate) fn below(&mut self, bound: u32) -> u32
         requires { 0 < bound }
         ensures value { result ≡ (drawn_below bound self.old.state).value }

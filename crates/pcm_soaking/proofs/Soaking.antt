@@ -4,7 +4,7 @@ use Rattle.pcm_fixed.specs.Fixed.{fixed_len}
 use Rattle.std.proofs.Math.Nat.{mul-le-mul_right}
 use Rattle.std.proofs.lemmas.List.Sums.{sum_by-append}
 use Rattle.pcm_oss.specs.declared.event.Event.{Event}
-use Rattle.pcm_oss.specs.declared.event.Event.TheVariants.{Open, Write, Poke, Read, Ioctl, Join, StartGroup, Close, Intr}
+use Rattle.pcm_oss.specs.declared.event.Event.TheVariants.{Open, Write, Poke, Read, Ioctl, Join, StartGroup, Close, Mixer, Intr}
 use Rattle.pcm_oss.specs.Replies.{Reply}
 use Rattle.pcm_wave.specs.declared.pool.Pool.{Pool}
 use Rattle.pcm_desk.specs.Device.{DeviceSeen, device_frame_bytes}
@@ -82,6 +82,7 @@ handed-one device pool (Ioctl fd request) fits = omega arith
 handed-one device pool (Join fd group) fits = omega arith
 handed-one device pool (StartGroup fd group) fits = omega arith
 handed-one device pool (Close fd) fits = omega arith
+handed-one device pool (Mixer request) fits = omega arith
 handed-one device pool (Intr frames) fits = mul-le-mul_right (device_frame_bytes device) fits.1
 
 -- no event of these hands over more than the device's whole ring

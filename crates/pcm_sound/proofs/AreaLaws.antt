@@ -7,7 +7,7 @@ use Rattle.std.proofs.lemmas.Bool.Decides.{nat_tests}
 use Rattle.pcm_format.specs.Formats.{code_of}
 use Rattle.pcm_format.specs.Layouts.{channels_of}
 use Rattle.pcm_oss.specs.declared.event.Event.{Event}
-use Rattle.pcm_oss.specs.declared.event.Event.TheVariants.{Open, Write, Poke, Read, Ioctl, Join, StartGroup, Close, Intr}
+use Rattle.pcm_oss.specs.declared.event.Event.TheVariants.{Open, Write, Poke, Read, Ioctl, Join, StartGroup, Close, Mixer, Intr}
 use Rattle.pcm_oss.specs.declared.event.Way.{Way}
 use Rattle.pcm_oss.specs.declared.event.Way.TheVariants.{Play, Record, Map}
 use Rattle.pcm_oss.specs.declared.reply.Answer.{Answer}
@@ -63,6 +63,7 @@ length-written pool desk (Ioctl fd request) slot area = refl
 length-written pool desk (Join fd group) slot area = refl
 length-written pool desk (StartGroup fd group) slot area = refl
 length-written pool desk (Close fd) slot area = refl
+length-written pool desk (Mixer request) slot area = refl
 length-written pool desk (Intr n) slot area = refl
 
 -- an opening that isn't cut anew has as many bytes as before

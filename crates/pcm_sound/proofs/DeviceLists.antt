@@ -1,6 +1,6 @@
 -- The device's frames, while the story goes on.
 use Rattle.std.proofs.Common.{◌≡◌, ℕ, suc, zero, ◌+◌, ◌-◌, ◌*◌, ◌<◌, List, [], ◌∷◌, ◌++◌, length, get_or, map, take, replicate, Option, Some, None, ℤ, pos, refl, sym, ap, ◌∙◌, arith, All, length-append, append_assoc, zero-add, fold}
-use Rattle.std.specs.Prelude.{IfSome, find}
+use Rattle.std.specs.Prelude.{◌≢◌, IfSome, find, option_map}
 use Rattle.std.proofs.Math.Seq.{take-append-add}
 use Rattle.std.specs.List.{range_with_len, flat_map}
 use Rattle.std.proofs.lemmas.List.{take_all, length-map, length-replicate}
@@ -8,6 +8,7 @@ use Rattle.std.proofs.lemmas.List.Concat.{flat_map-append}
 use Rattle.std.proofs.lemmas.List.Sums.{fold-append}
 use Rattle.std.proofs.lemmas.List.FromFn.{length-range_with_len}
 use Rattle.std.proofs.lemmas.List.Elements.{All-head, All-tail, All-append, All-replicate, All-map}
+use Rattle.pcm_format.specs.declared.layout.Layout.{Layout}
 use Rattle.pcm_format.specs.declared.settings.Settings.{Settings}
 use Rattle.pcm_format.specs.declared.format.Format.{Format}
 use Rattle.pcm_oss.specs.declared.event.Event.{Event}
@@ -22,25 +23,28 @@ use Rattle.pcm_format.proofs.Streams.{length-frame_at}
 use Rattle.pcm_format.proofs.Spelling.{length-flat_map-spelled}
 use Rattle.pcm_feeder.specs.declared.stage.Gain.{Gain}
 use Rattle.pcm_feeder.specs.Filters.{Filters}
-use Rattle.pcm_feeder.specs.Layouts.{unity}
+use Rattle.pcm_feeder.specs.Layouts.{at_gain, unity}
 use Rattle.pcm_feeder.specs.Streams.{HaveChannels, interleaved}
 use Rattle.pcm_rate.proofs.Counts.{can-greatest}
 use Rattle.pcm_feeder.specs.Limits.{IsRate}
 use Rattle.pcm_mix.proofs.Blocks.{length-mixed}
+use Rattle.pcm_mixdev.specs.Mixers.{master_gain, slot_gain}
+use Rattle.pcm_mixdev.proofs.FadedFrames.{length-at_gain}
 use Rattle.pcm_desk.specs.Device.{DeviceSeen, IsDevice, device_frame_bytes, device_settings, filters_of, full_frame, mix_settings, mixed_for, parent_plan, mixed_slots, parent_rate, play_plan_between, ring_frames}
-use Rattle.pcm_desk.specs.Desk.{mixed_by}
+use Rattle.pcm_desk.specs.Desk.{after, mixed_by}
 use Rattle.pcm_plan.specs.Plans.{PlanSeen}
 use Rattle.pcm_plan.specs.Through.{recs}
 use Rattle.pcm_plan.proofs.Through.{length-out, length-outs, outs-add, outs-append, outs-channels}
 use Rattle.pcm_desk.proofs.Ratios.{mixed-behind, parent-plan-fits, parent-ratio, plan-between-fits}
 use Rattle.pcm_sound.specs.Given.{given_frame}
-use Rattle.pcm_sound.specs.Gains.{last_gain}
+use Rattle.pcm_sound.specs.Gains.{Faders, last_gain, master_gain_at, slot_gain_at}
 use Rattle.pcm_sound.specs.Runs.{Run, Piece, covers, run_frames, piece_frame, first_of, sounding}
 use Rattle.pcm_sound.specs.Story.{Story, mixed_gains, mixed_runs, told}
 use Rattle.pcm_sound.specs.Mix.{Table, adding, mix_of}
-use Rattle.pcm_sound.specs.DeviceList.{table_of, silence_in, mix_at, mixed_frames, device_frames, device_list, device_bytes, device_body}
+use Rattle.pcm_sound.specs.DeviceList.{table_of, silence_in, faded_table, sum_at, mix_at, mixed_frames, device_frames, device_list, device_bytes, device_body}
 use Rattle.pcm_sound.specs.Valid.{HasRate, StoryIsValid}
 use Rattle.pcm_sound.proofs.Numbers.{by-number}
+use Rattle.pcm_sound.proofs.Sounding.{fader-later}
 use Rattle.pcm_sound.proofs.Stories.{table_of-told}
 
 fold-same : {A B : Type 0} (f g : B → A → B) (start : B) (xs : List A) → ((b : B) (x : A) → f b x ≡ g b x) → fold f start xs ≡ fold g start xs
@@ -58,16 +62,47 @@ mix_of-more bits silent table slots position =
     ap (fold (λ (sum : Frame) (slot : ℕ). adding bits sum (table slot position)) silent) (range-add 0 slots 1 ∙ ap (λ a. range_with_len 0 slots ++ a ∷ []) (zero-add slots))
     ∙ fold-append (λ (sum : Frame) (slot : ℕ). adding bits sum (table slot position)) silent (range_with_len 0 slots) (slots ∷ [])
 
--- tables that agree have one mix
-pub mixed_frames-same : (device : DeviceSeen) (a b : Table) (count : ℕ) → ((slot position : ℕ) → position < count → a slot position ≡ b slot position) → mixed_frames device (mix_at device a) count ≡ mixed_frames device (mix_at device b) count
-mixed_frames-same device a b count h =
-    map-range-same (λ position. full_frame device (mix_at device a position)) (λ position. full_frame device (mix_at device b position)) count
-    (λ position l. ap (full_frame device) (mix_of-same (bits_of (mix_settings device).format) (silence_in (mix_settings device)) a b (mixed_slots device) position (λ slot. h slot position l)))
+-- two mixes are alike before a position: each slot gives the same at its gain, and the gain of all that is mixed is the same
+pub record MixAlike (device : DeviceSeen) (until : ℕ) (one : Faders) (a : Table) (other : Faders) (b : Table) : Type 0 where
+  pub slots : (slot position : ℕ) → position < until → faded_table device one a slot position ≡ faded_table device other b slot position
+  pub master : (position : ℕ) → position < until → master_gain_at one position ≡ master_gain_at other position
+
+-- a slot gives the same at its gain where it gives the same, and its gain is the same where it gives a frame
+pub faded_table-same : (device : DeviceSeen) (one other : Faders) (a b : Table) (slot position : ℕ) → a slot position ≡ b slot position → (a slot position ≢ None → slot_gain_at one slot position ≡ slot_gain_at other slot position)
+    → faded_table device one a slot position ≡ faded_table device other b slot position
+faded_table-same device one other a b slot position same gains =
+    at (a slot position) gains ∙ ap (option_map (at_gain (mix_settings device).layout (slot_gain_at other slot position))) same
+  where
+    at : (given : Option Frame) → (given ≢ None → slot_gain_at one slot position ≡ slot_gain_at other slot position)
+        → option_map (at_gain (mix_settings device).layout (slot_gain_at one slot position)) given ≡ option_map (at_gain (mix_settings device).layout (slot_gain_at other slot position)) given
+    at None gains = refl
+    at (Some frame) gains = ap (λ (gain : Gain). Some (at_gain (mix_settings device).layout gain frame)) (gains (λ e. cc))
+
+-- tables that agree are alike at the same gains
+pub tables-alike : (device : DeviceSeen) (until : ℕ) (faders : Faders) (a b : Table) → ((slot position : ℕ) → position < until → a slot position ≡ b slot position) → MixAlike device until faders a faders b
+tables-alike device until faders a b same = record {
+  slots = λ slot position l. faded_table-same device faders faders a b slot position (same slot position l) (λ some. refl);
+  master = λ position l. refl;
+}
+
+-- what is alike is mixed alike
+pub mix_at-same : (device : DeviceSeen) (until : ℕ) (one : Faders) (a : Table) (other : Faders) (b : Table) (position : ℕ) → MixAlike device until one a other b → position < until → mix_at device one a position ≡ mix_at device other b position
+mix_at-same device until one a other b position alike l =
+    let layout : Layout = (mix_settings device).layout in
+    ap (λ (gain : Gain). at_gain layout gain (sum_at device (faded_table device one a) position)) (alike.master position l)
+    ∙ ap (at_gain layout (master_gain_at other position))
+    (mix_of-same (bits_of (mix_settings device).format) (silence_in (mix_settings device)) (faded_table device one a) (faded_table device other b) (mixed_slots device) position (λ slot. alike.slots slot position l))
+
+pub mixed_frames-same : (device : DeviceSeen) (one : Faders) (a : Table) (other : Faders) (b : Table) (count : ℕ) → MixAlike device count one a other b
+    → mixed_frames device (mix_at device one a) count ≡ mixed_frames device (mix_at device other b) count
+mixed_frames-same device one a other b count alike =
+    map-range-same (λ position. full_frame device (mix_at device one a position)) (λ position. full_frame device (mix_at device other b position)) count
+    (λ position l. ap (full_frame device) (mix_at-same device count one a other b position alike l))
 
 -- the frames that were mixed stay as they were, and so does what was made of them
-pub device_list-same : (device : DeviceSeen) (a b : Table) (handed : ℕ) → ((slot position : ℕ) → position < mixed_for device handed → a slot position ≡ b slot position) → device_list device a handed ≡ device_list device b handed
-device_list-same device a b handed h =
-    ap (λ mixed. replicate (ring_frames device) (silence_in (device_settings device)) ++ recs (parent_plan device) (filters_of device) mixed 0 handed) (mixed_frames-same device a b (mixed_for device handed) h)
+pub device_list-same : (device : DeviceSeen) (one : Faders) (a : Table) (other : Faders) (b : Table) (handed : ℕ) → MixAlike device (mixed_for device handed) one a other b → device_list device one a handed ≡ device_list device other b handed
+device_list-same device one a other b handed alike =
+    ap (λ mixed. replicate (ring_frames device) (silence_in (device_settings device)) ++ recs (parent_plan device) (filters_of device) mixed 0 handed) (mixed_frames-same device one a other b (mixed_for device handed) alike)
 
 -- more of the mix
 pub mixed_frames-more : (device : DeviceSeen) (mix : ℕ → Frame) (count n : ℕ) → mixed_frames device mix (count + n) ≡ mixed_frames device mix count ++ map (λ position. full_frame device (mix position)) (range_with_len count n)
@@ -94,11 +129,11 @@ device_frames-later device mix handed n d =
     ∙ outs-append plan tables unity front more 0 handed (parent-plan-fits device d) (omega (arith, allowed))
 
 -- more frames handed over
-pub device_list-more : (device : DeviceSeen) (table : Table) (handed n : ℕ) → IsDevice device
-    → device_list device table (handed + n) ≡ device_list device table handed ++ device_frames device (mix_at device table) (handed + n) handed n
-device_list-more device table handed n d =
+pub device_list-more : (device : DeviceSeen) (faders : Faders) (table : Table) (handed n : ℕ) → IsDevice device
+    → device_list device faders table (handed + n) ≡ device_list device faders table handed ++ device_frames device (mix_at device faders table) (handed + n) handed n
+device_list-more device faders table handed n d =
     let silent : List Frame = replicate (ring_frames device) (silence_in (device_settings device)) in
-    let mix : ℕ → Frame = mix_at device table in
+    let mix : ℕ → Frame = mix_at device faders table in
     let behind : List Frame = device_frames device mix (handed + n) handed n in
     ap (λ list. silent ++ list)
     (outs-add (parent_plan device) (filters_of device) unity (mixed_frames device mix (mixed_for device (handed + n))) 0 handed n
@@ -155,32 +190,44 @@ fold-frame device bits table position sum (slot ∷ slots) s g = fold-frame devi
 pub mix_of-frame : (device : DeviceSeen) (bits : ℕ) (table : Table) (slots position : ℕ) → ((slot : ℕ) → IfSome (table slot position) (IsMixedFrame device)) → IsMixedFrame device (mix_of bits (silence_in (mix_settings device)) table slots position)
 mix_of-frame device bits table slots position g = fold-frame device bits table position (silence_in (mix_settings device)) (range_with_len 0 slots) (length-silence (mix_settings device)) g
 
+-- a slot gives a frame of the mix at its gain too
+pub faded-frame : (device : DeviceSeen) (gain : Gain) (given : Option Frame) → IfSome given (IsMixedFrame device) → IfSome (option_map (at_gain (mix_settings device).layout gain) given) (IsMixedFrame device)
+faded-frame device gain None is = tt
+faded-frame device gain (Some frame) is = length-at_gain (mix_settings device).layout gain frame is
+
+-- and so is the mix of a table
+pub mix_at-frame : (device : DeviceSeen) (faders : Faders) (table : Table) (position : ℕ) → ((slot : ℕ) → IfSome (table slot position) (IsMixedFrame device)) → IsMixedFrame device (mix_at device faders table position)
+mix_at-frame device faders table position g =
+    let all : Table = faded_table device faders table in
+    length-at_gain (mix_settings device).layout (master_gain_at faders position) (sum_at device all position)
+    (mix_of-frame device (bits_of (mix_settings device).format) all (mixed_slots device) position (λ slot. faded-frame device (slot_gain_at faders slot position) (table slot position) (g slot)))
+
 -- a frame has the channels of the device
 abbrev pub IsDeviceFrame : DeviceSeen → Frame → Type 0
 IsDeviceFrame device frame = length frame ≡ channels_of (device_settings device).layout
 
 -- the frames of a mix have its channels
-pub mixed_frames-frames : (device : DeviceSeen) (table : Table) (count : ℕ) → ((slot position : ℕ) → IfSome (table slot position) (IsMixedFrame device)) → All (IsMixedFrame device) (mixed_frames device (mix_at device table) count)
-mixed_frames-frames device table count g =
-    All-map (IsMixedFrame device) (λ position. full_frame device (mix_at device table position)) (range_with_len 0 count)
+pub mixed_frames-frames : (device : DeviceSeen) (faders : Faders) (table : Table) (count : ℕ) → ((slot position : ℕ) → IfSome (table slot position) (IsMixedFrame device)) → All (IsMixedFrame device) (mixed_frames device (mix_at device faders table) count)
+mixed_frames-frames device faders table count g =
+    All-map (IsMixedFrame device) (λ position. full_frame device (mix_at device faders table position)) (range_with_len 0 count)
     (λ k d l. (let position : ℕ = get_or (range_with_len 0 count) k d in
-    length-map (mix_at device table position) (at_full (bits_of (mix_settings device).format))
-    ∙ mix_of-frame device (bits_of (mix_settings device).format) table (mixed_slots device) position (λ slot. g slot position)))
+    length-map (mix_at device faders table position) (at_full (bits_of (mix_settings device).format))
+    ∙ mix_at-frame device faders table position (λ slot. g slot position)))
 
 -- and what is made of them those of the device
-pub device_list-frames : (device : DeviceSeen) (table : Table) (handed : ℕ) → IsDevice device → ((slot position : ℕ) → IfSome (table slot position) (IsMixedFrame device)) → All (IsDeviceFrame device) (device_list device table handed)
-device_list-frames device table handed d g =
-    let mixed : List Frame = mixed_frames device (mix_at device table) (mixed_for device handed) in
-    All-append (IsDeviceFrame device) (replicate (ring_frames device) (silence_in (device_settings device))) (device_frames device (mix_at device table) handed 0 handed)
+pub device_list-frames : (device : DeviceSeen) (faders : Faders) (table : Table) (handed : ℕ) → IsDevice device → ((slot position : ℕ) → IfSome (table slot position) (IsMixedFrame device)) → All (IsDeviceFrame device) (device_list device faders table handed)
+device_list-frames device faders table handed d g =
+    let mixed : List Frame = mixed_frames device (mix_at device faders table) (mixed_for device handed) in
+    All-append (IsDeviceFrame device) (replicate (ring_frames device) (silence_in (device_settings device))) (device_frames device (mix_at device faders table) handed 0 handed)
     (All-replicate (IsDeviceFrame device) (ring_frames device) (silence_in (device_settings device)) (length-silence (device_settings device)))
-    (outs-channels (parent_plan device) (filters_of device) unity mixed 0 handed (parent-plan-fits device d) (mixed_frames-frames device table (mixed_for device handed) g))
+    (outs-channels (parent_plan device) (filters_of device) unity mixed 0 handed (parent-plan-fits device d) (mixed_frames-frames device faders table (mixed_for device handed) g))
 
-pub length-device_list : (device : DeviceSeen) (table : Table) (handed : ℕ) → length (device_list device table handed) ≡ ring_frames device + handed
-length-device_list device table handed =
+pub length-device_list : (device : DeviceSeen) (faders : Faders) (table : Table) (handed : ℕ) → length (device_list device faders table handed) ≡ ring_frames device + handed
+length-device_list device faders table handed =
     let silent : List Frame = replicate (ring_frames device) (silence_in (device_settings device)) in
     let ring = length-replicate (ring_frames device) (silence_in (device_settings device)) in
-    let made = length-outs (parent_plan device) (filters_of device) unity (mixed_frames device (mix_at device table) (mixed_for device handed)) 0 handed in
-    length-append silent (device_frames device (mix_at device table) handed 0 handed) ∙ omega (arith, ring, made)
+    let made = length-outs (parent_plan device) (filters_of device) unity (mixed_frames device (mix_at device faders table) (mixed_for device handed)) 0 handed in
+    length-append silent (device_frames device (mix_at device faders table) handed 0 handed) ∙ omega (arith, ring, made)
 
 length-spelled_frame : (device : DeviceSeen) (frame : Frame) → IsDeviceFrame device frame → length (spelled_frame (device_settings device).format frame) ≡ device_frame_bytes device
 length-spelled_frame device frame h =
@@ -223,29 +270,53 @@ table-frames device story v slot position =
 -- how long they are
 pub length-device_bytes : (device : DeviceSeen) (story : Story) → StoryIsValid device story → length (device_bytes device story) ≡ ((ring_frames device) + story.desk.handed) * device_frame_bytes device
 length-device_bytes device story v =
-    length-spelled_frames device (device_list device (table_of device story) story.desk.handed) (device_list-frames device (table_of device story) story.desk.handed v.limits (table-frames device story v))
-    ∙ ap (λ n. n * device_frame_bytes device) (length-device_list device (table_of device story) story.desk.handed)
+    length-spelled_frames device (device_list device story.faders (table_of device story) story.desk.handed) (device_list-frames device story.faders (table_of device story) story.desk.handed v.limits (table-frames device story v))
+    ∙ ap (λ n. n * device_frame_bytes device) (length-device_list device story.faders (table_of device story) story.desk.handed)
 
 -- what was handed over is the front of them
 pub device_body-bytes : (device : DeviceSeen) (story : Story) → StoryIsValid device story → device_body device story ≡ take (story.desk.handed * device_frame_bytes device) (device_bytes device story)
 device_body-bytes device story v =
-    spelled_frames-take device story.desk.handed (device_list device (table_of device story) story.desk.handed) (device_list-frames device (table_of device story) story.desk.handed v.limits (table-frames device story v))
+    spelled_frames-take device story.desk.handed (device_list device story.faders (table_of device story) story.desk.handed)
+    (device_list-frames device story.faders (table_of device story) story.desk.handed v.limits (table-frames device story v))
+
+-- the mix of a story, by position
+abbrev pub mix_in : DeviceSeen → Story → ℕ → Frame
+mix_in device story = mix_at device story.faders (table_of device story)
 
 -- the new frames of an interrupt, joined
 abbrev pub new_block : DeviceSeen → Pool → Story → ℕ → List ℤ
 new_block device pool story n =
-    interleaved (device_frames device (mix_at device (table_of device (told device pool story (Intr n)))) (story.desk.handed + n) story.desk.handed n)
+    interleaved (device_frames device (mix_in device (told device pool story (Intr n))) (story.desk.handed + n) story.desk.handed n)
 
--- the tables before and after an event agree where it was mixed before
-agree-before : (device : DeviceSeen) (pool : Pool) (story : Story) (event : Event) → StoryIsValid device story → (slot position : ℕ) → position < mixed_for device story.desk.handed
-    → table_of device (told device pool story event) slot position ≡ table_of device story slot position
-agree-before device pool story event v slot position l = table_of-told device pool story event slot position v (let level = v.mixed in omega (arith, level, l))
+-- a fader that is set by an event counts at no position of the past
+pub slot_gain-told : (device : DeviceSeen) (pool : Pool) (story : Story) (event : Event) (slot position : ℕ) → position < story.desk.mixed
+    → slot_gain_at (told device pool story event).faders slot position ≡ slot_gain_at story.faders slot position
+slot_gain-told device pool story event slot position l =
+    fader-later story.desk.mixed position (slot_gain story.desk.mixer slot) (slot_gain (after device story.desk event).desk.mixer slot) (story.faders.slots slot) l
+
+pub master_gain-told : (device : DeviceSeen) (pool : Pool) (story : Story) (event : Event) (position : ℕ) → position < story.desk.mixed
+    → master_gain_at (told device pool story event).faders position ≡ master_gain_at story.faders position
+master_gain-told device pool story event position l =
+    fader-later story.desk.mixed position (master_gain story.desk.mixer) (master_gain (after device story.desk event).desk.mixer) story.faders.master l
+
+-- the mixes before and after an event are alike where it was mixed before
+agree-before : (device : DeviceSeen) (pool : Pool) (story : Story) (event : Event) → StoryIsValid device story
+    → let new : Story = told device pool story event in MixAlike device (mixed_for device story.desk.handed) new.faders (table_of device new) story.faders (table_of device story)
+agree-before device pool story event v =
+    let new : Story = told device pool story event in
+    let level = v.mixed in
+    record {
+      slots = λ slot position l. faded_table-same device new.faders story.faders (table_of device new) (table_of device story) slot position
+          (table_of-told device pool story event slot position v (omega (arith, level, l))) (λ some. slot_gain-told device pool story event slot position (omega (arith, level, l)));
+      master = λ position l. master_gain-told device pool story event position (omega (arith, level, l));
+    }
 
 -- what is mixed stays as it was
 pub mixed_frames-told : (device : DeviceSeen) (pool : Pool) (story : Story) (event : Event) → StoryIsValid device story
-    → mixed_frames device (mix_at device (table_of device (told device pool story event))) (mixed_for device story.desk.handed) ≡ mixed_frames device (mix_at device (table_of device story)) (mixed_for device story.desk.handed)
+    → mixed_frames device (mix_in device (told device pool story event)) (mixed_for device story.desk.handed) ≡ mixed_frames device (mix_in device story) (mixed_for device story.desk.handed)
 mixed_frames-told device pool story event v =
-    mixed_frames-same device (table_of device (told device pool story event)) (table_of device story) (mixed_for device story.desk.handed) (agree-before device pool story event v)
+    let new : Story = told device pool story event in
+    mixed_frames-same device new.faders (table_of device new) story.faders (table_of device story) (mixed_for device story.desk.handed) (agree-before device pool story event v)
 
 -- an interrupt makes its frames behind those that were made before
 pub device_bytes-interrupt : (device : DeviceSeen) (pool : Pool) (story : Story) (n : ℕ) → StoryIsValid device story
@@ -254,11 +325,11 @@ device_bytes-interrupt device pool story n v =
     let format : Format = (device_settings device).format in
     let new : Story = told device pool story (Intr n) in
     let handed : ℕ = story.desk.handed in
-    let behind : List Frame = device_frames device (mix_at device (table_of device new)) (handed + n) handed n in
+    let behind : List Frame = device_frames device (mix_in device new) (handed + n) handed n in
     ap (spelled_frames format)
-    (device_list-more device (table_of device new) handed n v.limits
-    ∙ ap (λ list. list ++ behind) (device_list-same device (table_of device new) (table_of device story) handed (agree-before device pool story (Intr n) v)))
-    ∙ flat_map-append (spelled_frame format) (device_list device (table_of device story) handed) behind
+    (device_list-more device new.faders (table_of device new) handed n v.limits
+    ∙ ap (λ list. list ++ behind) (device_list-same device new.faders (table_of device new) story.faders (table_of device story) handed (agree-before device pool story (Intr n) v)))
+    ∙ flat_map-append (spelled_frame format) (device_list device story.faders (table_of device story) handed) behind
     ∙ ap (λ bytes. device_bytes device story ++ bytes) (spelled_frames-joined format behind)
 
 -- every other event leaves them
@@ -266,5 +337,6 @@ pub device_bytes-same : (device : DeviceSeen) (pool : Pool) (story : Story) (eve
     → device_bytes device (told device pool story event) ≡ device_bytes device story
 device_bytes-same device pool story event v e =
     let new : Story = told device pool story event in
-    ap (λ count. spelled_frames (device_settings device).format (device_list device (table_of device new) count)) e
-    ∙ ap (spelled_frames (device_settings device).format) (device_list-same device (table_of device new) (table_of device story) story.desk.handed (agree-before device pool story event v))
+    ap (λ count. spelled_frames (device_settings device).format (device_list device new.faders (table_of device new) count)) e
+    ∙ ap (spelled_frames (device_settings device).format)
+    (device_list-same device new.faders (table_of device new) story.faders (table_of device story) story.desk.handed (agree-before device pool story event v))

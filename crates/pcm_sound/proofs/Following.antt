@@ -4,7 +4,7 @@ use Rattle.std.specs.Prelude.{nat_lt, not, ◌&&◌}
 use Rattle.std.proofs.lemmas.List.{take-take, take_all}
 use Rattle.std.proofs.lemmas.List.FromFn.{length-map-range_with_len, take-map-range_with_len}
 use Rattle.pcm_oss.specs.declared.event.Event.{Event}
-use Rattle.pcm_oss.specs.declared.event.Event.TheVariants.{Open, Write, Poke, Read, Ioctl, Join, StartGroup, Close, Intr}
+use Rattle.pcm_oss.specs.declared.event.Event.TheVariants.{Open, Write, Poke, Read, Ioctl, Join, StartGroup, Close, Mixer, Intr}
 use Rattle.pcm_oss.specs.declared.event.Way.{Way}
 use Rattle.pcm_oss.specs.declared.event.Way.TheVariants.{Play, Record, Map}
 use Rattle.pcm_oss.specs.declared.reply.Answer.TheVariants.{Got}
@@ -34,7 +34,7 @@ use Rattle.pcm_sound.specs.Recordings.{Recording, handing, recorded_frames, reco
 use Rattle.pcm_sound.specs.Story.{Story}
 use Rattle.pcm_sound.specs.Valid.{IsRecorded, RecordingIsValid, RecordingsAreValid}
 use Rattle.pcm_sound.proofs.Recordings.{captured-add, recorded-captured}
-use Rattle.pcm_sound.proofs.Recorded.{AllTurned, Turned, all-closing, all-join, all-open, all-poke, all-request, all-start, all-write, idle-unstarted}
+use Rattle.pcm_sound.proofs.Recorded.{AllTurned, Turned, all-closing, all-join, all-mixer, all-open, all-poke, all-request, all-start, all-write, idle-unstarted}
 use Rattle.pcm_desk.proofs.Slots.{record_at-with}
 
 -- the bytes of a recording that its book counts
@@ -135,6 +135,7 @@ recording-follows device pool story (Ioctl fd request) slot fits none v = turned
 recording-follows device pool story (Join fd group) slot fits none v = turned_follows device pool story (after device story.desk (Join fd group)).desk slot (all-join device (held_by story.desk fd) story.desk group) v
 recording-follows device pool story (StartGroup fd group) slot fits none v = turned_follows device pool story (after device story.desk (StartGroup fd group)).desk slot (all-start device (held_by story.desk fd) story.desk group) v
 recording-follows device pool story (Close fd) slot fits none v = turned_follows device pool story (after device story.desk (Close fd)).desk slot (all-closing device (held_by story.desk fd) story.desk fd) v
+recording-follows device pool story (Mixer request) slot fits none v = turned_follows device pool story (after device story.desk (Mixer request)).desk slot (all-mixer device story.desk request) v
 recording-follows device pool story (Intr n) slot fits none v = absurd (let some = fits.0 in omega arith)
 
 -- ---- an interrupt

@@ -12,6 +12,7 @@ pub mod Numbers
 pub mod DeviceLists
 pub mod Heard
 pub mod Plain
+pub mod FadedBlocks
 pub mod Turns
 pub mod MapTurns
 pub mod Recordings
@@ -19,5 +20,6 @@ pub mod Recorded
 pub mod Following
 pub mod Pools
 pub mod AreaLaws
+pub mod FaderLaws
 pub mod OwnReplies
 pub mod Together

@@ -9,7 +9,7 @@ use Rattle.pcm_format.specs.declared.settings.Settings.{Settings}
 use Rattle.pcm_format.specs.Frames.{frame_bytes, whole_frames}
 use Rattle.pcm_format.proofs.Whole.{frames_there, whole_frames-mono}
 use Rattle.pcm_rate.specs.declared.rate.Rate.{Rate}
-use Rattle.pcm_rate.specs.Rates.{IsRatio, can, need}
+use Rattle.pcm_rate.specs.Rates.{IsRatio, need}
 use Rattle.pcm_rate.proofs.Counts.{can-greatest, need_grows}
 use Rattle.pcm_feeder.specs.Limits.{IsRate}
 use Rattle.pcm_oss.specs.declared.request.Request.{Request}

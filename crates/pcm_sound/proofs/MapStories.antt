@@ -1,10 +1,10 @@
 -- A story keeps its mapped slots valid through every event that fits, and what they gave stays as it was.
-use Rattle.std.proofs.Common.{◌≡◌, ℕ, suc, zero, ◌+◌, ◌<◌, Bool, true, false, cond, List, [], ◌∷◌, get_or, Option, Some, None, inl, inr, refl, sym, ap, ◌∙◌, subst, arith, All}
+use Rattle.std.proofs.Common.{◌≡◌, ℕ, suc, zero, ◌+◌, ◌<◌, Bool, true, false, cond, List, [], ◌∷◌, get_or, Option, Some, None, inl, inr, refl, sym, ap, ◌∙◌, subst, arith}
 use Rattle.std.specs.Prelude.{find, is_some, not, nat_lt, ◌&&◌}
 use Rattle.std.proofs.lemmas.List.Elements.{All-head, All-nil}
 use Rattle.pcm_format.specs.declared.settings.Settings.{Settings}
 use Rattle.pcm_oss.specs.declared.event.Event.{Event}
-use Rattle.pcm_oss.specs.declared.event.Event.TheVariants.{Open, Write, Poke, Read, Ioctl, Join, StartGroup, Close, Intr}
+use Rattle.pcm_oss.specs.declared.event.Event.TheVariants.{Open, Write, Poke, Read, Ioctl, Join, StartGroup, Close, Mixer, Intr}
 use Rattle.pcm_oss.specs.declared.event.Way.{Way}
 use Rattle.pcm_oss.specs.declared.event.Way.TheVariants.{Play, Record, Map}
 use Rattle.pcm_oss.specs.declared.request.Request.{Request}
@@ -124,6 +124,7 @@ keeps-maps device pool desk (Join fd group) fits none =
 keeps-maps device pool desk (StartGroup fd group) fits none =
     by-starting device (λ (t : DeskTurn). KeepsMaps device desk t.desk) (held_by desk fd) desk group (λ errno. stays device desk) (λ used ready. stays device desk)
 keeps-maps device pool desk (Close fd) fits none = closes device (left (held_by desk fd) desk) (held_by desk fd) fd
+keeps-maps device pool desk (Mixer request) fits none = stays device desk
 keeps-maps device pool desk (Intr n) fits none = absurd (let some = fits.0 in omega arith)
 
 -- ---- the slots
@@ -220,4 +221,5 @@ sounding-map_carrying device gain desk (Read fd count) p book area runs d v h = 
 sounding-map_carrying device gain desk (Ioctl fd request) p book area runs d v h = refl
 sounding-map_carrying device gain desk (Join fd group) p book area runs d v h = refl
 sounding-map_carrying device gain desk (StartGroup fd group) p book area runs d v h = refl
+sounding-map_carrying device gain desk (Mixer request) p book area runs d v h = refl
 sounding-map_carrying device gain desk (Close fd) p book area runs d v h = refl

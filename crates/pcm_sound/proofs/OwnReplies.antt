@@ -5,7 +5,7 @@ use Rattle.std.proofs.lemmas.Bool.{eqb-true}
 use Rattle.std.proofs.lemmas.List.{append-nil}
 use Rattle.pcm_format.specs.declared.settings.Settings.{Settings}
 use Rattle.pcm_oss.specs.declared.event.Event.{Event}
-use Rattle.pcm_oss.specs.declared.event.Event.TheVariants.{Open, Write, Poke, Read, Ioctl, Join, StartGroup, Close, Intr}
+use Rattle.pcm_oss.specs.declared.event.Event.TheVariants.{Open, Write, Poke, Read, Ioctl, Join, StartGroup, Close, Mixer, Intr}
 use Rattle.pcm_oss.specs.declared.event.Way.{Way}
 use Rattle.pcm_oss.specs.declared.event.Way.TheVariants.{Play, Record, Map}
 use Rattle.pcm_oss.specs.declared.reply.Answer.TheVariants.{Got}
@@ -99,6 +99,7 @@ goes_nowhere device pool (Ioctl at request) fd book recording n = refl
 goes_nowhere device pool (Join at group) fd book recording n = refl
 goes_nowhere device pool (StartGroup at group) fd book recording n = refl
 goes_nowhere device pool (Close at) fd book recording n = refl
+goes_nowhere device pool (Mixer request) fd book recording n = refl
 goes_nowhere device pool (Intr frames) fd book recording n = cc
 
 starts_none : (running : Bool) (start other : recordings.Recording) → cond (not running && running) start other ≡ other
@@ -120,6 +121,7 @@ takes_none (Ioctl at request) fd n = refl
 takes_none (Join at group) fd n = refl
 takes_none (StartGroup at group) fd n = refl
 takes_none (Close at) fd n = refl
+takes_none (Mixer request) fd n = refl
 takes_none (Intr frames) fd n = cc
 
 -- a read of its own gets the bytes of its recording
@@ -141,6 +143,7 @@ bytes_own device pool story (Ioctl at request) fd held n e = refl
 bytes_own device pool story (Join at group) fd held n e = refl
 bytes_own device pool story (StartGroup at group) fd held n e = refl
 bytes_own device pool story (Close at) fd held n e = refl
+bytes_own device pool story (Mixer request) fd held n e = refl
 bytes_own device pool story (Intr frames) fd held n e = refl
 
 -- neither the number of a descriptor nor the bytes of a write or a poke say anything to a channel
@@ -170,6 +173,7 @@ told_unnamed device pool (Close fd) (Mapped book) recording handed more = refl
 told_unnamed device pool (Poke fd offset at count) (Playing book) recording handed more = refl
 told_unnamed device pool (Poke fd offset at count) (Recording book) recording handed more = refl
 told_unnamed device pool (Poke fd offset at count) (Mapped book) recording handed more = refl
+told_unnamed device pool (Mixer request) channel recording handed more = refl
 told_unnamed device pool (Intr n) channel recording handed more = refl
 
 -- what a client is told by one channel of a story
@@ -285,6 +289,7 @@ safe_own device handed (StartGroup fd group) channel s = s
 safe_own device handed (Close fd) (Playing book) s = tt
 safe_own device handed (Close fd) (Mapped book) s = tt
 safe_own device handed (Close fd) (Recording book) s = record-safe-closed (record_rate_at device book) book s
+safe_own device handed (Mixer request) channel s = s
 safe_own device handed (Intr n) (Playing book) s = tt
 safe_own device handed (Intr n) (Mapped book) s = tt
 safe_own device handed (Intr n) (Recording book) s =
@@ -317,6 +322,7 @@ plays_on device handed (Ioctl fd request) book = refl
 plays_on device handed (Join fd group) book = refl
 plays_on device handed (StartGroup fd group) book = refl
 plays_on device handed (Close fd) book = refl
+plays_on device handed (Mixer request) book = refl
 plays_on device handed (Intr n) book = refl
 
 -- nor does a mapped one
@@ -329,6 +335,7 @@ maps_on device handed (Ioctl fd request) book = refl
 maps_on device handed (Join fd group) book = refl
 maps_on device handed (StartGroup fd group) book = refl
 maps_on device handed (Close fd) book = refl
+maps_on device handed (Mixer request) book = refl
 maps_on device handed (Intr n) book = refl
 
 -- recordings that are equal while they run go on to be, where the same is captured

@@ -5,7 +5,7 @@ use Rattle.std.proofs.lemmas.List.{drop-append-le, length-drop, take-append-le, 
 use Rattle.std.proofs.lemmas.List.Elements.{All-cons, All-head, All-nil, All-tail}
 use Rattle.pcm_format.specs.Frames.{Frame}
 use Rattle.pcm_oss.specs.declared.event.Event.{Event}
-use Rattle.pcm_oss.specs.declared.event.Event.TheVariants.{Open, Write, Poke, Read, Ioctl, Join, StartGroup, Close, Intr}
+use Rattle.pcm_oss.specs.declared.event.Event.TheVariants.{Open, Write, Poke, Read, Ioctl, Join, StartGroup, Close, Mixer, Intr}
 use Rattle.pcm_wave.specs.declared.pool.Pool.{Pool}
 use Rattle.pcm_wave.specs.declared.pool.Source.{Source}
 use Rattle.pcm_wave.specs.declared.pool.Source.TheVariants.{Inline, File}
@@ -18,7 +18,7 @@ use Rattle.pcm_desk.specs.RecordBooks.{is_running, keeping}
 use Rattle.pcm_desk.specs.Desk.{Desk, after, map_at, play_at, held_by, record_at, record_rate_at}
 use Rattle.pcm_desk.specs.Events.{Fits}
 use Rattle.pcm_sound.specs.Areas.{holds_map, poked, silences, silent_area, written_by}
-use Rattle.pcm_sound.specs.Gains.{gains_after, map_loudness, play_loudness}
+use Rattle.pcm_sound.specs.Gains.{faders_after, gains_after, map_loudness, play_loudness}
 use Rattle.pcm_sound.specs.MapRuns.{map_runs_after}
 use Rattle.pcm_sound.specs.Given.{recorded_bytes}
 use Rattle.pcm_sound.specs.Pools.{AreAlike, BringsAlike, IsLonger}
@@ -56,6 +56,7 @@ runs_alike device one other desk (Ioctl fd request) slot runs same = refl
 runs_alike device one other desk (Join fd group) slot runs same = refl
 runs_alike device one other desk (StartGroup fd group) slot runs same = refl
 runs_alike device one other desk (Close fd) slot runs same = refl
+runs_alike device one other desk (Mixer request) slot runs same = refl
 runs_alike device one other desk (Intr n) slot runs same = refl
 
 -- what is written into the area of a slot
@@ -68,6 +69,7 @@ written_alike one other desk (Ioctl fd request) slot area same = refl
 written_alike one other desk (Join fd group) slot area same = refl
 written_alike one other desk (StartGroup fd group) slot area same = refl
 written_alike one other desk (Close fd) slot area same = refl
+written_alike one other desk (Mixer request) slot area same = refl
 written_alike one other desk (Intr n) slot area same = refl
 
 -- the recording of a slot
@@ -80,6 +82,7 @@ going-alike device one other (Ioctl fd request) old new recording same = refl
 going-alike device one other (Join fd group) old new recording same = refl
 going-alike device one other (StartGroup fd group) old new recording same = refl
 going-alike device one other (Close fd) old new recording same = refl
+going-alike device one other (Mixer request) old new recording same = refl
 going-alike device one other (Intr n) old new recording same =
     ap (λ (captured : List Frame). cond (is_running old.state) (record recording {
       kept = recording.kept ++ recorded_bytes device old.opening.settings (drop recording.start captured) old.given (keeping (record_rate_at device old) n old);
@@ -102,6 +105,7 @@ told-alike device one other story event brings captured = λ i. record {
       let old : RecordBook = record_at device story.desk slot in
       let new : RecordBook = record_at device (after device story.desk event).desk slot in
       cond (starts_recording old new) (recording_from story.desk.handed) (going-alike device one other event old new (story.recordings slot) captured i));
+  faders = faders_after story.desk.mixed story.desk.mixer (after device story.desk event).desk.mixer story.faders;
 }
 
 -- ---- a list of events
@@ -155,6 +159,7 @@ longer_brings device one other (Ioctl fd request) l fits = tt
 longer_brings device one other (Join fd group) l fits = tt
 longer_brings device one other (StartGroup fd group) l fits = tt
 longer_brings device one other (Close fd) l fits = tt
+longer_brings device one other (Mixer request) l fits = tt
 longer_brings device one other (Intr n) l fits = tt
 
 longer_all : (device : DeviceSeen) (one other : Pool) (events : List Event) → IsLonger one other → All (Fits device one) events → All (BringsAlike one other) events
@@ -190,4 +195,5 @@ longer-fits device one other (Ioctl fd request) l fits = fits
 longer-fits device one other (Join fd group) l fits = fits
 longer-fits device one other (StartGroup fd group) l fits = fits
 longer-fits device one other (Close fd) l fits = fits
+longer-fits device one other (Mixer request) l fits = fits
 longer-fits device one other (Intr n) l fits = fits

@@ -6,11 +6,12 @@ use Rattle.std.proofs.lemmas.List.Elements.{All-head, All-tail}
 use Rattle.std.proofs.lemmas.List.{append-nil}
 use Rattle.pcm_format.specs.declared.settings.Settings.{Settings}
 use Rattle.pcm_oss.specs.declared.event.Event.{Event}
-use Rattle.pcm_oss.specs.declared.event.Event.TheVariants.{Open, Write, Poke, Read, Ioctl, Join, StartGroup, Close, Intr}
+use Rattle.pcm_oss.specs.declared.event.Event.TheVariants.{Open, Write, Poke, Read, Ioctl, Join, StartGroup, Close, Mixer, Intr}
 use Rattle.pcm_oss.specs.declared.event.Way.{Way}
 use Rattle.pcm_oss.specs.declared.event.Way.TheVariants.{Play, Record, Map}
 use Rattle.pcm_oss.specs.declared.reply.Answer.TheVariants.{Got}
 use Rattle.pcm_oss.specs.declared.reply.Errno.TheVariants.{Again, Exist, Inval}
+use Rattle.pcm_oss.specs.declared.mix_request.MixRequest.{MixRequest}
 use Rattle.pcm_oss.specs.declared.request.Request.{Request}
 use Rattle.pcm_oss.specs.declared.request.Request.TheVariants.{SetTrigger}
 use Rattle.pcm_group.proofs.Members.{used-some}
@@ -31,7 +32,7 @@ use Rattle.pcm_desk.specs.RecordRequests.{record_ask}
 use Rattle.pcm_desk.specs.MapBooks.{poke_turn}
 use Rattle.pcm_desk.specs.MapRequests.{map_ask}
 use Rattle.pcm_desk.specs.RecordSafe.{IsRecordInOrder, IsRecordUnstarted, RecordIsSafe}
-use Rattle.pcm_desk.specs.Desk.{Desk, DeskTurn, after, asking, both_bits, by_way, close_map, close_on, close_play, close_record, desk_here, held_by, interrupt_turn, ioctl_on, join_on, left, record_starting, request_on, start_on, least_free_map, least_free_play, least_free_record, map_turn, open_map, open_play, open_record, open_turn, play_turn, poke_on, read_on, record_at, record_rate_at, record_turn, record_unopened, refusing, turning, with_record, write_on}
+use Rattle.pcm_desk.specs.Desk.{Desk, DeskTurn, after, asking, both_bits, by_way, close_map, close_on, close_play, close_record, desk_here, held_by, interrupt_turn, ioctl_on, join_on, least_free_map, least_free_play, least_free_record, left, map_turn, mixer_turn, open_map, open_play, open_record, open_turn, play_turn, poke_on, read_on, record_at, record_rate_at, record_starting, record_turn, record_unopened, refusing, request_on, start_on, turning, with_record, write_on}
 use Rattle.pcm_desk.specs.Events.{Fits, frames_taken}
 use Rattle.pcm_desk.proofs.Grouping.{by-asking, by-joining, by-starting, record_at-started}
 use Rattle.pcm_desk.proofs.RecordAsking.{record-ask-rate, record-ask-settings}
@@ -267,6 +268,10 @@ all-start device held desk group =
 pub all-closing : (device : DeviceSeen) (held : Option Held) (desk : Desk) (fd : ℕ) → AllTurned device desk (close_on device held (left held desk) fd).desk
 all-closing device held desk fd = all-close device held (left held desk) fd
 
+-- what the mixer device is asked leaves them
+pub all-mixer : (device : DeviceSeen) (desk : Desk) (request : MixRequest) → AllTurned device desk (mixer_turn device desk request).desk
+all-mixer device desk request = all-same device desk (mixer_turn device desk request).desk refl
+
 -- ---- stories
 
 -- such an event leaves recordings valid
@@ -386,6 +391,8 @@ recordings-told device pool story (StartGroup fd group) d is fits v =
     turned-story device pool story (StartGroup fd group) (all-start device (held_by story.desk fd) story.desk group) (handed_same device story.desk (StartGroup fd group) refl) (λ slot. refl) v
 recordings-told device pool story (Close fd) d is fits v =
     turned-story device pool story (Close fd) (all-closing device (held_by story.desk fd) story.desk fd) (handed_same device story.desk (Close fd) refl) (λ slot. refl) v
+recordings-told device pool story (Mixer request) d is fits v =
+    turned-story device pool story (Mixer request) (all-mixer device story.desk request) (handed_same device story.desk (Mixer request) refl) (λ slot. refl) v
 recordings-told device pool story (Intr n) d is fits v = λ slot. captured_slot device pool story.desk n slot (story.recordings slot) d is (v slot)
 
 -- before the first event

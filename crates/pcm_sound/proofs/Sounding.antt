@@ -21,7 +21,7 @@ use Rattle.pcm_desk.specs.Device.{DeviceSeen, IsDevice, filters_of, play_plan_be
 use Rattle.pcm_desk.specs.PlayBooks.{giving, is_draining, is_started}
 use Rattle.pcm_desk.specs.Desk.{play_rate_at}
 use Rattle.pcm_sound.specs.Given.{given_frame}
-use Rattle.pcm_sound.specs.Gains.{GainSet, Loudness, gains_after, last_gain, loudness_gain, sets_volume}
+use Rattle.pcm_sound.specs.Gains.{GainSet, Loudness, fader_after, gains_after, is_same_gain, last_gain, loudness_gain, sets_volume}
 use Rattle.pcm_sound.specs.Runs.{Piece, Run, begun_run, piece_of, taking, playing, marking, covers, run_frames, piece_frame, first_of, sounding}
 use Rattle.pcm_sound.specs.Valid.{PieceIsValid, RunIsValid, SlotIsValid, HasRate, frames_given, given_in}
 
@@ -187,4 +187,13 @@ last_gain-later position p old new gains h =
     elim (sets_volume old new) as (λ (b : Bool). last_gain (cond b (record { position = position; gain = loudness_gain new } ∷ gains) gains) p ≡ last_gain gains p) [
       | true ↦ rw later refl
       | false ↦ refl
+    ]
+
+-- nor does what a fader is set to later
+pub fader-later : (position p : ℕ) (old new : Gain) (gains : List GainSet) → p < position → last_gain (fader_after position old new gains) p ≡ last_gain gains p
+fader-later position p old new gains h =
+    let later : nat_le position p ≡ false = grind (arith, nat_tests) in
+    elim (is_same_gain old new) as (λ (b : Bool). last_gain (cond b gains (record { position = position; gain = new } ∷ gains)) p ≡ last_gain gains p) [
+      | true ↦ refl
+      | false ↦ rw later refl
     ]

@@ -2,15 +2,18 @@
 use Rattle.std.proofs.Common.{◌≡◌, ℕ, suc, zero, ◌+◌, ◌-◌, ◌<◌, ◌≤◌, Bool, true, false, cond, List, [], ◌∷◌, ◌++◌, length, get_or, drop, replicate, Option, Some, None, inl, inr, refl, sym, ap, ◌∙◌, subst, arith, All, length-take, length-drop}
 use Rattle.std.specs.Prelude.{is_some, nat_le, nat_lt, not, eqb}
 use Rattle.std.proofs.lemmas.List.{get_or_past, get_or-replicate, length-replicate}
-use Rattle.std.proofs.lemmas.Bool.{cases_lt, eqb-true, not-false, or_parts}
+use Rattle.std.proofs.lemmas.Bool.{and_parts, cases_lt, eqb-true, not-false, or_parts}
 use Rattle.std.proofs.lemmas.Bool.Decides.{nat_tests}
 use Rattle.std.proofs.lemmas.List.Elements.{All-head, All-nil, All-tail}
 use Rattle.std.proofs.lemmas.List.Quantifiers.{position-Some}
 use Rattle.pcm_format.specs.declared.settings.Settings.{Settings}
 use Rattle.pcm_oss.specs.declared.event.Event.{Event}
-use Rattle.pcm_oss.specs.declared.event.Event.TheVariants.{Open, Write, Poke, Read, Ioctl, Join, StartGroup, Close, Intr}
+use Rattle.pcm_oss.specs.declared.event.Event.TheVariants.{Open, Write, Poke, Read, Ioctl, Join, StartGroup, Close, Mixer, Intr}
 use Rattle.pcm_oss.specs.declared.event.Way.{Way}
 use Rattle.pcm_oss.specs.declared.event.Way.TheVariants.{Play, Record, Map}
+use Rattle.pcm_oss.specs.declared.event.TheConstants.{SLOTS}
+use Rattle.pcm_oss.specs.declared.mix_request.MixRequest.{MixRequest}
+use Rattle.pcm_oss.specs.declared.volume.TheConstants.{VOLUME}
 use Rattle.pcm_oss.specs.declared.request.Request.{Request}
 use Rattle.pcm_oss.specs.declared.request.Request.TheVariants.{SetTrigger}
 use Rattle.pcm_wave.specs.declared.pool.Pool.{Pool}
@@ -24,6 +27,7 @@ use Rattle.pcm_rate.specs.declared.rate.Rate.{Rate}
 use Rattle.pcm_feeder.specs.Limits.{IsRate}
 use Rattle.pcm_group.specs.declared.sync_groups.Groups.{Groups}
 use Rattle.pcm_group.proofs.Members.{used-some}
+use Rattle.pcm_mixdev.specs.Mixers.{full_mixer, master_gain, no_gain, slot_gain, slot_volume}
 use Rattle.pcm_desk.specs.declared.play_book.PlayBook.{PlayBook}
 use Rattle.pcm_desk.specs.declared.device.Held.{Held}
 use Rattle.pcm_desk.specs.declared.record_book.RecordBook.{RecordBook}
@@ -37,7 +41,7 @@ use Rattle.pcm_desk.specs.declared.here.Here.{Here}
 use Rattle.pcm_desk.specs.Device.{DeviceSeen, IsDevice, here_at, mix_settings, map_slots, mixed_for, play_rate_between, play_slots}
 use Rattle.pcm_desk.specs.PlayBooks.{is_draining, is_play_free, is_started, play_begun, write_turn}
 use Rattle.pcm_desk.specs.PlaySafe.{PlayIsHere, PlayIsSafe}
-use Rattle.pcm_desk.specs.Desk.{Desk, DeskTurn, after, asking, both_bits, by_way, close_map, close_on, close_play, close_record, closing, desk_here, group_started, held_by, ioctl_on, join_on, left, least_free_map, least_free_play, least_free_record, map_at, map_turn, map_unopened, mixed_by, mixing, open_map, open_play, open_record, open_turn, play_at, play_passing, play_rate_at, play_turn, play_unopened, poke_on, read_on, record_at, record_turn, refusing, request_on, rests, settling, start_on, turning, with_descriptor, with_map, with_play, with_record, write_on}
+use Rattle.pcm_desk.specs.Desk.{Desk, DeskTurn, after, asking, both_bits, by_way, close_map, close_on, close_play, close_record, closing, desk_here, group_started, held_by, ioctl_on, join_on, left, least_free_map, least_free_play, least_free_record, map_at, map_turn, map_unopened, mixed_by, mixer_turn, mixing, open_map, open_play, open_record, open_turn, play_at, play_passing, play_rate_at, play_turn, play_unopened, poke_on, read_on, record_at, record_turn, refusing, request_on, rests, settling, start_on, turning, with_descriptor, with_map, with_play, with_record, write_on}
 use Rattle.pcm_desk.specs.Events.{Fits, frames_taken}
 use Rattle.pcm_desk.proofs.Grouping.{by-asking, by-joining, by-starting, play_at-started}
 use Rattle.pcm_desk.proofs.PlayHere.{here-ask, here-begun, here-close, here-settled, here-write, last-refilled}
@@ -46,7 +50,7 @@ use Rattle.pcm_desk.proofs.PlaySafeAsking.{safe-ask}
 use Rattle.pcm_desk.proofs.PlayLeaves.{ask-leaves, close-leaves, close-keeps}
 use Rattle.pcm_desk.proofs.Ratios.{mixed-behind, ratio-between}
 use Rattle.pcm_desk.proofs.Slots.{play_at-passing, play_at-with}
-use Rattle.pcm_sound.specs.Gains.{GainSet, Loudness, begins, book_gain, last_gain, loudness_gain, map_gain, map_loudness, play_loudness, sets_volume}
+use Rattle.pcm_sound.specs.Gains.{GainSet, Loudness, begins, book_gain, is_same_gain, last_gain, loudness_gain, map_gain, map_loudness, master_gain_at, play_loudness, sets_volume, slot_gain_at}
 use Rattle.pcm_sound.specs.Runs.{Run, asks_drop, drops, taking, playing, carrying, marking, sounding}
 use Rattle.pcm_sound.specs.MapRuns.{map_carrying, map_marking}
 use Rattle.pcm_sound.specs.Story.{Story, story_at_start, story_of, told, told_all}
@@ -422,6 +426,10 @@ leaves-start_on device mixed held desk group d rates =
     by-starting device (λ (t : DeskTurn). LeavesSlots device mixed false desk t.desk) held desk group (λ errno. stays device mixed false desk)
     (λ used ready. leaves-started device mixed desk group (used-some desk.groups group used) d rates)
 
+-- what the mixer device is asked leaves all slots
+pub leaves-mixer_turn : (device : DeviceSeen) (mixed : ℕ) (desk : Desk) (request : MixRequest) → LeavesSlots device mixed false desk (mixer_turn device desk request).desk
+leaves-mixer_turn device mixed desk request = let l = stays device mixed false desk in record { order = l.order; slots = l.slots; given = l.given; handed_same = refl; mixed_same = refl }
+
 -- ---- writes
 
 -- a write leaves each slot's book with some of its bytes, or as it was
@@ -585,6 +593,9 @@ keeps-close : (device : DeviceSeen) (pool : Pool) (story : Story) (fd : ℕ) →
 keeps-close device pool story fd v =
     keeps-left device pool story (Close fd) (leaves-closing device story.desk.mixed (held_by story.desk fd) story.desk fd v.limits (rates_of device story v)) (λ slot. refl) v
 
+keeps-mixer : (device : DeviceSeen) (pool : Pool) (story : Story) (request : MixRequest) → StoryIsValid device story → Keeps device pool story (Mixer request)
+keeps-mixer device pool story request v = keeps-left device pool story (Mixer request) (leaves-mixer_turn device story.desk.mixed story.desk request) (λ slot. refl) v
+
 -- such an event leaves the counts of the device
 pub keeps : (device : DeviceSeen) (pool : Pool) (story : Story) (event : Event) → Fits device pool event → frames_taken event ≡ 0 → StoryIsValid device story → Keeps device pool story event
 keeps device pool story (Open fd way settings) fits none v = keeps-open device pool story fd way settings fits.1 v
@@ -595,6 +606,7 @@ keeps device pool story (Ioctl fd request) fits none v = keeps-ioctl device pool
 keeps device pool story (Join fd group) fits none v = keeps-join device pool story fd group v
 keeps device pool story (StartGroup fd group) fits none v = keeps-start device pool story fd group v
 keeps device pool story (Close fd) fits none v = keeps-close device pool story fd v
+keeps device pool story (Mixer request) fits none v = keeps-mixer device pool story request v
 keeps device pool story (Intr n) fits none v = absurd (let some = fits.0 in omega arith)
 
 -- a volume that isn't set stays
@@ -625,6 +637,35 @@ map_gains-told device pool story event grows v slot position later =
     let new : Loudness = map_loudness (map_at device (after device story.desk event).desk slot) in
     gain_set (sets_volume old new) story.desk.mixed position old new (story.map_gains slot) refl (omega arith) (v.map_gains slot position (omega arith))
 
+-- gains that are the same on both sides are one
+one_gain : (one other : Gain) → is_same_gain one other ≡ true → one ≡ other
+one_gain one other e = λ i. record {
+  left = eqb-true one.left other.left (and_parts (eqb one.left other.left) (eqb one.right other.right) e).0 i;
+  right = eqb-true one.right other.right (and_parts (eqb one.left other.left) (eqb one.right other.right) e).1 i;
+}
+
+-- from its position on a gain counts that a fader was set to, else the last one
+fader_set : (b : Bool) (position p : ℕ) (old new : Gain) (gains : List GainSet) → is_same_gain old new ≡ b → position ≤ p → last_gain gains p ≡ old
+    → last_gain (cond b gains (record { position = position; gain = new } ∷ gains)) p ≡ new
+fader_set true position p old new gains e later h = h ∙ one_gain old new e
+fader_set false position p old new gains e later h = let here : nat_le position p ≡ true = grind (arith, nat_tests) in rw here refl
+
+-- from the next frame on each slot has the gain that the mixer device gives it after an event
+pub slots-faded : (device : DeviceSeen) (pool : Pool) (story : Story) (event : Event) → StoryIsValid device story → (slot position : ℕ) → story.desk.mixed ≤ position
+    → slot_gain_at (told device pool story event).faders slot position ≡ slot_gain (after device story.desk event).desk.mixer slot
+slots-faded device pool story event v slot position later =
+    let old : Gain = slot_gain story.desk.mixer slot in
+    let new : Gain = slot_gain (after device story.desk event).desk.mixer slot in
+    fader_set (is_same_gain old new) story.desk.mixed position old new (story.faders.slots slot) refl later (v.faders slot position later)
+
+-- and so has all that is mixed
+pub master-faded : (device : DeviceSeen) (pool : Pool) (story : Story) (event : Event) → StoryIsValid device story → (position : ℕ) → story.desk.mixed ≤ position
+    → master_gain_at (told device pool story event).faders position ≡ master_gain (after device story.desk event).desk.mixer
+master-faded device pool story event v position later =
+    let old : Gain = master_gain story.desk.mixer in
+    let new : Gain = master_gain (after device story.desk event).desk.mixer in
+    fader_set (is_same_gain old new) story.desk.mixed position old new story.faders.master refl later (v.master position later)
+
 -- a mapped slot stays valid where its book keeps what it counts and its runs are marked alone
 maps-kept : (device : DeviceSeen) (pool : Pool) (story : Story) (event : Event) → Fits device pool event → frames_taken event ≡ 0 → (after device story.desk event).desk.mixed ≡ story.desk.mixed → StoryIsValid device story
     → (slot : ℕ) → MapIsValid device (after device story.desk event).desk.mixed (map_at device (after device story.desk event).desk slot) ((told device pool story event).map_runs slot)
@@ -644,6 +685,7 @@ maps-kept device pool story event fits none same v slot =
     untaken (Join fd group) fits none = refl
     untaken (StartGroup fd group) fits none = refl
     untaken (Close fd) fits none = refl
+    untaken (Mixer request) fits none = refl
     untaken (Intr n) fits none = absurd (let some = fits.0 in omega arith)
 
 -- a slot of the next desk is valid once its newest run was told of the event
@@ -667,6 +709,8 @@ valid-kept device pool story event fits none k v = record {
   gains = gains-told device pool story event (let same = k.mixed_same in omega arith) v;
   maps = maps-kept device pool story event fits none k.mixed_same v;
   map_gains = map_gains-told device pool story event (let same = k.mixed_same in omega arith) v;
+  faders = λ slot position later. slots-faded device pool story event v slot position (let same = k.mixed_same in omega arith);
+  master = λ position later. master-faded device pool story event v position (let same = k.mixed_same in omega arith);
   mixed = k.mixed_same ∙ v.mixed ∙ ap (mixed_for device) (sym k.handed_same);
 }
 
@@ -703,6 +747,7 @@ order-after device pool desk (Join fd group) slot d fits rates o = order_left de
 order-after device pool desk (StartGroup fd group) slot d fits rates o = order_left device false desk (start_on device (held_by desk fd) desk group).desk slot (leaves-start_on device 0 (held_by desk fd) desk group d rates) o
 order-after device pool desk (Close fd) slot d fits rates o =
     order_left device false desk (close_on device (held_by desk fd) (left (held_by desk fd) desk) fd).desk slot (leaves-closing device 0 (held_by desk fd) desk fd d rates) o
+order-after device pool desk (Mixer request) slot d fits rates o = o
 order-after device pool desk (Intr n) slot d fits rates o = order_passed device desk n slot d rates o
 
 -- a story stays valid through an interrupt
@@ -719,6 +764,8 @@ valid-interrupted device pool story n v = record {
   gains = gains-told device pool story (Intr n) (omega arith) v;
   maps = λ slot. map-interrupted device story n slot v.limits (v.maps slot);
   map_gains = map_gains-told device pool story (Intr n) (omega arith) v;
+  faders = λ slot position later. slots-faded device pool story (Intr n) v slot position (omega arith);
+  master = λ position later. master-faded device pool story (Intr n) v position (omega arith);
   mixed = ap (λ frames. frames + q) v.mixed ∙ mixed-behind device story.desk.handed n v.limits;
 }
   where
@@ -749,6 +796,7 @@ valid-told device pool story (Ioctl fd request) fits v = valid-kept device pool 
 valid-told device pool story (Join fd group) fits v = valid-kept device pool story (Join fd group) fits refl (keeps-join device pool story fd group v) v
 valid-told device pool story (StartGroup fd group) fits v = valid-kept device pool story (StartGroup fd group) fits refl (keeps-start device pool story fd group v) v
 valid-told device pool story (Close fd) fits v = valid-kept device pool story (Close fd) fits refl (keeps-close device pool story fd v) v
+valid-told device pool story (Mixer request) fits v = valid-kept device pool story (Mixer request) fits refl (keeps-mixer device pool story request v) v
 valid-told device pool story (Intr n) fits v = valid-interrupted device pool story n v
 
 -- each element of copies is the copied one
@@ -776,6 +824,8 @@ valid-start device d = record {
   gains = λ slot position l. ap book_gain (sym (get_or-same (play_slots device) slot (play_unopened device)));
   maps = λ slot. subst (λ (b : MapBook). MapIsValid device 0 b []) (sym (get_or-same (map_slots device) slot (map_unopened device))) (map-valid-start device d);
   map_gains = λ slot position l. ap map_gain (sym (get_or-same (map_slots device) slot (map_unopened device)));
+  faders = λ slot position l. sym (ap (λ (muted : Bool). cond muted no_gain (gain_of (slot_volume full_mixer slot))) (get_or-same SLOTS slot false) ∙ ap gain_of (get_or-same SLOTS slot VOLUME));
+  master = λ position l. refl;
   mixed = refl;
 }
 
@@ -804,6 +854,7 @@ sounding-carrying device pool story (Ioctl fd request) gain slot position v h = 
 sounding-carrying device pool story (Join fd group) gain slot position v h = refl
 sounding-carrying device pool story (StartGroup fd group) gain slot position v h = refl
 sounding-carrying device pool story (Close fd) gain slot position v h = refl
+sounding-carrying device pool story (Mixer request) gain slot position v h = refl
 sounding-carrying device pool story (Intr n) gain slot position v h = sounding-playing device gain story.desk.mixed (mixed_by device story.desk.handed n) position (play_at device story.desk slot) (story.runs slot) h
 
 -- what a slot that plays gave stays as it was

@@ -1,4 +1,4 @@
--- The mix: at each position a fold over the slots, limited after each addition.
+-- The mix: at each position a fold over the slots, each at its gain, limited after each addition; and all of it at one gain.
 use Rattle.std.specs.Prelude.{ℕ, Option, Some, None, fold}
 use Rattle.std.specs.List.{range_with_len}
 use Rattle.pcm_format.specs.Frames.{Frame}

@@ -1,5 +1,5 @@
 -- The device's bytes without a count: each run is heard from its start to its end, a frame of what its plan makes of it at each position.
-use Rattle.std.specs.Prelude.{◌≡◌, ◌≢◌, ℕ, ◌+◌, ◌-◌, ◌≤◌, min, Bool, ◌&&◌, nat_le, nat_lt, if◌then◌else◌, List, [], ◌∷◌, length, take, All, Option, Some, None, find, option_map}
+use Rattle.std.specs.Prelude.{◌≡◌, ◌≢◌, ℕ, ◌+◌, ◌-◌, ◌<◌, ◌≤◌, min, Bool, ◌&&◌, nat_le, nat_lt, if◌then◌else◌, List, [], ◌∷◌, length, take, All, Option, Some, None, find, option_map}
 use Rattle.std.specs.List.{filter}
 use Rattle.pcm_oss.specs.declared.event.Event.{Event}
 use Rattle.pcm_wave.specs.declared.pool.Pool.{Pool}
@@ -9,7 +9,7 @@ use Rattle.pcm_feeder.specs.declared.stage.Gain.{Gain}
 use Rattle.pcm_plan.specs.Plans.{PlanSeen}
 use Rattle.pcm_plan.specs.Through.{out}
 use Rattle.pcm_desk.specs.Device.{DeviceSeen, filters_of, play_plan_between, play_rate_between}
-use Rattle.pcm_sound.specs.Gains.{last_gain}
+use Rattle.pcm_sound.specs.Gains.{last_gain, master_gain_at, slot_gain_at}
 use Rattle.pcm_sound.specs.Runs.{Piece, Run, covers, run_frames}
 use Rattle.pcm_sound.specs.Story.{Story, mixed_gains, mixed_runs, story_of}
 use Rattle.pcm_sound.specs.Mix.{Table}
@@ -73,7 +73,7 @@ plain_table device story slot position =
 abbrev pub plain_text : DeviceSeen → Pool → List Event → List ℕ
 plain_text device pool events =
     let story : Story = story_of device pool events in
-    device_body_of device (plain_table device story) story.desk.handed
+    device_body_of device story.faders (plain_table device story) story.desk.handed
 
 -- no interrupt missed a frame of a run
 abbrev pub IsUnbroken : Run → Type 0
@@ -96,11 +96,14 @@ pub record IsInPlace (device : DeviceSeen) (mixed : ℕ) (run : Run) : Type 0 wh
   pub once : (position : ℕ) → length (filter (covers position) run.pieces) ≤ 1
 
 -- Two stories sound alike until a position: in each slot the same plans make the same of the same streams from the same starts
--- to the same ends, with the same gain wherever one of them is heard.
+-- to the same ends, with the same gain wherever one of them is heard, and so is the gain of its fader; the master's is the same everywhere.
 pub record SoundAlike (device : DeviceSeen) (until : ℕ) (one other : Story) : Type 0 where
   pub spans : (slot : ℕ) → spans_of device until (mixed_runs device one slot) ≡ spans_of device until (mixed_runs device other slot)
   pub gains : (slot position : ℕ) → span_at (spans_of device until (mixed_runs device one slot)) position ≢ None
       → last_gain (mixed_gains device one slot) position ≡ last_gain (mixed_gains device other slot) position
+  pub faders : (slot position : ℕ) → span_at (spans_of device until (mixed_runs device one slot)) position ≢ None
+      → slot_gain_at one.faders slot position ≡ slot_gain_at other.faders slot position
+  pub master : (position : ℕ) → position < until → master_gain_at one.faders position ≡ master_gain_at other.faders position
 
 -- two lists are equal in their common length
 abbrev pub AgreeInCommon : List ℕ → List ℕ → Type 0

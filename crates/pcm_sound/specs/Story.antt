@@ -1,12 +1,12 @@
--- What a list of events comes to: the desk, for each slot that is mixed its runs and its gains, for each mapped one its area, and for each
--- that records its recording.
+-- What a list of events comes to: the desk, for each slot that is mixed its runs and its gains, for each mapped one its area, for each
+-- that records its recording, and what the faders of the mixer device were set to.
 use Rattle.std.specs.Prelude.{ℕ, ◌-◌, nat_lt, if◌then◌else◌, List, [], ◌∷◌}
 use Rattle.pcm_oss.specs.declared.event.Event.{Event}
 use Rattle.pcm_wave.specs.declared.pool.Pool.{Pool}
 use Rattle.pcm_desk.specs.Device.{DeviceSeen, play_slots}
 use Rattle.pcm_desk.specs.Desk.{Desk, desk_at_start, map_at, map_unopened, play_at, record_at, after}
 use Rattle.pcm_sound.specs.Areas.{area_after, silent_area}
-use Rattle.pcm_sound.specs.Gains.{GainSet, gains_after, map_loudness, play_loudness}
+use Rattle.pcm_sound.specs.Gains.{Faders, GainSet, faders_after, faders_at_start, gains_after, map_loudness, play_loudness}
 use Rattle.pcm_sound.specs.MapRuns.{map_runs_after}
 use Rattle.pcm_sound.specs.Runs.{Run, runs_after}
 use Rattle.pcm_sound.specs.Recordings.{Recording, recording_after, recording_from}
@@ -23,6 +23,7 @@ pub record Story : Type 0 where
   pub areas : ℕ → List ℕ
   -- the newest recording of each slot for recording
   pub recordings : ℕ → Recording
+  pub faders : Faders
 
 -- before the first event
 abbrev pub story_at_start : DeviceSeen → Story
@@ -34,6 +35,7 @@ story_at_start device = record {
   map_gains = λ slot. [];
   areas = λ slot. silent_area (map_unopened device).opening;
   recordings = λ slot. recording_from 0;
+  faders = faders_at_start;
 }
 
 -- one event more, whose bytes are found in a pool
@@ -48,6 +50,7 @@ told device pool story event =
       map_gains = λ slot. gains_after story.desk.mixed (map_loudness (map_at device story.desk slot)) (map_loudness (map_at device new slot)) (story.map_gains slot);
       areas = λ slot. area_after pool story.desk event slot (map_at device story.desk slot) (map_at device new slot) (story.areas slot);
       recordings = λ slot. recording_after device pool story.desk event (record_at device story.desk slot) (record_at device new slot) (story.recordings slot);
+      faders = faders_after story.desk.mixed story.desk.mixer new.mixer story.faders;
     }
 
 -- a list of events

@@ -17,7 +17,8 @@ use Rattle.pcm_desk.specs.RecordBooks.{is_running}
 use Rattle.pcm_desk.specs.RecordSafe.{RecordIsSafe}
 use Rattle.pcm_desk.specs.Desk.{desk_here, map_at, map_rate_at, play_at, play_rate_at, record_at, record_rate_at}
 use Rattle.pcm_wave.specs.declared.pool.Pool.{Pool}
-use Rattle.pcm_sound.specs.Gains.{book_gain, last_gain, map_gain}
+use Rattle.pcm_mixdev.specs.Mixers.{master_gain, slot_gain}
+use Rattle.pcm_sound.specs.Gains.{book_gain, last_gain, map_gain, master_gain_at, slot_gain_at}
 use Rattle.pcm_sound.specs.Runs.{Piece, Run}
 use Rattle.pcm_sound.specs.Given.{recorded_bytes}
 use Rattle.pcm_sound.specs.Recordings.{Recording, recorded_frames}
@@ -88,6 +89,9 @@ pub record StoryIsValid (device : DeviceSeen) (story : Story) : Type 0 where
   -- so is each mapped slot, and its gain
   pub maps : (slot : ℕ) → MapIsValid device story.desk.mixed (map_at device story.desk slot) (story.map_runs slot)
   pub map_gains : (slot position : ℕ) → story.desk.mixed ≤ position → last_gain (story.map_gains slot) position ≡ map_gain (map_at device story.desk slot)
+  -- so is each fader of the mixer device
+  pub faders : (slot position : ℕ) → story.desk.mixed ≤ position → slot_gain_at story.faders slot position ≡ slot_gain story.desk.mixer slot
+  pub master : (position : ℕ) → story.desk.mixed ≤ position → master_gain_at story.faders position ≡ master_gain story.desk.mixer
   -- just the frames are mixed that those handed over need
   pub mixed : story.desk.mixed ≡ mixed_for device story.desk.handed
 

@@ -3,14 +3,16 @@
 ghost use Rattle.std.specs.Prelude.{◌≡◌, ◌<◌, ◌≤◌, ◌+◌, ◌-◌, ◌^◌, ◌↔◌, ◌++◌, ◌∷◌, ℕ, true, min, List, length, take, drop, slice_index_or, All, IsOk, Ok, Some};
 ghost use Rattle.pcm_format.specs.declared.settings.Settings.{Settings};
 ghost use Rattle.pcm_oss.specs.declared.event.Event.{Event};
-ghost use Rattle.pcm_oss.specs.declared.event.Event.TheVariants.{Open, Poke, StartGroup};
+ghost use Rattle.pcm_oss.specs.declared.event.Event.TheVariants.{Mixer, Open, Poke, StartGroup};
 ghost use Rattle.pcm_oss.specs.declared.event.Way.{Way};
 ghost use Rattle.pcm_oss.specs.declared.event.Way.TheVariants.{Map};
+ghost use Rattle.pcm_oss.specs.declared.mix_request.MixRequest.{MixRequest};
 ghost use Rattle.pcm_oss.specs.declared.reply.Answer.TheVariants.{Pointer};
 ghost use Rattle.pcm_oss.specs.declared.request.Request.TheVariants.{GetOPtr};
 ghost use Rattle.pcm_wave.specs.declared.pool.Pool.{Pool};
 ghost use Rattle.pcm_wave.specs.declared.pool.Source.TheVariants.{Inline};
 ghost use Rattle.pcm_wave.specs.Pools.{IsCaptureIn, bytes_at, capture_frames, source_bytes};
+ghost use Rattle.pcm_mixdev.specs.Mixers.{master_gain, slot_gain};
 ghost use Rattle.pcm_desk.specs.declared.play_book.PlayBook.{PlayBook};
 ghost use Rattle.pcm_desk.specs.declared.device.Held.{Held};
 ghost use Rattle.pcm_desk.specs.Device.{DeviceSeen, IsDevice, device_settings};
@@ -23,6 +25,7 @@ ghost use Rattle.pcm_desk.specs.RecordBooks.{is_running};
 ghost use Rattle.pcm_sound.specs.DeviceList.{device_text};
 ghost use Rattle.pcm_sound.specs.OwnReplies.{client_replies};
 ghost use Rattle.pcm_sound.specs.Plain.{AgreeInCommon, HasNoShortage, IsInPlace, IsUnbroken, SoundAlike, plain_text};
+ghost use Rattle.pcm_sound.specs.Gains.{master_gain_at, slot_gain_at};
 ghost use Rattle.pcm_sound.specs.Given.{recorded_bytes};
 ghost use Rattle.pcm_sound.specs.MapRuns.{area_taken};
 ghost use Rattle.pcm_sound.specs.Pools.{AreAlike, IsLonger};
@@ -99,6 +102,29 @@ pub fn what_sounds_alike_has_equal_bytes()
         HasNoShortage one → HasNoShortage other
         → SoundAlike device (min one.desk.mixed other.desk.mixed) one other
         → AgreeInCommon (device_text device pool events) (device_text device more others) }
+{}
+
+/// From the next frame that is mixed on, each slot has the gain that the mixer device gives it after a request, accepted or refused, and all that
+/// is mixed has the master's; frames that were mixed keep theirs. No request changes a run, an area or a recording.
+pub fn the_mixer_sets_gains_from_the_next_frame()
+    ensures past { (device : DeviceSeen) (pool : Pool) (story : Story) (request : MixRequest) (slot position : ℕ)
+        → let new = told device pool story (Mixer request) in
+        position < story.desk.mixed
+        → (slot_gain_at new.faders slot position ≡ slot_gain_at story.faders slot position)
+        × (master_gain_at new.faders position ≡ master_gain_at story.faders position) }
+    ensures next { (device : DeviceSeen) (pool : Pool) (events : List Event) (request : MixRequest) (slot position : ℕ) → IsDevice device
+        → All (Fits device pool) events
+        → let story = story_of device pool events in
+        let new = told device pool story (Mixer request) in
+        story.desk.mixed ≤ position
+        → (slot_gain_at new.faders slot position ≡ slot_gain new.desk.mixer slot)
+        × (master_gain_at new.faders position ≡ master_gain new.desk.mixer) }
+    ensures rest { (device : DeviceSeen) (pool : Pool) (events : List Event) (request : MixRequest) (slot : ℕ) → IsDevice device
+        → All (Fits device pool) events
+        → let story = story_of device pool events in
+        let new = told device pool story (Mixer request) in
+        (new.runs slot ≡ story.runs slot) × (new.map_runs slot ≡ story.map_runs slot) × (new.areas slot ≡ story.areas slot)
+        × (new.recordings slot ≡ story.recordings slot) }
 {}
 
 /// Where a start of a group is accepted, each of its members starts: those that play at the frame that is mixed next, and those that record at the

@@ -2,7 +2,7 @@
 
 use pcm_desk::Device;
 use pcm_format::{Format, Layout, Settings};
-use pcm_oss::{Event, Request, Way};
+use pcm_oss::{Event, MixRequest, Request, Way};
 use pcm_script::{Script, ScriptFault, script_of};
 use pcm_wave::Source;
 use std::alloc::{AllocError, Global};
@@ -23,7 +23,7 @@ fn outcome(alloc: Global, text: &[u8]) -> Outcome {
 // A text, and what is to come of it.
 type Row = (&'static [u8], Outcome);
 
-const TEXTS: [Row; 42] = [
+const TEXTS: [Row; 53] = [
     // Lines and their words.
     (b" \t intr \t 7 \r\n", Ok(1)),
     (b"\r\nintr\r\n\r", Ok(1)),
@@ -69,6 +69,17 @@ const TEXTS: [Row; 42] = [
     (b"ioctl 64 syncgroup x", Err((1, "range"))),
     (b"ioctl 63 syncstart x", Err((1, "number"))),
     (b"ioctl 0 syncgroups 0", Err((1, "name"))),
+    (b"mixer master 4294967295", Ok(1)),
+    (b"mixer slot 0xffffffff", Ok(1)),
+    (b"mixer mute 4294967295 0x2", Ok(1)),
+    (b"mixer", Err((1, "count"))),
+    (b"mixer master 1 2", Err((1, "count"))),
+    (b"mixer slot", Err((1, "count"))),
+    (b"mixer mute 1", Err((1, "count"))),
+    (b"mixer volume 1", Err((1, "name"))),
+    (b"mixer slot x 4294967296", Err((1, "number"))),
+    (b"mixer slot 4294967296 x", Err((1, "range"))),
+    (b"mixer mute 0 -1", Err((1, "number"))),
 ];
 
 // The first text that comes to something else.
@@ -147,11 +158,16 @@ const TEXT: &[u8] = b"open 4 rec u24be 4 96000\n\
     ioctl 4 syncgroup 0\n\
     ioctl 3 syncgroup 4294967295\n\
     ioctl 4 syncstart 0x8\n\
+    mixer master 0x3232\n\
+    mixer master\n\
+    mixer slot 4 0x3264\n\
+    mixer slot 15\n\
+    mixer mute 4294967295 1\n\
     intr\n\
     read 4 4096\n\
     close 3\n";
 
-const EVENTS: [Event; 13] = [
+const EVENTS: [Event; 18] = [
     Event::Open {
         fd: 4,
         way: Way::Record,
@@ -204,6 +220,27 @@ const EVENTS: [Event; 13] = [
         group: 4294967295,
     },
     Event::StartGroup { fd: 4, group: 8 },
+    Event::Mixer {
+        request: MixRequest::SetMaster(12850),
+    },
+    Event::Mixer {
+        request: MixRequest::GetMaster,
+    },
+    Event::Mixer {
+        request: MixRequest::SetSlot {
+            slot: 4,
+            volume: 12900,
+        },
+    },
+    Event::Mixer {
+        request: MixRequest::GetSlot(15),
+    },
+    Event::Mixer {
+        request: MixRequest::Mute {
+            slot: 4294967295,
+            on: 1,
+        },
+    },
     Event::Intr { frames: 256 },
     Event::Read { fd: 4, len: 4096 },
     Event::Close { fd: 3 },

@@ -65,3 +65,31 @@ fn the_script_of_seven_is_written(rt: HostRuntime) -> Result<(), Fail> {
     );
     Ok(())
 }
+
+// A line of each form in which one is written.
+const LINES: &[u8] = b"open 0 play s16le 2 48000\n\
+    open 63 rec u24be 6 4000\n\
+    open 2 map u8 1 192000\n\
+    write 0 01000200\n\
+    write 0 -\n\
+    poke 2 16 0aff\n\
+    read 63 512\n\
+    ioctl 0 setfmt 16\n\
+    ioctl 0 sync\n\
+    ioctl 0 syncgroup 0\n\
+    ioctl 63 syncstart 1\n\
+    mixer master\n\
+    mixer master 12850\n\
+    mixer slot 1\n\
+    mixer slot 1 12900\n\
+    mixer mute 4294967295 0\n\
+    intr 1024\n\
+    close 0\n";
+
+#[test]
+fn a_line_of_each_form_is_written_as_it_was_read(rt: HostRuntime) -> Result<(), Fail> {
+    let script = script_of(rt.alloc(), LINES, &Device::usual(), &[])?;
+    let text = script_text(rt.alloc(), &script, &[])?;
+    assert_eq!(rt; text.as_slice(), LINES);
+    Ok(())
+}

@@ -15,9 +15,11 @@ use Rattle.pcm_format.specs.declared.settings.TheConstants.{RATE_LEAST, RATE_MOS
 use Rattle.pcm_format.specs.Formats.{format_named, name_of}
 use Rattle.pcm_format.specs.Layouts.{channels_of, layout_of}
 use Rattle.pcm_oss.specs.declared.event.Event.{Event}
-use Rattle.pcm_oss.specs.declared.event.Event.TheVariants.{Open, Write, Poke, Read, Ioctl, Join, StartGroup, Close, Intr}
+use Rattle.pcm_oss.specs.declared.event.Event.TheVariants.{Open, Write, Poke, Read, Ioctl, Join, StartGroup, Close, Mixer, Intr}
 use Rattle.pcm_oss.specs.declared.event.Way.{Way}
 use Rattle.pcm_oss.specs.declared.event.Way.TheVariants.{Play, Record, Map}
+use Rattle.pcm_oss.specs.declared.mix_request.MixRequest.{MixRequest}
+use Rattle.pcm_oss.specs.declared.mix_request.MixRequest.TheVariants as mixes
 use Rattle.pcm_oss.specs.declared.request.Request.{Request}
 use Rattle.pcm_oss.specs.declared.request.Request.TheVariants as requests
 use Rattle.pcm_wave.specs.declared.pool.Pool.{Pool}
@@ -28,15 +30,17 @@ use Rattle.pcm_desk.specs.Device.{DeviceSeen, ring_frames}
 use Rattle.pcm_desk.specs.Events.{Fits}
 use Rattle.pcm_script.specs.declared.names.Command.{Command}
 use Rattle.pcm_script.specs.declared.names.Command.TheVariants as commands
-use Rattle.pcm_script.specs.Commands.{asked_by, close_line, command_line, interrupt_line, ioctl_line, line_event, most_offset, open_line, or_fault, poke_line, read_line, send_line, write_line}
+use Rattle.pcm_script.specs.declared.names.Control.{Control}
+use Rattle.pcm_script.specs.declared.names.Control.TheVariants.{Master, Slot, Mute}
+use Rattle.pcm_script.specs.Commands.{asked_by, close_line, command_line, interrupt_line, ioctl_line, line_event, mixer_line, most_argument, most_offset, open_line, or_fault, poke_line, read_line, send_line, write_line}
 use Rattle.pcm_script.specs.declared.line_event.LineEvent.TheVariants as lines
-use Rattle.pcm_script.specs.Numbers.{is_decimal_digit, within}
-use Rattle.pcm_script.specs.Names.{command_name, command_named, join_name, request_name, start_group_name, way_name, way_named}
+use Rattle.pcm_script.specs.Numbers.{is_decimal_digit, number_within, within}
+use Rattle.pcm_script.specs.Names.{command_name, command_named, control_name, join_name, request_name, start_group_name, way_name, way_named}
 use Rattle.pcm_script.specs.Steps.{◌>>=◌}
 use Rattle.pcm_script.specs.Words.{words_of}
 use Rattle.pcm_script.specs.declared.fault.ScriptKind.TheVariants.{Word}
-use Rattle.pcm_text.specs.Texts.{argument_of, argument_words, arguments_for, command_for, event_line, file_name_in}
-use Rattle.pcm_text.specs.ReadBack.{HasSmallNumbers, IsFileNamed, line_asked}
+use Rattle.pcm_text.specs.Texts.{argument_of, argument_words, arguments_for, command_for, control_for, event_line, file_name_in, setting_words}
+use Rattle.pcm_text.specs.ReadBack.{HasSmallNumbers, HasSmallSettings, IsFileNamed, line_asked}
 use Rattle.pcm_text.proofs.CutLines.{AreWords, IsOneWord, line-plain, one-word, plain-feed, words-read}
 use Rattle.pcm_text.proofs.Spelling.{bytes-read, bytes-word, decimal-digits, decimal-read, decimal-within, decimal-word}
 
@@ -50,6 +54,7 @@ command-word commands.Poke = one-word _ refl
 command-word commands.Read = one-word _ refl
 command-word commands.Ioctl = one-word _ refl
 command-word commands.Close = one-word _ refl
+command-word commands.Mixer = one-word _ refl
 command-word commands.Intr = one-word _ refl
 
 command-read : (command : Command) → command_named (command_name command) ≡ Some command
@@ -60,7 +65,13 @@ command-read commands.Poke = refl
 command-read commands.Read = refl
 command-read commands.Ioctl = refl
 command-read commands.Close = refl
+command-read commands.Mixer = refl
 command-read commands.Intr = refl
+
+control-word : (control : Control) → IsOneWord (control_name control)
+control-word Master = one-word _ refl
+control-word Slot = one-word _ refl
+control-word Mute = one-word _ refl
 
 way-word : (way : Way) → IsOneWord (way_name way)
 way-word Play = one-word _ refl
@@ -186,6 +197,13 @@ argument-words requests.Post small = tt
 argument-words requests.Sync small = tt
 argument-words requests.Halt small = tt
 
+setting-words : (request : MixRequest) → HasSmallSettings request → AreWords (setting_words request)
+setting-words (mixes.SetMaster volume) small = (decimal-word volume (omega (arith, small)), tt)
+setting-words mixes.GetMaster small = tt
+setting-words (mixes.SetSlot slot volume) small = (decimal-word slot (omega (arith, small.0)), (decimal-word volume (omega (arith, small.1)), tt))
+setting-words (mixes.GetSlot slot) small = (decimal-word slot (omega (arith, small)), tt)
+setting-words (mixes.Mute slot on) small = (decimal-word slot (omega (arith, small.0)), (decimal-word on (omega (arith, small.1)), tt))
+
 -- what stands behind the command of an event that fits is words
 pub arguments-words : (device : DeviceSeen) (pool : Pool) (event : Event) → Fits device pool event → HasSmallNumbers event → IsBytes pool.inline_bytes
     → ((place : ℕ) → place < length pool.files → IsFileNamed pool.files place) → AreWords (arguments_for pool event)
@@ -202,6 +220,7 @@ arguments-words device pool (Ioctl fd request) fits small bytes named = (small-f
 arguments-words device pool (Join fd group) fits small bytes named = (small-fd fd fits, (one-word join_name refl, (decimal-word group (omega (arith, small)), tt)))
 arguments-words device pool (StartGroup fd group) fits small bytes named = (small-fd fd fits, (one-word start_group_name refl, (decimal-word group (omega (arith, small)), tt)))
 arguments-words device pool (Close fd) fits small bytes named = (small-fd fd fits, tt)
+arguments-words device pool (Mixer request) fits small bytes named = (control-word (control_for request), setting-words request small)
 arguments-words device pool (Intr frames) fits small bytes named = (decimal-word frames (omega (arith, small)), tt)
 
 -- ---- each command
@@ -255,6 +274,18 @@ start_group-read : (fd group : ℕ) → fd < 64 → group < 2 ^ 32 → ioctl_lin
 unfolding ioctl_line
 start_group-read fd group low small = rw (decimal-within 0 63 fd (omega arith) (omega arith) (omega arith), decimal-within 0 4294967295 group small (omega arith) (omega arith)) refl
 
+-- what is asked of the mixer device is read as that
+setting-read : (number : ℕ) → number < 2 ^ 32 → number_within 0 most_argument (decimal number) ≡ Ok number
+setting-read number small = decimal-within 0 most_argument number small (omega arith) (omega (arith, small))
+
+mixer-read : (request : MixRequest) → HasSmallSettings request → mixer_line (control_name (control_for request) ∷ setting_words request) ≡ Ok (lines.Mixer request)
+unfolding mixer_line
+mixer-read (mixes.SetMaster volume) small = rw (setting-read volume small) refl
+mixer-read mixes.GetMaster small = refl
+mixer-read (mixes.SetSlot slot volume) small = rw (setting-read slot small.0, setting-read volume small.1) refl
+mixer-read (mixes.GetSlot slot) small = rw (setting-read slot small) refl
+mixer-read (mixes.Mute slot on) small = rw (setting-read slot small.0, setting-read on small.1) refl
+
 -- what the command of an event is read as, with its words
 pub event-read : (device : DeviceSeen) (pool : Pool) (event : Event) → Fits device pool event → HasSmallNumbers event → IsBytes pool.inline_bytes
     → ((place : ℕ) → place < length pool.files → IsFileNamed pool.files place)
@@ -294,6 +325,7 @@ event-read device pool (Ioctl fd request) fits small bytes named = request-read 
 event-read device pool (Join fd group) fits small bytes named = join-read fd group fits small
 event-read device pool (StartGroup fd group) fits small bytes named = start_group-read fd group fits small
 event-read device pool (Close fd) fits small bytes named = rw (decimal-within 0 63 fd (omega (arith, fits)) (omega arith) (omega (arith, fits))) refl
+event-read device pool (Mixer request) fits small bytes named = mixer-read request small
 event-read device pool (Intr frames) fits small bytes named = rw (decimal-within 1 (ring_frames device) frames small fits.0 fits.1) refl
 
 -- the line of an event is read as what it spells

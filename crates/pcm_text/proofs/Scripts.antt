@@ -8,7 +8,7 @@ use Rattle.std.proofs.lemmas.List.Sums.{sum_by-cons}
 use Rattle.std.proofs.Math.Nat.{mul-le-mul_right}
 use Rattle.hex.specs.Hex.{IsBytes}
 use Rattle.pcm_oss.specs.declared.event.Event.{Event}
-use Rattle.pcm_oss.specs.declared.event.Event.TheVariants.{Open, Write, Poke, Read, Ioctl, Join, StartGroup, Close, Intr}
+use Rattle.pcm_oss.specs.declared.event.Event.TheVariants.{Open, Write, Poke, Read, Ioctl, Join, StartGroup, Close, Mixer, Intr}
 use Rattle.pcm_wave.specs.declared.pool.Pool.{Pool}
 use Rattle.pcm_wave.specs.declared.pool.Source.TheVariants.{Inline, File}
 use Rattle.pcm_wave.specs.DataFiles.{DataFileSeen}
@@ -51,6 +51,7 @@ frames-line_asked pool (Ioctl fd request) = refl
 frames-line_asked pool (Join fd group) = refl
 frames-line_asked pool (StartGroup fd group) = refl
 frames-line_asked pool (Close fd) = refl
+frames-line_asked pool (Mixer request) = refl
 frames-line_asked pool (Intr frames) = refl
 
 -- the line of an event has room
@@ -147,6 +148,7 @@ event-same device pool other (Ioctl fd request) front more fits bytes = refl
 event-same device pool other (Join fd group) front more fits bytes = refl
 event-same device pool other (StartGroup fd group) front more fits bytes = refl
 event-same device pool other (Close fd) front more fits bytes = refl
+event-same device pool other (Mixer request) front more fits bytes = refl
 event-same device pool other (Intr frames) front more fits bytes = refl
 
 adds-same : (device : DeviceSeen) (pool : Pool) (files : List DataFileSeen) (script : Script) (events : List Event) → All (Fits device pool) events
@@ -188,6 +190,7 @@ found-event device pool (Ioctl fd request) fits = tt
 found-event device pool (Join fd group) fits = tt
 found-event device pool (StartGroup fd group) fits = tt
 found-event device pool (Close fd) fits = tt
+found-event device pool (Mixer request) fits = tt
 found-event device pool (Intr frames) fits = tt
 
 -- each write and each poke of a script that fits a device names bytes that are there

@@ -3,7 +3,9 @@ use Rattle.std.specs.Prelude.{IfSome, ◌≡◌, ℕ, ◌*◌, ◌^◌, ◌<◌,
 use Rattle.std.specs.List.{list_all}
 use Rattle.hex.specs.Hex.{IsBytes}
 use Rattle.pcm_oss.specs.declared.event.Event.{Event}
-use Rattle.pcm_oss.specs.declared.event.Event.TheVariants.{Open, Write, Poke, Read, Ioctl, Join, StartGroup, Close, Intr}
+use Rattle.pcm_oss.specs.declared.event.Event.TheVariants.{Open, Write, Poke, Read, Ioctl, Join, StartGroup, Close, Mixer, Intr}
+use Rattle.pcm_oss.specs.declared.mix_request.MixRequest.{MixRequest}
+use Rattle.pcm_oss.specs.declared.mix_request.MixRequest.TheVariants.{SetMaster, GetMaster, SetSlot, GetSlot, Mute}
 use Rattle.pcm_wave.specs.declared.pool.Pool.{Pool}
 use Rattle.pcm_wave.specs.declared.pool.Source.TheVariants.{Inline, File}
 use Rattle.pcm_wave.specs.DataFiles.{DataFileSeen}
@@ -32,6 +34,7 @@ line_asked pool (Ioctl fd request) = lines.Ioctl fd request
 line_asked pool (Join fd group) = lines.Join fd group
 line_asked pool (StartGroup fd group) = lines.StartGroup fd group
 line_asked pool (Close fd) = lines.Close fd
+line_asked pool (Mixer request) = lines.Mixer request
 line_asked pool (Intr frames) = lines.Intr frames
 
 -- a script with the lines of more events
@@ -70,6 +73,14 @@ pub record IsFileNamed (files : List DataFileSeen) (place : ℕ) : Type 0 where
   pub word : is_one_word (file_name_in (slice_get files place)) ≡ true
   pub first : position (is_file_named (file_name_in (slice_get files place))) files ≡ Some place
 
+-- the numbers of a request of the mixer device are of 32 bits
+abbrev pub HasSmallSettings : MixRequest → Type 0
+HasSmallSettings (SetMaster volume) = volume < 2 ^ 32
+HasSmallSettings GetMaster = Unit {0}
+HasSmallSettings (SetSlot slot volume) = (slot < 2 ^ 32) × (volume < 2 ^ 32)
+HasSmallSettings (GetSlot slot) = slot < 2 ^ 32
+HasSmallSettings (Mute slot on) = (slot < 2 ^ 32) × (on < 2 ^ 32)
+
 -- the numbers of an event are of 32 bits, as they are in every script
 abbrev pub HasSmallNumbers : Event → Type 0
 HasSmallNumbers (Write fd source at count) = (at < 2 ^ 32) × (count < 2 ^ 32)
@@ -77,6 +88,7 @@ HasSmallNumbers (Poke fd offset at count) = offset < 2 ^ 32
 HasSmallNumbers (Ioctl fd request) = IfSome (argument_of request) (λ argument. argument < 2 ^ 32)
 HasSmallNumbers (Join fd group) = group < 2 ^ 32
 HasSmallNumbers (StartGroup fd group) = group < 2 ^ 32
+HasSmallNumbers (Mixer request) = HasSmallSettings request
 HasSmallNumbers (Intr frames) = frames < 2 ^ 32
 HasSmallNumbers event = Unit {0}
 

@@ -5,7 +5,9 @@ use Rattle.pcm_format.specs.declared.settings.Settings.{Settings}
 use Rattle.pcm_format.specs.Formats.{name_of}
 use Rattle.pcm_format.specs.Layouts.{channels_of}
 use Rattle.pcm_oss.specs.declared.event.Event.{Event}
-use Rattle.pcm_oss.specs.declared.event.Event.TheVariants.{Open, Write, Poke, Read, Ioctl, Join, StartGroup, Close, Intr}
+use Rattle.pcm_oss.specs.declared.event.Event.TheVariants.{Open, Write, Poke, Read, Ioctl, Join, StartGroup, Close, Mixer, Intr}
+use Rattle.pcm_oss.specs.declared.mix_request.MixRequest.{MixRequest}
+use Rattle.pcm_oss.specs.declared.mix_request.MixRequest.TheVariants as mixes
 use Rattle.pcm_oss.specs.declared.request.Request.{Request}
 use Rattle.pcm_oss.specs.declared.request.Request.TheVariants.{SetFmt, Speed, Channels, SetFragment, SetTrigger, SetPlayVol}
 use Rattle.pcm_wave.specs.declared.pool.Pool.{Pool}
@@ -15,9 +17,11 @@ use Rattle.pcm_wave.specs.Pools.{HasBytes, bytes_at}
 use Rattle.pcm_report.specs.Lines.{bytes_text}
 use Rattle.pcm_script.specs.declared.names.Command.{Command}
 use Rattle.pcm_script.specs.declared.names.Command.TheVariants as commands
+use Rattle.pcm_script.specs.declared.names.Control.{Control}
+use Rattle.pcm_script.specs.declared.names.Control.TheVariants.{Master, Slot, Mute}
 use Rattle.pcm_script.specs.declared.script.Script.{Script}
 use Rattle.pcm_script.specs.Lines.{pool_of}
-use Rattle.pcm_script.specs.Names.{command_name, join_name, request_name, start_group_name, way_name}
+use Rattle.pcm_script.specs.Names.{command_name, control_name, join_name, request_name, start_group_name, way_name}
 
 -- words, each behind a space
 abbrev pub spaced : List (List ℕ) → List ℕ
@@ -35,6 +39,7 @@ command_for (Ioctl fd request) = commands.Ioctl
 command_for (Join fd group) = commands.Ioctl
 command_for (StartGroup fd group) = commands.Ioctl
 command_for (Close fd) = commands.Close
+command_for (Mixer request) = commands.Mixer
 command_for (Intr frames) = commands.Intr
 
 -- the name of a file, if there is one
@@ -61,6 +66,22 @@ abbrev pub argument_words : Option ℕ → List (List ℕ)
 argument_words None = []
 argument_words (Some argument) = decimal argument ∷ []
 
+-- what a request of the mixer device is about
+abbrev pub control_for : MixRequest → Control
+control_for (mixes.SetMaster volume) = Master
+control_for mixes.GetMaster = Master
+control_for (mixes.SetSlot slot volume) = Slot
+control_for (mixes.GetSlot slot) = Slot
+control_for (mixes.Mute slot on) = Mute
+
+-- its numbers, as words
+abbrev pub setting_words : MixRequest → List (List ℕ)
+setting_words (mixes.SetMaster volume) = decimal volume ∷ []
+setting_words mixes.GetMaster = []
+setting_words (mixes.SetSlot slot volume) = decimal slot ∷ decimal volume ∷ []
+setting_words (mixes.GetSlot slot) = decimal slot ∷ []
+setting_words (mixes.Mute slot on) = decimal slot ∷ decimal on ∷ []
+
 -- what stands behind the command of an event; a write has its bytes in hexadecimal, or a dash, and so has a poke
 abbrev pub arguments_for : Pool → Event → List (List ℕ)
 arguments_for pool (Open fd way settings) = decimal fd ∷ way_name way ∷ settings_words settings
@@ -72,6 +93,7 @@ arguments_for pool (Ioctl fd request) = decimal fd ∷ request_name request ∷ 
 arguments_for pool (Join fd group) = decimal fd ∷ join_name ∷ decimal group ∷ []
 arguments_for pool (StartGroup fd group) = decimal fd ∷ start_group_name ∷ decimal group ∷ []
 arguments_for pool (Close fd) = decimal fd ∷ []
+arguments_for pool (Mixer request) = control_name (control_for request) ∷ setting_words request
 arguments_for pool (Intr frames) = decimal frames ∷ []
 
 -- the line of an event, without its end

@@ -1,8 +1,9 @@
 //! What holds of texts that are written: each function here has no work, and its contract is a law.
 
 ghost use Rattle.std.specs.Prelude.{◌≡◌, ◌∷◌, [], List, Ok, codes};
-ghost use Rattle.pcm_oss.specs.declared.event.Event.TheVariants.{Close, Intr, Ioctl, Join, Open, Poke, Read, StartGroup, Write};
+ghost use Rattle.pcm_oss.specs.declared.event.Event.TheVariants.{Close, Intr, Ioctl, Join, Mixer, Open, Poke, Read, StartGroup, Write};
 ghost use Rattle.pcm_oss.specs.declared.event.Way.TheVariants.{Map, Play, Record};
+ghost use Rattle.pcm_oss.specs.declared.mix_request.MixRequest.TheVariants.{GetMaster, GetSlot, Mute, SetMaster, SetSlot};
 ghost use Rattle.pcm_oss.specs.declared.request.Request.TheVariants.{SetFmt, SetTrigger, Sync};
 ghost use Rattle.pcm_wave.specs.declared.pool.Source.TheVariants.{Inline};
 ghost use Rattle.pcm_wave.specs.DataFiles.{DataFileSeen};
@@ -42,6 +43,11 @@ pub fn lines_are_written_so()
     ensures join { line_alone (Join 3 0) ≡ codes "ioctl 3 syncgroup 0\n" }
     ensures start { line_alone (StartGroup 63 4294967295) ≡ codes "ioctl 63 syncstart 4294967295\n" }
     ensures close { line_alone (Close 9) ≡ codes "close 9\n" }
+    ensures set_master { line_alone (Mixer (SetMaster 12850)) ≡ codes "mixer master 12850\n" }
+    ensures get_master { line_alone (Mixer GetMaster) ≡ codes "mixer master\n" }
+    ensures set_slot { line_alone (Mixer (SetSlot 1 12900)) ≡ codes "mixer slot 1 12900\n" }
+    ensures get_slot { line_alone (Mixer (GetSlot 4294967295)) ≡ codes "mixer slot 4294967295\n" }
+    ensures mute { line_alone (Mixer (Mute 15 0)) ≡ codes "mixer mute 15 0\n" }
     ensures interrupt { line_alone (Intr 1024) ≡ codes "intr 1024\n" }
     ensures several { text_for (Close 1 ∷ Intr 4 ∷ []) ≡ codes "close 1\nintr 4\n" }
     ensures none { text_for [] ≡ [] }

@@ -4,13 +4,13 @@ ghost use Rattle.std.specs.Prelude.{◌≡◌, ◌+◌, ◌≤◌, ◌∷◌, �
 ghost use Rattle.std.specs.Fmt.{decimal};
 ghost use Rattle.pcm_report.specs.Lines.{bytes_text};
 ghost use Rattle.pcm_script.specs.Lines.{pool_of};
-ghost use Rattle.pcm_script.specs.Names.{join_name, request_name, start_group_name, way_name};
-ghost use Rattle.pcm_text.specs.Texts.{AllFound, FindsBytes, argument_of, argument_words, arguments_for, command_for, settings_words, spaced, text_of};
+ghost use Rattle.pcm_script.specs.Names.{control_name, join_name, request_name, start_group_name, way_name};
+ghost use Rattle.pcm_text.specs.Texts.{AllFound, FindsBytes, argument_of, argument_words, arguments_for, command_for, control_for, setting_words, settings_words, spaced, text_of};
 
 use crate::words::{push_bytes, push_number, push_word};
 use pcm_format::Settings;
-use pcm_oss::{Event, Request, Way};
-use pcm_script::{Command, Script, join_name, request_name, start_group_name, way_name};
+use pcm_oss::{Event, MixRequest, Request, Way};
+use pcm_script::{Command, Control, Script, join_name, request_name, start_group_name, way_name};
 use pcm_wave::{DataFile, Source};
 use std::alloc::{AllocError, Global};
 
@@ -47,6 +47,7 @@ fn command_for(event: &Event) -> Command
         Event::Read { .. } => Command::Read,
         Event::Ioctl { .. } | Event::Join { .. } | Event::StartGroup { .. } => Command::Ioctl,
         Event::Close { .. } => Command::Close,
+        Event::Mixer { .. } => Command::Mixer,
         Event::Intr { .. } => Command::Intr,
     }
 }
@@ -87,6 +88,7 @@ fn push_arguments(
         Event::Join { fd, group } => push_grouping(text, fd, join_name(), group),
         Event::StartGroup { fd, group } => push_grouping(text, fd, start_group_name(), group),
         Event::Close { fd } => push_number(text, u32::from(fd)),
+        Event::Mixer { request } => push_mixer(text, request),
         Event::Intr { frames } => push_number(text, frames),
     }
 }
@@ -178,4 +180,42 @@ fn push_grouping(text: &mut Vec<u8>, fd: u8, word: &[u8], group: u32) -> Result<
     push_number(text, u32::from(fd))?;
     push_word(text, word)?;
     push_number(text, group)
+}
+
+// Writes what is asked of the mixer device.
+fn push_mixer(text: &mut Vec<u8>, request: MixRequest) -> Result<(), AllocError>
+    ensures { OnOk result (text.new.items
+        ≡ text.old.items ++ spaced (control_name (control_for request) ∷ setting_words request)) }
+{
+    push_word(text, control_for(request).name())?;
+    push_settings(text, request)
+}
+
+// What a request of the mixer device is about.
+fn control_for(request: MixRequest) -> Control
+    ensures { result ≡ control_for request }
+{
+    match request {
+        MixRequest::SetMaster(_) | MixRequest::GetMaster => Control::Master,
+        MixRequest::SetSlot { .. } | MixRequest::GetSlot(_) => Control::Slot,
+        MixRequest::Mute { .. } => Control::Mute,
+    }
+}
+
+// Writes the numbers of a request of the mixer device.
+fn push_settings(text: &mut Vec<u8>, request: MixRequest) -> Result<(), AllocError>
+    ensures { OnOk result (text.new.items ≡ text.old.items ++ spaced (setting_words request)) }
+{
+    match request {
+        MixRequest::GetMaster => Ok(()),
+        MixRequest::SetMaster(number) | MixRequest::GetSlot(number) => push_number(text, number),
+        MixRequest::SetSlot {
+            slot,
+            volume: number,
+        }
+        | MixRequest::Mute { slot, on: number } => {
+            push_number(text, slot)?;
+            push_number(text, number)
+        }
+    }
 }

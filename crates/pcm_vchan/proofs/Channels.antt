@@ -229,13 +229,14 @@ rates-prop : (device : Device) (x y : HasRates device) → x ≡ y
 rates-prop device x y = λ i. record { rate = rate-prop device.settings.rate x.rate y.rate i; mix_rate = rate-prop device.mix.rate x.mix_rate y.mix_rate i }
 
 -- a parent with other channels that are the old ones is the old one
-pub parent_same : {B : Type 0} (new old : ParentOf B) (device : new.device ≡ old.device) (channels : new.channels ≡ old.channels) (recorders : new.recorders ≡ old.recorders) (maps : new.maps ≡ old.maps) (bus : new.bus ≡ old.bus) (ring : new.ring ≡ old.ring)
+pub parent_same : {B : Type 0} (new old : ParentOf B) (device : new.device ≡ old.device) (channels : new.channels ≡ old.channels) (recorders : new.recorders ≡ old.recorders) (maps : new.maps ≡ old.maps) (mixer : new.mixer ≡ old.mixer) (bus : new.bus ≡ old.bus) (ring : new.ring ≡ old.ring)
     (handed : new.handed ≡ old.handed) → new.mixed ≡ old.mixed → (passed : new.passed ≡ old.passed) → new ≡ old
-parent_same {B = B} new old device channels recorders maps bus ring handed mixed passed = λ i. record {
+parent_same {B = B} new old device channels recorders maps mixer bus ring handed mixed passed = λ i. record {
   device = device i;
   channels = channels i;
   recorders = recorders i;
   maps = maps i;
+  mixer = mixer i;
   bus = bus i;
   ring = ring i;
   handed = handed i;

@@ -8,6 +8,8 @@ use Rattle.pcm_record.specs.declared.channel.RecordChannelOf.{RecordChannelOf}
 use Rattle.pcm_record.specs.contracts.channel.RecordChannelOf.{the_row as recorder_row}
 use Rattle.pcm_map.specs.declared.channel.MapChannelOf.{MapChannelOf}
 use Rattle.pcm_map.specs.contracts.channel.MapChannelOf.{the_row as map_row}
+use Rattle.pcm_mixdev.specs.Mixers.{Levels}
+use Rattle.pcm_mixdev.specs.contracts.mixer_device.MixDev.{the_row as mixer_row}
 use Rattle.pcm_vchan.specs.declared.parent.ParentOf.{ParentOf}
 use Rattle.pcm_vchan.specs.contracts.parent.ParentOf.{the_row}
 
@@ -34,3 +36,11 @@ with_map_channel parent slot channel = record parent { maps = with_fixed_item pa
 -- the parent ends with the mapped channel as its borrower left it
 abbrev pub LendsMap : (R : RattleType) → MutBor (ParentOf R.Denot) → ℕ → MutBor (MapChannelOf R.Denot) → Fml
 LendsMap R parent slot channel = Lends (the_row R) (map_row R) parent channel (λ last. with_map_channel parent.now slot last)
+
+-- a parent with other volumes and mutes
+abbrev pub with_mixer : {B : Type 0} → ParentOf B → Levels → ParentOf B
+with_mixer parent mixer = record parent { mixer = mixer }
+
+-- the parent ends with the mixer device as its borrower left it
+abbrev pub LendsMixer : (R : RattleType) → MutBor (ParentOf R.Denot) → MutBor Levels → Fml
+LendsMixer R parent mixer = Lends (the_row R) mixer_row parent mixer (λ last. with_mixer parent.now last)

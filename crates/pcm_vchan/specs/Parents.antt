@@ -156,7 +156,7 @@ EachMapPlays kind kept filters n old new = Each (MapPlays kind kept filters old.
 
 -- and of the parent's bus and ring
 abbrev pub BusTurns : {B : Type 0} → (B → Kept) → Filters → ℕ → ParentOf B → ParentOf B → Type 0
-BusTurns kept filters n old new = TurnsBus kept (seen filters old.device) old.handed n (play_channels old) (map_channels old) old.bus.chain new.bus.chain old.ring.bytes new.ring.bytes
+BusTurns kept filters n old new = TurnsBus kept (seen filters old.device) old.handed n old.mixer (play_channels old) (map_channels old) old.bus.chain new.bus.chain old.ring.bytes new.ring.bytes
 
 -- ---- opening a slot
 
@@ -176,9 +176,10 @@ pub record Begins {Book : Type 0} (slots : ℕ) (least : Option ℕ) (begun : Bo
   pub books : new ≡ books_begun least begun old
   pub there : IfOk result (λ slot. slot < slots)
 
--- all but the channels is as before: the device, its bus, its ring and its counts, and how many channels there are of each way
+-- all but the channels is as before: the device, its mixer device, its bus, its ring and its counts, and how many channels there are of each way
 pub record KeepsOutput {B : Type 0} (old new : ParentOf B) : Type 0 where
   pub device_same : new.device ≡ old.device
+  pub mixer_same : new.mixer ≡ old.mixer
   pub bus_same : new.bus ≡ old.bus
   pub ring_same : new.ring.bytes ≡ old.ring.bytes
   pub handed_same : new.handed ≡ old.handed

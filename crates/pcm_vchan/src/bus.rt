@@ -5,6 +5,7 @@ ghost use Rattle.pcm_fixed.specs.Fixed.{fixed_len};
 ghost use Rattle.pcm_format.specs.Frames.{frame_bytes};
 ghost use Rattle.pcm_format.specs.Layouts.{channels_of};
 ghost use Rattle.pcm_feeder.specs.Racks.{IsRack};
+ghost use Rattle.pcm_oss.specs.declared.event.TheConstants.{SLOTS};
 ghost use Rattle.pcm_desk.specs.declared.limits.TheConstants.{MIX_FRAMES, RING_FRAMES};
 ghost use Rattle.pcm_desk.specs.Desk.{mixed_by};
 ghost use Rattle.pcm_desk.specs.Device.{mix_frames, seen, unfiltered, HasRates};
@@ -19,6 +20,7 @@ use pcm_desk::{Device, Here};
 use pcm_feeder::{Feeder, RackOf, Tables};
 use pcm_fixed::Fixed;
 use pcm_map::MapChannelOf;
+use pcm_mixdev::MixDev;
 use pcm_plan::plan_record;
 use pcm_play::PlayChannelOf;
 use pcm_ring::ByteRing;
@@ -74,12 +76,13 @@ impl<B: Feeder> BusOf<B> {
     }
 
     /// An interrupt of `n` frames, where so many were handed over before, and the mix was here: the ring hands its oldest ones over, and
-    /// gets those behind the rest that the chain makes of what all channels give. Answers how many frames were mixed. Takes no memory.
+    /// gets those behind the rest that the chain makes of what all channels give at the gains of the mixer device. Answers how many frames were mixed. Takes no memory.
     pub fn turn(
         &mut self,
         tables: &Tables,
         channels: &mut [PlayChannelOf<B>],
         maps: &mut [MapChannelOf<B>],
+        mixer: &MixDev,
         handed: u64,
         here: Here,
         n: usize,
@@ -89,6 +92,7 @@ impl<B: Feeder> BusOf<B> {
         requires within { n ≤ self.old.device.ring_frames }
         requires handed { handed + n < 2 ^ 64 }
         requires count { here.mixed + mixed_by (seen tables.now self.old.device) handed n < 2 ^ 64 }
+        requires few { length channels.old + length maps.old ≤ SLOTS }
         requires due { All (IsPlayDue B.kind B.kept tables.now self.old.device
             (mixed_by (seen tables.now self.old.device) handed n)) channels.old }
         requires maps_due { All (IsMapDue B.kind B.kept tables.now self.old.device
@@ -107,7 +111,7 @@ impl<B: Feeder> BusOf<B> {
         ensures size { ring.new.size ≡ ring.old.size }
         ensures full { length ring.new.bytes ≡ ring.old.size }
         ensures out { out.new ≡ take (n * frame_bytes self.old.device.settings) ring.old.bytes }
-        ensures turns { TurnsBus B.kept (seen tables.now self.old.device) handed n channels.old maps.old
+        ensures turns { TurnsBus B.kept (seen tables.now self.old.device) handed n mixer.now channels.old maps.old
             self.old.chain self.new.chain ring.old.bytes ring.new.bytes }
     {
         turn(
@@ -115,6 +119,7 @@ impl<B: Feeder> BusOf<B> {
             tables,
             channels,
             maps,
+            mixer,
             &mut self.chain,
             handed,
             here,
@@ -135,6 +140,7 @@ fn turn<B: Feeder>(
     tables: &Tables,
     channels: &mut [PlayChannelOf<B>],
     maps: &mut [MapChannelOf<B>],
+    mixer: &MixDev,
     chain: &mut ChainOf<B>,
     handed: u64,
     here: Here,
@@ -150,6 +156,7 @@ fn turn<B: Feeder>(
     requires mix { mix_frames (unfiltered device) ≤ MIX_FRAMES }
     requires handed { handed + n < 2 ^ 64 }
     requires count { here.mixed + mixed_by (seen tables.now device) handed n < 2 ^ 64 }
+    requires few { length channels.old + length maps.old ≤ SLOTS }
     requires due { All (IsPlayDue B.kind B.kept tables.now device
         (mixed_by (seen tables.now device) handed n)) channels.old }
     requires maps_due { All (IsMapDue B.kind B.kept tables.now device
@@ -171,7 +178,7 @@ fn turn<B: Feeder>(
     ensures size { ring.new.size ≡ ring.old.size }
     ensures full { length ring.new.bytes ≡ ring.old.size }
     ensures out { out.new ≡ take (n * frame_bytes device.settings) ring.old.bytes }
-    ensures turns { TurnsBus B.kept (seen tables.now device) handed n channels.old maps.old
+    ensures turns { TurnsBus B.kept (seen tables.now device) handed n mixer.now channels.old maps.old
         chain.old chain.new ring.old.bytes ring.new.bytes }
 {
     let count = mixed_by(device, tables, chain, handed, n);
@@ -182,6 +189,7 @@ fn turn<B: Feeder>(
         tables,
         channels,
         maps,
+        mixer,
         here,
         count,
         &mut part[..samples],

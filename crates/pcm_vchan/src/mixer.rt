@@ -6,26 +6,31 @@ ghost use Rattle.pcm_format.specs.Formats.{bits_of};
 ghost use Rattle.pcm_format.specs.Layouts.{channels_of};
 ghost use Rattle.pcm_format.specs.Frames.{frame_bytes};
 ghost use Rattle.pcm_desk.specs.declared.limits.TheConstants.{RING_FRAMES};
+ghost use Rattle.pcm_feeder.specs.Limits.{IsGain};
+ghost use Rattle.pcm_oss.specs.declared.event.TheConstants.{SLOTS};
+ghost use Rattle.pcm_mixdev.specs.Mixers.{slot_gain};
 ghost use Rattle.pcm_desk.specs.Device.{seen, unfiltered};
 ghost use Rattle.pcm_path.specs.Paths.{HoldBlock};
 ghost use Rattle.pcm_play.specs.Channels.{AddsTo, PlayMoves};
 ghost use Rattle.pcm_map.specs.Channels.{MapAddsTo};
 ghost use Rattle.pcm_vchan.specs.Slots.{AreMixed, AreTaken, AtSlot, ChangesAt, IsMapDue, IsPlayDue, MapPlays, Mixes, OthersStay};
-ghost use Rattle.pcm_vchan.specs.Blocks.{silent_ring, turned_ring, MapsOnto, MixesBlock, MixesOnto};
+ghost use Rattle.pcm_vchan.specs.Blocks.{map_gains, silent_ring, turned_ring, MapsOnto, MixesBlock, MixesOnto};
 
 use pcm_desk::{Device, Here};
-use pcm_feeder::{Feeder, Tables};
+use pcm_feeder::{Feeder, Gain, Tables};
 use pcm_format::{Settings, spell_frames};
 use pcm_map::MapChannelOf;
+use pcm_mixdev::{MixDev, apply_gain};
 use pcm_play::PlayChannelOf;
 use pcm_ring::ByteRing;
 use std::alloc::{AllocError, Global};
 
-// Adds the frames of each channel to a block of `n` frames. The other buffer holds one channel's part meanwhile.
+// Adds the frames of each channel to a block of `n` frames, at the gain of its slot. The other buffer holds one channel's part meanwhile.
 fn mix_channels<B: Feeder>(
     device: Device,
     tables: &Tables,
     channels: &mut [PlayChannelOf<B>],
+    mixer: &MixDev,
     here: Here,
     n: usize,
     frames: &mut [i32],
@@ -33,14 +38,16 @@ fn mix_channels<B: Feeder>(
 )
     requires some { 0 < n }
     requires count { here.mixed + n < 2 ^ 64 }
+    requires few { length channels.old ≤ SLOTS }
     requires due { All (IsPlayDue B.kind B.kept tables.now device n) channels.old }
     requires block { HoldBlock device n frames.old sum.old }
     ensures mixed { AreMixed B.kind B.kept tables.now device here.mixed n channels.old channels.new }
-    ensures sum { MixesOnto B.kept tables.now device n channels.old sum.old sum.new }
+    ensures sum { MixesOnto B.kept tables.now device n (slot_gain mixer.now) channels.old sum.old sum.new }
     ensures fits { All (FitsBits (bits_of device.mix.format)) sum.new }
 {
     for slot in 0..channels.len() {
-        mix_slot(device, tables, channels, slot, here, n, frames, sum);
+        let gain = mixer.slot_gain(slot);
+        mix_slot(device, tables, channels, slot, gain, here, n, frames, sum);
     }
 }
 
@@ -50,12 +57,14 @@ fn mix_slot<B: Feeder>(
     tables: &Tables,
     channels: &mut [PlayChannelOf<B>],
     slot: usize,
+    gain: Gain,
     here: Here,
     n: usize,
     frames: &mut [i32],
     sum: &mut [i32],
 )
     requires some { 0 < n }
+    requires gain { IsGain gain }
     requires count { here.mixed + n < 2 ^ 64 }
     requires there { slot < length channels.old }
     requires due { AtSlot (IsPlayDue B.kind B.kept tables.now device n) channels.old slot }
@@ -64,30 +73,35 @@ fn mix_slot<B: Feeder>(
     ensures own { AtSlot (λ channel. channel.path.device ≡ device) channels.new slot }
     ensures moves { ChangesAt (PlayMoves B.kind B.kept tables.now [] n) slot channels.old channels.new }
     ensures book { ChangesAt (Mixes (seen tables.now device) here.mixed n) slot channels.old channels.new }
-    ensures sum { AtSlot (AddsTo B.kept tables.now device n sum.old sum.new) channels.old slot }
+    ensures sum { AtSlot (AddsTo B.kept tables.now device n gain sum.old sum.new) channels.old slot }
     ensures fits { All (FitsBits (bits_of device.mix.format)) sum.new }
 {
-    channels[slot].refill(tables, n, here, frames, sum);
+    channels[slot].refill(tables, n, here, gain, frames, sum);
 }
 
-// Adds the frames of each mapped channel to a block of `n` frames. The other buffer holds one channel's part meanwhile.
+// Adds the frames of each mapped channel to a block of `n` frames, at the gain of its slot, which is one of those behind so many that play.
+// The other buffer holds one channel's part meanwhile.
 fn mix_maps<B: Feeder>(
     device: Device,
     tables: &Tables,
     maps: &mut [MapChannelOf<B>],
+    mixer: &MixDev,
+    slots: usize,
     n: usize,
     frames: &mut [i32],
     sum: &mut [i32],
 )
     requires some { 0 < n }
+    requires few { slots + length maps.old ≤ SLOTS }
     requires due { All (IsMapDue B.kind B.kept tables.now device n) maps.old }
     requires block { HoldBlock device n frames.old sum.old }
     ensures taken { AreTaken B.kind B.kept tables.now device n maps.old maps.new }
-    ensures sum { MapsOnto B.kept tables.now device n maps.old sum.old sum.new }
+    ensures sum { MapsOnto B.kept tables.now device n (map_gains mixer.now slots) maps.old sum.old sum.new }
     ensures fits { All (FitsBits (bits_of device.mix.format)) sum.new }
 {
     for slot in 0..maps.len() {
-        mix_map(device, tables, maps, slot, n, frames, sum);
+        let gain = mixer.slot_gain(slots + slot);
+        mix_map(device, tables, maps, slot, gain, n, frames, sum);
     }
 }
 
@@ -97,30 +111,33 @@ fn mix_map<B: Feeder>(
     tables: &Tables,
     maps: &mut [MapChannelOf<B>],
     slot: usize,
+    gain: Gain,
     n: usize,
     frames: &mut [i32],
     sum: &mut [i32],
 )
     requires some { 0 < n }
+    requires gain { IsGain gain }
     requires there { slot < length maps.old }
     requires due { AtSlot (IsMapDue B.kind B.kept tables.now device n) maps.old slot }
     requires block { HoldBlock device n frames.old sum.old }
     ensures others { OthersStay slot maps.old maps.new }
     ensures own { AtSlot (λ channel. channel.path.device ≡ device) maps.new slot }
     ensures plays { ChangesAt (MapPlays B.kind B.kept tables.now device n) slot maps.old maps.new }
-    ensures sum { AtSlot (MapAddsTo B.kept tables.now device n sum.old sum.new) maps.old slot }
+    ensures sum { AtSlot (MapAddsTo B.kept tables.now device n gain sum.old sum.new) maps.old slot }
     ensures fits { All (FitsBits (bits_of device.mix.format)) sum.new }
 {
-    maps[slot].refill(tables, n, frames, sum);
+    maps[slot].refill(tables, n, gain, frames, sum);
 }
 
-/// Mixes a block of `n` frames from silence on, behind what was mixed before: first of the channels that play, and then of the mapped ones.
-/// `part` holds the frames of one channel meanwhile.
+/// Mixes a block of `n` frames from silence on, behind what was mixed before: first of the channels that play, and then of the mapped ones, each
+/// at the gain of its slot; and all of it gets the gain of what is mixed, once it is limited. `part` holds the frames of one channel meanwhile.
 pub fn mix_block<B: Feeder>(
     device: Device,
     tables: &Tables,
     channels: &mut [PlayChannelOf<B>],
     maps: &mut [MapChannelOf<B>],
+    mixer: &MixDev,
     here: Here,
     n: usize,
     part: &mut [i32],
@@ -129,17 +146,20 @@ pub fn mix_block<B: Feeder>(
     requires count { here.mixed + n < 2 ^ 64 }
     requires due { All (IsPlayDue B.kind B.kept tables.now device n) channels.old }
     requires maps_due { All (IsMapDue B.kind B.kept tables.now device n) maps.old }
+    requires few { length channels.old + length maps.old ≤ SLOTS }
     requires part { length part.old ≡ n * channels_of device.mix.layout }
     requires sum { length sum.old ≡ n * channels_of device.mix.layout }
     ensures mixed { AreMixed B.kind B.kept tables.now device here.mixed n channels.old channels.new }
     ensures taken { AreTaken B.kind B.kept tables.now device n maps.old maps.new }
-    ensures block { MixesBlock B.kept tables.now device n channels.old maps.old sum.new }
+    ensures block { MixesBlock B.kept tables.now device n mixer.now channels.old maps.old sum.new }
     ensures fits { All (FitsBits (bits_of device.mix.format)) sum.new }
 {
     sum.fill(0);
     if n > 0 {
-        mix_channels(device, tables, channels, here, n, part, sum);
-        mix_maps(device, tables, maps, n, part, sum);
+        let slots = channels.len();
+        mix_channels(device, tables, channels, mixer, here, n, part, sum);
+        mix_maps(device, tables, maps, mixer, slots, n, part, sum);
+        apply_gain(mixer.master(), device.mix.layout, sum);
     }
 }
 

@@ -9,6 +9,7 @@ ghost use Rattle.pcm_feeder.specs.Limits.{IsRate};
 ghost use Rattle.pcm_feeder.specs.Racks.{AreRacks, list_of};
 ghost use Rattle.pcm_desk.specs.declared.limits.TheConstants.{RING_FRAMES};
 ghost use Rattle.pcm_oss.specs.declared.event.TheConstants.{SLOTS};
+ghost use Rattle.pcm_mixdev.specs.Mixers.{full_mixer};
 ghost use Rattle.pcm_desk.specs.Device.{mixed_slots, passed_for, seen, unfiltered, HasRates};
 ghost use Rattle.pcm_group.specs.Groups.{all_in, change_in};
 ghost use Rattle.pcm_desk.specs.Desk.{play_starting, record_starting};
@@ -35,20 +36,22 @@ use pcm_fixed::Fixed;
 use pcm_format::Settings;
 use pcm_group::Groups;
 use pcm_map::MapChannelOf;
+use pcm_mixdev::MixDev;
 use pcm_oss::{Errno, SLOTS, Way};
 use pcm_play::PlayChannelOf;
 use pcm_record::RecordChannelOf;
 use pcm_ring::ByteRing;
 use std::alloc::{AllocError, Global};
 
-/// The channels of a device by slot, those that play, those that record and the mapped ones, the bus from what is played to its ring, which is
-/// always full, how many frames were handed over and mixed, and how many of these have left the ring.
+/// The channels of a device by slot, those that play, those that record and the mapped ones, its mixer device, the bus from what is played to its
+/// ring, which is always full, how many frames were handed over and mixed, and how many of these have left the ring.
 #[derive(Drop)]
 pub struct ParentOf<B> {
     pub device: Device,
     pub channels: Fixed<PlayChannelOf<B>>,
     pub recorders: Fixed<RecordChannelOf<B>>,
     pub maps: Fixed<MapChannelOf<B>>,
+    pub mixer: MixDev,
     pub bus: BusOf<B>,
     pub ring: ByteRing,
     pub handed: u64,
@@ -70,7 +73,7 @@ pub struct ParentOf<B> {
 impl<B: Feeder> ParentOf<B> {
     ghost use Rattle.pcm_oss.specs.declared.event.Way.TheVariants.{Play, Record, Map};
     ghost use Rattle.pcm_vchan.specs.Parents.{map_channels, play_books, play_channels, record_books, record_channels, mixed_in, AreDue, AreMapUnopened, ArePlayUnopened, AreRecordUnopened, AreServed, EachCaptures, EachMapPlays, EachPasses, EachPlayMoves, EachRecordMoves, HasBus, HasLimits, KeepsOutput, OpensMap, OpensPlay, OpensRecord, BusTurns, TotalsFit, here_of};
-    ghost use Rattle.pcm_vchan.specs.Lending.{LendsChannel, LendsMap, LendsRecorder};
+    ghost use Rattle.pcm_vchan.specs.Lending.{LendsChannel, LendsMap, LendsMixer, LendsRecorder};
 
     /// A device that nobody has opened, whose ring is full of silence. Each slot gets a rack: those that play the first ones, mapped ones
     /// those behind them, those that record the ones from the seventeenth on, and the bus the last one.
@@ -91,6 +94,7 @@ impl<B: Feeder> ParentOf<B> {
         ensures recording { IfOk result (AreRecordUnopened B.kind B.kept tables.now device) }
         ensures planned { IfOk result (λ made. IsPlannedBy (seen tables.now device) made.bus.chain) }
         ensures made { IfOk result (λ made. HasMade B.kept (seen tables.now device) made.bus.chain [] 0) }
+        ensures mixer { IfOk result (λ made. made.mixer ≡ full_mixer) }
         ensures ring { IfOk result (λ made. made.ring.bytes ≡ silent_ring (seen tables.now device)) }
         ensures handed { IfOk result (λ made. made.handed ≡ 0) }
         ensures mixed { IfOk result (λ made. made.mixed ≡ 0) }
@@ -108,6 +112,7 @@ impl<B: Feeder> ParentOf<B> {
             channels: Fixed::new(channels),
             recorders: Fixed::new(recorders),
             maps: Fixed::new(maps),
+            mixer: MixDev::new(),
             bus,
             ring,
             handed: 0,
@@ -213,6 +218,14 @@ impl<B: Feeder> ParentOf<B> {
         &mut self.maps[slot]
     }
 
+    /// Lends the mixer device.
+    pub fn mixer(&mut self) -> &mut MixDev
+        ensures* writes_back { sem 𝓛 (LendsMixer B.row self.entry result) }
+        ensures value { result.now ≡ self.old.mixer }
+    {
+        &mut self.mixer
+    }
+
     /// Whether each member of a group that plays may start at any moment.
     pub fn is_group_ready(&self, groups: &Groups, group: u32) -> bool
         requires some { 0 < group }
@@ -268,7 +281,7 @@ impl<B: Feeder> ParentOf<B> {
         start_recording(&mut self.recorders, tables, groups, group);
     }
 
-    /// The device's interrupt: hands the oldest `n` frames over, mixes what the next ones need from all channels that play, and gives
+    /// The device's interrupt: hands the oldest `n` frames over, mixes what the next ones need from all channels that play, at the gains of the mixer device, and gives
     /// `n` captured ones to all that record. Then draining runs end whose last frame was handed over.
     pub fn interrupt(&mut self, tables: &Tables, n: usize, captured: &[i32], out: &mut [u8])
         requires some { 0 < n }
@@ -279,6 +292,7 @@ impl<B: Feeder> ParentOf<B> {
         requires handed { self.old.handed + n < 2 ^ 56 }
         requires mixed { self.old.mixed + mixed_in tables.now n self.old < 2 ^ 64 }
         ensures device { self.new.device ≡ self.old.device }
+        ensures mixer { self.new.mixer ≡ self.old.mixer }
         ensures own { PlayAreOf self.new.device (play_channels self.new) }
         ensures slots { length (play_channels self.new) ≡ length (play_channels self.old) }
         ensures channels { EachPlayMoves B.kind B.kept tables.now []
@@ -302,6 +316,7 @@ impl<B: Feeder> ParentOf<B> {
             tables,
             &mut self.channels,
             &mut self.maps,
+            &self.mixer,
             self.handed,
             before,
             n,
@@ -322,6 +337,7 @@ impl<B: Feeder> ParentOf<B> {
         ensures settled { Each (Settles B.kind B.kept (here_of self.new)) (play_channels self.old) (play_channels self.new) }
         ensures recorders { self.new.recorders ≡ self.old.recorders }
         ensures maps { self.new.maps ≡ self.old.maps }
+        ensures mixer { self.new.mixer ≡ self.old.mixer }
         ensures bus { self.new.bus ≡ self.old.bus }
         ensures ring { self.new.ring ≡ self.old.ring }
         ensures handed { self.new.handed ≡ self.old.handed + n }

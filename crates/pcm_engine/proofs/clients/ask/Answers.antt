@@ -117,7 +117,7 @@ returns-in-Play-clause-refused g c =
     let held = c.in_ok-held.held in
     let e = holding-is (held_by (desk_with parent c.args.descriptors.now) c.args.fd) c.in_ok-held.held (sym c.holding.ensures ∙ c.in_ok-held.was) in
     on_err_weaker c.ioctl.result
-    (λ same. parent_same _ parent refl (item-kept parent.channels held.slot c.ioctl.new.self c.play.result.now (same ∙ c.play.ensures.value)) refl refl refl refl refl refl refl)
+    (λ same. parent_same _ parent refl (item-kept parent.channels held.slot c.ioctl.new.self c.play.result.now (same ∙ c.play.ensures.value)) refl refl refl refl refl refl refl refl)
     c.ioctl.ensures.refused
 
 pub returns-in-Play-clause-desk : goal.returns-in-Play-clause-desk
@@ -174,7 +174,7 @@ returns-in-Record-clause-refused g c =
     let held = c.in_ok-held.held in
     let e = holding-is (held_by (desk_with parent c.args.descriptors.now) c.args.fd) c.in_ok-held.held (sym c.holding.ensures ∙ c.in_ok-held.was) in
     on_err_weaker c.ioctl-in-Record.result
-    (λ same. parent_same _ parent refl refl (item-kept parent.recorders held.slot c.ioctl-in-Record.new.self c.recorder.result.now (same ∙ c.recorder.ensures.value)) refl refl refl refl refl refl)
+    (λ same. parent_same _ parent refl refl (item-kept parent.recorders held.slot c.ioctl-in-Record.new.self c.recorder.result.now (same ∙ c.recorder.ensures.value)) refl refl refl refl refl refl refl)
     c.ioctl-in-Record.ensures.refused
 
 pub returns-in-Record-clause-desk : goal.returns-in-Record-clause-desk
@@ -265,7 +265,7 @@ returns-in-Map-clause-refused g c =
     let parent = c.args.parent.now in
     let held = c.in_ok-held.held in
     on_err_weaker c.ioctl-in-Map.result
-    (λ same. parent_same _ parent refl refl refl (item-kept parent.maps held.slot c.ioctl-in-Map.new.self c.mapped.result.now (same ∙ c.mapped.ensures.value)) refl refl refl refl refl)
+    (λ same. parent_same _ parent refl refl refl (item-kept parent.maps held.slot c.ioctl-in-Map.new.self c.mapped.result.now (same ∙ c.mapped.ensures.value)) refl refl refl refl refl refl)
     c.ioctl-in-Map.ensures.refused
 
 pub returns-in-Map-clause-desk : goal.returns-in-Map-clause-desk

@@ -49,7 +49,7 @@ pub returns-clause-refused : goal.returns-clause-refused
 returns-clause-refused g c =
     let parent = c.args.parent.now in
     on_err_weaker c.poke.result
-    (λ same. parent_same _ parent refl refl refl (item-kept parent.maps c.in_ok-slot.slot c.poke.new.self c.mapped-2.result.now (same ∙ c.mapped-2.ensures.value)) refl refl refl refl refl)
+    (λ same. parent_same _ parent refl refl refl (item-kept parent.maps c.in_ok-slot.slot c.poke.new.self c.mapped-2.result.now (same ∙ c.mapped-2.ensures.value)) refl refl refl refl refl refl)
     c.poke.ensures.refused
 
 pub returns-clause-turn : goal.returns-clause-turn

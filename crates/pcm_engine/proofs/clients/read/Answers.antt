@@ -41,7 +41,7 @@ returns-clause-refused g c =
     let held = channel_of Record c.in_ok-slot.slot in
     let e = recording-is (held_by (desk_with parent c.args.descriptors.now) c.args.fd) c.in_ok-slot.slot (sym c.recording.ensures ∙ c.in_ok-slot.was) in
     on_err_weaker c.read.result
-    (λ same. parent_same _ parent refl refl (item-kept parent.recorders held.slot c.read.new.self c.recorder.result.now (same ∙ c.recorder.ensures.value)) refl refl refl refl refl refl)
+    (λ same. parent_same _ parent refl refl (item-kept parent.recorders held.slot c.read.new.self c.recorder.result.now (same ∙ c.recorder.ensures.value)) refl refl refl refl refl refl refl)
     c.read.ensures.refused
 
 pub returns-clause-turn : goal.returns-clause-turn

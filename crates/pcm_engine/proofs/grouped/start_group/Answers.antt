@@ -51,7 +51,7 @@ returns-clause-desk g c =
     let mapped = ap (λ (v : Fixed (MapChannelOf _)). map_books_of (fixed_items v)) c.start_group.ensures.maps in
     let groups = c.dissolve.ensures ∙ ap (dissolved group) c.groups-groups.ensures in
     ap (λ (descriptors : Descriptors). desk_with c.start_group.new.self descriptors) c.regroup.ensures
-    ∙ (λ i. record desk { play = play i; recording = recording i; mapped = mapped i; groups = groups i; handed = c.start_group.ensures.output.handed_same i; mixed = c.start_group.ensures.output.mixed_same i })
+    ∙ (λ i. record desk { play = play i; recording = recording i; mapped = mapped i; groups = groups i; mixer = c.start_group.ensures.output.mixer_same i; handed = c.start_group.ensures.output.handed_same i; mixed = c.start_group.ensures.output.mixed_same i })
     ∙ sym (ap (λ (t : DeskTurn). t.desk) (start-done device desk (held_by desk c.args.fd) c.in_ok-held.held group e joins used ready))
 
 pub returns-clause-reply : goal.returns-clause-reply

@@ -1,6 +1,6 @@
 use Rattle.std.proofs.Common.{◌≡◌, List, ℕ, Ok, Err, ap, subst}
 use Rattle.pcm_desk.specs.Device.{unfiltered}
-use Rattle.pcm_script.specs.Answers.{Reads}
+use Rattle.pcm_script.specs.Answers.{ReadsScript}
 use Rattle.pcm_script.specs.Lines.{script_read}
 use Rattle.pcm_script.specs.declared.fault.ScriptFault.{ScriptFault}
 use Rattle.pcm_verdict.specs.Faults.{BadScript}
@@ -32,8 +32,8 @@ pub returns-in-Err-Refused-clause-err : goal.returns-in-Err-Refused-clause-err
 returns-in-Err-Refused-clause-err g c =
     let only = c.in_ok-text.ensures.only in
     let read = script_read (unfiltered c.args.config.now.device) c.args.waves.now in
-    let text = subst (λ (text : List ℕ). Reads (Err c.in-Err-Refused.field-0) (read text)) c.deref.ensures.value c.in-Err-Refused.ensures.read in
-    let refused = subst (λ (fault : ScriptFault). Reads (Err fault) (read c.in_ok-text.text.items)) c.in-Err-Refused.field-0-is text in
+    let text = subst (λ (text : List ℕ). ReadsScript (Err c.in-Err-Refused.field-0) (read text)) c.deref.ensures.value c.in-Err-Refused.ensures.read in
+    let refused = subst (λ (fault : ScriptFault). ReadsScript (Err fault) (read c.in_ok-text.text.items)) c.in-Err-Refused.field-0-is text in
     script-refused (script_part c.args.config.now c.args.waves.now c.args.name.now) c.in-Err-Refused.refusal _ _ _
     (script-comes c.args.config.now c.args.waves.now c.args.name.now c.in_ok-text.text.items _ _ c.in_ok-text.ensures.ok (ap or_bad_script refused))
     only.files (tells-behind (BadScript c.in-Err-Refused.refusal) _ _ _ _ only c.refuse.ensures)

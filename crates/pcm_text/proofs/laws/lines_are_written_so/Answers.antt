@@ -63,6 +63,26 @@ pub returns-clause-close : goal.returns-clause-close
 unfolding digits encode_with
 returns-clause-close c = refl
 
+pub returns-clause-set_master : goal.returns-clause-set_master
+unfolding digits encode_with
+returns-clause-set_master c = refl
+
+pub returns-clause-get_master : goal.returns-clause-get_master
+unfolding digits encode_with
+returns-clause-get_master c = refl
+
+pub returns-clause-set_slot : goal.returns-clause-set_slot
+unfolding digits encode_with
+returns-clause-set_slot c = refl
+
+pub returns-clause-get_slot : goal.returns-clause-get_slot
+unfolding digits encode_with
+returns-clause-get_slot c = refl
+
+pub returns-clause-mute : goal.returns-clause-mute
+unfolding digits encode_with
+returns-clause-mute c = refl
+
 pub returns-clause-interrupt : goal.returns-clause-interrupt
 unfolding digits encode_with
 returns-clause-interrupt c = refl

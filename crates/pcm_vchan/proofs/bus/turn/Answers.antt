@@ -92,9 +92,9 @@ returns-clause-turns g c = λ sources x stand made.
     let long = front c.args.sum.now c.mixed_by-count.result channels c.channels.result c.channels.ensures room in
     let enough : AreMixedFor device c.mix_block.new.sum handed n = c.mix_block.auto.sum ∙ long ∙ ap (λ k. k * channels) c.mixed_by-count.ensures.value in
     let more = c.hand_over-made.ensures.makes x handed made enough in
-    let block : c.mix_block.new.sum ≡ whole_block device (mixed_by device handed n) c.args.channels.now c.args.maps.now sources =
-    c.mix_block.ensures.block sources stand ∙ ap (λ k. whole_block device k c.args.channels.now c.args.maps.now sources) c.mixed_by-count.ensures.value in
-    let all : x ++ raised_frames device c.mix_block.new.sum ≡ x ++ mixed_at_once device handed n c.args.channels.now c.args.maps.now sources = ap (λ (b : List ℤ). x ++ raised_frames device b) block in
+    let block : c.mix_block.new.sum ≡ whole_block device (mixed_by device handed n) c.args.mixer.now c.args.channels.now c.args.maps.now sources =
+    c.mix_block.ensures.block sources stand ∙ ap (λ k. whole_block device k c.args.mixer.now c.args.channels.now c.args.maps.now sources) c.mixed_by-count.ensures.value in
+    let all : x ++ raised_frames device c.mix_block.new.sum ≡ x ++ mixed_at_once device handed n c.args.mixer.now c.args.channels.now c.args.maps.now sources = ap (λ (b : List ℤ). x ++ raised_frames device b) block in
     record {
       made = subst (λ (frames : List Frame). HasMade g.B.Feeder.kept device c.hand_over-made.new.chain frames (handed + n)) all more.made;
       ring = c.turn_ring.ensures.ring

@@ -1,5 +1,7 @@
 use Rattle.std.proofs.Common.{◌≡◌, ℕ, ℤ, ◌<◌, List, [], length, get_or, refl, sym, ap, ◌∙◌, subst, inl, inr, arith}
 use Rattle.std.proofs.lemmas.Bool.{cases_lt, cases_eq}
+use Rattle.pcm_feeder.specs.declared.stage.Gain.{Gain}
+use Rattle.pcm_mixdev.specs.Mixers.{slot_gain}
 use Rattle.pcm_desk.specs.Device.{DeviceSeen, seen}
 use Rattle.pcm_desk.specs.Desk.{mixing}
 use Rattle.pcm_sound.specs.Added.{turned}
@@ -57,11 +59,13 @@ loop-slot-preserved g c =
       rest = λ at other h. c.mix_slot.ensures.others at other (omega arith) ∙ c.loop-slot.invariant.rest at other (omega arith);
       sum = λ streams stand. (
           let channel : PlayChannelOf _ = get_or c.loop-slot.channels i first in
-          let mixed : List ℤ = mixed_onto device n (play_books_of before) streams i c.args.sum.now in
+          let gains : ℕ → Gain = slot_gain c.args.mixer.now in
+          let mixed : List ℤ = mixed_onto device n gains (play_books_of before) streams i c.args.sum.now in
           let stood : PlayStands g.B.Feeder.kept c.args.tables.now channel channel.book (streams i) = subst (λ (held : PlayChannelOf _). PlayStands g.B.Feeder.kept c.args.tables.now held held.book (streams i)) (sym was) (stand i first there) in
-          let by_slot : c.mix_slot.new.sum ≡ turned device n channel.book (streams i) c.loop-slot.sum = c.mix_slot.ensures.sum first (streams i) stood in
-          let onto : c.mix_slot.new.sum ≡ turned device n channel.book (streams i) mixed = by_slot ∙ ap (turned device n channel.book (streams i)) (c.loop-slot.invariant.sum streams stand) in
-          onto ∙ mixed-more device n before streams i channel first there was c.args.sum.now);
+          let by_slot : c.mix_slot.new.sum ≡ turned device n c.slot_gain-gain.result channel.book (streams i) c.loop-slot.sum = c.mix_slot.ensures.sum first (streams i) stood in
+          let at_gain : c.mix_slot.new.sum ≡ turned device n (gains i) channel.book (streams i) c.loop-slot.sum = by_slot ∙ ap (λ (gain : Gain). turned device n gain channel.book (streams i) c.loop-slot.sum) c.slot_gain-gain.ensures.value in
+          let onto : c.mix_slot.new.sum ≡ turned device n (gains i) channel.book (streams i) mixed = at_gain ∙ ap (turned device n (gains i) channel.book (streams i)) (c.loop-slot.invariant.sum streams stand) in
+          onto ∙ mixed-more device n gains before streams i channel first there was c.args.sum.now);
       block = record { frames_whole = omega (arith, c.mix_slot.auto.frames, held.frames_whole); sum_whole = omega (arith, c.mix_slot.auto.sum, held.sum_whole); fits = c.mix_slot.ensures.fits };
     }
 

@@ -1,11 +1,12 @@
 use Rattle.std.proofs.Common.{◌≡◌, ℕ, ℤ, ◌<◌, List, length, get_or, refl, sym, ap, ◌∙◌, subst, inl, inr, arith}
 use Rattle.std.proofs.lemmas.Bool.{cases_lt, cases_eq}
+use Rattle.pcm_feeder.specs.declared.stage.Gain.{Gain}
 use Rattle.pcm_desk.specs.Device.{DeviceSeen, seen}
 use Rattle.pcm_sound.specs.Added.{map_turned}
 use Rattle.pcm_map.specs.declared.channel.MapChannelOf.{MapChannelOf}
 use Rattle.pcm_map.specs.Channels.{area_of}
 use Rattle.pcm_vchan.specs.Slots.{IsMapDue, MapPlays, MapStandsWith, map_books_of}
-use Rattle.pcm_vchan.specs.Blocks.{mapped_onto}
+use Rattle.pcm_vchan.specs.Blocks.{map_gains, mapped_onto}
 use Rattle.pcm_vchan.proofs.Channels.{some_channel}
 use Rattle.pcm_vchan.proofs.Blocks.{mapped-more}
 use Rattle.pcm_vchan.proofs.mixer.mix_maps.Goals as goal
@@ -49,12 +50,14 @@ loop-slot-preserved g c =
       rest = λ at other h. c.mix_map.ensures.others at other (omega arith) ∙ c.loop-slot.invariant.rest at other (omega arith);
       sum = λ taken areas stand. (
           let channel : MapChannelOf _ = get_or c.loop-slot.maps i first in
-          let mixed : List ℤ = mapped_onto device n (map_books_of before) taken areas i c.args.sum.now in
+          let gains : ℕ → Gain = map_gains c.args.mixer.now c.args.slots in
+          let mixed : List ℤ = mapped_onto device n gains (map_books_of before) taken areas i c.args.sum.now in
           let stood : MapStandsWith g.B.Feeder.kept c.args.tables.now (taken i) (areas i) channel = subst (MapStandsWith g.B.Feeder.kept c.args.tables.now (taken i) (areas i)) (sym was) (stand i first there) in
-          let by_slot : c.mix_map.new.sum ≡ map_turned device n channel.book (taken i) (area_of channel) c.loop-slot.sum = c.mix_map.ensures.sum first (taken i) stood.stands in
-          let by_area : c.mix_map.new.sum ≡ map_turned device n channel.book (taken i) (areas i) c.loop-slot.sum = by_slot ∙ ap (λ (area : List ℕ). map_turned device n channel.book (taken i) area c.loop-slot.sum) stood.area in
-          let onto : c.mix_map.new.sum ≡ map_turned device n channel.book (taken i) (areas i) mixed = by_area ∙ ap (map_turned device n channel.book (taken i) (areas i)) (c.loop-slot.invariant.sum taken areas stand) in
-          onto ∙ mapped-more device n before taken areas i channel first there was c.args.sum.now);
+          let by_slot : c.mix_map.new.sum ≡ map_turned device n c.slot_gain-gain.result channel.book (taken i) (area_of channel) c.loop-slot.sum = c.mix_map.ensures.sum first (taken i) stood.stands in
+          let at_gain : c.mix_map.new.sum ≡ map_turned device n (gains i) channel.book (taken i) (area_of channel) c.loop-slot.sum = by_slot ∙ ap (λ (gain : Gain). map_turned device n gain channel.book (taken i) (area_of channel) c.loop-slot.sum) c.slot_gain-gain.ensures.value in
+          let by_area : c.mix_map.new.sum ≡ map_turned device n (gains i) channel.book (taken i) (areas i) c.loop-slot.sum = at_gain ∙ ap (λ (area : List ℕ). map_turned device n (gains i) channel.book (taken i) area c.loop-slot.sum) stood.area in
+          let onto : c.mix_map.new.sum ≡ map_turned device n (gains i) channel.book (taken i) (areas i) mixed = by_area ∙ ap (map_turned device n (gains i) channel.book (taken i) (areas i)) (c.loop-slot.invariant.sum taken areas stand) in
+          onto ∙ mapped-more device n gains before taken areas i channel first there was c.args.sum.now);
       block = record { frames_whole = omega (arith, c.mix_map.auto.frames, held.frames_whole); sum_whole = omega (arith, c.mix_map.auto.sum, held.sum_whole); fits = c.mix_map.ensures.fits };
     }
 

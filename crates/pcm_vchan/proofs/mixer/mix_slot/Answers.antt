@@ -51,10 +51,10 @@ returns-clause-sum g c = λ other bytes stands.
     let before : PlayChannelOf _ = get_or old c.args.slot held in
     let same : before ≡ get_or old c.args.slot other = get_or_default old c.args.slot held other c.requires.there in
     let stood : PlayStands g.B.Feeder.kept c.args.tables.now before before.book bytes = subst (λ (n : PlayChannelOf _). PlayStands g.B.Feeder.kept c.args.tables.now n n.book bytes) (sym same) stands in
-    let by_channel : c.refill.new.sum ≡ turned (seen c.args.tables.now before.path.device) c.args.n before.book bytes sum = c.refill.ensures.sum bytes stood in
-    let of_device : c.refill.new.sum ≡ turned (seen c.args.tables.now c.args.device) c.args.n before.book bytes sum =
-    by_channel ∙ ap (λ (d : Device). turned (seen c.args.tables.now d) c.args.n before.book bytes sum) ((c.requires.due held).own) in
-    of_device ∙ ap (λ (n : PlayChannelOf _). turned (seen c.args.tables.now c.args.device) c.args.n n.book bytes sum) same
+    let by_channel : c.refill.new.sum ≡ turned (seen c.args.tables.now before.path.device) c.args.n c.args.gain before.book bytes sum = c.refill.ensures.sum bytes stood in
+    let of_device : c.refill.new.sum ≡ turned (seen c.args.tables.now c.args.device) c.args.n c.args.gain before.book bytes sum =
+    by_channel ∙ ap (λ (d : Device). turned (seen c.args.tables.now d) c.args.n c.args.gain before.book bytes sum) ((c.requires.due held).own) in
+    of_device ∙ ap (λ (n : PlayChannelOf _). turned (seen c.args.tables.now c.args.device) c.args.n c.args.gain n.book bytes sum) same
 
 pub returns-clause-fits : goal.returns-clause-fits
 returns-clause-fits g c = subst (λ (d : Device). All (FitsBits (bits_of d.mix.format)) c.refill.new.sum) ((c.requires.due c.index-channels-slot.result).own) c.refill.ensures.fits

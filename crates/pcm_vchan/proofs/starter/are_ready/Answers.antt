@@ -1,4 +1,4 @@
-use Rattle.std.proofs.Common.{ℕ, Bool, true, false, length, drop, ◌+◌, sym, ap, ◌∙◌, arith}
+use Rattle.std.proofs.Common.{ℕ, Bool, drop, ◌+◌, sym, ap, ◌∙◌, arith}
 use Rattle.std.specs.Prelude.{eqb, ◌&&◌, ◌||◌, not}
 use Rattle.std.proofs.lemmas.List.{length-map}
 use Rattle.pcm_group.specs.Groups.{all_in}

@@ -8,7 +8,7 @@ use Rattle.pcm_feeder.specs.Sections.{section_on, sections_on, past_behind}
 use Rattle.pcm_feeder.specs.Streams.{frames_of, interleaved}
 use Rattle.pcm_feeder.proofs.Frames.{interleaved-frames_of}
 use Rattle.feed_eq.specs.Equalisers.{tail_of}
-use Rattle.feed_eq.specs.Pairs.{IsPair, frames_in}
+use Rattle.feed_eq.specs.Pairs.{IsPair, pair_frames}
 use Rattle.feed_eq.proofs.Equalising.{goes-on, eaten-all, none-left, all-kept, at-any, pair-on, pair-frames, pair-samples, window}
 use Rattle.feed_eq.proofs.Turned.{frames-made}
 use Rattle.feed_eq.proofs.equaliser.Equaliser.pass.Goals as goal
@@ -66,9 +66,9 @@ returns-clause-kept c =
     let room : length sections < length lasts = omega (arith, c.loop-at.invariant.room, c.args.self.now.few, c.requires.count) in
     let all : length c.args.samples.now / n ≡ length samples / n = ap (λ k. k / n) (sym c.loop-at.auto.samples) in
     let eaten = eaten-all n (length c.args.samples.now / n) (get_or lasts (length sections) d) new samples (c.loop-at.invariant.pairs (length sections) d room) all c.eat-2.ensures.kept in
-    ap (λ k. frames_in (take (k + 1) (set lasts (length sections) new))) (sym c.requires.count)
+    ap (λ k. pair_frames (take (k + 1) (set lasts (length sections) new))) (sym c.requires.count)
     ∙ all-kept n sections lasts new d (frames_of n samples) room eaten
-    ∙ subst (λ at. frames_in (take at lasts) ++ past_behind n (drop at sections) (frames_in (window (length sections) at lasts)) (frames_of n samples) ≡ whole) end c.loop-at.invariant.kept
+    ∙ subst (λ at. pair_frames (take at lasts) ++ past_behind n (drop at sections) (pair_frames (window (length sections) at lasts)) (frames_of n samples) ≡ whole) end c.loop-at.invariant.kept
 
 pub returns-clause-samples : goal.returns-clause-samples
 returns-clause-samples c =
@@ -79,6 +79,6 @@ returns-clause-samples c =
     let whole = sections_on n sections (tail_of c.args.self.now) (frames_of n c.args.samples.now) in
     let end : c.loop-at.at ≡ length sections = omega (arith, c.loop-at-test.false, c.loop-at.auto.at-end) in
     let even : length samples % n ≡ 0 = ap (λ k. k % n) c.loop-at.auto.samples ∙ c.requires.whole_frames in
-    let left = subst (λ at. sections_on n (drop at sections) (frames_in (window (length sections) at lasts)) (frames_of n samples) ≡ whole) end c.loop-at.invariant.left in
+    let left = subst (λ at. sections_on n (drop at sections) (pair_frames (window (length sections) at lasts)) (frames_of n samples) ≡ whole) end c.loop-at.invariant.left in
     sym (interleaved-frames_of n samples even)
-    ∙ ap interleaved (sym (none-left n sections (frames_in (window (length sections) (length sections) lasts)) (frames_of n samples)) ∙ left)
+    ∙ ap interleaved (sym (none-left n sections (pair_frames (window (length sections) (length sections) lasts)) (frames_of n samples)) ∙ left)

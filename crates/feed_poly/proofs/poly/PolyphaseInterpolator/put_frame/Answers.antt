@@ -8,7 +8,7 @@ use Rattle.pcm_feeder.specs.Streams.{frames_of, stream_of}
 use Rattle.pcm_feeder.proofs.Frames.{length-frames_of}
 use Rattle.pcm_feeder.proofs.Mapped.{frames-there}
 use Rattle.feed_poly.specs.Rows.{row_frame}
-use Rattle.feed_poly.specs.Window.{frames_in}
+use Rattle.feed_poly.specs.Window.{window_frames}
 use Rattle.feed_poly.proofs.Outputs.{output-is, window-taps, table-there, table-has}
 use Rattle.feed_poly.proofs.Windows.{eaten-on}
 use Rattle.feed_poly.proofs.poly.PolyphaseInterpolator.put_frame.Goals as goal
@@ -22,7 +22,7 @@ returns-clause-frame c before was =
     let needed = c.args.point.needed in
     let point = c.args.point in
     let list = frames_of channels c.args.input.now in
-    let now = frames_in c.eat.new.self in
+    let now = window_frames c.eat.new.self in
     let filter = c.index-list-self.result in
     let row = c.of-row.result in
     let none : Table = record { src = 0; dst = 0; phases = 1; taps = 2; shift = 1; coefs = [] } in
@@ -32,7 +32,7 @@ returns-clause-frame c before was =
     let found : filter ≡ table_at tables poly.table = read ∙ ap (λ tables. get_or tables poly.table none) c.list.ensures.value in
     let is : IsTable filter = rw found (c.list.ensures.limits.each poly.table none (omega (arith, there))) in
     let has : filter.taps ≡ taps = rw found (table-has tables.list poly.table (λ table. table.taps ≡ taps) none c.requires.filter) in
-    let moved = eaten-on before (frames_in poly.window) now list poly.passed needed c.requires.order was c.eat.ensures.frames in
+    let moved = eaten-on before (window_frames poly.window) now list poly.passed needed c.requires.order was c.eat.ensures.frames in
     let above : 0 < channels = omega (arith, poly.window.limits.least) in
     let within : needed ≤ length list = omega (arith, length-frames_of channels c.args.input.now, frames-there channels (length c.args.input.now) needed above c.requires.there) in
     c.put_frame.ensures
@@ -44,4 +44,4 @@ returns-clause-frame c before was =
 pub returns-clause-tail : goal.returns-clause-tail
 returns-clause-tail c before was =
     let poly = c.args.self.now in
-    eaten-on before (frames_in poly.window) (frames_in c.eat.new.self) (frames_of poly.window.channels c.args.input.now) poly.passed c.args.point.needed c.requires.order was c.eat.ensures.frames
+    eaten-on before (window_frames poly.window) (window_frames c.eat.new.self) (frames_of poly.window.channels c.args.input.now) poly.passed c.args.point.needed c.requires.order was c.eat.ensures.frames

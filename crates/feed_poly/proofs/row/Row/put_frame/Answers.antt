@@ -4,13 +4,13 @@ use Rattle.std.proofs.lemmas.List.{take_more_set}
 use Rattle.std.proofs.lemmas.List.FromFn.{map-range_with_len_more}
 use Rattle.pcm_feeder.specs.Sums.{scaled_down}
 use Rattle.feed_poly.specs.Rows.{weighted, channel_in, row_frame}
-use Rattle.feed_poly.specs.Window.{frames_in}
+use Rattle.feed_poly.specs.Window.{window_frames}
 use Rattle.feed_poly.proofs.row.Row.put_frame.Goals as goal
 
 pub loop-channel-preserved : goal.loop-channel-preserved
 loop-channel-preserved c =
     let row = c.args.self in
-    let frames = frames_in c.args.window.now in
+    let frames = window_frames c.args.window.now in
     let channel = c.loop-channel.channel in
     let f : ℕ → ℤ = λ n. scaled_down row.shift (weighted row.coefs.now (channel_in n frames)) in
     let fits : FitsSigned w32 c.sample.result = search rules in

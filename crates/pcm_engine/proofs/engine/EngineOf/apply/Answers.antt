@@ -2,7 +2,7 @@ use Rattle.std.proofs.Common.{rules, All, ℕ, ◌+◌, ◌*◌, List, [], get_o
 use Rattle.pcm_fixed.specs.declared.fixed.Fixed.{Fixed}
 use Rattle.pcm_fixed.specs.Fixed.{fixed_items}
 use Rattle.pcm_oss.specs.declared.event.Event.{Event}
-use Rattle.pcm_oss.specs.declared.event.Event.TheVariants.{Open, Write, Poke, Read, Ioctl, Join, StartGroup, Close, Intr}
+use Rattle.pcm_oss.specs.declared.event.Event.TheVariants.{Open, Write, Poke, Read, Ioctl, Join, StartGroup, Close, Mixer, Intr}
 use Rattle.pcm_format.specs.Layouts.{channels_of}
 use Rattle.pcm_oss.specs.declared.fragments.TheConstants.{RING_BYTES}
 use Rattle.pcm_desk.specs.declared.device.Device.{Device}
@@ -22,11 +22,12 @@ use Rattle.pcm_record.specs.Channels.{RecordMoves}
 use Rattle.pcm_record.proofs.Moving as recorders
 use Rattle.pcm_vchan.specs.Slots.{Each, MapAreOf, MapKeeps, PlayAreOf, RecordAreOf}
 use Rattle.pcm_vchan.specs.Starts.{EachAt}
-use Rattle.pcm_engine.specs.Desks.{poked_by}
+use Rattle.pcm_engine.specs.Desks.{desk_with, poked_by}
+use Rattle.pcm_vchan.specs.declared.parent.ParentOf.{ParentOf}
 use Rattle.pcm_engine.specs.Engines.{device_of, desk_of}
 use Rattle.pcm_engine.specs.Steps.{BusMoves, ChannelsMove, MapsMove, RecordersMove, bytes_answered}
 use Rattle.pcm_vchan.proofs.Channels.{map_books_of-passed, play_books_of-passed, record_books_of-captured}
-use Rattle.pcm_vchan.specs.Parents.{map_channels, play_channels, record_channels, untouched}
+use Rattle.pcm_vchan.specs.Parents.{HasBus, map_channels, play_channels, record_channels, untouched}
 use Rattle.pcm_engine.proofs.Desks.{count-stays, count-within, desk_with-mixed}
 use Rattle.pcm_vchan.proofs.Channels.{map-keeps-nothing}
 use Rattle.pcm_engine.proofs.Buses.{bus-same, bus-stays, mixes-few}
@@ -233,7 +234,7 @@ invariant_of-self-in-Intr g c =
     let books = play_books_of-passed (device_of old) old.parent.handed c.in-Intr.frames (play_channels old.parent) (play_channels new) same c.interrupt.ensures.books in
     let recorded = record_books_of-captured (device_of old) c.in-Intr.frames (record_channels old.parent) (record_channels new) c.interrupt.ensures.recorders_slots (λ slot other there. (c.interrupt.ensures.recorders slot other there).book) in
     let taken = map_books_of-passed (device_of old) old.parent.handed c.in-Intr.frames (map_channels old.parent) (map_channels new) c.interrupt.ensures.maps_slots (λ slot other there. (c.interrupt.ensures.maps slot other there).book) in
-    let desk = desk_with-mixed (device_of old) old.parent new old.descriptors c.in-Intr.frames books recorded taken c.interrupt.ensures.handed c.interrupt.ensures.mixed in
+    let desk = desk_with-mixed (device_of old) old.parent new old.descriptors c.in-Intr.frames books recorded taken c.interrupt.ensures.mixer c.interrupt.ensures.handed c.interrupt.ensures.mixed in
     let brought = length-captured old.parent.device.settings.layout c.args.pool.now old.parent.handed c.in-Intr.frames c.requires.captures in
     record {
       apart = subst HoldApart (sym desk) (apart-after (device_of old) (desk_of old) (Intr c.in-Intr.frames) old.apart);
@@ -263,7 +264,7 @@ returns-in-Intr-clause-desk g c =
     let books = play_books_of-passed (device_of old) old.parent.handed n (play_channels old.parent) (play_channels new) c.interrupt.ensures.slots c.interrupt.ensures.books in
     let recorded = record_books_of-captured (device_of old) n (record_channels old.parent) (record_channels new) c.interrupt.ensures.recorders_slots (λ slot other there. (c.interrupt.ensures.recorders slot other there).book) in
     let taken = map_books_of-passed (device_of old) old.parent.handed n (map_channels old.parent) (map_channels new) c.interrupt.ensures.maps_slots (λ slot other there. (c.interrupt.ensures.maps slot other there).book) in
-    desk_with-mixed (device_of old) old.parent new old.descriptors n books recorded taken c.interrupt.ensures.handed c.interrupt.ensures.mixed
+    desk_with-mixed (device_of old) old.parent new old.descriptors n books recorded taken c.interrupt.ensures.mixer c.interrupt.ensures.handed c.interrupt.ensures.mixed
     ∙ sym (ap (λ (event : Event). (after (device_of old) (desk_of old) event).desk) c.in-Intr.is)
 
 pub returns-in-Write-clause-desk : goal.returns-in-Write-clause-desk
@@ -447,7 +448,7 @@ pub returns-in-Open-clause-turns : goal.returns-in-Open-clause-turns
 returns-in-Open-clause-turns g c =
     let old = c.args.self.now in
     let new = c.open.new.parent in
-    subst (λ (event : Event). BusMoves g.B.Feeder.kept (device_of old) old.parent.handed event (play_channels old.parent) (map_channels old.parent) old.parent.bus.chain new.bus.chain old.parent.ring.bytes new.ring.bytes) (sym c.in-Open.is)
+    subst (λ (event : Event). BusMoves g.B.Feeder.kept (device_of old) old.parent.handed old.parent.mixer event (play_channels old.parent) (map_channels old.parent) old.parent.bus.chain new.bus.chain old.parent.ring.bytes new.ring.bytes) (sym c.in-Open.is)
     (bus-same old.parent new c.open.ensures.output)
 
 pub returns-in-Write-clause-bus : goal.returns-in-Write-clause-bus
@@ -459,7 +460,7 @@ pub returns-in-Write-clause-turns : goal.returns-in-Write-clause-turns
 returns-in-Write-clause-turns g c =
     let old = c.args.self.now in
     let new = c.write.new.parent in
-    subst (λ (event : Event). BusMoves g.B.Feeder.kept (device_of old) old.parent.handed event (play_channels old.parent) (map_channels old.parent) old.parent.bus.chain new.bus.chain old.parent.ring.bytes new.ring.bytes) (sym c.in-Write.is)
+    subst (λ (event : Event). BusMoves g.B.Feeder.kept (device_of old) old.parent.handed old.parent.mixer event (play_channels old.parent) (map_channels old.parent) old.parent.bus.chain new.bus.chain old.parent.ring.bytes new.ring.bytes) (sym c.in-Write.is)
     (bus-same old.parent new c.write.ensures.output)
 
 pub returns-in-Read-clause-bus : goal.returns-in-Read-clause-bus
@@ -471,7 +472,7 @@ pub returns-in-Read-clause-turns : goal.returns-in-Read-clause-turns
 returns-in-Read-clause-turns g c =
     let old = c.args.self.now in
     let new = c.answer_read.new.parent in
-    subst (λ (event : Event). BusMoves g.B.Feeder.kept (device_of old) old.parent.handed event (play_channels old.parent) (map_channels old.parent) old.parent.bus.chain new.bus.chain old.parent.ring.bytes new.ring.bytes) (sym c.in-Read.is)
+    subst (λ (event : Event). BusMoves g.B.Feeder.kept (device_of old) old.parent.handed old.parent.mixer event (play_channels old.parent) (map_channels old.parent) old.parent.bus.chain new.bus.chain old.parent.ring.bytes new.ring.bytes) (sym c.in-Read.is)
     (bus-same old.parent new c.answer_read.ensures.output)
 
 pub returns-in-Ioctl-clause-bus : goal.returns-in-Ioctl-clause-bus
@@ -493,21 +494,21 @@ pub returns-in-Ioctl-clause-turns : goal.returns-in-Ioctl-clause-turns
 returns-in-Ioctl-clause-turns g c =
     let old = c.args.self.now in
     let new = c.ioctl.new.parent in
-    subst (λ (event : Event). BusMoves g.B.Feeder.kept (device_of old) old.parent.handed event (play_channels old.parent) (map_channels old.parent) old.parent.bus.chain new.bus.chain old.parent.ring.bytes new.ring.bytes) (sym c.in-Ioctl.is)
+    subst (λ (event : Event). BusMoves g.B.Feeder.kept (device_of old) old.parent.handed old.parent.mixer event (play_channels old.parent) (map_channels old.parent) old.parent.bus.chain new.bus.chain old.parent.ring.bytes new.ring.bytes) (sym c.in-Ioctl.is)
     (bus-same old.parent new c.ioctl.ensures.output)
 
 pub returns-in-Join-clause-turns : goal.returns-in-Join-clause-turns
 returns-in-Join-clause-turns g c =
     let old = c.args.self.now in
     let new = c.join.new.parent in
-    subst (λ (event : Event). BusMoves g.B.Feeder.kept (device_of old) old.parent.handed event (play_channels old.parent) (map_channels old.parent) old.parent.bus.chain new.bus.chain old.parent.ring.bytes new.ring.bytes) (sym c.in-Join.is)
+    subst (λ (event : Event). BusMoves g.B.Feeder.kept (device_of old) old.parent.handed old.parent.mixer event (play_channels old.parent) (map_channels old.parent) old.parent.bus.chain new.bus.chain old.parent.ring.bytes new.ring.bytes) (sym c.in-Join.is)
     (bus-same old.parent new c.join.ensures.output)
 
 pub returns-in-StartGroup-clause-turns : goal.returns-in-StartGroup-clause-turns
 returns-in-StartGroup-clause-turns g c =
     let old = c.args.self.now in
     let new = c.start_group.new.parent in
-    subst (λ (event : Event). BusMoves g.B.Feeder.kept (device_of old) old.parent.handed event (play_channels old.parent) (map_channels old.parent) old.parent.bus.chain new.bus.chain old.parent.ring.bytes new.ring.bytes) (sym c.in-StartGroup.is)
+    subst (λ (event : Event). BusMoves g.B.Feeder.kept (device_of old) old.parent.handed old.parent.mixer event (play_channels old.parent) (map_channels old.parent) old.parent.bus.chain new.bus.chain old.parent.ring.bytes new.ring.bytes) (sym c.in-StartGroup.is)
     (bus-same old.parent new c.start_group.ensures.output)
 
 pub returns-in-Close-clause-bus : goal.returns-in-Close-clause-bus
@@ -519,14 +520,14 @@ pub returns-in-Close-clause-turns : goal.returns-in-Close-clause-turns
 returns-in-Close-clause-turns g c =
     let old = c.args.self.now in
     let new = c.close.new.parent in
-    subst (λ (event : Event). BusMoves g.B.Feeder.kept (device_of old) old.parent.handed event (play_channels old.parent) (map_channels old.parent) old.parent.bus.chain new.bus.chain old.parent.ring.bytes new.ring.bytes) (sym c.in-Close.is)
+    subst (λ (event : Event). BusMoves g.B.Feeder.kept (device_of old) old.parent.handed old.parent.mixer event (play_channels old.parent) (map_channels old.parent) old.parent.bus.chain new.bus.chain old.parent.ring.bytes new.ring.bytes) (sym c.in-Close.is)
     (bus-same old.parent new c.close.ensures.output)
 
 pub returns-in-Intr-clause-turns : goal.returns-in-Intr-clause-turns
 returns-in-Intr-clause-turns g c =
     let old = c.args.self.now in
     let new = c.interrupt.new.parent in
-    subst (λ (event : Event). BusMoves g.B.Feeder.kept (device_of old) old.parent.handed event (play_channels old.parent) (map_channels old.parent) old.parent.bus.chain new.bus.chain old.parent.ring.bytes new.ring.bytes) (sym c.in-Intr.is)
+    subst (λ (event : Event). BusMoves g.B.Feeder.kept (device_of old) old.parent.handed old.parent.mixer event (play_channels old.parent) (map_channels old.parent) old.parent.bus.chain new.bus.chain old.parent.ring.bytes new.ring.bytes) (sym c.in-Intr.is)
     c.interrupt.ensures.turns
 
 pub interrupt-requires-clause-mixed : goal.interrupt-requires-clause-mixed
@@ -670,5 +671,83 @@ pub returns-in-Poke-clause-turns : goal.returns-in-Poke-clause-turns
 returns-in-Poke-clause-turns g c =
     let old = c.args.self.now in
     let new = c.poke.new.parent in
-    subst (λ (event : Event). BusMoves g.B.Feeder.kept (device_of old) old.parent.handed event (play_channels old.parent) (map_channels old.parent) old.parent.bus.chain new.bus.chain old.parent.ring.bytes new.ring.bytes) (sym c.in-Poke.is)
+    subst (λ (event : Event). BusMoves g.B.Feeder.kept (device_of old) old.parent.handed old.parent.mixer event (play_channels old.parent) (map_channels old.parent) old.parent.bus.chain new.bus.chain old.parent.ring.bytes new.ring.bytes) (sym c.in-Poke.is)
     (bus-same old.parent new c.poke.ensures.output)
+
+-- what the mixer device is asked leaves all else of the parent
+
+pub invariant_of-self-in-Mixer : goal.invariant_of-self-in-Mixer
+invariant_of-self-in-Mixer g c =
+    let old = c.args.self.now in
+    let new = c.ask_mixer.new.parent in
+    let is = c.ask_mixer.ensures.parent in
+    record {
+      apart = subst (λ (p : ParentOf _). HoldApart (desk_with p old.descriptors)) (sym is) (apart-after (device_of old) (desk_of old) (Mixer c.in-Mixer.request) old.apart);
+      own = subst (λ (p : ParentOf _). PlayAreOf p.device (play_channels p)) (sym is) old.own;
+      counted = count-stays (λ (c : PlayChannelOf _). c.book.done + c.book.written) RING_BYTES old.steps (play_channels old.parent) (play_channels new) (ap play_channels is) old.counted;
+      given = count-stays (λ (c : PlayChannelOf _). c.book.given) MIX_FRAMES old.steps (play_channels old.parent) (play_channels new) (ap play_channels is) old.given;
+      recorders_own = subst (λ (p : ParentOf _). RecordAreOf p.device (record_channels p)) (sym is) old.recorders_own;
+      maps_own = subst (λ (p : ParentOf _). MapAreOf p.device (map_channels p)) (sym is) old.maps_own;
+      maps_given = count-stays (λ (c : MapChannelOf _). c.book.given) MIX_FRAMES old.steps (map_channels old.parent) (map_channels new) (ap map_channels is) old.maps_given;
+      kept = count-stays (λ (c : RecordChannelOf _). c.book.kept) RING_BYTES old.steps (record_channels old.parent) (record_channels new) (ap record_channels is) old.kept;
+      captured_within = count-stays (λ (c : RecordChannelOf _). c.book.captured) RING_FRAMES old.steps (record_channels old.parent) (record_channels new) (ap record_channels is) old.captured_within;
+      captured_size = old.captured_size ∙ ap (λ (p : ParentOf _). p.device.ring_frames * channels_of p.device.settings.layout) (sym is);
+      mixed_within = (let same = ap (λ (p : ParentOf _). p.mixed) is in omega (arith, same, old.mixed_within));
+      handed_within = (let same = ap (λ (p : ParentOf _). p.handed) is in omega (arith, same, old.handed_within));
+    }
+
+pub returns-in-Mixer-clause-device : goal.returns-in-Mixer-clause-device
+returns-in-Mixer-clause-device g c = ap (λ (p : ParentOf _). p.device) c.ask_mixer.ensures.parent
+
+pub returns-in-Mixer-clause-slots : goal.returns-in-Mixer-clause-slots
+returns-in-Mixer-clause-slots g c = ap (λ (p : ParentOf _). length (play_channels p)) c.ask_mixer.ensures.parent
+
+pub returns-in-Mixer-clause-recorders_slots : goal.returns-in-Mixer-clause-recorders_slots
+returns-in-Mixer-clause-recorders_slots g c = ap (λ (p : ParentOf _). length (record_channels p)) c.ask_mixer.ensures.parent
+
+pub returns-in-Mixer-clause-maps_slots : goal.returns-in-Mixer-clause-maps_slots
+returns-in-Mixer-clause-maps_slots g c = ap (λ (p : ParentOf _). length (map_channels p)) c.ask_mixer.ensures.parent
+
+pub returns-in-Mixer-clause-desk : goal.returns-in-Mixer-clause-desk
+returns-in-Mixer-clause-desk g c =
+    let old = c.args.self.now in
+    ap (λ (p : ParentOf _). desk_with p old.descriptors) c.ask_mixer.ensures.parent ∙ sym (ap (λ (event : Event). (after (device_of old) (desk_of old) event).desk) c.in-Mixer.is)
+
+pub returns-in-Mixer-clause-reply : goal.returns-in-Mixer-clause-reply
+returns-in-Mixer-clause-reply g c =
+    let old = c.args.self.now in
+    ap (λ (r : Reply). r.result) c.tell-in-Mixer.ensures.kept ∙ c.ask_mixer.ensures.reply ∙ sym (ap (λ (event : Event). (after (device_of old) (desk_of old) event).reply) c.in-Mixer.is)
+
+pub returns-in-Mixer-clause-channels : goal.returns-in-Mixer-clause-channels
+returns-in-Mixer-clause-channels g c =
+    let old = c.args.self.now in
+    subst (λ (event : Event). ChannelsMove g.B.Feeder.kind g.B.Feeder.kept (device_of old) c.args.pool.now old.parent.handed event (play_channels old.parent) (play_channels c.ask_mixer.new.parent)) (sym c.in-Mixer.is)
+    (subst (λ (p : ParentOf _). Each (PlayMoves g.B.Feeder.kind g.B.Feeder.kept old.tables [] 0) (play_channels old.parent) (play_channels p)) (sym c.ask_mixer.ensures.parent)
+    (λ slot other there. moves-nothing g.B.Feeder.kind g.B.Feeder.kept old.tables [] 0 (get_or (play_channels old.parent) slot other)))
+
+pub returns-in-Mixer-clause-recorders : goal.returns-in-Mixer-clause-recorders
+returns-in-Mixer-clause-recorders g c =
+    let old = c.args.self.now in
+    subst (λ (event : Event). RecordersMove g.B.Feeder.kind g.B.Feeder.kept (device_of old) c.args.pool.now old.parent.handed event (record_channels old.parent) (record_channels c.ask_mixer.new.parent)) (sym c.in-Mixer.is)
+    (subst (λ (p : ParentOf _). Each (RecordMoves g.B.Feeder.kind g.B.Feeder.kept old.tables [] 0) (record_channels old.parent) (record_channels p)) (sym c.ask_mixer.ensures.parent)
+    (λ slot other there. recorders.moves-nothing g.B.Feeder.kind g.B.Feeder.kept old.tables [] 0 (get_or (record_channels old.parent) slot other)))
+
+pub returns-in-Mixer-clause-maps : goal.returns-in-Mixer-clause-maps
+returns-in-Mixer-clause-maps g c =
+    let old = c.args.self.now in
+    subst (λ (event : Event). MapsMove g.B.Feeder.kind g.B.Feeder.kept old.tables old.parent.device c.args.pool.now (desk_of old) event (map_channels old.parent) (map_channels c.ask_mixer.new.parent)) (sym c.in-Mixer.is)
+    (subst (λ (p : ParentOf _). EachAt (λ slot. MapKeeps g.B.Feeder.kind g.B.Feeder.kept old.tables (untouched slot)) (map_channels old.parent) (map_channels p)) (sym c.ask_mixer.ensures.parent)
+    (λ slot other there. map-keeps-nothing g.B.Feeder.kind g.B.Feeder.kept old.tables (get_or (map_channels old.parent) slot other)))
+
+pub returns-in-Mixer-clause-bus : goal.returns-in-Mixer-clause-bus
+returns-in-Mixer-clause-bus g c =
+    let old = c.args.self.now in
+    let has = c.requires.ready.bus in
+    subst (HasBus g.B.Feeder.kept (device_of old)) (sym c.ask_mixer.ensures.parent) (record { planned = has.planned; made = has.made; level = has.level })
+
+pub returns-in-Mixer-clause-turns : goal.returns-in-Mixer-clause-turns
+returns-in-Mixer-clause-turns g c =
+    let old = c.args.self.now in
+    let is = c.ask_mixer.ensures.parent in
+    subst (λ (event : Event). BusMoves g.B.Feeder.kept (device_of old) old.parent.handed old.parent.mixer event (play_channels old.parent) (map_channels old.parent) old.parent.bus.chain c.ask_mixer.new.parent.bus.chain old.parent.ring.bytes c.ask_mixer.new.parent.ring.bytes) (sym c.in-Mixer.is)
+    (ap (λ (p : ParentOf _). p.bus.chain) is, ap (λ (p : ParentOf _). p.ring.bytes) is)

@@ -77,6 +77,7 @@ returns-clause-stands g c = λ pool.
         maps = e.mapped;
         shut = c.all_shut.ensures.held;
         groups = c.all_shut.ensures.groups;
+        mixer = e.mixer;
         made = e.made;
         ring = e.ring;
         handed = e.handed;

@@ -1,9 +1,11 @@
-use Rattle.std.proofs.Common.{refl, ℕ, ◌*◌, ◌∙◌, All, [], drop, length, sym, ap, subst, arith, length-drop, length-take}
+use Rattle.std.proofs.Common.{refl, ℕ, ◌*◌, ◌%◌, ◌≤◌, ◌∙◌, All, [], take, drop, length, sym, ap, subst, arith, length-drop, length-take}
 use Rattle.std.proofs.Math.Nat.{mul-le-mul_right}
 use Rattle.std.proofs.lemmas.List.Elements.{All-append, All-drop}
 use Rattle.pcm_num.specs.Limit.{FitsBits}
 use Rattle.pcm_format.specs.Formats.{bits_of, bytes_of}
 use Rattle.pcm_format.specs.Layouts.{channels_of}
+use Rattle.pcm_mix.specs.Mix.{mixed}
+use Rattle.pcm_feeder.proofs.Driven.{whole-front}
 use Rattle.pcm_ring.specs.Ring.{Ring}
 use Rattle.pcm_path.proofs.Paths.{serves-as}
 use Rattle.pcm_plan.specs.Plans.{PlanSeen, rate_in_plan}
@@ -21,7 +23,7 @@ pub returns-then-not-is_started-clause-moves : goal.returns-then-not-is_started-
 returns-then-not-is_started-clause-moves g c = moves-nothing g.B.Feeder.kind g.B.Feeder.kept c.args.tables.now [] c.args.n c.args.self.now
 
 pub returns-then-not-is_started-clause-sum : goal.returns-then-not-is_started-clause-sum
-returns-then-not-is_started-clause-sum g c = λ bytes s. turned-none (seen c.args.tables.now c.args.self.now.path.device) c.args.n c.args.self.now.book bytes c.args.sum.now (sym c.if-not-is_started.ensures)
+returns-then-not-is_started-clause-sum g c = λ bytes s. turned-none (seen c.args.tables.now c.args.self.now.path.device) c.args.n c.args.slot_gain c.args.self.now.book bytes c.args.sum.now (sym c.if-not-is_started.ensures)
 
 pub pull-pulled-requires-clause-fitted : goal.pull-pulled-requires-clause-fitted
 pull-pulled-requires-clause-fitted g c =
@@ -42,11 +44,19 @@ slice_bounds-mix_into-end-2 g c =
     let wide = ap (λ (k : ℕ). c.args.n * k) c.channels.ensures in
     omega (arith, more, wide, c.requires.block.sum_whole, length-take (c.pull-pulled.result.given * c.channels.result) c.args.sum.now)
 
-pub slice_bounds-mix_into-end-4 : goal.slice_bounds-mix_into-end-4
-slice_bounds-mix_into-end-4 g c =
+pub slice_bounds-given-end-2 : goal.slice_bounds-given-end-2
+slice_bounds-given-end-2 g c =
     let more = mul-le-mul_right c.channels.result c.pull-pulled.ensures.most in
     let wide = ap (λ (k : ℕ). c.args.n * k) c.channels.ensures in
     omega (arith, more, wide, c.requires.block.frames_whole, c.pull-pulled.auto.out, length-take (c.pull-pulled.result.given * c.channels.result) c.pull-pulled.new.out)
+
+pub apply_gain-requires-clause-whole : goal.apply_gain-requires-clause-whole
+apply_gain-requires-clause-whole g c =
+    let layout = c.args.self.now.path.device.mix.layout in
+    let given = c.pull-pulled.result.given in
+    let room : c.args.n * channels_of layout ≤ length c.pull-pulled.new.out = omega (arith, c.requires.block.frames_whole, c.pull-pulled.auto.out) in
+    ap (λ k. length (take (given * k) c.pull-pulled.new.out) % channels_of layout) c.channels.ensures
+    ∙ whole-front given c.args.n (channels_of layout) c.pull-pulled.new.out c.pull-pulled.ensures.most room
 
 pub invariant_of-self : goal.invariant_of-self
 invariant_of-self g c =
@@ -92,8 +102,8 @@ returns-clause-sum g c = λ bytes s.
     let old = c.args.self.now in
     let p = pulls-run g.B.Feeder.kept c.args.tables.now old c.pull-pulled.new.self _ c.is_draining-ended.result c.args.n c.pull-pulled.result c.args.frames.now c.pull-pulled.new.out bytes
     (sym c.if-not-is_started.ensures) c.requires.ready.planned c.is_draining-ended.ensures c.pull-pulled.ensures.pulls s in
-    turned-pulled g.B.Feeder.kept (seen c.args.tables.now old.path.device) c.gain_of-gain.result c.args.n old.book bytes c.pull-pulled.new.self c.pull-pulled.result c.args.frames.now c.pull-pulled.new.out c.args.sum.now c.mix_into.new.acc c.channels.result c.bits.result
-    (device-is c.args.tables.now old c.requires.ready.planned) old.serves.rate c.gain_of-gain.ensures.value p c.channels.ensures c.bits.ensures c.mix_into.ensures.value
+    turned-pulled g.B.Feeder.kept (seen c.args.tables.now old.path.device) c.gain_of-gain.result c.args.slot_gain c.args.n old.book bytes c.pull-pulled.new.self c.pull-pulled.result c.args.frames.now c.pull-pulled.new.out c.args.sum.now c.mix_into.new.acc c.channels.result c.bits.result
+    (device-is c.args.tables.now old c.requires.ready.planned) old.serves.rate c.gain_of-gain.ensures.value p c.channels.ensures c.bits.ensures (c.mix_into.ensures.value ∙ ap (mixed c.bits.result (take (c.pull-pulled.result.given * c.channels.result) c.args.sum.now)) c.apply_gain.ensures)
 
 pub returns-clause-fits : goal.returns-clause-fits
 returns-clause-fits g c =

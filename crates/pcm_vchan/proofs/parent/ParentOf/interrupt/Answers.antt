@@ -170,9 +170,9 @@ returns-clause-turns g c =
     let kept = g.B.Feeder.kept in
     let new = c.turn-mixed.new in
     rw (c.pass.ensures.bus, c.pass.ensures.ring)
-    (subst (λ (channels : List (PlayChannelOf _)). TurnsBus kept (seen c.args.tables.now old.device) old.handed c.args.n channels (map_channels old) old.bus.chain new.self.chain old.ring.bytes new.ring.bytes) c.deref_mut.ensures.value
-    (subst (λ (maps : List (MapChannelOf _)). TurnsBus kept (seen c.args.tables.now old.device) old.handed c.args.n c.deref_mut.result.now maps old.bus.chain new.self.chain old.ring.bytes new.ring.bytes) c.deref_mut-2.ensures.value
-    (subst (λ (device : Device). TurnsBus kept (seen c.args.tables.now device) old.handed c.args.n c.deref_mut.result.now c.deref_mut-2.result.now old.bus.chain new.self.chain old.ring.bytes new.ring.bytes) old.bus_of c.turn-mixed.ensures.turns)))
+    (subst (λ (channels : List (PlayChannelOf _)). TurnsBus kept (seen c.args.tables.now old.device) old.handed c.args.n old.mixer channels (map_channels old) old.bus.chain new.self.chain old.ring.bytes new.ring.bytes) c.deref_mut.ensures.value
+    (subst (λ (maps : List (MapChannelOf _)). TurnsBus kept (seen c.args.tables.now old.device) old.handed c.args.n old.mixer c.deref_mut.result.now maps old.bus.chain new.self.chain old.ring.bytes new.ring.bytes) c.deref_mut-2.ensures.value
+    (subst (λ (device : Device). TurnsBus kept (seen c.args.tables.now device) old.handed c.args.n old.mixer c.deref_mut.result.now c.deref_mut-2.result.now old.bus.chain new.self.chain old.ring.bytes new.ring.bytes) old.bus_of c.turn-mixed.ensures.turns)))
 
 pub returns-clause-bus : goal.returns-clause-bus
 returns-clause-bus g c =
@@ -192,3 +192,6 @@ returns-clause-bus g c =
       made = rw (c.pass.ensures.bus, handed) made;
       level = rw handed (omega (arith, mixed, count, behind, level));
     }
+
+pub invariant_of-self-clause-rates : goal.invariant_of-self-clause-rates
+invariant_of-self-clause-rates g c = c.args.self.now.rates

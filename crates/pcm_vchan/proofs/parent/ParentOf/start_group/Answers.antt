@@ -31,6 +31,7 @@ returns-clause-output g c =
     let last = c.start_recorders.ensures.output in
     record {
       device_same = last.device_same ∙ first.device_same;
+      mixer_same = last.mixer_same ∙ first.mixer_same;
       bus_same = last.bus_same ∙ first.bus_same;
       ring_same = last.ring_same ∙ first.ring_same;
       handed_same = last.handed_same ∙ first.handed_same;

@@ -24,6 +24,7 @@ returns-clause-started g c =
 pub returns-clause-output : goal.returns-clause-output
 returns-clause-output g c = record {
   device_same = refl;
+  mixer_same = refl;
   bus_same = refl;
   ring_same = refl;
   handed_same = refl;

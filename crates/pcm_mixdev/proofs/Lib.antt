@@ -1,0 +1,3 @@
+pub mod Fading
+pub mod FadedFrames
+pub mod FadedBits

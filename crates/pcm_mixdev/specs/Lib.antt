@@ -1,0 +1,2 @@
+pub mod Fades
+pub mod Mixers
