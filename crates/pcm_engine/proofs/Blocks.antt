@@ -45,7 +45,7 @@ use Rattle.pcm_sound.proofs.Numbers.{by-number}
 use Rattle.pcm_sound.proofs.Slots.{playing-own}
 use Rattle.pcm_sound.proofs.Sounding.{sounding-marking}
 use Rattle.pcm_sound.proofs.Turns.{turn}
-use Rattle.pcm_vchan.specs.Blocks.{block_of, map_gains, mapped_onto, mixed_onto, silent_samples}
+use Rattle.pcm_bus.specs.Blocks.{block_of, map_gains, mapped_onto, mixed_onto, silent_samples}
 use Rattle.pcm_engine.specs.Stands.{bytes_counted, map_bytes_counted}
 use Rattle.pcm_engine.proofs.Counted.{counted-newest, counted-taken}
 

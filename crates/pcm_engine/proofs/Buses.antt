@@ -6,10 +6,10 @@ use Rattle.pcm_desk.specs.declared.device.Device.{Device}
 use Rattle.pcm_desk.specs.declared.limits.TheConstants.{MIX_FRAMES}
 use Rattle.pcm_desk.specs.Device.{DeviceSeen, IsDevice, mix_frames, mixed_for, seen, unfiltered}
 use Rattle.pcm_desk.proofs.Ratios.{mix-within}
-use Rattle.pcm_vchan.specs.declared.bus.BusOf.{BusOf}
+use Rattle.pcm_bus.specs.declared.bus.BusOf.{BusOf}
 use Rattle.pcm_vchan.specs.declared.parent.ParentOf.{ParentOf}
-use Rattle.pcm_vchan.specs.Buses.{HasMadeSome}
-use Rattle.pcm_vchan.specs.Handovers.{IsPlannedBy}
+use Rattle.pcm_bus.specs.Buses.{HasMadeSome}
+use Rattle.pcm_bus.specs.Handovers.{IsPlannedBy}
 use Rattle.pcm_vchan.specs.Parents.{HasBus, KeepsOutput, mixed_in}
 
 -- an interrupt mixes no more frames than its limit

@@ -32,8 +32,9 @@ use Rattle.pcm_record.proofs.Moving as recorders
 use Rattle.pcm_map.specs.declared.channel.MapChannelOf.{MapChannelOf}
 use Rattle.pcm_map.specs.Channels.{IsMapReady}
 use Rattle.pcm_map.proofs.Books.{planned-safe}
-use Rattle.pcm_vchan.specs.Slots.{MapAreOf, PlayAreOf, RecordAreOf, map_books_of, play_books_of, record_books_of}
-use Rattle.pcm_vchan.proofs.Channels.{some_channel}
+use Rattle.pcm_bus.specs.Slots.{MapAreOf, PlayAreOf, map_books_of, play_books_of}
+use Rattle.pcm_vchan.specs.Slots.{RecordAreOf, record_books_of}
+use Rattle.pcm_bus.proofs.Channels.{some_channel}
 use Rattle.pcm_vchan.specs.Parents.{AreClosable, AreServed, HasBus, here_of, map_channels, play_channels, record_channels}
 use Rattle.pcm_engine.specs.declared.engine.EngineOf.{EngineOf}
 use Rattle.pcm_engine.specs.declared.limits.TheConstants.{STEPS}

@@ -36,7 +36,8 @@ use Rattle.pcm_sound.proofs.MapSlots.{Keeps, map_playing-idle, map_playing-on, n
 use Rattle.pcm_sound.proofs.MapStories.{keeps-maps, map_marking-same, map_mixing-runs}
 use Rattle.pcm_map.specs.declared.channel.MapChannelOf.{MapChannelOf}
 use Rattle.pcm_map.specs.Channels.{IsMapReady, MapMoves, MapStands, RecutsArea, area_of}
-use Rattle.pcm_vchan.specs.Slots.{AllMapStand, MapKeeps, MapPlays, map_books_of}
+use Rattle.pcm_bus.specs.Slots.{AllMapStand, MapPlays, map_books_of}
+use Rattle.pcm_vchan.specs.Slots.{MapKeeps}
 use Rattle.pcm_vchan.specs.Starts.{EachAt}
 use Rattle.pcm_vchan.specs.Parents.{untouched}
 use Rattle.pcm_vchan.proofs.Channels.{map-keeps-nothing, map-ready-moved}

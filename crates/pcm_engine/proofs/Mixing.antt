@@ -22,8 +22,8 @@ use Rattle.pcm_sound.specs.Story.{Story, told}
 use Rattle.pcm_sound.specs.DeviceList.{device_bytes, mix_at, mixed_frames, table_of}
 use Rattle.pcm_sound.specs.Valid.{StoryIsValid}
 use Rattle.pcm_sound.proofs.DeviceLists.{device_bytes-interrupt, length-device_bytes, mix_at-frame, mixed_frames-more, mixed_frames-told, new_block}
-use Rattle.pcm_vchan.specs.Blocks.{block_bytes, turned_ring}
-use Rattle.pcm_vchan.specs.Handovers.{raised_frames}
+use Rattle.pcm_bus.specs.Blocks.{block_bytes, turned_ring}
+use Rattle.pcm_bus.specs.Handovers.{raised_frames}
 use Rattle.pcm_engine.specs.Stands.{story_frames}
 use Rattle.pcm_engine.proofs.Blocks.{block-mixed, story_block, told-frames}
 

@@ -40,7 +40,8 @@ use Rattle.pcm_sound.proofs.Recorded.{idle-unstarted, recordings-told}
 use Rattle.pcm_record.specs.declared.channel.RecordChannelOf.{RecordChannelOf}
 use Rattle.pcm_record.specs.Channels.{IsRecordReady, RecordMoves, RecordStands}
 use Rattle.pcm_vchan.specs.Captures.{Captures}
-use Rattle.pcm_vchan.specs.Slots.{AllRecordStand, Each, RecordAreOf, record_books_of}
+use Rattle.pcm_bus.specs.Slots.{Each}
+use Rattle.pcm_vchan.specs.Slots.{AllRecordStand, RecordAreOf, record_books_of}
 use Rattle.pcm_vchan.proofs.Channels.{record-ready-moved}
 use Rattle.pcm_engine.specs.Stands.{RecordersStand, bytes_kept, frames_captured}
 use Rattle.pcm_engine.specs.Steps.{RecordersMove, bytes_answered, bytes_read, channel_read}

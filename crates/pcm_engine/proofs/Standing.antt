@@ -26,16 +26,16 @@ use Rattle.pcm_sound.proofs.Stories.{keeps, valid-told, writes-write_on}
 use Rattle.pcm_sound.proofs.DeviceLists.{length-device_bytes, device_body-bytes, device_bytes-same, device_bytes-interrupt, new_block}
 use Rattle.pcm_play.specs.declared.channel.PlayChannelOf.{PlayChannelOf}
 use Rattle.pcm_map.specs.declared.channel.MapChannelOf.{MapChannelOf}
-use Rattle.pcm_vchan.specs.Slots.{map_books_of, play_books_of, AllPlayStand, MapAreOf}
+use Rattle.pcm_bus.specs.Slots.{map_books_of, play_books_of, AllPlayStand, MapAreOf}
 use Rattle.pcm_play.specs.Channels.{PlayStands}
 use Rattle.pcm_format.specs.Frames.{Frame}
 use Rattle.pcm_feeder.specs.Streams.{interleaved}
 use Rattle.pcm_plan.specs.Through.{recs}
 use Rattle.pcm_chain.specs.declared.chain.ChainOf.{ChainOf}
 use Rattle.pcm_engine.specs.Steps.{BusMoves, bytes_brought, ChannelsMove, MapsMove}
-use Rattle.pcm_vchan.specs.Blocks.{block_bytes, block_of, map_gains, mapped_onto, turned_ring, Sources}
-use Rattle.pcm_vchan.specs.Buses.{mixed_at_once}
-use Rattle.pcm_vchan.specs.Handovers.{HasMade, raised_frames}
+use Rattle.pcm_bus.specs.Blocks.{block_bytes, block_of, map_gains, mapped_onto, turned_ring, Sources}
+use Rattle.pcm_bus.specs.Buses.{mixed_at_once}
+use Rattle.pcm_bus.specs.Handovers.{HasMade, raised_frames}
 use Rattle.pcm_engine.specs.Stands.{bytes_counted, map_bytes_counted, story_frames, MapSlotStands, PartsStand}
 use Rattle.pcm_engine.proofs.Counted.{counted-kept, counted-written}
 use Rattle.pcm_engine.proofs.Mapped.{all-map, map-told, map_at-books}

@@ -35,15 +35,16 @@ use Rattle.pcm_record.specs.declared.channel.RecordChannelOf.{RecordChannelOf}
 use Rattle.pcm_record.specs.Channels.{IsRecordReady, IsRecordUnopened, RecordStands}
 use Rattle.pcm_map.specs.declared.channel.MapChannelOf.{MapChannelOf}
 use Rattle.pcm_map.specs.Channels.{IsMapReady, IsMapUnopened, MapStands}
-use Rattle.pcm_vchan.specs.Slots.{map_books_of, play_books_of, record_books_of}
+use Rattle.pcm_bus.specs.Slots.{map_books_of, play_books_of}
+use Rattle.pcm_vchan.specs.Slots.{record_books_of}
 use Rattle.pcm_play.specs.Channels.{PlayStands, IsPlayReady, IsPlayUnopened}
-use Rattle.pcm_vchan.specs.Blocks.{silent_ring}
-use Rattle.pcm_vchan.specs.Handovers.{HasMade}
+use Rattle.pcm_bus.specs.Blocks.{silent_ring}
+use Rattle.pcm_bus.specs.Handovers.{HasMade}
 use Rattle.pcm_engine.specs.declared.descriptors.Descriptors.{Descriptors}
 use Rattle.pcm_engine.specs.Desks.{desk_with}
 use Rattle.pcm_vchan.specs.Parents.{map_channels, play_channels, record_books}
 use Rattle.pcm_engine.specs.Stands.{bytes_counted, map_bytes_counted, MapSlotStands, PartsStand, RecordersStand}
-use Rattle.pcm_vchan.proofs.Channels.{some_channel}
+use Rattle.pcm_bus.proofs.Channels.{some_channel}
 
 -- frames of silence are spelled as samples of silence
 pub spelled-silence : (format : Format) (settings : Settings) (n : ℕ) → spelled_frames format (replicate n (silence_in settings)) ≡ flat_map (spelled format) (replicate (n * channels_of settings.layout) (pos 0))

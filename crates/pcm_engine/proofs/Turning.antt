@@ -27,10 +27,12 @@ use Rattle.pcm_play.specs.declared.channel.PlayChannelOf.{PlayChannelOf}
 use Rattle.pcm_record.specs.declared.channel.RecordChannelOf.{RecordChannelOf}
 use Rattle.pcm_map.specs.declared.channel.MapChannelOf.{MapChannelOf}
 use Rattle.pcm_vchan.specs.declared.parent.ParentOf.{ParentOf}
-use Rattle.pcm_vchan.specs.Slots.{MapAreOf, PlayAreOf, RecordAreOf}
+use Rattle.pcm_bus.specs.Slots.{MapAreOf, PlayAreOf}
+use Rattle.pcm_vchan.specs.Slots.{RecordAreOf}
 use Rattle.pcm_vchan.specs.Parents.{map_books, map_channels, play_books, play_channels, record_channels, record_books, slot_or_busy}
 use Rattle.pcm_vchan.specs.Lending.{with_channel, with_map_channel, with_recorder}
-use Rattle.pcm_vchan.proofs.Channels.{map_at-channel, map_books_of-set, play_at-channel, play_books_of-set, record_at-channel, record_books_of-set}
+use Rattle.pcm_bus.proofs.Channels.{map_at-channel, play_at-channel}
+use Rattle.pcm_vchan.proofs.Channels.{map_books_of-set, play_books_of-set, record_at-channel, record_books_of-set}
 use Rattle.pcm_engine.specs.declared.descriptors.Descriptors.{Descriptors}
 use Rattle.pcm_engine.specs.Descriptors.{holding, mapped_slot, playing_slot, recording_slot, shut}
 use Rattle.pcm_engine.specs.Desks.{desk_with}

@@ -18,7 +18,7 @@ use Rattle.pcm_desk.specs.Own.{channel_at, slots_of}
 use Rattle.pcm_record.specs.declared.channel.RecordChannelOf.{RecordChannelOf}
 use Rattle.pcm_record.specs.Channels.{IsRecordReady, RecordStands}
 use Rattle.pcm_vchan.specs.Slots.{AllRecordStand, record_books_of}
-use Rattle.pcm_vchan.proofs.Channels.{some_channel}
+use Rattle.pcm_bus.proofs.Channels.{some_channel}
 use Rattle.pcm_engine.specs.Steps.{bytes_read, front_taken, channel_read}
 use Rattle.pcm_engine.proofs.Recording.{record_at-books}
 

@@ -18,7 +18,7 @@ use Rattle.pcm_record.specs.declared.channel.RecordChannelOf.{RecordChannelOf}
 use Rattle.pcm_record.specs.Channels.{RecordStands}
 use Rattle.pcm_map.specs.declared.channel.MapChannelOf.{MapChannelOf}
 use Rattle.pcm_map.specs.Channels.{MapStands, area_of}
-use Rattle.pcm_vchan.specs.Handovers.{HasMade}
+use Rattle.pcm_bus.specs.Handovers.{HasMade}
 
 -- the bytes that a slot's book counts: those of its newest run, unless it is over
 abbrev pub bytes_counted : DeviceSeen → Story → ℕ → List ℕ

@@ -22,11 +22,12 @@ use Rattle.pcm_record.specs.declared.channel.RecordChannelOf.{RecordChannelOf}
 use Rattle.pcm_record.specs.Channels.{RecordMoves}
 use Rattle.pcm_map.specs.declared.channel.MapChannelOf.{MapChannelOf}
 use Rattle.pcm_sound.specs.Areas.{written_by}
-use Rattle.pcm_vchan.specs.Slots.{Each, MapKeeps, MapPlays}
+use Rattle.pcm_bus.specs.Slots.{Each, MapPlays}
+use Rattle.pcm_vchan.specs.Slots.{MapKeeps}
 use Rattle.pcm_vchan.specs.Starts.{EachAt}
 use Rattle.pcm_vchan.specs.declared.parent.ParentOf.{ParentOf}
 use Rattle.pcm_vchan.specs.Parents.{EachCaptures}
-use Rattle.pcm_vchan.specs.Buses.{TurnsBus}
+use Rattle.pcm_bus.specs.Buses.{TurnsBus}
 use Rattle.pcm_vchan.specs.Captures.{Captures}
 
 -- the bytes that an event brings

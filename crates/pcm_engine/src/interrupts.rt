@@ -6,7 +6,8 @@ ghost use Rattle.pcm_format.specs.Layouts.{channels_of};
 ghost use Rattle.pcm_wave.specs.Pools.{IsCaptureIn};
 ghost use Rattle.pcm_desk.specs.Device.{seen};
 ghost use Rattle.pcm_vchan.specs.Parents.{map_channels, mixed_in, play_channels, record_channels, AreDue, BusTurns, EachMapPlays, EachPasses, EachPlayMoves, HasBus};
-ghost use Rattle.pcm_vchan.specs.Slots.{MapAreOf, PlayAreOf, RecordAreOf};
+ghost use Rattle.pcm_bus.specs.Slots.{MapAreOf, PlayAreOf};
+ghost use Rattle.pcm_vchan.specs.Slots.{RecordAreOf};
 ghost use Rattle.pcm_engine.specs.Steps.{CapturesPool};
 
 use pcm_feeder::{Feeder, Tables};

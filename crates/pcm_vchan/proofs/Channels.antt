@@ -29,6 +29,7 @@ use Rattle.pcm_desk.specs.MapBooks.{is_map_free, taken_of}
 use Rattle.pcm_desk.specs.RecordBooks.{is_record_free}
 use Rattle.pcm_desk.specs.Desk.{capturing, least_free_map, least_free_play, least_free_record, map_passing, mixed_by, mixing, play_passing, play_rate_at}
 use Rattle.pcm_play.specs.declared.channel.PlayChannelOf.{PlayChannelOf}
+use Rattle.pcm_bus.proofs.Channels.{map_at-channel, play_at-channel, some_channel}
 use Rattle.pcm_vchan.specs.declared.parent.ParentOf.{ParentOf}
 use Rattle.pcm_record.specs.declared.channel.RecordChannelOf.{RecordChannelOf}
 use Rattle.pcm_record.specs.Channels.{IsRecordReady, RecordMoves}
@@ -36,7 +37,8 @@ use Rattle.pcm_map.specs.declared.channel.MapChannelOf.{MapChannelOf}
 use Rattle.pcm_map.specs.Channels.{IsMapReady, MapMoves, area_of}
 use Rattle.pcm_map.proofs.Moving.{moves-nothing}
 use Rattle.pcm_sound.specs.Areas.{is_recut, silences, silent_area}
-use Rattle.pcm_vchan.specs.Slots.{AreMixed, Each, IsPlayDue, MapKeeps, MaySettle, Mixes, Passes, PlayAreOf, Settles, map_books_of, play_books_of, record_books_of}
+use Rattle.pcm_bus.specs.Slots.{AreMixed, Each, IsPlayDue, Mixes, PlayAreOf, map_books_of, play_books_of}
+use Rattle.pcm_vchan.specs.Slots.{MapKeeps, MaySettle, Passes, Settles, record_books_of}
 use Rattle.pcm_play.specs.Channels.{IsPlayReady, PlayMoves, PlayStands}
 
 prefix_len-map : {X Y : Type 0} (p : Y → Bool) (f : X → Y) (xs : List X) → prefix_len p (map f xs) ≡ prefix_len (λ x. p (f x)) xs
@@ -51,10 +53,6 @@ position-map p f xs =
 -- the least free slot of books is that of their channels
 pub least_free_play-books : {B : Type 0} (channels : List (PlayChannelOf B)) → least_free_play (play_books_of channels) ≡ position (λ (channel : PlayChannelOf B). is_play_free channel.book.state) channels
 least_free_play-books {B = B} channels = position-map (λ (book : PlayBook). is_play_free book.state) (λ (channel : PlayChannelOf B). channel.book) channels
-
--- the book of a channel
-pub play_at-channel : {B : Type 0} (channels : List (PlayChannelOf B)) (slot : ℕ) (old : PlayChannelOf B) (other : PlayBook) → slot < length channels → old ≡ get_or channels slot old → old.book ≡ get_or (play_books_of channels) slot other
-play_at-channel {B = B} channels slot old other there is = ap (λ (channel : PlayChannelOf B). channel.book) is ∙ sym (get_or-map (λ (channel : PlayChannelOf B). channel.book) channels slot old other there)
 
 -- the books once one channel changed, whose book changed by `how`
 pub play_books_of-set : {B : Type 0} (how : PlayBook → PlayBook) (channels : List (PlayChannelOf B)) (slot : ℕ) (old new : PlayChannelOf B) (other : PlayBook) → slot < length channels → old ≡ get_or channels slot old → new.book ≡ how old.book
@@ -95,11 +93,6 @@ pub ready-after : {B : Type 0} (kind : B → Kind) (kept : B → Kept) (filters 
 ready-after kind kept filters more frames old new same each ready = λ slot other within.
     let there : slot < length old = omega arith in
     ready-moved kind kept filters more frames (get_or old slot other) (get_or new slot other) (each slot other there) (ready slot other there)
-
--- some element of a list that has one
-pub some_channel : {X : Type 0} (channels : List X) (k : ℕ) → k < length channels → X
-some_channel [] k h = absurd (omega arith)
-some_channel (channel ∷ channels) k h = channel
 
 -- the books after an interrupt
 pub play_books_of-passed : {B : Type 0} (device : DeviceSeen) (handed n : ℕ) (old new : List (PlayChannelOf B)) → length new ≡ length old → Each (Passes device handed n) old new
@@ -160,10 +153,6 @@ record_books_of-captured {B = B} device n old new same each =
 -- the least free slot of mapped books is that of their channels
 pub least_free_map-books : {B : Type 0} (channels : List (MapChannelOf B)) → least_free_map (map_books_of channels) ≡ position (λ (channel : MapChannelOf B). is_map_free channel.book.state) channels
 least_free_map-books {B = B} channels = position-map (λ (book : MapBook). is_map_free book.state) (λ (channel : MapChannelOf B). channel.book) channels
-
--- the book of a mapped channel
-pub map_at-channel : {B : Type 0} (channels : List (MapChannelOf B)) (slot : ℕ) (old : MapChannelOf B) (other : MapBook) → slot < length channels → old ≡ get_or channels slot old → old.book ≡ get_or (map_books_of channels) slot other
-map_at-channel {B = B} channels slot old other there is = ap (λ (channel : MapChannelOf B). channel.book) is ∙ sym (get_or-map (λ (channel : MapChannelOf B). channel.book) channels slot old other there)
 
 -- their books once one channel changed, whose book changed by `how`
 pub map_books_of-set : {B : Type 0} (how : MapBook → MapBook) (channels : List (MapChannelOf B)) (slot : ℕ) (old new : MapChannelOf B) (other : MapBook) → slot < length channels → old ≡ get_or channels slot old → new.book ≡ how old.book

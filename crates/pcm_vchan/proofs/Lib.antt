@@ -1,4 +1,2 @@
 pub mod Channels
 pub mod Starting
-pub mod Blocks
-pub mod Handovers

@@ -19,9 +19,10 @@ use Rattle.pcm_play.specs.declared.channel.PlayChannelOf.{PlayChannelOf}
 use Rattle.pcm_play.proofs.Moving.{moves-nothing}
 use Rattle.pcm_record.specs.declared.channel.RecordChannelOf.{RecordChannelOf}
 use Rattle.pcm_record.proofs.Moving as recorders
-use Rattle.pcm_vchan.specs.Slots.{PlayAreOf, RecordAreOf, play_books_of, record_books_of}
+use Rattle.pcm_bus.specs.Slots.{PlayAreOf, play_books_of}
+use Rattle.pcm_vchan.specs.Slots.{RecordAreOf, record_books_of}
 use Rattle.pcm_vchan.specs.Starts.{EachAt, Records, Starts, is_in}
-use Rattle.pcm_vchan.proofs.Channels.{some_channel}
+use Rattle.pcm_bus.proofs.Channels.{some_channel}
 
 -- a channel that is no member
 pub starts-none : {B : Type 0} (kind : B → Kind) (kept : B → Kept) (filters : Filters) (here : Here) (member : Bool) (channel : PlayChannelOf B) → member ≡ false → Starts kind kept filters here member channel channel

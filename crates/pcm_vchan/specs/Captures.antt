@@ -9,7 +9,7 @@ use Rattle.pcm_desk.specs.RecordBooks.{keeping}
 use Rattle.pcm_desk.specs.Desk.{capturing, record_rate_at}
 use Rattle.pcm_record.specs.declared.channel.RecordChannelOf.{RecordChannelOf}
 use Rattle.pcm_record.specs.Channels.{RecordMoves}
-use Rattle.pcm_vchan.specs.Slots.{Each}
+use Rattle.pcm_bus.specs.Slots.{Each}
 
 -- its book captures n frames of the device, which are these samples
 pub record Captures {B : Type 0} (kind : B → Kind) (kept : B → Kept) (device : DeviceSeen) (n : ℕ) (samples : List ℤ) (old new : RecordChannelOf B) : Type 0 where

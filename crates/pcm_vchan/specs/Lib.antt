@@ -1,7 +1,4 @@
 pub mod Slots
-pub mod Blocks
-pub mod Handovers
-pub mod Buses
 pub mod Captures
 pub mod Starts
 pub mod Parents

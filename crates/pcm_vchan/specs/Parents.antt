@@ -29,10 +29,11 @@ use Rattle.pcm_record.specs.Channels.{IsRecordReady, IsRecordUnopened, RecordMov
 use Rattle.pcm_map.specs.declared.channel.MapChannelOf.{MapChannelOf}
 use Rattle.pcm_map.specs.Channels.{IsMapReady, IsMapUnopened}
 use Rattle.pcm_vchan.specs.declared.parent.ParentOf.{ParentOf}
-use Rattle.pcm_vchan.specs.Buses.{HasMadeSome, TurnsBus}
-use Rattle.pcm_vchan.specs.Handovers.{IsPlannedBy}
+use Rattle.pcm_bus.specs.Buses.{HasMadeSome, TurnsBus}
+use Rattle.pcm_bus.specs.Handovers.{IsPlannedBy}
 use Rattle.pcm_vchan.specs.Captures.{AllCapture}
-use Rattle.pcm_vchan.specs.Slots.{Each, IsMapDue, IsPlayDue, IsRecordDue, MapAreOf, MapKeeps, MapPlays, Passes, PlayAreOf, RecordAreOf, map_books_of, play_books_of, record_books_of}
+use Rattle.pcm_bus.specs.Slots.{Each, IsMapDue, IsPlayDue, MapAreOf, MapPlays, PlayAreOf, map_books_of, play_books_of}
+use Rattle.pcm_vchan.specs.Slots.{IsRecordDue, MapKeeps, Passes, RecordAreOf, record_books_of}
 use Rattle.pcm_vchan.specs.Starts.{EachAt}
 
 -- the channels of a parent, by slot: those that play

@@ -1,76 +1,28 @@
 -- The channels of a device, by slot.
-use Rattle.std.specs.Prelude.{◌≡◌, ◌≢◌, ℕ, ◌+◌, ◌^◌, ◌<◌, if◌then◌else◌, List, [], length, map, slice_index_or, All}
+use Rattle.std.specs.Prelude.{◌≡◌, ℕ, ◌+◌, ◌^◌, ◌<◌, if◌then◌else◌, List, [], length, map, slice_index_or, All}
 use Rattle.pcm_feeder.specs.declared.kind.Kind.{Kind}
 use Rattle.pcm_feeder.specs.Filters.{Filters}
 use Rattle.pcm_feeder.specs.Kept.{Kept}
 use Rattle.pcm_feeder.specs.Racks.{HaveKinds}
 use Rattle.pcm_chain.specs.Chains.{boxes_in}
 use Rattle.pcm_format.specs.Frames.{Frame}
-use Rattle.pcm_desk.specs.declared.play_book.PlayBook.{PlayBook}
 use Rattle.pcm_desk.specs.declared.record_book.RecordBook.{RecordBook}
-use Rattle.pcm_desk.specs.declared.map_book.MapBook.{MapBook}
 use Rattle.pcm_desk.specs.declared.device.Device.{Device}
 use Rattle.pcm_desk.specs.declared.here.Here.{Here}
-use Rattle.pcm_desk.specs.Desk.{map_mixing, mixing, play_passing}
-use Rattle.pcm_desk.specs.Device.{DeviceSeen, seen}
+use Rattle.pcm_desk.specs.Desk.{play_passing}
+use Rattle.pcm_desk.specs.Device.{DeviceSeen}
 use Rattle.pcm_play.specs.declared.channel.PlayChannelOf.{PlayChannelOf}
 use Rattle.pcm_oss.specs.declared.fragments.TheConstants.{RING_BYTES}
-use Rattle.pcm_play.specs.Channels.{IsPlayReady, PlayMoves, PlayStands, SettlesBook}
+use Rattle.pcm_play.specs.Channels.{PlayMoves, SettlesBook}
 use Rattle.pcm_record.specs.declared.channel.RecordChannelOf.{RecordChannelOf}
 use Rattle.pcm_record.specs.Channels.{IsRecordReady, RecordStands}
 use Rattle.pcm_map.specs.declared.channel.MapChannelOf.{MapChannelOf}
-use Rattle.pcm_map.specs.Channels.{IsMapReady, MapMoves, MapStands, MapTakes, area_of}
+use Rattle.pcm_map.specs.Channels.{MapMoves, area_of}
 use Rattle.pcm_sound.specs.Areas.{silences, silent_area}
-
--- the books of channels, by slot
-abbrev pub play_books_of : {B : Type 0} → List (PlayChannelOf B) → List PlayBook
-play_books_of channels = map (λ channel. channel.book) channels
-
--- each channel is of one device
-abbrev pub PlayAreOf : {B : Type 0} → Device → List (PlayChannelOf B) → Type 0
-PlayAreOf device channels = All (λ channel. channel.path.device ≡ device) channels
-
--- what holds of each channel, before and after
-abbrev pub Each : {X : Type 0} → (X → X → Type 0) → List X → List X → Type 0
-Each {X} how old new = (slot : ℕ) (other : X) → slot < length old → how (slice_index_or old slot other) (slice_index_or new slot other)
-
--- what holds of the channel of a slot
-abbrev pub AtSlot : {X : Type 0} → (X → Type 0) → List X → ℕ → Type 0
-AtSlot {X = X} holds channels slot = (other : X) → holds (slice_index_or channels slot other)
-
--- what holds of the channel of a slot, before and after
-abbrev pub ChangesAt : {X : Type 0} → (X → X → Type 0) → ℕ → List X → List X → Type 0
-ChangesAt {X = X} how slot old new = (other : X) → how (slice_index_or old slot other) (slice_index_or new slot other)
-
--- all others stay
-abbrev pub OthersStay : {X : Type 0} → ℕ → List X → List X → Type 0
-OthersStay {X = X} slot old new = (at : ℕ) (other : X) → at ≢ slot → slice_index_or new at other ≡ slice_index_or old at other
-
--- the book of a channel once n frames were mixed, where so many were before
-abbrev pub Mixes : {B : Type 0} → DeviceSeen → ℕ → ℕ → PlayChannelOf B → PlayChannelOf B → Type 0
-Mixes device mixed n old new = new.book ≡ mixing device mixed n old.book
 
 -- the book of a channel after an interrupt of n frames, where so many were handed over before
 abbrev pub Passes : {B : Type 0} → DeviceSeen → ℕ → ℕ → PlayChannelOf B → PlayChannelOf B → Type 0
 Passes device handed n old new = new.book ≡ play_passing device handed n old.book
-
--- each channel stands for its book and the bytes of its slot
-abbrev pub AllPlayStand : {B : Type 0} → (B → Kept) → Filters → List (PlayChannelOf B) → (ℕ → List ℕ) → Type 0
-AllPlayStand kept filters channels streams = (slot : ℕ) (other : PlayChannelOf _) → slot < length channels
-    → PlayStands kept filters (slice_index_or channels slot other) (slice_index_or channels slot other).book (streams slot)
-
--- a channel of this device is ready for an interrupt that mixes so many frames, and its counts have room for them
-pub record IsPlayDue {B : Type 0} (kind : B → Kind) (keeps : B → Kept) (filters : Filters) (device : Device) (frames : ℕ) (channel : PlayChannelOf B) : Type 0 where
-  pub own : channel.path.device ≡ device
-  pub ready : IsPlayReady kind keeps filters channel
-  pub given : channel.book.given + frames < 2 ^ 64
-  pub counted : channel.book.done + channel.book.written < 2 ^ 64
-
--- what an interrupt that mixes so many frames, where others were mixed before, leaves of the channels of a device
-pub record AreMixed {B : Type 0} (kind : B → Kind) (kept : B → Kept) (filters : Filters) (device : Device) (mixed frames : ℕ) (old new : List (PlayChannelOf B)) : Type 0 where
-  pub own : PlayAreOf device new
-  pub moves : Each (PlayMoves kind kept filters [] frames) old new
-  pub books : Each (Mixes (seen filters device) mixed frames) old new
 
 -- a channel has the boxes of a rack, and its counts have room for the bytes of a run that ends
 pub record MaySettle {B : Type 0} (kind : B → Kind) (channel : PlayChannelOf B) : Type 0 where
@@ -106,41 +58,6 @@ pub record IsRecordDue {B : Type 0} (kind : B → Kind) (keeps : B → Kept) (fi
   pub kept : channel.book.kept + RING_BYTES < 2 ^ 64
 
 -- ---- mapped channels
-
--- their books, by slot
-abbrev pub map_books_of : {B : Type 0} → List (MapChannelOf B) → List MapBook
-map_books_of channels = map (λ channel. channel.book) channels
-
--- each is of one device
-abbrev pub MapAreOf : {B : Type 0} → Device → List (MapChannelOf B) → Type 0
-MapAreOf device channels = All (λ channel. channel.path.device ≡ device) channels
-
--- a channel stands for its book and the bytes that were taken in its slot, and this stands in its area
-pub record MapStandsWith {B : Type 0} (kept : B → Kept) (filters : Filters) (taken content : List ℕ) (channel : MapChannelOf B) : Type 0 where
-  pub stands : MapStands kept filters channel channel.book taken
-  pub area : area_of channel ≡ content
-
--- so does each
-abbrev pub AllMapStand : {B : Type 0} → (B → Kept) → Filters → List (MapChannelOf B) → (ℕ → List ℕ) → (ℕ → List ℕ) → Type 0
-AllMapStand kept filters channels taken areas = (slot : ℕ) (other : MapChannelOf _) → slot < length channels
-    → MapStandsWith kept filters (taken slot) (areas slot) (slice_index_or channels slot other)
-
--- a channel of this device is ready for an interrupt that mixes so many frames, and its counts have room for them
-pub record IsMapDue {B : Type 0} (kind : B → Kind) (keeps : B → Kept) (filters : Filters) (device : Device) (frames : ℕ) (channel : MapChannelOf B) : Type 0 where
-  pub own : channel.path.device ≡ device
-  pub ready : IsMapReady kind keeps filters channel
-  pub given : channel.book.given + frames < 2 ^ 50
-
--- what an interrupt that mixes so many frames leaves of a channel: it takes what stands in the area, which stays
-pub record MapPlays {B : Type 0} (kind : B → Kind) (kept : B → Kept) (filters : Filters) (device : Device) (frames : ℕ) (old new : MapChannelOf B) : Type 0 where
-  pub book : new.book ≡ map_mixing (seen filters device) frames old.book
-  pub moves : MapTakes kind kept filters frames old new
-  pub area : area_of new ≡ area_of old
-
--- and of those of a device
-pub record AreTaken {B : Type 0} (kind : B → Kind) (kept : B → Kept) (filters : Filters) (device : Device) (frames : ℕ) (old new : List (MapChannelOf B)) : Type 0 where
-  pub own : MapAreOf device new
-  pub each : Each (MapPlays kind kept filters device frames) old new
 
 -- What a call leaves of a channel, which writes so into its area: it takes nothing, and the area is silent anew where another opening
 -- begins, or its format, its channels or its fragments are others.

@@ -2,9 +2,6 @@
 //! An interrupt hands the oldest frames over, mixes what as many new ones need from all slots in their order, and makes these of it.
 #![tactic(auto)]
 
-mod bus;
-mod handover;
-mod mixer;
 mod parent;
 mod recorder;
 mod settler;

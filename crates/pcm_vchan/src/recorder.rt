@@ -4,7 +4,8 @@ ghost use Rattle.std.specs.Prelude.{◌≡◌, ◌*◌, ◌<◌, ◌≤◌, leng
 ghost use Rattle.pcm_format.specs.Layouts.{channels_of};
 ghost use Rattle.pcm_desk.specs.declared.limits.TheConstants.{RING_FRAMES};
 ghost use Rattle.pcm_desk.specs.Device.{seen};
-ghost use Rattle.pcm_vchan.specs.Slots.{AtSlot, ChangesAt, IsRecordDue, OthersStay, RecordAreOf};
+ghost use Rattle.pcm_bus.specs.Slots.{AtSlot, ChangesAt, OthersStay};
+ghost use Rattle.pcm_vchan.specs.Slots.{IsRecordDue, RecordAreOf};
 ghost use Rattle.pcm_vchan.specs.Captures.{AllCapture, Captures};
 
 use pcm_desk::Device;

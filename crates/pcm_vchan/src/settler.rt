@@ -1,7 +1,8 @@
 //! What frames that are handed over end: the runs of channels that play, in the order of their slots.
 
 ghost use Rattle.std.specs.Prelude.{◌<◌, length, All};
-ghost use Rattle.pcm_vchan.specs.Slots.{AtSlot, ChangesAt, Each, MaySettle, OthersStay, Settles};
+ghost use Rattle.pcm_bus.specs.Slots.{AtSlot, ChangesAt, Each, OthersStay};
+ghost use Rattle.pcm_vchan.specs.Slots.{MaySettle, Settles};
 
 use pcm_desk::Here;
 use pcm_feeder::Feeder;

@@ -5,7 +5,7 @@ ghost use Rattle.pcm_oss.specs.declared.event.TheConstants.{SLOTS};
 ghost use Rattle.pcm_group.specs.Groups.{all_in};
 ghost use Rattle.pcm_desk.specs.Here.{IsHere};
 ghost use Rattle.pcm_desk.specs.PlayBooks.{play_is_ready};
-ghost use Rattle.pcm_vchan.specs.Slots.{AtSlot, ChangesAt, OthersStay, play_books_of};
+ghost use Rattle.pcm_bus.specs.Slots.{AtSlot, ChangesAt, OthersStay, play_books_of};
 ghost use Rattle.pcm_vchan.specs.Starts.{EachAt, MayRecord, MayStart, Records, Starts, is_in};
 
 use pcm_desk::{Here, PLAY_BIT, RECORD_BIT};

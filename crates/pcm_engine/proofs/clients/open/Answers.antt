@@ -7,7 +7,8 @@ use Rattle.pcm_oss.specs.declared.event.Way.{Way}
 use Rattle.pcm_oss.specs.declared.reply.Answer.TheVariants.{Number}
 use Rattle.pcm_desk.specs.declared.device.Device.{Device}
 use Rattle.pcm_desk.specs.Desk.{by_way, held_by, least_free_map, least_free_play, least_free_record}
-use Rattle.pcm_vchan.specs.Slots.{Each, MapAreOf, MapKeeps}
+use Rattle.pcm_bus.specs.Slots.{Each, MapAreOf}
+use Rattle.pcm_vchan.specs.Slots.{MapKeeps}
 use Rattle.pcm_vchan.specs.Starts.{EachAt}
 use Rattle.pcm_vchan.specs.Parents.{map_books, map_channels, play_books, play_channels, record_books, record_channels, untouched}
 use Rattle.pcm_engine.specs.Desks.{desk_with}

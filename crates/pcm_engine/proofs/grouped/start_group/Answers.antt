@@ -11,7 +11,8 @@ use Rattle.pcm_fixed.specs.declared.fixed.Fixed.{Fixed}
 use Rattle.pcm_fixed.specs.Fixed.{fixed_items}
 use Rattle.pcm_map.specs.declared.channel.MapChannelOf.{MapChannelOf}
 use Rattle.pcm_desk.specs.declared.device.Device.{Device}
-use Rattle.pcm_vchan.specs.Slots.{map_books_of, MapAreOf, MapKeeps}
+use Rattle.pcm_bus.specs.Slots.{map_books_of, MapAreOf}
+use Rattle.pcm_vchan.specs.Slots.{MapKeeps}
 use Rattle.pcm_vchan.specs.Starts.{EachAt}
 use Rattle.pcm_vchan.specs.Parents.{map_channels, play_books, play_channels, record_books, record_channels, untouched}
 use Rattle.pcm_engine.specs.declared.descriptors.Descriptors.{Descriptors}

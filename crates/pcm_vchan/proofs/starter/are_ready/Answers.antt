@@ -4,7 +4,7 @@ use Rattle.std.proofs.lemmas.List.{length-map}
 use Rattle.pcm_group.specs.Groups.{all_in}
 use Rattle.pcm_desk.specs.PlayBooks.{play_is_ready}
 use Rattle.pcm_play.specs.declared.channel.PlayChannelOf.{PlayChannelOf}
-use Rattle.pcm_vchan.specs.Slots.{play_books_of}
+use Rattle.pcm_bus.specs.Slots.{play_books_of}
 use Rattle.pcm_vchan.proofs.Starting.{ready-end, ready-step}
 use Rattle.pcm_vchan.proofs.starter.are_ready.Goals as goal
 

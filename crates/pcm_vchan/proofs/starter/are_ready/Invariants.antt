@@ -1,7 +1,7 @@
 use Rattle.std.proofs.Common.{◌≡◌, drop}
 use Rattle.pcm_group.specs.Groups.{all_in}
 use Rattle.pcm_desk.specs.PlayBooks.{play_is_ready}
-use Rattle.pcm_vchan.specs.Slots.{play_books_of}
+use Rattle.pcm_bus.specs.Slots.{play_books_of}
 use Rattle.pcm_vchan.proofs.starter.are_ready.Given as goal
 
 -- The members below the index are ready, so all are where the others are.

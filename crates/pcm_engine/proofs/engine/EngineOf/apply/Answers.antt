@@ -20,7 +20,8 @@ use Rattle.pcm_play.specs.Channels.{IsPlayHere, PlayMoves}
 use Rattle.pcm_play.proofs.Moving.{moves-nothing}
 use Rattle.pcm_record.specs.Channels.{RecordMoves}
 use Rattle.pcm_record.proofs.Moving as recorders
-use Rattle.pcm_vchan.specs.Slots.{Each, MapAreOf, MapKeeps, PlayAreOf, RecordAreOf}
+use Rattle.pcm_bus.specs.Slots.{Each, MapAreOf, PlayAreOf}
+use Rattle.pcm_vchan.specs.Slots.{MapKeeps, RecordAreOf}
 use Rattle.pcm_vchan.specs.Starts.{EachAt}
 use Rattle.pcm_engine.specs.Desks.{desk_with, poked_by}
 use Rattle.pcm_vchan.specs.declared.parent.ParentOf.{ParentOf}

@@ -16,7 +16,7 @@ use Rattle.pcm_engine.specs.Stands.{RecordersStand}
 use Rattle.pcm_engine.proofs.InOrder.{books-start, ready-all}
 use Rattle.pcm_engine.proofs.Starting.{map-ready-unopened, parent-starts, ready-unopened, record-ready-unopened, record_books_of-unopened, recorders-start}
 use Rattle.pcm_engine.proofs.engine.EngineOf.new.Goals as goal
-use Rattle.pcm_vchan.specs.Handovers.{HasMade}
+use Rattle.pcm_bus.specs.Handovers.{HasMade}
 use Rattle.pcm_vchan.specs.Parents.{HasBus, map_channels, play_channels, record_channels}
 
 pub invariant_of-result : goal.invariant_of-result

@@ -12,10 +12,11 @@ use Rattle.pcm_desk.proofs.Ratios.{mixed-behind}
 use Rattle.pcm_play.specs.declared.channel.PlayChannelOf.{PlayChannelOf}
 use Rattle.pcm_record.specs.declared.channel.RecordChannelOf.{RecordChannelOf}
 use Rattle.pcm_map.specs.declared.channel.MapChannelOf.{MapChannelOf}
-use Rattle.pcm_vchan.specs.Buses.{HasMadeSome, TurnsBus}
-use Rattle.pcm_vchan.specs.Handovers.{IsPlannedBy}
+use Rattle.pcm_bus.specs.Buses.{HasMadeSome, TurnsBus}
+use Rattle.pcm_bus.specs.Handovers.{IsPlannedBy}
 use Rattle.pcm_vchan.specs.Captures.{Captures}
-use Rattle.pcm_vchan.specs.Slots.{AreMixed, AreTaken, Each, IsMapDue, IsPlayDue, IsRecordDue, PlayAreOf, Settles}
+use Rattle.pcm_bus.specs.Slots.{AreMixed, AreTaken, Each, IsMapDue, IsPlayDue, PlayAreOf}
+use Rattle.pcm_vchan.specs.Slots.{IsRecordDue, Settles}
 use Rattle.pcm_vchan.specs.Parents.{here_of, map_channels, mixed_in, play_channels, record_channels}
 use Rattle.pcm_vchan.proofs.Channels.{ArePassed, all-passed, may-settle}
 use Rattle.pcm_vchan.proofs.parent.ParentOf.interrupt.Goals as goal

@@ -7,7 +7,8 @@ use Rattle.pcm_map.specs.declared.channel.MapChannelOf.{MapChannelOf}
 use Rattle.pcm_map.specs.Channels.{area_of}
 use Rattle.pcm_desk.specs.MapBooks.{is_map_free, map_begun}
 use Rattle.pcm_sound.specs.Areas.{is_recut, silences, silent_area}
-use Rattle.pcm_vchan.specs.Slots.{MapKeeps, map_books_of}
+use Rattle.pcm_bus.specs.Slots.{map_books_of}
+use Rattle.pcm_vchan.specs.Slots.{MapKeeps}
 use Rattle.pcm_vchan.specs.Parents.{map_channels, slot_or_busy, books_begun}
 use Rattle.pcm_vchan.proofs.Channels.{least_free_map-books, each_set, own_set, map-keeps-nothing}
 use Rattle.pcm_vchan.proofs.parent.ParentOf.open_map.Goals as goal

@@ -4,7 +4,7 @@ use Rattle.pcm_fixed.proofs.Items.{items-count}
 use Rattle.pcm_play.specs.declared.channel.PlayChannelOf.{PlayChannelOf}
 use Rattle.pcm_play.specs.Channels.{PlayMoves}
 use Rattle.pcm_desk.specs.PlayBooks.{play_begun}
-use Rattle.pcm_vchan.specs.Slots.{play_books_of}
+use Rattle.pcm_bus.specs.Slots.{play_books_of}
 use Rattle.pcm_vchan.specs.Parents.{play_channels, slot_or_busy, books_begun}
 use Rattle.pcm_vchan.proofs.Channels.{least_free_play-books, each_set, own_set}
 use Rattle.pcm_play.proofs.Moving.{moves-nothing}

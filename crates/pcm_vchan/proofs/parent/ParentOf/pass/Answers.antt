@@ -4,7 +4,8 @@ use Rattle.pcm_fixed.specs.Fixed.{fixed_len}
 use Rattle.pcm_desk.specs.declared.here.Here.{Here}
 use Rattle.pcm_desk.specs.Device.{passed_for, unfiltered}
 use Rattle.pcm_play.specs.declared.channel.PlayChannelOf.{PlayChannelOf}
-use Rattle.pcm_vchan.specs.Slots.{Each, MaySettle, Settles}
+use Rattle.pcm_bus.specs.Slots.{Each}
+use Rattle.pcm_vchan.specs.Slots.{MaySettle, Settles}
 use Rattle.pcm_vchan.specs.Parents.{play_channels}
 use Rattle.pcm_vchan.proofs.parent.ParentOf.pass.Goals as goal
 

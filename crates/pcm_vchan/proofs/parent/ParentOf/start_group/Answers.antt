@@ -6,7 +6,8 @@ use Rattle.pcm_play.specs.Channels.{PlayMoves}
 use Rattle.pcm_record.specs.Channels.{RecordMoves}
 use Rattle.pcm_record.specs.declared.channel.RecordChannelOf.{RecordChannelOf}
 use Rattle.pcm_vchan.specs.Parents.{play_channels, record_channels}
-use Rattle.pcm_vchan.specs.Slots.{Each, PlayAreOf, RecordAreOf, play_books_of}
+use Rattle.pcm_bus.specs.Slots.{Each, PlayAreOf, play_books_of}
+use Rattle.pcm_vchan.specs.Slots.{RecordAreOf}
 use Rattle.pcm_vchan.specs.Starts.{EachAt, MayRecord, Records, is_in}
 use Rattle.pcm_vchan.proofs.Starting.{own-started, play_books_of-started, record_books_of-started, records-own}
 use Rattle.pcm_vchan.proofs.parent.ParentOf.start_group.Goals as goal

@@ -1,0 +1,227 @@
+-- What a device gets of mixed samples: themselves, or what its chain makes of them.
+use Rattle.std.proofs.Common.{◌≡◌, ◌+◌, ◌*◌, ◌/◌, ◌%◌, ℕ, ℤ, true, false, List, [], ◌++◌, length, map, take, drop, All, refl, sym, ap, subst, ◌∙◌, arith}
+use Rattle.std.specs.List.{range_with_len}
+use Rattle.std.proofs.Math.Nat.{mul-div_cancel, mul-mod_left}
+use Rattle.std.proofs.lemmas.Bool.{true≢false}
+use Rattle.std.proofs.lemmas.List.{drop-map, length-append, length-map, take-map}
+use Rattle.std.proofs.lemmas.List.Elements.{All-append, All-map, All-nil, All-weaker}
+use Rattle.std.proofs.lemmas.Simd.{map-map}
+use Rattle.pcm_num.specs.Limit.{FitsBits}
+use Rattle.pcm_num.proofs.Limits.{FitsBits-mul_pow}
+use Rattle.pcm_format.specs.Formats.{bits_of}
+use Rattle.pcm_format.specs.Frames.{Frame}
+use Rattle.pcm_format.specs.Layouts.{channels_of}
+use Rattle.pcm_format.specs.Samples.{at_full}
+use Rattle.pcm_format.proofs.Ranges.{map-range-same}
+use Rattle.pcm_format.proofs.Spelling.{bits_of-above, bits_of-within}
+use Rattle.pcm_format.proofs.Streams.{channels_of-above}
+use Rattle.pcm_feeder.specs.Kept.{Kept}
+use Rattle.pcm_feeder.specs.Streams.{HaveChannels, frames_of, interleaved}
+use Rattle.pcm_feeder.proofs.Frames.{frame_in, frames_of-channels, interleaved-frames_of}
+use Rattle.pcm_plan.specs.Fits.{HaveBits}
+use Rattle.pcm_plan.specs.Plans.{PlanSeen}
+use Rattle.pcm_plan.specs.Through.{recs}
+use Rattle.pcm_chain.specs.declared.chain.ChainOf.{ChainOf}
+use Rattle.pcm_chain.specs.Chains.{plan_in}
+use Rattle.pcm_chain.specs.Gives.{AreJustEnough, CanGive, GivesExactly, GivesOn, filling_frames}
+use Rattle.pcm_chain.specs.Pushes.{pushed_frames}
+use Rattle.pcm_chain.proofs.Pushing.{count-frames, frames_of-bits, interleaved-bits}
+use Rattle.pcm_desk.specs.Desk.{mixed_by}
+use Rattle.pcm_desk.specs.Device.{DeviceSeen, IsDevice, device_settings, filters_of, is_straight, mix_settings, parent_plan}
+use Rattle.pcm_desk.proofs.Ratios.{mixed-behind, parent-bits}
+use Rattle.pcm_desk.proofs.Straight.{straight-behind, straight-by, straight-channels, straight-count}
+use Rattle.pcm_bus.specs.Handovers.{AreMixedFor, CanMake, HasMade, IsPlannedBy, MakesOn, raised_frames}
+
+-- ---- mixed samples at 32 bits
+
+-- a function of each sample, on the samples or on their frames
+frames_of-map : (f : ℤ → ℤ) (c : ℕ) (samples : List ℤ) → frames_of c (map f samples) ≡ map (map f) (frames_of c samples)
+frames_of-map f c samples =
+    let n = length samples / c in
+    ap (λ m. map (frame_in c (map f samples)) (range_with_len 0 (m / c))) (length-map samples f)
+    ∙ map-range-same (frame_in c (map f samples)) (λ k. map f (frame_in c samples k)) n
+    (λ k below. ap (take c) (drop-map f (k * c) samples) ∙ take-map f c (drop (k * c) samples))
+    ∙ sym (map-map (map f) (frame_in c samples) (range_with_len 0 n))
+
+-- the samples of the mix, brought to 32 bits
+abbrev pub raised : DeviceSeen → List ℤ → List ℤ
+raised device samples = map (at_full (bits_of (mix_settings device).format)) samples
+
+-- their frames
+pub raised-frames : (device : DeviceSeen) (samples : List ℤ)
+    → frames_of (channels_of (mix_settings device).layout) (raised device samples) ≡ raised_frames device samples
+raised-frames device samples =
+    frames_of-map (at_full (bits_of (mix_settings device).format)) (channels_of (mix_settings device).layout) samples
+
+-- they have 32 bits
+raised-bits : (device : DeviceSeen) (samples : List ℤ) → All (FitsBits (bits_of (mix_settings device).format)) samples
+    → HaveBits 32 (raised_frames device samples)
+raised-bits device samples fits =
+    let format = (mix_settings device).format in
+    let bits = bits_of format in
+    let full : ℤ → ℤ = at_full bits in
+    subst (HaveBits 32) (raised-frames device samples)
+    (frames_of-bits 32 (channels_of (mix_settings device).layout) (raised device samples)
+    (All-map (FitsBits 32) full samples
+    (All-weaker (FitsBits bits) (λ z. FitsBits 32 (full z))
+    (λ z within. FitsBits-mul_pow bits z (bits_of-above format) (bits_of-within format) within) samples fits)))
+
+-- and the channels of the mix
+raised-channels : (device : DeviceSeen) (samples : List ℤ)
+    → HaveChannels (channels_of (mix_settings device).layout) (raised_frames device samples)
+raised-channels device samples =
+    let c = channels_of (mix_settings device).layout in
+    subst (HaveChannels c) (raised-frames device samples) (frames_of-channels c (raised device samples))
+
+-- so many are mixed
+mixed-frames : (device : DeviceSeen) (samples : List ℤ) (handed n : ℕ) → AreMixedFor device samples handed n
+    → length (frames_of (channels_of (mix_settings device).layout) samples) ≡ mixed_by device handed n
+mixed-frames device samples handed n mixed =
+    let c = channels_of (mix_settings device).layout in
+    count-frames c (mixed_by device handed n) samples (channels_of-above (mix_settings device).layout) mixed
+
+raised-count : (device : DeviceSeen) (samples : List ℤ) (handed n : ℕ) → AreMixedFor device samples handed n
+    → length (raised_frames device samples) ≡ mixed_by device handed n
+raised-count device samples handed n mixed =
+    let from = mix_settings device in
+    length-map (frames_of (channels_of from.layout) samples) (map (at_full (bits_of from.format)))
+    ∙ mixed-frames device samples handed n mixed
+
+-- ---- what a chain has made
+
+-- one that begins has made nothing yet
+pub made-nothing : {B : Type 0} (kept : B → Kept) (device : DeviceSeen) (chain : ChainOf B)
+    → GivesExactly kept (filters_of device) chain [] 0 → HasMade kept device chain [] 0
+made-nothing kept device chain begins = record {
+  bits = All-nil (λ (frame : Frame). All (FitsBits 32) frame);
+  channels = All-nil (λ (frame : Frame). length frame ≡ channels_of (mix_settings device).layout);
+  count = refl;
+  exactly = λ other. begins;
+}
+
+-- it has made so many frames more, where it stands so
+made-more : {B : Type 0} (kept : B → Kept) (device : DeviceSeen) (old new : ChainOf B) (samples : List ℤ) (n : ℕ)
+    (x : List Frame) (handed : ℕ) → IsDevice device → All (FitsBits (bits_of (mix_settings device).format)) samples
+    → HasMade kept device old x handed → AreMixedFor device samples handed n
+    → (is_straight device ≡ false
+    → GivesExactly kept (filters_of device) new (x ++ raised_frames device samples) (handed + n))
+    → HasMade kept device new (x ++ raised_frames device samples) (handed + n)
+made-more kept device old new samples n x handed is fits made mixed exactly =
+    let c = channels_of (mix_settings device).layout in
+    let more = raised_frames device samples in
+    let P : Frame → Type 0 = λ frame. All (FitsBits 32) frame in
+    let Q : Frame → Type 0 = λ frame. length frame ≡ c in
+    let count = raised-count device samples handed n mixed in
+    record {
+      bits = All-append P x more made.bits (raised-bits device samples fits);
+      channels = All-append Q x more made.channels (raised-channels device samples);
+      count = omega (arith, length-append x more, made.count, count, mixed-behind device handed n is);
+      exactly = exactly;
+    }
+
+-- ---- a straight device
+
+-- it gets the mixed samples
+pub straight-makes : {B : Type 0} (kept : B → Kept) (device : DeviceSeen) (chain : ChainOf B) (samples : List ℤ) (n : ℕ)
+    → IsDevice device → is_straight device ≡ true → All (FitsBits (bits_of (mix_settings device).format)) samples
+    → MakesOn kept device samples n chain chain samples
+straight-makes kept device chain samples n is straight fits x handed made mixed =
+    let c = channels_of (mix_settings device).layout in
+    let frames = frames_of c samples in
+    let all = x ++ raised_frames device samples in
+    let given : ℕ → ℕ → List Frame = recs (parent_plan device) (filters_of device) all in
+    let from : length x ≡ handed = made.count ∙ straight-count device handed straight in
+    let count : length frames ≡ n = mixed-frames device samples handed n mixed ∙ straight-by device handed n straight in
+    let whole : length samples % c ≡ 0 = ap (λ k. k % c) mixed ∙ mul-mod_left (mixed_by device handed n) c in
+    record {
+      made = made-more kept device chain chain samples n x handed is fits made mixed
+          (λ no. absurd (true≢false (sym straight ∙ no)));
+      frames = sym (ap interleaved (ap (λ k. given k n) (sym from) ∙ ap (given (length x)) (sym count)
+          ∙ straight-behind device x frames straight) ∙ interleaved-frames_of c samples whole);
+    }
+
+-- they are so many samples of its own
+pub straight-length : {B : Type 0} (kept : B → Kept) (device : DeviceSeen) (chain : ChainOf B) (samples : List ℤ)
+    (n : ℕ) → is_straight device ≡ true → CanMake kept device chain samples n
+    → length samples ≡ n * channels_of (device_settings device).layout
+straight-length kept device chain samples n straight can =
+    can.enough ∙ ap (λ k. k * channels_of (mix_settings device).layout) (straight-by device can.handed n straight)
+    ∙ ap (λ c. n * c) (straight-channels device straight)
+
+-- ---- another one
+
+-- a buffer of so many of its frames is filled by so many
+fills : (device : DeviceSeen) (plan : PlanSeen) (out : List ℤ) (n : ℕ) → plan ≡ parent_plan device
+    → length out ≡ n * channels_of (device_settings device).layout → filling_frames plan out ≡ n
+fills device plan out n is long =
+    let layout = (device_settings device).layout in
+    ap (λ (p : PlanSeen). filling_frames p out) is
+    ∙ ap (λ k. k / channels_of layout) long ∙ mul-div_cancel n (channels_of-above layout)
+
+-- what the chain is fed
+fed : (device : DeviceSeen) (plan : PlanSeen) (samples : List ℤ) → plan ≡ parent_plan device
+    → pushed_frames plan (raised device samples) ≡ raised_frames device samples
+fed device plan samples is =
+    ap (λ (p : PlanSeen). pushed_frames p (raised device samples)) is ∙ raised-frames device samples
+
+-- that is as much as its plan needs
+just-enough : (device : DeviceSeen) (plan : PlanSeen) (samples : List ℤ) (handed n : ℕ) → plan ≡ parent_plan device
+    → AreMixedFor device samples handed n → AreJustEnough plan (raised device samples) handed n
+just-enough device plan samples handed n is mixed =
+    subst (λ (p : PlanSeen). AreJustEnough p (raised device samples) handed n) (sym is)
+    (ap length (raised-frames device samples) ∙ raised-count device samples handed n mixed)
+
+-- so the chain may be handed it
+pub can-give : {B : Type 0} (kept : B → Kept) (device : DeviceSeen) (chain : ChainOf B) (samples out : List ℤ) (n : ℕ)
+    → IsPlannedBy device chain → is_straight device ≡ false
+    → length out ≡ n * channels_of (device_settings device).layout → CanMake kept device chain samples n
+    → CanGive kept (filters_of device) chain (raised device samples) (filling_frames (plan_in chain) out)
+can-give kept device chain samples out n planned other long can = record {
+  frames = can.frames;
+  given = can.handed;
+  gives = can.made.exactly other;
+  enough = subst (AreJustEnough (plan_in chain) (raised device samples) can.handed)
+      (sym (fills device (plan_in chain) out n planned.plan_is long))
+      (just-enough device (plan_in chain) samples can.handed n planned.plan_is can.enough);
+}
+
+-- and what it gives is what the device gets
+pub chain-makes : {B : Type 0} (kept : B → Kept) (device : DeviceSeen) (old new : ChainOf B)
+    (samples out given : List ℤ) (n : ℕ) → IsPlannedBy device old → is_straight device ≡ false
+    → All (FitsBits (bits_of (mix_settings device).format)) samples
+    → length out ≡ n * channels_of (device_settings device).layout
+    → GivesOn kept (filters_of device) (raised device samples) (filling_frames (plan_in old) out) old new given
+    → MakesOn kept device samples n old new given
+chain-makes {B = B} kept device old new samples out given n planned other fits long gives x handed made mixed =
+    let tables = filters_of device in
+    let plan = plan_in old in
+    let pushed = pushed_frames plan (raised device samples) in
+    let more = raised_frames device samples in
+    let count = fills device plan out n planned.plan_is long in
+    let same = fed device plan samples planned.plan_is in
+    let enough = just-enough device plan samples handed n planned.plan_is mixed in
+    let g = gives x handed (made.exactly other)
+    (subst (AreJustEnough plan (raised device samples) handed) (sym count) enough) in
+    record {
+      made = made-more kept device old new samples n x handed planned.limits fits made mixed
+          (λ no. subst (λ (m : List Frame). GivesExactly kept tables new (x ++ m) (handed + n)) same
+          (subst (λ k. GivesExactly kept tables new (x ++ pushed) (handed + k)) count g.exactly));
+      frames = g.frames
+          ∙ ap (λ k. interleaved (recs plan tables (x ++ pushed) handed k)) count
+          ∙ ap (λ (m : List Frame). interleaved (recs plan tables (x ++ m) handed n)) same
+          ∙ ap (λ (p : PlanSeen). interleaved (recs p tables (x ++ more) handed n)) planned.plan_is;
+    }
+
+-- ---- both
+
+-- what the device gets has its bits
+pub made-bits : {B : Type 0} (kept : B → Kept) (device : DeviceSeen) (old new : ChainOf B) (samples given : List ℤ)
+    (n : ℕ) → IsDevice device → CanMake kept device old samples n → MakesOn kept device samples n old new given
+    → All (FitsBits (bits_of (device_settings device).format)) given
+made-bits kept device old new samples given n is can makes =
+    let bits = bits_of (device_settings device).format in
+    let all = can.frames ++ raised_frames device samples in
+    let m = makes can.frames can.handed can.made can.enough in
+    subst (All (FitsBits bits)) (sym m.frames)
+    (interleaved-bits bits (recs (parent_plan device) (filters_of device) all can.handed n)
+    (parent-bits device is all can.handed n m.made.bits))

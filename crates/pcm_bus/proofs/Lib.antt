@@ -1,0 +1,3 @@
+pub mod Channels
+pub mod Blocks
+pub mod Handovers

@@ -1,0 +1,87 @@
+use Rattle.std.proofs.Common.{◌≡◌, ◌≤◌, ◌*◌, ℕ, List, ℤ, length, take, sym, ap, ◌∙◌, subst}
+use Rattle.std.proofs.lemmas.List.{length-take-le}
+use Rattle.pcm_format.specs.Layouts.{channels_of}
+use Rattle.pcm_plan.specs.Fits.{HaveTables}
+use Rattle.pcm_plan.specs.Plans.{PlanSeen}
+use Rattle.pcm_chain.specs.Chains.{plan_in}
+use Rattle.pcm_chain.specs.Gives.{CanGive, GivesOn, filling_frames}
+use Rattle.pcm_desk.specs.Device.{seen}
+use Rattle.pcm_desk.proofs.Ratios.{parent-tables}
+use Rattle.pcm_bus.proofs.Handovers.{can-give, chain-makes, made-bits, straight-length, straight-makes}
+use Rattle.pcm_bus.proofs.handover.hand_over.Goals as goal
+
+-- ---- a straight device
+
+pub returns-then-is_straight-clause-count : goal.returns-then-is_straight-clause-count
+returns-then-is_straight-clause-count g c =
+    straight-length g.B.Feeder.kept (seen c.args.tables.now c.args.device) c.args.chain.now c.args.mixed.now c.args.n
+    (sym c.is_straight.ensures ∙ c.if-is_straight.true) c.requires.can
+
+pub returns-then-is_straight-clause-makes : goal.returns-then-is_straight-clause-makes
+returns-then-is_straight-clause-makes g c =
+    straight-makes g.B.Feeder.kept (seen c.args.tables.now c.args.device) c.args.chain.now c.args.mixed.now c.args.n
+    c.requires.planned.limits (sym c.is_straight.ensures ∙ c.if-is_straight.true) c.requires.fits
+
+pub returns-then-is_straight-clause-fits : goal.returns-then-is_straight-clause-fits
+returns-then-is_straight-clause-fits g c =
+    let chain = c.args.chain.now in
+    let samples = c.args.mixed.now in
+    made-bits g.B.Feeder.kept (seen c.args.tables.now c.args.device) chain chain samples samples c.args.n
+    c.requires.planned.limits c.requires.can (returns-then-is_straight-clause-makes g c)
+
+-- ---- another one
+
+-- the front of a buffer is n frames
+taken : (n channels own : ℕ) (frames : List ℤ) → channels ≡ own → n * own ≤ length frames
+    → length (take (n * channels) frames) ≡ n * own
+taken n channels own frames same room =
+    ap (λ c. length (take (n * c) frames)) same ∙ length-take-le (n * own) frames room
+
+pub give-requires-clause-tables : goal.give-requires-clause-tables
+give-requires-clause-tables g c =
+    let tables = c.args.tables.now in
+    subst (λ (plan : PlanSeen). HaveTables plan.stages tables) (sym c.requires.planned.plan_is)
+    (parent-tables (seen tables c.args.device) c.requires.planned.limits)
+
+pub give-requires-clause-can : goal.give-requires-clause-can
+give-requires-clause-can g c =
+    let tables = c.args.tables.now in
+    let kept = g.B.Feeder.kept in
+    let chain = c.args.chain.now in
+    let n = c.args.n in
+    let frames = c.args.frames.now in
+    let channels = c.channels.result in
+    let out = take (n * channels) frames in
+    let long = taken n channels (channels_of c.args.device.settings.layout) frames c.channels.ensures c.requires.room in
+    subst (λ (input : List ℤ). CanGive kept tables chain input (filling_frames (plan_in chain) out))
+    (sym c.bring_to_full.ensures)
+    (can-give kept (seen tables c.args.device) chain c.args.mixed.now out n c.requires.planned
+    (sym c.is_straight.ensures ∙ c.if-is_straight.false) long c.requires.can)
+
+pub returns-clause-planned : goal.returns-clause-planned
+returns-clause-planned g c = record {
+  limits = c.requires.planned.limits;
+  plan_is = c.give.ensures.plan ∙ c.requires.planned.plan_is;
+}
+
+pub returns-clause-makes : goal.returns-clause-makes
+returns-clause-makes g c =
+    let tables = c.args.tables.now in
+    let kept = g.B.Feeder.kept in
+    let old = c.args.chain.now in
+    let new = c.give.new.self in
+    let given = c.give.new.out in
+    let n = c.args.n in
+    let frames = c.args.frames.now in
+    let channels = c.channels.result in
+    let out = take (n * channels) frames in
+    let long = taken n channels (channels_of c.args.device.settings.layout) frames c.channels.ensures c.requires.room in
+    chain-makes kept (seen tables c.args.device) old new c.args.mixed.now out given n c.requires.planned
+    (sym c.is_straight.ensures ∙ c.if-is_straight.false) c.requires.fits long
+    (subst (λ (input : List ℤ). GivesOn kept tables input (filling_frames (plan_in old) out) old new given)
+    c.bring_to_full.ensures c.give.ensures.gives)
+
+pub returns-clause-fits : goal.returns-clause-fits
+returns-clause-fits g c =
+    made-bits g.B.Feeder.kept (seen c.args.tables.now c.args.device) c.args.chain.now c.give.new.self c.args.mixed.now
+    c.give.new.out c.args.n c.requires.planned.limits c.requires.can (returns-clause-makes g c)

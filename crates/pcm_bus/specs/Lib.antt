@@ -1,0 +1,4 @@
+pub mod Slots
+pub mod Blocks
+pub mod Handovers
+pub mod Buses
