@@ -4,7 +4,7 @@ ghost use Rattle.std.specs.Prelude.{◌≡◌, ◌<◌, ◌≤◌, ◌+◌, ◌*
 ghost use Rattle.pcm_format.specs.Samples.{natural};
 ghost use Rattle.pcm_feeder.specs.Fractions.{IsPaced, IsFraction, IsAhead};
 
-use pcm_num::reduce;
+use pcm_num::{quotient, reduce};
 use pcm_rate::Rate;
 
 /// Where an output lies: whole frames past the one under the next output, and parts of a frame.
@@ -89,8 +89,8 @@ impl Pace {
         let frames = plus(offered as u128, self.ahead);
         let room = frames.saturating_sub(u128::from(self.rate.lookahead));
         let parts = (room * u128::from(self.rate.dst)).saturating_sub(self.parts());
-        let src = u128::from(self.rate.src);
-        let allowed = (parts + (src - 1)) / src;
+        let src = self.rate.src;
+        let allowed = quotient(parts + u128::from(src - 1), src);
         if allowed < want as u128 {
             allowed as usize
         } else {
@@ -105,7 +105,7 @@ impl Pace {
         ensures short { result < 2 ^ 100 }
     {
         let parts = self.parts() + (outputs - 1) as u128 * u128::from(self.rate.src);
-        parts / u128::from(self.rate.dst) + 1 + u128::from(self.rate.lookahead)
+        quotient(parts, self.rate.dst) + 1 + u128::from(self.rate.lookahead)
     }
 
     // The phase in parts of the rate as it was given.

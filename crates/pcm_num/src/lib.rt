@@ -2,14 +2,14 @@
 //! Each function equals its formula in `specs/`.
 #![tactic(auto)]
 
+mod division;
 mod fraction;
 mod limit;
 mod reciprocal;
-mod scale;
 mod shift;
 
+pub use division::quotient;
 pub use fraction::reduce;
 pub use limit::clamp_bits;
 pub use reciprocal::Reciprocal;
-pub use scale::mul_div;
 pub use shift::floor_shift;

@@ -1,8 +1,11 @@
 -- What holds of every plan: its stages fit each other.
-use Rattle.std.specs.Prelude.{◌≡◌, ◌≢◌, ◌≤◌, ℕ, List, [], ◌∷◌, length, All}
+use Rattle.std.specs.Prelude.{◌≡◌, ◌≢◌, ◌≤◌, ◌<◌, ℕ, List, [], ◌∷◌, length, All}
+use Rattle.std.specs.Int.{IsGcd}
+use Rattle.pcm_num.specs.Fraction.{HasCommonFactor}
 use Rattle.pcm_num.specs.Limit.{FitsBits}
 use Rattle.pcm_format.specs.Frames.{Frame}
 use Rattle.pcm_format.specs.Layouts.{channels_of}
+use Rattle.pcm_rate.specs.declared.rate.Rate.{Rate}
 use Rattle.pcm_rate.specs.Rates.{unchanged}
 use Rattle.pcm_feeder.specs.declared.kind.Kind.TheVariants as kinds
 use Rattle.pcm_feeder.specs.declared.stage.Spec.{Spec}
@@ -12,7 +15,7 @@ use Rattle.pcm_feeder.specs.Kinds.{kind_of}
 use Rattle.pcm_feeder.specs.Limits.{IsSpec, HasTable}
 use Rattle.pcm_feeder.specs.Stages.{rate_of, channels_in, channels_out, history}
 use Rattle.pcm_plan.specs.declared.plan.TheConstants.{STAGES}
-use Rattle.pcm_plan.specs.Plans.{PlanSeen}
+use Rattle.pcm_plan.specs.Plans.{PlanSeen, rate_in_plan}
 
 -- each stage takes the channels that the one before it gives, from the first count to the last
 abbrev pub Follow : ℕ → List Spec → ℕ → Type 0
@@ -55,6 +58,15 @@ pub record IsPlan (plan : PlanSeen) : Type 0 where
   pub one_rate : HaveOneRate plan.stages
   pub late_gain : GainIsLate plan.stages
   pub count : length plan.stages ≤ STAGES
+
+-- what a plan keeps of its stages' rate: the rate, and its fraction in lowest terms
+pub record IsKept (plan : PlanSeen) (rate : Rate) (frames outputs : ℕ) : Type 0 where
+  pub fits : IsPlan plan
+  pub rate_is : rate ≡ rate_in_plan plan
+  pub same : HasCommonFactor rate.src rate.dst frames outputs
+  pub lowest : IsGcd frames outputs 1
+  pub frames_above : 0 < frames
+  pub outputs_above : 0 < outputs
 
 -- no stage has a gain
 abbrev pub HaveNoVolume : List Spec → Type 0

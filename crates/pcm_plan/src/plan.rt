@@ -21,11 +21,14 @@ pub struct Plan {
     source: Layout,
     target: Layout,
     stages: ArrayVec<Spec, STAGES>,
+    // The rate and its period are asked for at each block, so they are found once.
+    rate: Rate,
+    period: (u32, u32),
 }
 
 impl Model for Plan {
     ghost use Rattle.pcm_plan.specs.Plans.{PlanSeen};
-    ghost use Rattle.pcm_plan.specs.Fits.{IsPlan};
+    ghost use Rattle.pcm_plan.specs.Fits.{IsKept};
 
     ghost Value = { PlanSeen };
 
@@ -35,11 +38,11 @@ impl Model for Plan {
       stages = plan.stages.items;
     } };
 
-    ghost invariant = { λ plan. IsPlan (record {
+    ghost invariant = { λ plan. IsKept (record {
       source = plan.source;
       target = plan.target;
       stages = plan.stages.items;
-    }) };
+    }) plan.rate plan.period.0 plan.period.1 };
 }
 
 impl Plan {
@@ -54,10 +57,13 @@ impl Plan {
         requires { IsPlan (record { source = source; target = target; stages = stages.items }) }
         ensures { result ≡ record { source = source; target = target; stages = stages.items } }
     {
+        let rate = rate_among(stages.as_slice());
         Plan {
             source,
             target,
             stages,
+            rate,
+            period: reduce(rate.src, rate.dst),
         }
     }
 
@@ -65,11 +71,7 @@ impl Plan {
     pub fn straight(layout: Layout) -> Plan
         ensures { result ≡ record { source = layout; target = layout; stages = [] } }
     {
-        Plan {
-            source: layout,
-            target: layout,
-            stages: ArrayVec::new(),
-        }
+        Plan::of(layout, layout, ArrayVec::new())
     }
 
     /// The same plan once more.
@@ -80,7 +82,13 @@ impl Plan {
         for spec in self.stages() {
             stages.push(*spec);
         }
-        Plan::of(self.source, self.target, stages)
+        Plan {
+            source: self.source,
+            target: self.target,
+            stages,
+            rate: self.rate,
+            period: self.period,
+        }
     }
 
     /// The layout before the first stage.
@@ -111,7 +119,7 @@ impl Plan {
         ensures ratio { IsRatio result }
         ensures fits { IsPlan self.now }
     {
-        rate_among(self.stages())
+        self.rate
     }
 
     /// How many frames of the input the first `outputs` outputs use.
@@ -143,8 +151,7 @@ impl Plan {
         ensures frames { 0 < result.0 }
         ensures outputs { 0 < result.1 }
     {
-        let rate = self.rate();
-        reduce(rate.src, rate.dst)
+        self.period
     }
 }
 

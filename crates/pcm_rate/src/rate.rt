@@ -3,6 +3,8 @@
 ghost use Rattle.std.specs.Prelude.{◌≡◌, ◌<◌};
 ghost use Rattle.pcm_rate.specs.Rates.{need, can, len};
 
+use pcm_num::quotient;
+
 /// A change of rate, in frames per second on both sides, and how many frames past the one under an output it looks.
 #[derive(Clone, Copy, Debug, PartialEq, Eq)]
 pub struct Rate {
@@ -27,8 +29,8 @@ impl Rate {
         if outputs == 0 {
             return 0;
         }
-        let place = u128::from(outputs - 1) * u128::from(self.src) / u128::from(self.dst);
-        place + 1 + u128::from(self.lookahead)
+        let parts = u128::from(outputs - 1) * u128::from(self.src);
+        quotient(parts, self.dst) + 1 + u128::from(self.lookahead)
     }
 
     /// How many outputs so many frames of the input allow while more may come.
@@ -45,6 +47,6 @@ impl Rate {
         ensures { result ≡ len self frames }
     {
         let parts = u128::from(frames) * u128::from(self.dst);
-        (parts + u128::from(self.src - 1)) / u128::from(self.src)
+        quotient(parts + u128::from(self.src - 1), self.src)
     }
 }
