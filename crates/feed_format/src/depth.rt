@@ -3,7 +3,7 @@
 ghost use Rattle.pcm_feeder.specs.Limits.{IsDepth};
 
 use pcm_feeder::{FrameMap, Gain, Kind, MapFeeder, Spec};
-use pcm_format::bring_to_depth;
+use pcm_format::put_at_depth;
 
 /// Takes samples of 32 bits to fewer bits.
 pub type DepthFeeder = MapFeeder<Depth>;
@@ -47,8 +47,6 @@ impl FrameMap for Depth {
 
     fn put_frames(&self, gain: Gain, input: &[i32], frames: usize, output: &mut [i32]) {
         let samples = frames * self.channels;
-        let front = &mut output[..samples];
-        front.copy_from_slice(&input[..samples]);
-        bring_to_depth(front, self.bits);
+        put_at_depth(&input[..samples], self.bits, &mut output[..samples]);
     }
 }

@@ -1,10 +1,11 @@
 //! The matrix stage.
 
-ghost use Rattle.std.specs.Prelude.{◌≡◌, ◌≤◌, pos, ◌*ℤ◌, length};
+ghost use Rattle.std.specs.Prelude.{◌≡◌, ◌≤◌, ◌*◌, pos, ◌*ℤ◌, length, map, take};
 ghost use Rattle.pcm_num.specs.Floor.{floor_div};
 ghost use Rattle.pcm_num.specs.Limit.{clamped};
 ghost use Rattle.pcm_format.specs.Layouts.{channels_of};
 ghost use Rattle.pcm_feeder.specs.Layouts.{in_layout};
+ghost use Rattle.pcm_feeder.specs.Streams.{frames_of, written};
 ghost use Rattle.feed_matrix.specs.Weights.{weighted_sum, AreAtMostOne, AreWeights};
 
 use crate::weight::weights;
@@ -16,7 +17,7 @@ use pcm_num::{clamp_bits, floor_shift};
 pub type MatrixFeeder = MapFeeder<Matrix>;
 
 /// The weights between two layouts.
-#[derive(Drop)]
+#[derive(Clone, Copy)]
 pub struct Matrix {
     from: Layout,
     to: Layout,
@@ -57,16 +58,61 @@ impl FrameMap for Matrix {
     }
 
     fn put_frames(&self, gain: Gain, input: &[i32], frames: usize, output: &mut [i32]) {
-        let (taken, given) = (self.from.channels(), self.to.channels());
-        for k in 0..frames {
-            let frame = &input[k * taken..k * taken + taken];
-            self.put_frame(frame, &mut output[k * given..k * given + given]);
+        match self.from {
+            Layout::One => self.put_from::<1>(input, frames, output),
+            Layout::Two => self.put_from::<2>(input, frames, output),
+            Layout::Four => self.put_from::<4>(input, frames, output),
+            Layout::Six => self.put_from::<6>(input, frames, output),
+            Layout::Eight => self.put_from::<8>(input, frames, output),
         }
     }
 }
 
 impl Matrix {
+    // Puts frames of so many channels, by the loop of that count and the other.
+    fn put_from<const TAKEN: usize>(&self, input: &[i32], frames: usize, output: &mut [i32])
+        requires taken { TAKEN ≡ channels_of self.now.from }
+        requires input { frames * TAKEN ≤ length input.now }
+        requires output { frames * channels_of self.now.to ≤ length output.old }
+        ensures { output.new ≡ written
+            (map (in_layout self.now.from self.now.to) (take frames (frames_of TAKEN input.now)))
+            output.old }
+    {
+        match self.to {
+            Layout::One => self.put_each::<TAKEN, 1>(input, frames, output),
+            Layout::Two => self.put_each::<TAKEN, 2>(input, frames, output),
+            Layout::Four => self.put_each::<TAKEN, 4>(input, frames, output),
+            Layout::Six => self.put_each::<TAKEN, 6>(input, frames, output),
+            Layout::Eight => self.put_each::<TAKEN, 8>(input, frames, output),
+        }
+    }
+
+    // Puts frames of so many channels as frames of so many. Both counts are constants of the loop, and
+    // what it calls is inlined: so what is done to one frame is straight code.
+    fn put_each<const TAKEN: usize, const GIVEN: usize>(
+        &self,
+        input: &[i32],
+        frames: usize,
+        output: &mut [i32],
+    )
+        requires taken { TAKEN ≡ channels_of self.now.from }
+        requires given { GIVEN ≡ channels_of self.now.to }
+        requires input { frames * TAKEN ≤ length input.now }
+        requires output { frames * GIVEN ≤ length output.old }
+        ensures { output.new ≡ written
+            (map (in_layout self.now.from self.now.to) (take frames (frames_of TAKEN input.now)))
+            output.old }
+    {
+        // A copy: weights that aren't the loop's own would be read again for each frame.
+        let matrix = *self;
+        for k in 0..frames {
+            let frame = &input[k * TAKEN..k * TAKEN + TAKEN];
+            matrix.put_frame(frame, &mut output[k * GIVEN..k * GIVEN + GIVEN]);
+        }
+    }
+
     // Puts one frame.
+    #[inline(always)]
     fn put_frame(&self, frame: &[i32], output: &mut [i32])
         requires frame { length frame.now ≡ channels_of self.now.from }
         requires output { length output.old ≡ channels_of self.now.to }
@@ -79,6 +125,7 @@ impl Matrix {
 }
 
 // The sample of one position: the sum is rounded down, and limited once.
+#[inline(always)]
 fn gathered(row: &[u32], frame: &[i32]) -> i32
     requires lengths { length row.now ≡ length frame.now }
     requires count { length row.now ≤ 8 }
@@ -89,6 +136,7 @@ fn gathered(row: &[u32], frame: &[i32]) -> i32
 }
 
 // The sum of a frame's samples, each times its weight.
+#[inline(always)]
 fn weighted_sum(row: &[u32], frame: &[i32]) -> i64
     requires lengths { length row.now ≡ length frame.now }
     requires count { length row.now ≤ 8 }

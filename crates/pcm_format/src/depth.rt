@@ -1,6 +1,6 @@
 //! Samples of 32 bits at fewer bits, and back.
 
-ghost use Rattle.std.specs.Prelude.{◌≡◌, ◌≤◌, All, map};
+ghost use Rattle.std.specs.Prelude.{◌≡◌, ◌≤◌, All, length, map};
 ghost use Rattle.pcm_num.specs.Limit.{FitsBits};
 ghost use Rattle.pcm_format.specs.Formats.{bits_of};
 ghost use Rattle.pcm_format.specs.Samples.{at_depth, at_full};
@@ -18,14 +18,15 @@ pub fn at_depth(sample: i32, bits: u32) -> i32
     sample >> (32 - bits)
 }
 
-/// Brings each sample to so many bits, rounded down.
-pub fn bring_to_depth(samples: &mut [i32], bits: u32)
+/// Puts each sample, brought to so many bits.
+pub fn put_at_depth(samples: &[i32], bits: u32, out: &mut [i32])
+    requires lengths { length out.old ≡ length samples.now }
     requires least { 1 ≤ bits }
     requires most { bits ≤ 32 }
-    ensures { samples.new ≡ map (at_depth bits) samples.old }
+    ensures { out.new ≡ map (at_depth bits) samples.now }
 {
     for i in 0..samples.len() {
-        samples[i] = at_depth(samples[i], bits);
+        out[i] = at_depth(samples[i], bits);
     }
 }
 

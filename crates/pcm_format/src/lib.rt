@@ -12,7 +12,7 @@ mod sample;
 mod settings;
 
 pub use bytes::Bytes;
-pub use depth::{at_depth, bring_to_depth, bring_to_full};
+pub use depth::{at_depth, bring_to_full, put_at_depth};
 pub use format::Format;
 pub use frame::{load_frames, spell_frames};
 pub use laws::{load_loses_nothing, silence_is_zero, spelling_is_unique, tables_are_one_to_one};
