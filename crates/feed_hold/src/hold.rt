@@ -1,6 +1,8 @@
 //! The hold stage.
 
-ghost use Rattle.std.specs.Prelude.{◌≡◌};
+ghost use Rattle.std.specs.Prelude.{◌≡◌, ◌≤◌, ◌*◌, length};
+ghost use Rattle.pcm_feeder.specs.Limits.{AreChannels};
+ghost use Rattle.pcm_feeder.specs.Streams.{frame_behind};
 
 use feed_rate::{Interpolator, Point, RateFeeder};
 use pcm_feeder::{Kind, LastFrames, Spec, Tables, frame_among};
@@ -50,13 +52,52 @@ impl Interpolator for Hold {
         self.last.channels
     }
 
-    fn put_frame(&mut self, tables: &Tables, input: &[i32], point: Point, output: &mut [i32]) {
-        let last = &self.last;
-        let frame = frame_among(last.channels, last.samples(), input, point.needed);
-        output.copy_from_slice(frame);
+    fn put_frame(
+        &mut self,
+        channels: usize,
+        tables: &Tables,
+        input: &[i32],
+        point: Point,
+        output: &mut [i32],
+    ) {
+        let kept = &self.last.samples()[..channels];
+        if point.needed * channels >= kept.len() {
+            put_among(channels, kept, input, point.needed, output);
+        } else {
+            put_early(channels, kept, input, point.needed, output);
+        }
     }
 
     fn eat(&mut self, input: &[i32], eaten: usize) {
         self.last.eat(input, eaten);
     }
+}
+
+// Puts the frame at a place among the one kept and those that come. It goes through an array: for
+// all that the compiler knows input and output overlap, and then it moves one sample at a time.
+#[inline(always)]
+fn put_among(channels: usize, kept: &[i32], input: &[i32], place: usize, output: &mut [i32])
+    requires limits { AreChannels channels }
+    requires one { length kept.now ≡ channels }
+    requires there { place * channels ≤ length input.now }
+    requires room { length output.old ≡ channels }
+    ensures { output.new ≡ frame_behind channels kept.now input.now place }
+{
+    let mut frame = [0i32; 8];
+    frame[..channels].copy_from_slice(frame_among(channels, kept, input, place));
+    output.copy_from_slice(&frame[..channels]);
+}
+
+// Puts it for the first outputs of a feed, which rest on the frame kept. By itself, so that the
+// walk over all others chooses no address.
+#[cold]
+#[inline(never)]
+fn put_early(channels: usize, kept: &[i32], input: &[i32], place: usize, output: &mut [i32])
+    requires limits { AreChannels channels }
+    requires one { length kept.now ≡ channels }
+    requires there { place * channels ≤ length input.now }
+    requires room { length output.old ≡ channels }
+    ensures { output.new ≡ frame_behind channels kept.now input.now place }
+{
+    put_among(channels, kept, input, place, output);
 }

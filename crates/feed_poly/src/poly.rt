@@ -73,13 +73,21 @@ impl Interpolator for Polyphase {
         self.window.channels()
     }
 
-    fn put_frame(&mut self, tables: &Tables, input: &[i32], point: Point, output: &mut [i32]) {
+    #[inline(always)]
+    fn put_frame(
+        &mut self,
+        channels: usize,
+        tables: &Tables,
+        input: &[i32],
+        point: Point,
+        output: &mut [i32],
+    ) {
         let filter = &tables.list()[self.table];
         let row = Row::of(filter, row_at(point, filter.phases));
         // Then the frames of the window are those around the output.
         self.window.eat(input, self.passed, point.needed);
         self.passed = point.needed;
-        row.put_frame(&self.window, output);
+        row.put_frame(channels, &self.window, output);
     }
 
     fn eat(&mut self, input: &[i32], eaten: usize) {

@@ -39,12 +39,13 @@ impl<'a> Row<'a> {
     }
 
     /// Writes the frame that comes of the frames of a window.
-    pub fn put_frame(self, window: &Window, output: &mut [i32])
+    pub fn put_frame(self, channels: usize, window: &Window, output: &mut [i32])
+        requires channels { channels ≡ window.now.channels }
         requires taps { length self.coefs.now ≡ window.now.taps }
         requires room { length output.old ≡ window.now.channels }
         ensures { output.new ≡ window_by self.entry.shift self.entry.coefs.now window.now }
     {
-        for channel in 0..window.channels() {
+        for channel in 0..channels {
             output[channel] = self.sample(window.channel(channel));
         }
     }

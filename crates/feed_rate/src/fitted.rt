@@ -1,7 +1,7 @@
 //! The counts of a fitted converter, and its walk from output to output.
 
 ghost use Rattle.std.specs.Prelude.{◌≡◌, ◌<◌, ◌≤◌, ◌+◌, ◌*◌, ◌^◌, pos, length};
-ghost use Rattle.pcm_feeder.specs.Limits.{IsRate};
+ghost use Rattle.pcm_feeder.specs.Limits.{AreChannels, IsRate};
 ghost use Rattle.pcm_feeder.specs.Pace.{rate_by, phase_by, ahead_by, factor_of, IsStep};
 ghost use Rattle.feed_rate.specs.Methods.{channels_by, lookahead_by, HasFilter};
 ghost use Rattle.feed_rate.specs.Outputs.{tail_past, AreEnough, PutsNext};
@@ -65,15 +65,56 @@ impl Fitted {
         ensures step { IsStep self.now.pace result count }
         ensures short { result.frames < 2 ^ 62 }
     {
-        let Fitted { pace, used, whole } = *self;
         let channels = interpolator.channels();
+        match channels {
+            1 => self.walk(1, interpolator, tables, input, eaten, count, output),
+            2 => self.walk(2, interpolator, tables, input, eaten, count, output),
+            4 => self.walk(4, interpolator, tables, input, eaten, count, output),
+            6 => self.walk(6, interpolator, tables, input, eaten, count, output),
+            8 => self.walk(8, interpolator, tables, input, eaten, count, output),
+            _ => self.walk(channels, interpolator, tables, input, eaten, count, output),
+        }
+    }
+
+    // The walk over outputs of so many channels. Each call has it for itself: where the call names
+    // their number, no loop over channels is left in it.
+    #[inline(always)]
+    fn walk<I: Interpolator>(
+        &self,
+        channels: usize,
+        interpolator: &mut I,
+        tables: &Tables,
+        input: &[i32],
+        eaten: usize,
+        count: usize,
+        output: &mut [i32],
+    ) -> Step
+        requires channels { channels ≡ channels_by (I.seen interpolator.old).method }
+        requires limits { AreChannels channels }
+        requires level { (rate_by self.now.pace).lookahead ≡ lookahead_by (I.seen interpolator.old).method }
+        requires rested { (I.seen interpolator.old).passed ≡ 0 }
+        requires filter { HasFilter (I.seen interpolator.old).method tables.now }
+        requires room { count * channels_by (I.seen interpolator.old).method ≤ length output.old }
+        requires there { eaten * channels_by (I.seen interpolator.old).method ≤ length input.now }
+        requires enough { AreEnough self.now.pace eaten count }
+        ensures frames { PutsNext self.now.pace (I.seen interpolator.old) tables.now input.now count
+            output.old output.new }
+        ensures tail { (I.seen interpolator.new).tail
+            ≡ tail_past (I.seen interpolator.old) input.now eaten }
+        ensures method { (I.seen interpolator.new).method ≡ (I.seen interpolator.old).method }
+        ensures rested_again { (I.seen interpolator.new).passed ≡ 0 }
+        ensures step { IsStep self.now.pace result count }
+        ensures short { result.frames < 2 ^ 62 }
+    {
+        let Fitted { pace, used, whole } = *self;
         let start = pace.place(used);
         let factor = self.factor();
         let mut step = pace.first();
         for j in 0..count {
             let at = j * channels;
             let point = Point::at(start + step.frames, whole, step.phase * factor);
-            interpolator.put_frame(tables, input, point, &mut output[at..at + channels]);
+            let frame = &mut output[at..at + channels];
+            interpolator.put_frame(channels, tables, input, point, frame);
             step = pace.after(step);
         }
         interpolator.eat(input, eaten);

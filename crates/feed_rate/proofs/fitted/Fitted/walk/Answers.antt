@@ -7,7 +7,7 @@ use Rattle.feed_rate.specs.Outputs.{tail_after, output_by, output_at}
 use Rattle.feed_rate.specs.Methods.{channels_by}
 use Rattle.feed_rate.proofs.Methods.{output-channels, all-channels}
 use Rattle.feed_rate.proofs.Walks.{needed-within, eaten-few, step-on, output-is}
-use Rattle.feed_rate.proofs.fitted.Fitted.put_frames.Goals as goal
+use Rattle.feed_rate.proofs.fitted.Fitted.walk.Goals as goal
 
 pub overflow_add-start : goal.overflow_add-start
 overflow_add-start g c =
@@ -16,11 +16,11 @@ overflow_add-start g c =
     let some : c.args.eaten < 2 ^ 64 = search rules in
     omega (arith, within, some)
 
-pub slice_bounds-put_frame-end : goal.slice_bounds-put_frame-end
-slice_bounds-put_frame-end g c =
-    let channels = c.channels-channels.result in
+pub slice_bounds-frame-end : goal.slice_bounds-frame-end
+slice_bounds-frame-end g c =
+    let channels = c.args.channels in
     let next : c.loop-j.j + 1 ≤ c.args.count = omega (arith, c.loop-j-test.true) in
-    let all : c.args.count * channels ≤ length c.args.output.now = rw c.channels-channels.ensures.value c.requires.room in
+    let all : c.args.count * channels ≤ length c.args.output.now = rw c.requires.channels c.requires.room in
     let fits : (c.loop-j.j + 1) * channels ≤ length c.loop-j.output = omega (arith, all, mul-le-mul_right channels next, c.loop-j.auto.output) in
     search rules
 
@@ -36,7 +36,7 @@ after-step-requires-clause-short g c =
     let fitted = c.args.self.now in
     let short = step-short fitted.pace c.loop-j.j c.args.count c.args.eaten c.loop-j.step c.loop-j.invariant.step (omega (arith, c.loop-j-test.true)) c.requires.enough in
     let some : length c.args.input.now < 2 ^ 61 = search rules in
-    let above : 0 < channels_by (g.I.Interpolator.seen c.args.interpolator.now).method = omega (arith, c.channels-channels.ensures.value, c.channels-channels.ensures.limits.least) in
+    let above : 0 < channels_by (g.I.Interpolator.seen c.args.interpolator.now).method = omega (arith, c.requires.channels, c.requires.limits.least) in
     omega (arith, short, some, eaten-few (channels_by (g.I.Interpolator.seen c.args.interpolator.now).method) c.args.eaten (length c.args.input.now) above c.requires.there)
 
 pub loop-j-preserved : goal.loop-j-preserved
@@ -64,7 +64,7 @@ loop-j-preserved g c =
     let there : (by.seen c.put_frame.new.self).tail ≡ tail_after method tail input (by.seen c.put_frame.new.self).passed =
     c.put_frame.ensures.tail tail was ∙ ap (λ m. tail_after m tail input (by.seen c.put_frame.new.self).passed) same in
     let on = step-on fitted.pace step c.after-step.result j c.loop-j.invariant.step next in
-    rw c.channels-channels.ensures.value (record {
+    rw c.requires.channels (record {
       frames = write-step (channels_by method) (output_at method tables fitted.pace tail input) c.loop-j.output c.put_frame.new.output c.put_frame.new.output c.args.output.now j
           (λ k. output-channels method tables _ _ tail input _ have) c.loop-j.invariant.frames refl is;
       step = next;
@@ -84,5 +84,5 @@ returns-clause-short g c =
     let fitted = c.args.self.now in
     let short = step-short fitted.pace c.loop-j.j c.args.count c.args.eaten c.loop-j.step c.loop-j.invariant.step c.loop-j.auto.j-end c.requires.enough in
     let some : length c.args.input.now < 2 ^ 61 = search rules in
-    let above : 0 < channels_by (g.I.Interpolator.seen c.args.interpolator.now).method = omega (arith, c.channels-channels.ensures.value, c.channels-channels.ensures.limits.least) in
+    let above : 0 < channels_by (g.I.Interpolator.seen c.args.interpolator.now).method = omega (arith, c.requires.channels, c.requires.limits.least) in
     omega (arith, short, some, eaten-few (channels_by (g.I.Interpolator.seen c.args.interpolator.now).method) c.args.eaten (length c.args.input.now) above c.requires.there)

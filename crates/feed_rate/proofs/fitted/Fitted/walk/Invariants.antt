@@ -2,7 +2,7 @@ use Rattle.std.proofs.Common.{◌≡◌, ◌+◌, ◌≤◌}
 use Rattle.pcm_feeder.specs.Pace.{IsStep}
 use Rattle.pcm_feeder.specs.Streams.{written}
 use Rattle.feed_rate.specs.Outputs.{next_frames, tail_after}
-use Rattle.feed_rate.proofs.fitted.Fitted.put_frames.Given as goal
+use Rattle.feed_rate.proofs.fitted.Fitted.walk.Given as goal
 
 -- the first frames are written, the next one lies at the step, and no frame past those that it needs was taken in
 abbrev pub invariant-loop-j : goal.invariant-loop-j
