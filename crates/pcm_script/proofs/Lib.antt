@@ -1,4 +1,6 @@
 pub mod Cuts
+pub mod Digits
+pub mod FirstWords
 pub mod Numerals
 pub mod Counts
 pub mod Judgements

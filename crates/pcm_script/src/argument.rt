@@ -4,12 +4,11 @@ ghost use Rattle.std.specs.Prelude.{◌≡◌, ◌+◌, ◌^◌, ◌<◌, ◌≤
 ghost use Rattle.pcm_script.specs.Answers.{Gives};
 ghost use Rattle.pcm_script.specs.Commands.{argument_in, bytes_in, code_in, descriptor_in, file_in, format_in, is_file_named, layout_in, length_in, rate_in, size_of, way_in};
 
-use crate::ScriptKind;
 use crate::fault::LineFault;
 use crate::names::way_named;
 use crate::number::{number_in, number_within};
 use crate::request::Setter;
-use hex::FromHexError;
+use crate::{ScriptKind, hexadecimal};
 use pcm_desk::{DESCRIPTORS, WRITE_BYTES};
 use pcm_format::{Format, Layout, RATE_LEAST, RATE_MOST};
 use pcm_oss::Way;
@@ -133,9 +132,11 @@ pub(crate) fn bytes_in(alloc: Global, word: &[u8]) -> Result<Vec<u8>, LineFault>
     if word == b"-".as_slice() {
         return Ok(Vec::new(alloc));
     }
-    match hex::decode(alloc, word) {
-        Ok(bytes) if bytes.len() <= WRITE_BYTES => Ok(bytes),
-        Err(FromHexError::OutOfMemory) => Err(LineFault::Memory),
-        _ => Err(LineFault::Refused(ScriptKind::Hex)),
+    if word.len() > 2 * WRITE_BYTES {
+        return Err(LineFault::Refused(ScriptKind::Hex));
+    }
+    match hexadecimal::decode(alloc, word)? {
+        Some(bytes) => Ok(bytes),
+        None => Err(LineFault::Refused(ScriptKind::Hex)),
     }
 }

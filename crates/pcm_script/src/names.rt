@@ -19,19 +19,6 @@ pub enum Command {
     Intr,
 }
 
-// All commands, in the order of the language's table.
-const COMMANDS: [Command; 9] = [
-    Command::Open,
-    Command::Write,
-    Command::Send,
-    Command::Poke,
-    Command::Read,
-    Command::Ioctl,
-    Command::Close,
-    Command::Mixer,
-    Command::Intr,
-];
-
 impl Command {
     ghost use Rattle.pcm_script.specs.Names.{command_name, command_named};
 
@@ -56,10 +43,18 @@ impl Command {
     pub(crate) fn from_name(word: &[u8]) -> Option<Command>
         ensures { result ≡ command_named word.now }
     {
-        COMMANDS
-            .iter()
-            .copied()
-            .find(|command| command.name() == word)
+        match word {
+            b"open" => Some(Command::Open),
+            b"write" => Some(Command::Write),
+            b"send" => Some(Command::Send),
+            b"poke" => Some(Command::Poke),
+            b"read" => Some(Command::Read),
+            b"ioctl" => Some(Command::Ioctl),
+            b"close" => Some(Command::Close),
+            b"mixer" => Some(Command::Mixer),
+            b"intr" => Some(Command::Intr),
+            _ => None,
+        }
     }
 }
 

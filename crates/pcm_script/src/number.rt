@@ -6,6 +6,7 @@ ghost use Rattle.hex.specs.Hex.{hex_digit_value, is_hex_digit};
 ghost use Rattle.pcm_script.specs.Numbers.{after_prefix, are_digits, decimal_in, digit_of, digits_value, is_decimal_digit, number_in, number_within};
 
 use crate::ScriptKind;
+use crate::hexadecimal::worth_of;
 
 /// The number of a word of one to ten decimal digits.
 pub fn decimal_in(word: &[u8]) -> Option<u64>
@@ -90,10 +91,5 @@ fn digit_of(digit: u8) -> u64
     ensures value { result ≡ digit_of (hex_digit_value digit) }
     ensures most { result ≤ 15 }
 {
-    match digit {
-        b'A'..=b'F' => u64::from(digit - b'A' + 10),
-        b'a'..=b'f' => u64::from(digit - b'a' + 10),
-        b'0'..=b'9' => u64::from(digit - b'0'),
-        _ => 0,
-    }
+    u64::from(worth_of(digit) % 16)
 }

@@ -4,14 +4,18 @@ ghost use Rattle.std.specs.Prelude.{◌≡◌, ◌<◌, ◌≤◌, length, IfOk}
 ghost use Rattle.pcm_desk.specs.declared.limits.TheConstants.{DEVICE_BYTES, EVENTS};
 ghost use Rattle.pcm_desk.specs.Device.{unfiltered};
 ghost use Rattle.pcm_desk.specs.Events.{all_frames_taken};
-ghost use Rattle.pcm_script.specs.Answers.{Leaves, ReadsScript};
+ghost use Rattle.pcm_script.specs.Answers.{Asks, Leaves, ReadsScript};
 ghost use Rattle.pcm_script.specs.Collecting.{with_text};
+ghost use Rattle.pcm_script.specs.Commands.{line_event};
 ghost use Rattle.pcm_script.specs.Lines.{AllFit, bytes_taken, script_read};
+ghost use Rattle.pcm_script.specs.Words.{words_of};
 
 use crate::command::line_event;
 use crate::draft::Draft;
 use crate::fault::LineFault;
-use crate::words::words_of;
+use crate::line_event::LineEvent;
+use crate::lines::first_line;
+use crate::words::first_words;
 use crate::{Refusal, Script, ScriptFault, ScriptKind, TEXT_BYTES};
 use pcm_desk::Device;
 use pcm_wave::DataFile;
@@ -44,14 +48,17 @@ pub fn script_of(
     }
     let mut draft = Draft::new(alloc);
     let mut line = 1;
-    for text in bytes.split(|byte| *byte == b'\n') {
-        match add_line(alloc, &mut draft, device, files, text) {
+    let mut rest = Some(bytes);
+    while let Some(text) = rest {
+        let (first, behind) = first_line(text);
+        match add_line(alloc, &mut draft, device, files, first) {
             Ok(()) => line += 1,
             Err(LineFault::Refused(kind)) => {
                 return Err(ScriptFault::Refused(Refusal { line, kind }));
             }
             Err(LineFault::Memory) => return Err(ScriptFault::Memory),
         }
+        rest = behind;
     }
     Ok(draft.into_script())
 }
@@ -66,9 +73,21 @@ fn add_line(
 ) -> Result<(), LineFault>
     ensures { Leaves draft.new result (with_text (unfiltered device.now) files.now draft.old text.now) }
 {
-    let words = words_of(alloc, text)?;
-    match line_event(alloc, device, files, &words)? {
+    match event_of(alloc, device, files, text)? {
         None => Ok(()),
         Some(line) => draft.add(device, &line),
     }
+}
+
+// What a line asks for.
+fn event_of(
+    alloc: Global,
+    device: &Device,
+    files: &[DataFile],
+    text: &[u8],
+) -> Result<Option<LineEvent>, LineFault>
+    ensures { Asks result (line_event (unfiltered device.now) files.now (words_of text.now)) }
+{
+    let words = first_words(text);
+    line_event(alloc, device, files, words.as_slice())
 }

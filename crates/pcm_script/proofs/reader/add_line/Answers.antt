@@ -3,4 +3,4 @@ use Rattle.pcm_script.proofs.Asked.{asked-room}
 use Rattle.pcm_script.proofs.reader.add_line.Goals as goal
 
 pub add-requires : goal.add-requires
-add-requires c = asked-room _ _ _ c.line_event.result c.in-Some.line c.line_event.ensures (search rules)
+add-requires c = asked-room _ _ _ c.event_of.result c.in-Some.line c.event_of.ensures (search rules)
