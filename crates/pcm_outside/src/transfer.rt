@@ -8,7 +8,7 @@ use std::alloc::Global;
 use std::io::{Read, Write};
 
 /// The bytes of one read of the system.
-const TURN: usize = 4096;
+const TURN: usize = 65536;
 
 /// Writes all of a piece. A writer that takes nothing of what is left has failed.
 pub fn write_whole<W: Write>(to: &mut W, piece: &[u8]) -> Result<(), WriteFault>

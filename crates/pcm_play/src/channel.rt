@@ -166,6 +166,10 @@ impl<B: Feeder> PlayChannelOf<B> {
         ensures device { self.new.path.device ≡ self.old.path.device }
         ensures moves { (filters : Filters) → PlayMoves B.kind B.kept filters [] 0 self.old self.new }
     {
+        // No other run ends by what passes.
+        if !self.book.is_draining() {
+            return;
+        }
         let rate = self.path.chain.plan().rate();
         self.book = self.book.settled(rate, here);
         if self.book.written == 0 {
