@@ -16,18 +16,23 @@
 #include <stdlib.h>
 #include <string.h>
 #include <sys/ioctl.h>
+#include <sys/mman.h>
 #include <sys/soundcard.h>
 #include <time.h>
 #include <unistd.h>
 
 enum { DEVICE_RATE = 48000, DEVICE_RING = 1024, BLOCK = 256, LINE_BYTES = 4096, RING_BYTES = 131072, OPEN = 64, SLACK = 3 };
 
-/* What one opening has, and how far its sound is by what the interrupts took. Counts of frames are those of the client. */
+/* What one opening has, and how far its sound is by what the interrupts took. Counts of frames are those of the client. Of a mapped
+ * one, which `maps`, `area` is the buffer that the program has, and `poked` what the script knows of it. */
 typedef struct {
-  bool used, records, started, nonblocking;
+  bool used, records, started, nonblocking, maps;
   int fd;
   unsigned format, channels, rate, power, fragments;
-  uint64_t written, taken, parts, captured, read;
+  uint64_t written, taken, parts, captured, read, told;
+  long opened_at;
+  uint8_t *area, *poked;
+  size_t mapped;
 } Client;
 
 static Client clients[OPEN];
@@ -42,6 +47,8 @@ static int (*real_close)(int);
 static int (*real_fcntl)(int, int, ...);
 static ssize_t (*real_write)(int, const void *, size_t);
 static ssize_t (*real_read)(int, void *, size_t);
+static void *(*real_mmap)(void *, size_t, int, int, int, off_t);
+static int (*real_munmap)(void *, size_t);
 
 __attribute__((constructor)) static void begin(void) {
   real_open = dlsym(RTLD_NEXT, "open");
@@ -50,6 +57,8 @@ __attribute__((constructor)) static void begin(void) {
   real_fcntl = dlsym(RTLD_NEXT, "fcntl");
   real_write = dlsym(RTLD_NEXT, "write");
   real_read = dlsym(RTLD_NEXT, "read");
+  real_mmap = dlsym(RTLD_NEXT, "mmap");
+  real_munmap = dlsym(RTLD_NEXT, "munmap");
 }
 
 static bool is_dsp(const char *path) {
@@ -93,14 +102,42 @@ static uint64_t ring(const Client *c) { return c->fragments * fragment(c); }
 
 /* The bytes that wait: of what was taken a few frames less count, so that there is never less room than is told. */
 static uint64_t waiting(const Client *c) {
+  if (c->maps) return 0;
   uint64_t taken = c->taken > SLACK ? c->taken - SLACK : 0;
   return c->written - taken * frame(c);
 }
 
 static uint64_t room(const Client *c) { return waiting(c) < ring(c) ? ring(c) - waiting(c) : 0; }
 
+static void write_digits(char *text, const uint8_t *bytes, size_t count) {
+  static const char digits[] = "0123456789abcdef";
+  for (size_t k = 0; k < count; k++) {
+    text[2 * k] = digits[bytes[k] >> 4];
+    text[2 * k + 1] = digits[bytes[k] & 15];
+  }
+  text[2 * count] = 0;
+}
+
+/* What a program has stored into its area since it was looked at becomes pokes: from the first byte that differs to the last, and
+ * another one where 16 bytes or more between are as they were. */
+static void poke(Client *c) {
+  char text[2 * LINE_BYTES + 1];
+  for (size_t at = 0; at < c->mapped; at++) {
+    if (c->area[at] == c->poked[at]) continue;
+    size_t end = at + 1, most = c->mapped - at < LINE_BYTES ? c->mapped : at + LINE_BYTES;
+    for (size_t next = end; next < most && next - end < 16; next++)
+      if (c->area[next] != c->poked[next]) end = next + 1;
+    memcpy(c->poked + at, c->area + at, end - at);
+    write_digits(text, c->poked + at, end - at);
+    line("poke %d %zu %s", number_of(c), at, text);
+    at = end - 1;
+  }
+}
+
 /* One interrupt of so many frames: each channel that has started takes or gets as many as last as long. */
 static void interrupt(unsigned frames) {
+  for (Client *c = clients; c < clients + OPEN; c++)
+    if (c->used && c->area) poke(c);
   line("intr %u", frames);
   device_frames += frames;
   for (Client *c = clients; c < clients + OPEN; c++) {
@@ -109,6 +146,7 @@ static void interrupt(unsigned frames) {
     uint64_t more = c->parts / DEVICE_RATE, all = c->written / frame(c);
     c->parts %= DEVICE_RATE;
     if (c->records) c->captured += more;
+    else if (c->maps) c->taken += more;
     else c->taken = c->taken + more < all ? c->taken + more : all;
   }
 }
@@ -153,6 +191,7 @@ static int opened(const char *path, int flags) {
     *c = (Client){.used = true, .records = records, .nonblocking = flags & O_NONBLOCK, .fd = fd, .format = AFMT_U8,
                   .channels = 1, .rate = 8000, .power = 12, .fragments = 4};
     line("open %d %s", number_of(c), records ? "rec" : "play");
+    c->opened_at = script ? ftell(script) - 5 : 0;
   }
   pthread_mutex_unlock(&lock);
   return fd;
@@ -219,13 +258,8 @@ int fcntl64(int fd, int what, ...) {
 }
 
 static void write_line(Client *c, const uint8_t *bytes, size_t count) {
-  static const char digits[] = "0123456789abcdef";
   char text[2 * LINE_BYTES + 1];
-  for (size_t k = 0; k < count; k++) {
-    text[2 * k] = digits[bytes[k] >> 4];
-    text[2 * k + 1] = digits[bytes[k] & 15];
-  }
-  text[2 * count] = 0;
+  write_digits(text, bytes, count);
   line("write %d %s", number_of(c), text);
   c->written += count;
   if (waiting(c) >= fragment(c)) c->started = true;
@@ -291,26 +325,28 @@ static void drain(Client *c) {
 static void ask(Client *c, const char *name) { line("ioctl %d %s", number_of(c), name); }
 static void set(Client *c, const char *name, unsigned value) { line("ioctl %d %s %u", number_of(c), name, value); }
 
+static bool is_set(const Client *c) { return c->written || (c->maps && c->started); }
+
 static void set_channels(Client *c, int asked) {
-  if (c->written || asked < 1) return;
+  if (is_set(c) || asked < 1) return;
   c->channels = asked >= 8 ? 8 : asked >= 6 ? 6 : asked >= 4 ? 4 : asked >= 2 ? 2 : 1;
   set(c, "channels", c->channels);
 }
 
 static void set_rate(Client *c, int asked) {
-  if (c->written) return;
+  if (is_set(c)) return;
   c->rate = asked < 4000 ? 4000 : asked > 192000 ? 192000 : (unsigned)asked;
   set(c, "speed", c->rate);
 }
 
 static void set_format(Client *c, unsigned asked) {
-  if (c->written || asked == AFMT_QUERY || (asked & (asked - 1)) || !(asked & 0xff1f8)) return;
+  if (is_set(c) || c->maps || asked == AFMT_QUERY || (asked & (asked - 1)) || !(asked & 0xff1f8)) return;
   c->format = asked;
   set(c, "setfmt", c->format);
 }
 
 static void set_fragment(Client *c, unsigned asked) {
-  if (c->written) return;
+  if (c->written || c->maps) return;
   unsigned power = asked & 0xffff, count = asked >> 16 & 0x7fff, most;
   c->power = power < 4 ? 4 : power > 16 ? 16 : power;
   most = RING_BYTES >> c->power;
@@ -325,7 +361,25 @@ static void tell_space(Client *c, audio_buf_info *info) {
 
 static void tell_pointer(Client *c, count_info *info) {
   uint64_t at = c->records ? c->captured * frame(c) : c->taken * frame(c);
-  *info = (count_info){.bytes = (int)at, .blocks = (int)(at / fragment(c)), .ptr = (int)(at % ring(c))};
+  *info = (count_info){.bytes = (int)at, .blocks = (int)((at - c->told) / fragment(c)), .ptr = (int)(at % ring(c))};
+  c->told = at / fragment(c) * fragment(c);
+}
+
+/* A mapped channel runs while its trigger is on, and begins anew. What was stored before counts from its start on. */
+static void trigger(Client *c, unsigned bits) {
+  if (c->area) poke(c);
+  set(c, "settrigger", bits);
+  if (!c->maps) { c->started = c->started || c->written; return; }
+  c->started = bits & PCM_ENABLE_OUTPUT;
+  if (!c->started) c->taken = c->parts = c->told = 0;
+}
+
+/* Where a mapped channel is asked for its place, time goes on: the program waits for what it is told. */
+static void tell_place(Client *c, count_info *info) {
+  if (c->area) poke(c);
+  ask(c, "getoptr");
+  tell_pointer(c, info);
+  if (c->maps && c->started && !getenv("DSP_RECORD_STEADY")) interrupt(block());
 }
 
 /* What a request does. Answers 0, or -1 where it isn't one of those that are known. */
@@ -342,14 +396,14 @@ static int answer(Client *c, unsigned long request, void *at) {
     case SNDCTL_DSP_GETBLKSIZE: ask(c, "getblksize"); *number = (int)fragment(c); return 0;
     case SNDCTL_DSP_GETOSPACE: ask(c, "getospace"); tell_space(c, at); if (!room(c)) wait_for_interrupt(); return 0;
     case SNDCTL_DSP_GETISPACE: ask(c, "getispace"); tell_space(c, at); return 0;
-    case SNDCTL_DSP_GETOPTR: ask(c, "getoptr"); tell_pointer(c, at); return 0;
+    case SNDCTL_DSP_GETOPTR: tell_place(c, at); return 0;
     case SNDCTL_DSP_GETIPTR: ask(c, "getiptr"); tell_pointer(c, at); return 0;
     case SNDCTL_DSP_GETODELAY: ask(c, "getodelay"); *number = (int)waiting(c); return 0;
     case SNDCTL_DSP_GETTRIGGER: ask(c, "gettrigger"); *number = c->records ? PCM_ENABLE_INPUT : PCM_ENABLE_OUTPUT; return 0;
-    case SNDCTL_DSP_SETTRIGGER: set(c, "settrigger", (unsigned)*number & 3); c->started = c->started || c->written; return 0;
-    case SNDCTL_DSP_POST: ask(c, "post"); c->started = c->started || c->written >= frame(c); return 0;
+    case SNDCTL_DSP_SETTRIGGER: trigger(c, (unsigned)*number & 3); return 0;
+    case SNDCTL_DSP_POST: ask(c, "post"); c->started = c->started || c->maps || c->written >= frame(c); return 0;
     case SNDCTL_DSP_SYNC: ask(c, "sync"); if (c->written) drain(c); return 0;
-    case SNDCTL_DSP_RESET: ask(c, "halt"); c->written = c->taken = c->captured = c->read = c->parts = 0; c->started = false; return 0;
+    case SNDCTL_DSP_RESET: ask(c, "halt"); c->written = c->taken = c->captured = c->read = c->parts = c->told = 0; c->started = false; return 0;
     case SNDCTL_DSP_NONBLOCK: c->nonblocking = true; return 0;
     case SOUND_PCM_READ_RATE: *number = (int)c->rate; return 0;
     case SOUND_PCM_READ_CHANNELS: *number = (int)c->channels; return 0;
@@ -374,14 +428,72 @@ int ioctl(int fd, unsigned long request, ...) {
   return done;
 }
 
+/* The byte that silence has at a place of an area. */
+static uint8_t silent(const Client *c, size_t at) {
+  bool first = c->format == AFMT_U8 || c->format == AFMT_U16_BE || c->format == 0x80000 || c->format == 0x8000;
+  bool last = c->format == AFMT_U16_LE || c->format == 0x40000 || c->format == 0x4000;
+  return (first && at % width(c) == 0) || (last && at % width(c) == width(c) - 1) ? 0x80 : 0;
+}
+
+/* The buffer of a client that plays: it is shared with nobody, and looked at before each interrupt. The open becomes one of a mapped
+ * channel. */
+static void *map_area(Client *c, size_t length) {
+  uint8_t *area = real_mmap(NULL, length, PROT_READ | PROT_WRITE, MAP_PRIVATE | MAP_ANONYMOUS, -1, 0);
+  c->mapped = length < ring(c) ? length : ring(c);
+  c->poked = malloc(ring(c));
+  if (area == MAP_FAILED || !c->poked) return MAP_FAILED;
+  for (size_t at = 0; at < c->mapped; at++) area[at] = c->poked[at] = silent(c, at);
+  c->area = area;
+  c->maps = true;
+  if (script && !fseek(script, c->opened_at, SEEK_SET)) fputs("map ", script), fseek(script, 0, SEEK_END);
+  return area;
+}
+
+void *mmap(void *at, size_t length, int rights, int flags, int fd, off_t from) {
+  pthread_mutex_lock(&lock);
+  Client *c = flags & MAP_ANONYMOUS ? NULL : client_of(fd);
+  void *area = !c ? NULL : c->records || c->maps || c->written || from ? MAP_FAILED : map_area(c, length);
+  pthread_mutex_unlock(&lock);
+  if (area == MAP_FAILED) errno = EINVAL;
+  if (area) return area;
+  if (!real_mmap) real_mmap = dlsym(RTLD_NEXT, "mmap");
+  return real_mmap(at, length, rights, flags, fd, from);
+}
+
+void *mmap64(void *at, size_t length, int rights, int flags, int fd, off64_t from) { return mmap(at, length, rights, flags, fd, from); }
+
+/* What was stored last is looked at before the buffer is gone. */
+static void unmapped(Client *c) {
+  poke(c);
+  c->area = NULL;
+  c->mapped = 0;
+  free(c->poked);
+}
+
+int munmap(void *at, size_t length) {
+  pthread_mutex_lock(&lock);
+  for (Client *c = clients; c < clients + OPEN; c++)
+    if (c->used && c->area && c->area == at) unmapped(c);
+  pthread_mutex_unlock(&lock);
+  if (!real_munmap) real_munmap = dlsym(RTLD_NEXT, "munmap");
+  return real_munmap(at, length);
+}
+
+/* The line of a close, and interrupts until what was written or mixed is handed over. */
+static void finish(Client *c, bool plays_on) {
+  if (c->area) unmapped(c);
+  line("close %d", number_of(c));
+  c->used = false;
+  if (c->maps && plays_on) for (unsigned k = 0; k < DEVICE_RING; k += BLOCK) interrupt(BLOCK);
+  else if (!c->records && c->written && plays_on) drain(c);
+}
+
 int close(int fd) {
   pthread_mutex_lock(&lock);
   Client *c = client_of(fd);
   if (c) {
     catch_up();
-    line("close %d", number_of(c));
-    if (!c->records && c->written && !getenv("DSP_RECORD_STEADY")) drain(c);
-    c->used = false;
+    finish(c, !getenv("DSP_RECORD_STEADY"));
   }
   pthread_mutex_unlock(&lock);
   return real_close(fd);
@@ -389,13 +501,7 @@ int close(int fd) {
 
 /* A program that ends without a close has closed all the same, and what is left is played. */
 __attribute__((destructor)) static void end(void) {
-  bool left = false;
   for (Client *c = clients; c < clients + OPEN; c++)
-    if (c->used) {
-      line("close %d", number_of(c));
-      left = left || c->written;
-      if (!c->records && c->written) drain(c);
-      c->used = false;
-    }
+    if (c->used) finish(c, true);
   if (script) fclose(script);
 }
