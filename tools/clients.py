@@ -39,7 +39,8 @@ def with_questions(lines, replies, opening):
     for line, descriptor, text in kept_open(lines, opening):
         yield text, None
         rate = rates.get(line.event, rate)
-        if rate and is_asked(line, opening):
+        is_gone = opening.closed and line.event >= opening.closed.event and (opening.way != "play" or descriptor == opening.descriptor)
+        if rate and is_asked(line, opening) and not is_gone:
             for question in (*QUESTIONS[opening.way], *OF_ALL):
                 yield f"ioctl {descriptor} {question}", (line, question)
             yield f"ioctl {descriptor} speed {rate}", (line, "set")
@@ -71,16 +72,13 @@ def moment_of(line, at, answers):
 
 def moments_of(tool, program, config, lines, replies, opening):
     """What an opening is told at each moment from its open on, until it is closed and nothing is left of it."""
-    handed = dict(handed_over(lines, replies))
-    at, moments = 0, []
-    behind = {}
+    handed, moments, behind, at = dict(handed_over(lines, replies)), [], {}, 0
     for line in lines:
         at += handed.get(line.event, 0)
         behind[line.event] = at
     for line, answers in answers_of(tool, program, config, lines, replies, opening):
-        if answers["set"] != "refused badf":
-            moments.append(moment_of(line, behind[line.event], answers))
-        if opening.closed and line.event >= opening.closed.event and (opening.way != "play" or moments[-1].setup):
+        moments.append(moment_of(line, behind[line.event], answers))
+        if opening.closed and line.event >= opening.closed.event and moments[-1].setup:
             break
     return moments
 
