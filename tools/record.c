@@ -18,6 +18,7 @@
 #include <sys/ioctl.h>
 #include <sys/mman.h>
 #include <sys/soundcard.h>
+#include <sys/syscall.h>
 #include <time.h>
 #include <unistd.h>
 
@@ -39,6 +40,7 @@ static Client clients[OPEN];
 static FILE *script;
 static uint64_t device_frames;
 static struct timespec begun;
+static int areas;
 static pthread_mutex_t lock = PTHREAD_MUTEX_INITIALIZER;
 
 static int (*real_open)(const char *, int, ...);
@@ -445,19 +447,19 @@ static void *map_area(Client *c, size_t length) {
   for (size_t at = 0; at < c->mapped; at++) area[at] = c->poked[at] = silent(c, at);
   c->area = area;
   c->maps = true;
+  areas++;
   if (script && !fseek(script, c->opened_at, SEEK_SET)) fputs("map ", script), fseek(script, 0, SEEK_END);
   return area;
 }
 
 void *mmap(void *at, size_t length, int rights, int flags, int fd, off_t from) {
+  if (fd < 0 || flags & MAP_ANONYMOUS || !real_mmap) return (void *)syscall(SYS_mmap, at, length, rights, flags, fd, from);
   pthread_mutex_lock(&lock);
-  Client *c = flags & MAP_ANONYMOUS ? NULL : client_of(fd);
+  Client *c = client_of(fd);
   void *area = !c ? NULL : c->records || c->maps || c->written || from ? MAP_FAILED : map_area(c, length);
   pthread_mutex_unlock(&lock);
   if (area == MAP_FAILED) errno = EINVAL;
-  if (area) return area;
-  if (!real_mmap) real_mmap = dlsym(RTLD_NEXT, "mmap");
-  return real_mmap(at, length, rights, flags, fd, from);
+  return area ? area : real_mmap(at, length, rights, flags, fd, from);
 }
 
 void *mmap64(void *at, size_t length, int rights, int flags, int fd, off64_t from) { return mmap(at, length, rights, flags, fd, from); }
@@ -465,17 +467,18 @@ void *mmap64(void *at, size_t length, int rights, int flags, int fd, off64_t fro
 /* What was stored last is looked at before the buffer is gone. */
 static void unmapped(Client *c) {
   poke(c);
+  areas--;
   c->area = NULL;
   c->mapped = 0;
   free(c->poked);
 }
 
 int munmap(void *at, size_t length) {
+  if (!areas || !real_munmap) return (int)syscall(SYS_munmap, at, length);
   pthread_mutex_lock(&lock);
   for (Client *c = clients; c < clients + OPEN; c++)
     if (c->used && c->area && c->area == at) unmapped(c);
   pthread_mutex_unlock(&lock);
-  if (!real_munmap) real_munmap = dlsym(RTLD_NEXT, "munmap");
   return real_munmap(at, length);
 }
 
