@@ -30,7 +30,7 @@ pub fn move_on(kept: &mut [i32], eaten: &[i32])
 {
     let (count, more) = (kept.len(), eaten.len());
     if more < count {
-        kept.rotate_left(more);
+        kept.copy_within(more.., 0);
         kept[count - more..].copy_from_slice(eaten);
     } else {
         kept.copy_from_slice(&eaten[more - count..]);
