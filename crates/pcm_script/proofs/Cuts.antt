@@ -1,11 +1,16 @@
 -- How a text is cut: its lines, and their words.
-use Rattle.std.proofs.Common.{◌≡◌, ◌≢◌, ◌==◌, not, nat_eq, ℕ, zero, suc, ◌+◌, ◌<◌, Bool, List, [], ◌∷◌, ◌++◌, take, drop, length, slice_index, reverse, take_while, sym, ap, ◌∙◌, refl, arith}
-use Rattle.std.specs.List.{onto_first, prefix_len, starts_with}
+use Rattle.std.proofs.Common.{◌≡◌, ◌≢◌, ◌==◌, not, nat_eq, ℕ, zero, suc, ◌+◌, ◌<◌, Bool, true, false, List, [], ◌∷◌, ◌++◌, take, drop, length, slice_index, reverse, take_while, sym, ap, ◌∙◌, refl, arith}
+use Rattle.std.specs.List.{onto_first, prefix_len, slice_split, starts_with}
 use Rattle.std.proofs.lemmas.List.{reverse-reverse, reverse-append}
 use Rattle.std.proofs.lemmas.List.Splits.{slice_split-cons_no}
 use Rattle.std.proofs.lemmas.Bool.Decides.{nat_tests}
 use Rattle.std.proofs.lemmas.Grind.{common_steps}
-use Rattle.pcm_script.specs.Words.{lines_of, without_return_first, without_return, is_word, begins_comment}
+use Rattle.pcm_script.specs.Words.{without_return_first, without_return, is_word, begins_comment}
+
+-- a test that isn't passed
+not-true : (b : Bool) → b ≢ true → b ≡ false
+not-true true other = absurd (other refl)
+not-true false other = refl
 
 -- a carriage return at the end is dropped
 pub without_return-append : (front : List ℕ) → without_return (front ++ 13 ∷ []) ≡ front
@@ -38,22 +43,22 @@ pub begins_comment-starts : (word : List ℕ) → starts_with nat_eq word (35 �
 begins_comment-starts [] = refl
 begins_comment-starts (byte ∷ bytes) = grind (arith, nat_tests)
 
--- a text begins with the line up to its first line feed
-pub lines_of-first : (text : List ℕ) (k : ℕ) → k < length text → slice_index text k ≡ 10 → ((i : ℕ) → i < k → slice_index text i ≢ 10)
-    → lines_of text ≡ take k text ∷ lines_of (drop (k + 1) text)
-lines_of-first [] k here feed before = absurd (omega arith)
-lines_of-first (byte ∷ bytes) zero here feed before = rw feed refl
-lines_of-first (byte ∷ bytes) (suc k) here feed before =
-    let other : byte ≢ 10 = before 0 (omega arith) in
-    let rest = lines_of-first bytes k (omega arith) feed (λ i below. before (suc i) (omega arith)) in
+-- a text begins with the part up to the first byte that passes a test
+pub split-first : (p : ℕ → Bool) (text : List ℕ) (k : ℕ) → k < length text → p (slice_index text k) ≡ true → ((i : ℕ) → i < k → p (slice_index text i) ≢ true)
+    → slice_split p text ≡ take k text ∷ slice_split p (drop (k + 1) text)
+split-first p [] k here passes before = absurd (omega arith)
+split-first p (byte ∷ bytes) zero here passes before = rw passes refl
+split-first p (byte ∷ bytes) (suc k) here passes before =
+    let other : p byte ≡ false = not-true (p byte) (before 0 (omega arith)) in
+    let rest = split-first p bytes k (omega arith) passes (λ i below. before (suc i) (omega arith)) in
     let behind : drop (suc k + 1) (byte ∷ bytes) ≡ drop (k + 1) bytes = ap (λ (n : ℕ). drop n (byte ∷ bytes)) {y = suc (k + 1)} (omega arith) in
-    slice_split-cons_no (λ b. b == 10) byte bytes (grind (arith, nat_tests))
-    ∙ ap (onto_first byte) rest ∙ ap (λ l. (byte ∷ take k bytes) ∷ lines_of l) (sym behind)
+    slice_split-cons_no p byte bytes other
+    ∙ ap (onto_first byte) rest ∙ ap (λ l. (byte ∷ take k bytes) ∷ slice_split p l) (sym behind)
 
--- a text without a line feed is one line
-pub lines_of-only : (text : List ℕ) → ((i : ℕ) → i < length text → slice_index text i ≢ 10) → lines_of text ≡ text ∷ []
-lines_of-only [] none = refl
-lines_of-only (byte ∷ bytes) none =
-    let other : byte ≢ 10 = none 0 (omega arith) in
-    let rest = lines_of-only bytes (λ i below. none (suc i) (omega arith)) in
-    slice_split-cons_no (λ b. b == 10) byte bytes (grind (arith, nat_tests)) ∙ ap (onto_first byte) rest
+-- a text without such a byte is one part
+pub split-only : (p : ℕ → Bool) (text : List ℕ) → ((i : ℕ) → i < length text → p (slice_index text i) ≢ true) → slice_split p text ≡ text ∷ []
+split-only p [] none = refl
+split-only p (byte ∷ bytes) none =
+    let other : p byte ≡ false = not-true (p byte) (none 0 (omega arith)) in
+    let rest = split-only p bytes (λ i below. none (suc i) (omega arith)) in
+    slice_split-cons_no p byte bytes other ∙ ap (onto_first byte) rest

@@ -1,6 +1,7 @@
 -- The first words of a line say as much as all of them.
-use Rattle.std.proofs.Common.{◌≡◌, ℕ, zero, suc, ◌+◌, ◌<◌, ◌≤◌, true, false, not, List, [], ◌∷◌, ◌++◌, length, get_or, take, drop, filter, take_while, Option, Result, Ok, Err, refl, sym, ap, ◌∙◌, arith}
-use Rattle.std.proofs.lemmas.List.{append_assoc, append-nil, at_drop_all, at_drop_more, take-append-le, take_all}
+use Rattle.std.proofs.Common.{◌≡◌, ℕ, zero, suc, ◌+◌, ◌≤◌, true, false, not, List, [], ◌∷◌, ◌++◌, length, take, filter, take_while, Option, Some, None, Result, Ok, Err, Bor, MatchOption, refl, sym, ap, ◌∙◌, arith}
+use Rattle.std.specs.List.{slice_split}
+use Rattle.std.proofs.lemmas.List.{append_assoc, append-nil, take-append-le, take_all}
 use Rattle.pcm_wave.specs.DataFiles.{DataFileSeen}
 use Rattle.pcm_desk.specs.Device.{DeviceSeen}
 use Rattle.pcm_script.specs.declared.fault.ScriptKind.{ScriptKind}
@@ -12,7 +13,7 @@ use Rattle.pcm_script.specs.declared.words.TheConstants.{KEPT}
 use Rattle.pcm_script.specs.Steps.{◌>>=◌}
 use Rattle.pcm_script.specs.Names.{command_named}
 use Rattle.pcm_script.specs.Commands.{asked_by, command_line, line_event, open_line, write_line, send_line, poke_line, read_line, ioctl_line, close_line, mixer_line, interrupt_line, or_fault}
-use Rattle.pcm_script.specs.Words.{begins_comment, is_word}
+use Rattle.pcm_script.specs.Words.{begins_comment, is_blank, is_word}
 
 -- the words among the parts of a line, up to its comment
 abbrev pub words_in : List (List ℕ) → List (List ℕ)
@@ -40,37 +41,34 @@ words_in-word byte bytes parts other =
     rw other (take-one_more _ (byte ∷ bytes) (filter is_word parts))
 
 -- a part more
-with_part : (kept parts : List (List ℕ)) (part : List ℕ) → begins_comment part ≡ false
+pub with_parts-more : (kept parts : List (List ℕ)) (part : List ℕ) → begins_comment part ≡ false
     → with_parts (take KEPT (kept ++ filter is_word (part ∷ []))) parts ≡ with_parts kept (part ∷ parts)
-with_part kept parts [] other =
+with_parts-more kept parts [] other =
     take-first KEPT (kept ++ []) (words_in parts) ∙ ap (λ l. take KEPT (l ++ words_in parts)) (append-nil kept)
-with_part kept parts (byte ∷ bytes) other =
+with_parts-more kept parts (byte ∷ bytes) other =
     take-first KEPT (kept ++ (byte ∷ bytes) ∷ []) (words_in parts)
     ∙ ap (take KEPT) (append_assoc kept ((byte ∷ bytes) ∷ []) (words_in parts) ∙ ap (λ l. kept ++ l) (sym (words_in-word byte bytes parts other)))
 
 -- the comment
-with_comment : (kept parts : List (List ℕ)) (part : List ℕ) → begins_comment part ≡ true → with_parts kept (part ∷ parts) ≡ take KEPT kept
-with_comment kept parts [] is = cc is
-with_comment kept parts (byte ∷ bytes) is = rw is (ap (take KEPT) (append-nil kept))
+pub with_parts-comment : (kept parts : List (List ℕ)) (part : List ℕ) → begins_comment part ≡ true → with_parts kept (part ∷ parts) ≡ take KEPT kept
+with_parts-comment kept parts [] is = cc is
+with_parts-comment kept parts (byte ∷ bytes) is = rw is (ap (take KEPT) (append-nil kept))
 
--- the part at a place, and those behind it
-from_place : (kept parts : List (List ℕ)) (k : ℕ) (part : List ℕ) → k < length parts → part ≡ get_or parts k part
-    → with_parts kept (drop k parts) ≡ with_parts kept (part ∷ drop (k + 1) parts)
-from_place kept parts k part here same =
-    at_drop_more (with_parts kept) parts k part here ∙ ap (λ p. with_parts kept (p ∷ drop (k + 1) parts)) (sym same)
+-- no part
+pub with_parts-end : (kept : List (List ℕ)) → with_parts kept [] ≡ take KEPT kept
+with_parts-end kept = ap (take KEPT) (append-nil kept)
 
-pub with_parts-more : (kept parts : List (List ℕ)) (k : ℕ) (part : List ℕ) → k < length parts → part ≡ get_or parts k part → begins_comment part ≡ false
-    → with_parts (take KEPT (kept ++ filter is_word (part ∷ []))) (drop (k + 1) parts) ≡ with_parts kept (drop k parts)
-with_parts-more kept parts k part here same other =
-    with_part kept (drop (k + 1) parts) part other ∙ sym (from_place kept parts k part here same)
+-- the parts of what is left of a line, if something is
+abbrev pub parts_of : Option (Bor (List ℕ)) → List (List ℕ)
+parts_of None = []
+parts_of (Some text) = slice_split is_blank text.now
 
-pub with_parts-comment : (kept parts : List (List ℕ)) (k : ℕ) (part : List ℕ) → k < length parts → part ≡ get_or parts k part → begins_comment part ≡ true
-    → with_parts kept (drop k parts) ≡ take KEPT kept
-with_parts-comment kept parts k part here same is =
-    from_place kept parts k part here same ∙ with_comment kept (drop (k + 1) parts) part is
-
-pub with_parts-end : (kept parts : List (List ℕ)) (k : ℕ) → length parts ≤ k → with_parts kept (drop k parts) ≡ take KEPT kept
-with_parts-end kept parts k past = at_drop_all (with_parts kept) parts k past ∙ ap (take KEPT) (append-nil kept)
+-- the first part of a text, and those behind it
+pub parts_of-first : (text part : List ℕ) (behind : Option (Bor (List ℕ)))
+    → MatchOption behind (slice_split is_blank text ≡ part ∷ []) (λ more. slice_split is_blank text ≡ part ∷ slice_split is_blank more.now)
+    → slice_split is_blank text ≡ part ∷ parts_of behind
+parts_of-first text part None cut = cut
+parts_of-first text part (Some more) cut = cut
 
 -- where there is no room, no part changes what is kept
 pub kept-full : (kept : List (List ℕ)) (part : List ℕ) → length kept ≡ KEPT → kept ≡ take KEPT (kept ++ filter is_word (part ∷ []))

@@ -1,10 +1,12 @@
 //! The words of a line.
 
-ghost use Rattle.std.specs.Prelude.{◌≡◌, ◌∷◌, ◌++◌, [], filter, take};
+ghost use Rattle.std.specs.Prelude.{◌≡◌, ◌<◌, ◌∷◌, ◌++◌, [], IfSome, MatchOption, filter, length, take};
+ghost use Rattle.std.specs.List.{slice_split};
 ghost use Rattle.pcm_script.specs.declared.words.TheConstants.{KEPT};
 ghost use Rattle.pcm_script.specs.Words.{begins_comment, is_blank, is_word, lent, without_return, words_of};
 
 use arrayvec::ArrayVec;
+use memchr::memchr2;
 
 // How many words of a line are kept. Each command refuses so many alike, so a line needs no memory.
 const KEPT: usize = 8;
@@ -17,13 +19,29 @@ pub(crate) fn first_words<'a>(line: &'a [u8]) -> Words<'a>
     ensures { lent result.items ≡ take KEPT (words_of line.now) }
 {
     let mut words = Words::new();
-    for part in without_return(line).split(|byte| is_blank(*byte)) {
+    let mut rest = Some(without_return(line));
+    while let Some(text) = rest {
+        let (part, behind) = first_part(text);
         if begins_comment(part) {
             return words;
         }
         keep(&mut words, part);
+        rest = behind;
     }
     words
+}
+
+// The part of a text before its first blank, and the text behind that, if it has one.
+fn first_part(text: &[u8]) -> (&[u8], Option<&[u8]>)
+    ensures parts { MatchOption result.1
+        (slice_split is_blank text.now ≡ result.0.now ∷ [])
+        (λ behind. slice_split is_blank text.now ≡ result.0.now ∷ slice_split is_blank behind.now) }
+    ensures shorter { IfSome result.1 (λ behind. length behind.now < length text.now) }
+{
+    match memchr2(b' ', b'\t', text) {
+        Some(end) => (&text[..end], Some(&text[end + 1..])),
+        None => (text, None),
+    }
 }
 
 // Keeps a part of a line, if it is a word and there is room.
@@ -46,10 +64,4 @@ fn without_return(line: &[u8]) -> &[u8]
     ensures { result.now ≡ without_return line.now }
 {
     line.strip_suffix(b"\r").unwrap_or(line)
-}
-
-fn is_blank(byte: u8) -> bool
-    ensures { result ≡ is_blank byte }
-{
-    byte == b' ' || byte == b'\t'
 }
