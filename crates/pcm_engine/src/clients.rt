@@ -7,6 +7,7 @@ ghost use Rattle.pcm_feeder.specs.Limits.{IsRate};
 ghost use Rattle.pcm_oss.specs.declared.event.Way.TheVariants.{Play, Record, Map};
 ghost use Rattle.pcm_oss.specs.Replies.{bytes_due};
 ghost use Rattle.pcm_oss.specs.declared.event.TheConstants.{SLOTS};
+ghost use Rattle.pcm_oss.specs.declared.reply.TheConstants.{REPLY_BYTES};
 ghost use Rattle.pcm_desk.specs.declared.limits.TheConstants.{DESCRIPTORS, READ_BYTES};
 ghost use Rattle.pcm_desk.specs.Desk.{open_turn, slot_number};
 ghost use Rattle.pcm_desk.specs.Own.{HoldApart};
@@ -21,7 +22,7 @@ use crate::descriptors::Descriptors;
 use pcm_desk::{Held, Here};
 use pcm_feeder::{Feeder, Tables};
 use pcm_format::Settings;
-use pcm_oss::{Answer, Errno, REPLY_BYTES, ReplyBuf, Request, Way};
+use pcm_oss::{Answer, Errno, ReplyBuf, Request, Way};
 use pcm_vchan::ParentOf;
 
 /// Opens a descriptor on the least free slot of its way.
@@ -142,16 +143,19 @@ fn read<B: Feeder>(
     parent.recorder(slot).read(out)
 }
 
-/// Reads at most `len` bytes from the channel that a descriptor holds, and keeps what was read as the reply.
+/// Reads at most `len` bytes from the channel that a descriptor holds, and keeps what was read as the reply. `bytes` holds it
+/// meanwhile.
 pub fn answer_read<B: Feeder>(
     parent: &mut ParentOf<B>,
     descriptors: &Descriptors,
     fd: u8,
     len: u32,
+    bytes: &mut [u8],
     reply: &mut ReplyBuf,
 )
     requires fd { fd < DESCRIPTORS }
     requires few { len ≤ READ_BYTES }
+    requires room { length bytes.old ≡ REPLY_BYTES }
     requires apart { HoldApart (desk_with parent.old descriptors.now) }
     requires recorders_own { RecordAreOf parent.old.device (record_channels parent.old) }
     ensures recorders_own { RecordAreOf parent.new.device (record_channels parent.new) }
@@ -163,9 +167,8 @@ pub fn answer_read<B: Feeder>(
     ensures bytes { ReadsKept B.kept parent.old descriptors.now fd len reply.new.bytes }
     ensures recorders { (filters : Filters) → EachRecordMoves B.kind B.kept filters [] 0 parent.old parent.new }
 {
-    let mut bytes = [0u8; REPLY_BYTES];
     let answer = read(parent, descriptors, fd, &mut bytes[..len as usize]);
-    reply.keep(answer, &bytes);
+    reply.keep(answer, bytes);
 }
 
 /// Asks something of the channel that a descriptor holds, as of one of no group.

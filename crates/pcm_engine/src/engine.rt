@@ -14,6 +14,7 @@ ghost use Rattle.pcm_desk.proofs.Props.{hold_props};
 ghost use Rattle.pcm_engine.specs.Desks.{desk_with};
 ghost use Rattle.pcm_oss.specs.Replies.{bytes_due};
 ghost use Rattle.pcm_oss.specs.declared.fragments.TheConstants.{RING_BYTES};
+ghost use Rattle.pcm_oss.specs.declared.reply.TheConstants.{REPLY_BYTES};
 ghost use Rattle.pcm_format.specs.Layouts.{channels_of};
 
 use crate::clients::{answer_read, close, open, poke, write};
@@ -24,7 +25,7 @@ use crate::mixer_calls::ask_mixer;
 use pcm_desk::Device;
 use pcm_feeder::{Feeder, RacksOf, Tables};
 use pcm_fixed::Fixed;
-use pcm_oss::{Answer, Errno, Event, ReplyBuf};
+use pcm_oss::{Answer, Errno, Event, REPLY_BYTES, ReplyBuf};
 use pcm_vchan::ParentOf;
 use pcm_wave::{Pool, Source};
 use std::alloc::{AllocError, Global};
@@ -36,6 +37,7 @@ pub struct EngineOf<B> {
     tables: Tables,
     descriptors: Descriptors,
     captured: Fixed<i32>,
+    answered: Fixed<u8>,
     steps: u32,
     ghost own: { PlayAreOf parent.device (play_channels parent) },
     ghost recorders_own: { RecordAreOf parent.device (record_channels parent) },
@@ -47,6 +49,7 @@ pub struct EngineOf<B> {
     ghost kept: { All (λ channel. channel.book.kept ≤ RING_BYTES * steps) (record_channels parent) },
     ghost captured_within: { All (λ channel. channel.book.captured ≤ RING_FRAMES * steps) (record_channels parent) },
     ghost captured_size: { fixed_len captured ≡ parent.device.ring_frames * channels_of parent.device.settings.layout },
+    ghost answered_size: { fixed_len answered ≡ REPLY_BYTES },
     ghost mixed_within: { parent.mixed ≤ MIX_FRAMES * steps },
     ghost handed_within: { parent.handed ≤ RING_FRAMES * steps },
 }
@@ -79,11 +82,13 @@ impl<B: Feeder> EngineOf<B> {
         let parent = ParentOf::new(alloc, device, &tables, racks)?;
         let samples = device.ring_frames as usize * device.settings.layout.channels();
         let captured = vec![in alloc; 0i32; samples]?;
+        let answered = vec![in alloc; 0u8; REPLY_BYTES]?;
         Ok(EngineOf {
             parent,
             tables,
             descriptors: Descriptors::all_shut(),
             captured: Fixed::new(captured),
+            answered: Fixed::new(answered),
             steps: 0,
         })
     }
@@ -214,7 +219,7 @@ impl<B: Feeder> EngineOf<B> {
                 tell(reply, poke(parent, descriptors, fd, offset, bytes))
             }
             Event::Read { fd, len } => {
-                answer_read(parent, descriptors, fd, len, reply);
+                answer_read(parent, descriptors, fd, len, &mut self.answered, reply);
                 0
             }
             Event::Ioctl { fd, request } => {

@@ -55,6 +55,7 @@ invariant_of-self-in-Write g c =
       kept = count-stays (λ (c : RecordChannelOf _). c.book.kept) RING_BYTES old.steps (record_channels old.parent) (record_channels new) (ap (λ (v : Fixed (RecordChannelOf _)). fixed_items v) c.write.ensures.recorders) old.kept;
       captured_within = count-stays (λ (c : RecordChannelOf _). c.book.captured) RING_FRAMES old.steps (record_channels old.parent) (record_channels new) (ap (λ (v : Fixed (RecordChannelOf _)). fixed_items v) c.write.ensures.recorders) old.captured_within;
       captured_size = old.captured_size ∙ ap (λ (d : Device). d.ring_frames * channels_of d.settings.layout) (sym output.device_same);
+      answered_size = old.answered_size;
       mixed_within = omega (arith, output.mixed_same, old.mixed_within);
       handed_within = omega (arith, output.handed_same, old.handed_within);
     }
@@ -81,6 +82,7 @@ invariant_of-self-in-Ioctl g c =
       captured_within = count-within (λ (c : RecordChannelOf _). c.book.captured) RING_FRAMES old.steps (record_channels old.parent) (record_channels new) output.recorders_same
           (λ slot other there. let more = (c.ioctl.ensures.recorders slot other there).captured in omega (arith, more)) old.captured_within;
       captured_size = old.captured_size ∙ ap (λ (d : Device). d.ring_frames * channels_of d.settings.layout) (sym output.device_same);
+      answered_size = old.answered_size;
       mixed_within = omega (arith, output.mixed_same, old.mixed_within);
       handed_within = omega (arith, output.handed_same, old.handed_within);
     }
@@ -107,6 +109,7 @@ invariant_of-self-in-Join g c =
       captured_within = count-within (λ (c : RecordChannelOf _). c.book.captured) RING_FRAMES old.steps (record_channels old.parent) (record_channels new) output.recorders_same
           (λ slot other there. let more = (c.join.ensures.recorders slot other there).captured in omega (arith, more)) old.captured_within;
       captured_size = old.captured_size ∙ ap (λ (d : Device). d.ring_frames * channels_of d.settings.layout) (sym output.device_same);
+      answered_size = old.answered_size;
       mixed_within = omega (arith, output.mixed_same, old.mixed_within);
       handed_within = omega (arith, output.handed_same, old.handed_within);
     }
@@ -133,6 +136,7 @@ invariant_of-self-in-StartGroup g c =
       captured_within = count-within (λ (c : RecordChannelOf _). c.book.captured) RING_FRAMES old.steps (record_channels old.parent) (record_channels new) output.recorders_same
           (λ slot other there. let more = (c.start_group.ensures.recorders slot other there).captured in omega (arith, more)) old.captured_within;
       captured_size = old.captured_size ∙ ap (λ (d : Device). d.ring_frames * channels_of d.settings.layout) (sym output.device_same);
+      answered_size = old.answered_size;
       mixed_within = omega (arith, output.mixed_same, old.mixed_within);
       handed_within = omega (arith, output.handed_same, old.handed_within);
     }
@@ -253,6 +257,7 @@ invariant_of-self-in-Intr g c =
       captured_within = count-within (λ (c : RecordChannelOf _). c.book.captured) RING_FRAMES old.steps (record_channels old.parent) (record_channels new) c.interrupt.ensures.recorders_slots
           (λ slot other there. let more = (c.interrupt.ensures.recorders slot other there).moves.captured in omega (arith, more, brought, fits.1)) old.captured_within;
       captured_size = old.captured_size ∙ ap (λ (d : Device). d.ring_frames * channels_of d.settings.layout) (sym c.interrupt.ensures.device);
+      answered_size = old.answered_size;
       mixed_within = omega (arith, c.interrupt.ensures.mixed, old.mixed_within, few);
       handed_within = omega (arith, c.interrupt.ensures.handed, old.handed_within, fits.1);
     }
@@ -387,6 +392,7 @@ invariant_of-self g c =
       captured_within = count-within (λ (c : RecordChannelOf _). c.book.captured) RING_FRAMES old.steps (record_channels old.parent) (record_channels new) output.recorders_same
           (λ slot other there. let more = (c.open.ensures.recorders slot other there).captured in omega (arith, more)) old.captured_within;
       captured_size = old.captured_size ∙ ap (λ (d : Device). d.ring_frames * channels_of d.settings.layout) (sym output.device_same);
+      answered_size = old.answered_size;
       mixed_within = omega (arith, output.mixed_same, old.mixed_within);
       handed_within = omega (arith, output.handed_same, old.handed_within);
     }
@@ -413,6 +419,7 @@ invariant_of-self-in-Close g c =
       captured_within = count-within (λ (c : RecordChannelOf _). c.book.captured) RING_FRAMES old.steps (record_channels old.parent) (record_channels new) output.recorders_same
           (λ slot other there. let more = (c.close.ensures.recorders old.tables slot other there).captured in omega (arith, more)) old.captured_within;
       captured_size = old.captured_size ∙ ap (λ (d : Device). d.ring_frames * channels_of d.settings.layout) (sym output.device_same);
+      answered_size = old.answered_size;
       mixed_within = omega (arith, output.mixed_same, old.mixed_within);
       handed_within = omega (arith, output.handed_same, old.handed_within);
     }
@@ -436,6 +443,7 @@ invariant_of-self-in-Read g c =
       captured_within = count-within (λ (c : RecordChannelOf _). c.book.captured) RING_FRAMES old.steps (record_channels old.parent) (record_channels new) output.recorders_same
           (λ slot other there. let more = (c.answer_read.ensures.recorders old.tables slot other there).captured in omega (arith, more)) old.captured_within;
       captured_size = old.captured_size ∙ ap (λ (d : Device). d.ring_frames * channels_of d.settings.layout) (sym output.device_same);
+      answered_size = old.answered_size;
       mixed_within = omega (arith, output.mixed_same, old.mixed_within);
       handed_within = omega (arith, output.handed_same, old.handed_within);
     }
@@ -632,6 +640,7 @@ invariant_of-self-in-Poke g c =
       maps_given = count-within (λ (c : MapChannelOf _). c.book.given) MIX_FRAMES old.steps (map_channels old.parent) (map_channels new) output.maps_same
           (λ slot other there. let more = (c.poke.ensures.maps old.tables slot other there).moves.given in omega (arith, more)) old.maps_given;
       captured_size = old.captured_size ∙ ap (λ (d : Device). d.ring_frames * channels_of d.settings.layout) (sym output.device_same);
+      answered_size = old.answered_size;
       mixed_within = omega (arith, output.mixed_same, old.mixed_within);
       handed_within = omega (arith, output.handed_same, old.handed_within);
     }
@@ -693,6 +702,7 @@ invariant_of-self-in-Mixer g c =
       kept = count-stays (λ (c : RecordChannelOf _). c.book.kept) RING_BYTES old.steps (record_channels old.parent) (record_channels new) (ap record_channels is) old.kept;
       captured_within = count-stays (λ (c : RecordChannelOf _). c.book.captured) RING_FRAMES old.steps (record_channels old.parent) (record_channels new) (ap record_channels is) old.captured_within;
       captured_size = old.captured_size ∙ ap (λ (p : ParentOf _). p.device.ring_frames * channels_of p.device.settings.layout) (sym is);
+      answered_size = old.answered_size;
       mixed_within = (let same = ap (λ (p : ParentOf _). p.mixed) is in omega (arith, same, old.mixed_within));
       handed_within = (let same = ap (λ (p : ParentOf _). p.handed) is in omega (arith, same, old.handed_within));
     }

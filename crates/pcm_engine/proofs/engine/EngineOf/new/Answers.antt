@@ -37,6 +37,7 @@ invariant_of-result g c =
       kept = λ slot other there. let none = ap (λ (b : RecordBook). b.kept) (c.in_ok-parent.ensures.recording slot other there).book in omega arith;
       captured_within = λ slot other there. let none = ap (λ (b : RecordBook). b.captured) (c.in_ok-parent.ensures.recording slot other there).book in omega arith;
       captured_size = c.new-2.ensures.len ∙ c.in_ok-captured.ensures.len ∙ ap (λ n. c.args.device.ring_frames * n) c.channels.ensures ∙ ap (λ (d : Device). d.ring_frames * channels_of d.settings.layout) (sym c.in_ok-parent.ensures.device);
+      answered_size = c.new-3.ensures.len ∙ c.in_ok-answered.ensures.len;
       mixed_within = omega (arith, c.in_ok-parent.ensures.mixed);
       handed_within = omega (arith, c.in_ok-parent.ensures.handed);
     }
