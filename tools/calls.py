@@ -2,6 +2,7 @@
 import collections
 import os
 import pathlib
+import signal
 import subprocess
 import sys
 
@@ -16,6 +17,10 @@ WIDTHS = {name: width for width, name in FORMATS.items()}
 
 # a wave's settings, and where its body lies in the file
 Wave = collections.namedtuple("Wave", "path format channels rate at size")
+
+
+# where nobody reads on, a tool ends as others do
+signal.signal(signal.SIGPIPE, signal.SIG_DFL)
 
 
 def fail(tool, text):
