@@ -1,3 +1,4 @@
+pub mod Bringing
 pub mod Counted
 pub mod Desks
 pub mod Buses
@@ -9,6 +10,7 @@ pub mod Mixing
 pub mod Mapped
 pub mod Standing
 pub mod Recording
+pub mod Called
 pub mod Starting
 pub mod Pools
 pub mod Waiting

@@ -42,7 +42,8 @@ use Rattle.pcm_vchan.specs.Starts.{EachAt}
 use Rattle.pcm_vchan.specs.Parents.{untouched}
 use Rattle.pcm_vchan.proofs.Channels.{map-keeps-nothing, map-ready-moved}
 use Rattle.pcm_engine.specs.Stands.{MapSlotStands, map_bytes_counted}
-use Rattle.pcm_engine.specs.Steps.{MapsMove}
+use Rattle.pcm_engine.specs.Brought.{bytes_brought}
+use Rattle.pcm_engine.specs.Steps.{MapsMove, area_written}
 
 -- ---- what is taken
 
@@ -197,7 +198,7 @@ stands_played kind kept plain filters pool story n slot old new v own plays = λ
 -- each event
 pub map-told : {B : Type 0} (kind : B → Kind) (kept : B → Kept) (plain : Device) (filters : Filters) (pool : Pool) (story : Story) (event : Event) (before now : List (MapChannelOf B)) (slot : ℕ) (other : MapChannelOf B)
     → Fits (seen filters plain) pool event → StoryIsValid (seen filters plain) story → (get_or before slot other).path.device ≡ plain → slot < length before
-    → MapsMove kind kept filters plain pool story.desk event before now → Told kept (seen filters plain) pool story event slot (get_or before slot other) (get_or now slot other)
+    → MapsMove kind kept filters plain (bytes_brought pool event) story.desk event before now → Told kept (seen filters plain) pool story event slot (get_or before slot other) (get_or now slot other)
 map-told kind kept plain filters pool story (Open fd way settings) before now slot other fits v own there moves =
     stands_kept kind kept (seen filters plain) pool story (Open fd way settings) slot (get_or before slot other) (get_or now slot other) fits refl v refl (moves slot other there)
 map-told kind kept plain filters pool story (Write fd source at count) before now slot other fits v own there moves =
@@ -298,17 +299,17 @@ each-unpoked kind kept filters found offset bytes maps none = λ slot other with
 
 -- ---- channels that were ready are ready after an event
 
-pub maps-ready : {B : Type 0} (kind : B → Kind) (kept : B → Kept) (plain : Device) (filters : Filters) (pool : Pool) (desk : Desk) (event : Event) (before now : List (MapChannelOf B)) → length now ≡ length before
-    → MapsMove kind kept filters plain pool desk event before now → All (IsMapReady kind kept filters) before → All (IsMapReady kind kept filters) now
-maps-ready {B = B} kind kept plain filters pool desk event before now same moves ready = at event moves
+pub maps-ready : {B : Type 0} (kind : B → Kind) (kept : B → Kept) (plain : Device) (filters : Filters) (bytes : List ℕ) (desk : Desk) (event : Event) (before now : List (MapChannelOf B)) → length now ≡ length before
+    → MapsMove kind kept filters plain bytes desk event before now → All (IsMapReady kind kept filters) before → All (IsMapReady kind kept filters) now
+maps-ready {B = B} kind kept plain filters bytes desk event before now same moves ready = at event moves
   where
     still : (writes : ℕ → List ℕ → List ℕ) → EachAt (λ slot. MapKeeps kind kept filters (writes slot)) before now → All (IsMapReady kind kept filters) now
     still writes each = λ slot other within. map-ready-moved kind kept filters [] 0 (get_or before slot other) (get_or now slot other) (each slot other (omega arith)).moves (ready slot other (omega arith))
 
-    at : (e : Event) → MapsMove kind kept filters plain pool desk e before now → All (IsMapReady kind kept filters) now
+    at : (e : Event) → MapsMove kind kept filters plain bytes desk e before now → All (IsMapReady kind kept filters) now
     at (Open fd way settings) each = still untouched each
     at (Write fd source place count) each = still untouched each
-    at (Poke fd offset place count) each = still (written_by pool desk (Poke fd offset place count)) each
+    at (Poke fd offset place count) each = still (area_written bytes desk (Poke fd offset place count)) each
     at (Read fd count) each = still untouched each
     at (Ioctl fd request) each = still untouched each
     at (Join fd group) each = still untouched each

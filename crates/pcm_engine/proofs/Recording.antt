@@ -1,5 +1,5 @@
 -- Channels that record and stand for a story stand for it with one event more.
-use Rattle.std.proofs.Common.{◌≡◌, ℕ, ◌<◌, Bool, true, false, List, [], ◌++◌, length, get_or, min, take, drop, Option, Some, None, Result, refl, sym, ap, ◌∙◌, subst, arith}
+use Rattle.std.proofs.Common.{◌≡◌, ℕ, suc, ◌*◌, ◌<◌, ◌≤◌, ℤ, Bool, true, false, List, [], ◌++◌, length, get_or, min, take, drop, Option, Some, None, Result, refl, sym, ap, ◌∙◌, subst, arith}
 use Rattle.std.specs.Prelude.{All}
 use Rattle.std.proofs.lemmas.List.{append-nil, get_or-map, take_all}
 use Rattle.pcm_oss.specs.declared.event.Event.{Event}
@@ -10,8 +10,8 @@ use Rattle.pcm_oss.specs.declared.reply.Answer.{Answer}
 use Rattle.pcm_oss.specs.declared.reply.Errno.{Errno}
 use Rattle.pcm_oss.specs.Replies.{Reply}
 use Rattle.pcm_wave.specs.declared.pool.Pool.{Pool}
-use Rattle.std.proofs.lemmas.List.FromFn.{length-map-range_with_len}
-use Rattle.pcm_wave.specs.Pools.{IsCaptureIn, captured_frame, captured_frames}
+use Rattle.std.proofs.lemmas.Nat.{div_below}
+use Rattle.pcm_wave.specs.Pools.{IsCaptureIn, captured_frames}
 use Rattle.pcm_wave.proofs.Captures.{captured_frames-channels}
 use Rattle.pcm_format.specs.declared.layout.Layout.{Layout}
 use Rattle.pcm_format.specs.Frames.{Frame}
@@ -20,7 +20,7 @@ use Rattle.pcm_format.proofs.Streams.{channels_of-above}
 use Rattle.pcm_feeder.specs.declared.kind.Kind.{Kind}
 use Rattle.pcm_feeder.specs.Kept.{Kept}
 use Rattle.pcm_feeder.specs.Streams.{frames_of, interleaved}
-use Rattle.pcm_feeder.proofs.Frames.{frames_of-interleaved}
+use Rattle.pcm_feeder.proofs.Frames.{frames_of-interleaved, length-frames_of}
 use Rattle.pcm_desk.specs.declared.device.Device.{Device}
 use Rattle.pcm_desk.specs.declared.device.Held.{Held}
 use Rattle.pcm_desk.specs.declared.record_book.RecordBook.{RecordBook}
@@ -44,6 +44,7 @@ use Rattle.pcm_bus.specs.Slots.{Each}
 use Rattle.pcm_vchan.specs.Slots.{AllRecordStand, RecordAreOf, record_books_of}
 use Rattle.pcm_vchan.proofs.Channels.{record-ready-moved}
 use Rattle.pcm_engine.specs.Stands.{RecordersStand, bytes_kept, frames_captured}
+use Rattle.pcm_engine.specs.Brought.{samples_brought}
 use Rattle.pcm_engine.specs.Steps.{RecordersMove, bytes_answered, bytes_read, channel_read}
 
 -- the record book of a slot is that of its channel
@@ -124,7 +125,7 @@ heard {B = B} kind kept device own pool story n before now d captures seen_is ar
 slots_stand : {B : Type 0} (kind : B → Kind) (kept : B → Kept) (device : DeviceSeen) (own : Device) (pool : Pool) (story : Story) (event : Event) (before now : List (RecordChannelOf B)) → IsDevice device → IsCaptureIn (device_settings device).layout pool → Fits device pool event
     → seen (filters_of device) own ≡ device → RecordAreOf own before
     → story.desk.recording ≡ record_books_of before → (told device pool story event).desk.recording ≡ record_books_of now → length now ≡ length before
-    → RecordersMove kind kept device pool story.desk.handed event before now → RecordersStand kept device pool before story
+    → RecordersMove kind kept device (samples_brought (device_settings device).layout pool story.desk.handed event) event before now → RecordersStand kept device pool before story
     → (slot : ℕ) (other : RecordChannelOf B) → slot < length now
     → RecordStands kept (filters_of device) (get_or now slot other) (record_at device (told device pool story event).desk slot) (bytes_kept device (told device pool story event) slot) (frames_captured device pool (told device pool story event) slot)
 slots_stand kind kept device own pool story (Open fd way settings) before now d c fits seen_is are b n same moves s = still kind kept device pool story (Open fd way settings) before now fits refl b n same moves s
@@ -141,32 +142,34 @@ slots_stand kind kept device own pool story (Intr frames) before now d c fits se
 -- What stood for a story stands, one step on, for the story with one event more.
 pub recorders-told : {B : Type 0} (kind : B → Kind) (kept : B → Kept) (device : DeviceSeen) (own : Device) (pool : Pool) (story : Story) (event : Event) (old new : Desk) (before now : List (RecordChannelOf B)) → IsCaptureIn (device_settings device).layout pool → Fits device pool event
     → seen (filters_of device) own ≡ device → RecordAreOf own before → old ≡ story.desk → new ≡ (after device old event).desk → old.recording ≡ record_books_of before → new.recording ≡ record_books_of now → length now ≡ length before
-    → RecordersMove kind kept device pool old.handed event before now → StoryIsValid device story → RecordersStand kept device pool before story → RecordersStand kept device pool now (told device pool story event)
+    → RecordersMove kind kept device (samples_brought (device_settings device).layout pool old.handed event) event before now → StoryIsValid device story → RecordersStand kept device pool before story → RecordersStand kept device pool now (told device pool story event)
 recorders-told kind kept device own pool story event old new before now c fits seen_is are old_is new_is b n same moves v s =
     let desk_is : new ≡ (told device pool story event).desk = new_is ∙ ap (λ (d : Desk). (after device d event).desk) old_is in
     record {
       slots = slots_stand kind kept device own pool story event before now v.limits c fits seen_is are (ap (λ (d : Desk). d.recording) (sym old_is) ∙ b) (ap (λ (d : Desk). d.recording) (sym desk_is) ∙ n) same
-          (subst (λ (d : Desk). RecordersMove kind kept device pool d.handed event before now) old_is moves) s;
+          (subst (λ (d : Desk). RecordersMove kind kept device (samples_brought (device_settings device).layout pool d.handed event) event before now) old_is moves) s;
       valid = recordings-told device pool story event v.limits c fits s.valid;
     }
 
--- as many frames are captured as are asked for
-pub length-captured : (layout : Layout) (pool : Pool) (handed n : ℕ) → IsCaptureIn layout pool → length (frames_of (channels_of layout) (interleaved (captured_frames layout pool handed n))) ≡ n
-length-captured layout pool handed n captures =
-    ap (λ (list : List Frame). length list) (frames_of-interleaved (channels_of layout) (captured_frames layout pool handed n) (channels_of-above layout) (captured_frames-channels layout pool handed n captures))
-    ∙ length-map-range_with_len (captured_frame layout pool) handed n
+-- no more frames are captured than there are samples for
+pub length-captured : (layout : Layout) (n : ℕ) (samples : List ℤ) → length samples ≤ n * channels_of layout → length (frames_of (channels_of layout) samples) ≤ n
+length-captured layout n samples few =
+    let above = channels_of-above layout in
+    let long = length-frames_of (channels_of layout) samples in
+    let below = div_below (length samples) (channels_of layout) (suc n) above (omega (arith, few, above)) in
+    omega (arith, long, below)
 
 -- ---- what is ready, and what reads get
 
 -- channels that were ready are ready after an event
-pub recorders-ready : {B : Type 0} (kind : B → Kind) (kept : B → Kept) (device : DeviceSeen) (pool : Pool) (handed : ℕ) (event : Event) (before now : List (RecordChannelOf B)) → length now ≡ length before
-    → RecordersMove kind kept device pool handed event before now → All (IsRecordReady kind kept (filters_of device)) before → All (IsRecordReady kind kept (filters_of device)) now
-recorders-ready {B = B} kind kept device pool handed event before now same moves ready = at event moves
+pub recorders-ready : {B : Type 0} (kind : B → Kind) (kept : B → Kept) (device : DeviceSeen) (samples : List ℤ) (event : Event) (before now : List (RecordChannelOf B)) → length now ≡ length before
+    → RecordersMove kind kept device samples event before now → All (IsRecordReady kind kept (filters_of device)) before → All (IsRecordReady kind kept (filters_of device)) now
+recorders-ready {B = B} kind kept device samples event before now same moves ready = at event moves
   where
     plain : Each (RecordMoves kind kept (filters_of device) [] 0) before now → All (IsRecordReady kind kept (filters_of device)) now
     plain each = λ slot other within. record-ready-moved kind kept (filters_of device) [] 0 (get_or before slot other) (get_or now slot other) (each slot other (omega arith)) (ready slot other (omega arith))
 
-    at : (e : Event) → RecordersMove kind kept device pool handed e before now → All (IsRecordReady kind kept (filters_of device)) now
+    at : (e : Event) → RecordersMove kind kept device samples e before now → All (IsRecordReady kind kept (filters_of device)) now
     at (Open fd way settings) each = plain each
     at (Write fd source place count) each = plain each
     at (Poke fd offset place count) each = plain each

@@ -14,7 +14,7 @@ use Rattle.pcm_mixdev.specs.Mixers.{Levels, master_gain, slot_gain}
 use Rattle.pcm_desk.specs.declared.device.Device.{Device}
 use Rattle.pcm_desk.specs.declared.map_book.MapBook.{MapBook}
 use Rattle.pcm_desk.specs.declared.play_book.PlayBook.{PlayBook}
-use Rattle.pcm_desk.specs.Device.{DeviceSeen, device_frame_bytes, device_settings, filters_of, map_slots, mix_settings, parent_plan, play_slots, ring_frames, seen}
+use Rattle.pcm_desk.specs.Device.{DeviceSeen, device_frame_bytes, device_settings, filters_of, mix_settings, parent_plan, ring_frames, seen}
 use Rattle.pcm_desk.specs.Desk.{Desk, play_at, play_unopened, held_by, after, mixed_by}
 use Rattle.pcm_desk.specs.Events.{Fits, bytes_handed, frames_taken}
 use Rattle.pcm_sound.specs.Runs.{carrying, newest_bytes}
@@ -32,7 +32,8 @@ use Rattle.pcm_format.specs.Frames.{Frame}
 use Rattle.pcm_feeder.specs.Streams.{interleaved}
 use Rattle.pcm_plan.specs.Through.{recs}
 use Rattle.pcm_chain.specs.declared.chain.ChainOf.{ChainOf}
-use Rattle.pcm_engine.specs.Steps.{BusMoves, bytes_brought, ChannelsMove, MapsMove}
+use Rattle.pcm_engine.specs.Brought.{bytes_brought}
+use Rattle.pcm_engine.specs.Steps.{BusMoves, bytes_moved, ChannelsMove, MapsMove}
 use Rattle.pcm_bus.specs.Blocks.{block_bytes, block_of, map_gains, mapped_onto, turned_ring, Sources}
 use Rattle.pcm_bus.specs.Buses.{mixed_at_once}
 use Rattle.pcm_bus.specs.Handovers.{HasMade, raised_frames}
@@ -64,13 +65,13 @@ pub record Stepped {B : Type 0} (kind : B → Kind) (kept : B → Kept) (plain :
   pub play_now : new.play ≡ play_books_of now.channels
   pub slots : length now.channels ≡ length before.channels
   pub all_slots : length before.channels ≡ plain.play_slots
-  pub channels : ChannelsMove kind kept (seen filters plain) pool old.handed event before.channels now.channels
+  pub channels : ChannelsMove kind kept (seen filters plain) (bytes_brought pool event) old.handed event before.channels now.channels
   pub map_before : old.mapped ≡ map_books_of before.maps
   pub map_now : new.mapped ≡ map_books_of now.maps
   pub mapped : length now.maps ≡ length before.maps
   pub all_mapped : length before.maps ≡ plain.map_slots
   pub own : MapAreOf plain before.maps
-  pub maps : MapsMove kind kept filters plain pool old event before.maps now.maps
+  pub maps : MapsMove kind kept filters plain (bytes_brought pool event) old event before.maps now.maps
   pub bus : BusMoves kept (seen filters plain) old.handed old.mixer event before.channels before.maps before.chain now.chain before.ring now.ring
 
 -- the part of a step that is about a story: its own desks stand at both ends
@@ -79,9 +80,13 @@ StoryStep kind kept plain filters pool story event before now = Stepped kind kep
 
 -- ---- channels
 
+-- the bytes that an event moves into a ring
+abbrev moved_in : Pool → Event → List ℕ
+moved_in pool event = bytes_moved (bytes_brought pool event) event
+
 -- what a slot's book counts after an event: what it counted before and what the event brought, as far as it was accepted
 record Counts (device : DeviceSeen) (pool : Pool) (story : Story) (event : Event) (slot : ℕ) : Type 0 where
-  are : bytes_counted device (told device pool story event) slot ≡ take (play_at device (told device pool story event).desk slot).written (bytes_counted device story slot ++ bytes_brought pool event)
+  are : bytes_counted device (told device pool story event) slot ≡ take (play_at device (told device pool story event).desk slot).written (bytes_counted device story slot ++ moved_in pool event)
 
 -- without the marks
 marks : (device : DeviceSeen) (pool : Pool) (story : Story) (event : Event) (slot : ℕ)
@@ -94,7 +99,7 @@ marks device pool story event slot =
     ap (take new.written) (newest_bytes-marking story.desk.mixed event old new (carrying device pool story.desk event old new (story.runs slot)))
 
 counts_told : (device : DeviceSeen) (pool : Pool) (story : Story) (event : Event) (slot : ℕ) → Fits device pool event → StoryIsValid device story
-    → (play_at device (told device pool story event).desk slot).written ≤ (play_at device story.desk slot).written + length (bytes_brought pool event)
+    → (play_at device (told device pool story event).desk slot).written ≤ (play_at device story.desk slot).written + length (moved_in pool event)
     → Counts device pool story event slot
 counts_told device pool story (Open fd way settings) slot fits v more = record {
   are = marks device pool story (Open fd way settings) slot
@@ -158,10 +163,10 @@ slots_stand {B = B} kind kept plain filters pool story event before now fits st 
     let moves = st.channels slot other there in
     let stood = subst (λ (b : PlayBook). PlayStands kept filters (get_or before.channels slot other) b (bytes_counted device story slot)) was (s.slots slot other there) in
     let stands = moves.stands (bytes_counted device story slot) stood in
-    let more : (play_at device (told device pool story event).desk slot).written ≤ (play_at device story.desk slot).written + length (bytes_brought pool event) = rw (is, was) moves.written in
+    let more : (play_at device (told device pool story event).desk slot).written ≤ (play_at device story.desk slot).written + length (moved_in pool event) = rw (is, was) moves.written in
     let counts = counts_told device pool story event slot fits s.valid more in
     subst (PlayStands kept filters (get_or now.channels slot other) (play_at device (told device pool story event).desk slot)) (sym counts.are)
-    (subst (λ (b : PlayBook). PlayStands kept filters (get_or now.channels slot other) b (take b.written (bytes_counted device story slot ++ bytes_brought pool event))) (sym is) stands)
+    (subst (λ (b : PlayBook). PlayStands kept filters (get_or now.channels slot other) b (take b.written (bytes_counted device story slot ++ moved_in pool event))) (sym is) stands)
 
 -- and so does each mapped one
 maps_stand : {B : Type 0} (kind : B → Kind) (kept : B → Kept) (plain : Device) (filters : Filters) (pool : Pool) (story : Story) (event : Event) (before now : Parts B)

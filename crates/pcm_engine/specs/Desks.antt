@@ -1,5 +1,5 @@
 -- What a parent and descriptors are to the rules: a desk. And what a call of a client makes of it.
-use Rattle.std.specs.Prelude.{◌≡◌, ℕ, if◌then◌else◌, List, All, Result, take}
+use Rattle.std.specs.Prelude.{◌≡◌, ℕ, List, All, Result, take}
 use Rattle.pcm_format.specs.Frames.{Frame}
 use Rattle.pcm_feeder.specs.declared.kind.Kind.{Kind}
 use Rattle.pcm_feeder.specs.Filters.{Filters}
@@ -14,7 +14,6 @@ use Rattle.pcm_desk.specs.Device.{DeviceSeen, here_at, seen}
 use Rattle.pcm_desk.specs.Desk.{Desk, DeskTurn, by_way, close_on, closing, desk_here, held_by, ioctl_on, join_on, left, map_at, play_at, poke_on, read_on, record_at, request_on, start_on, with_map, with_play, with_record, write_on}
 use Rattle.pcm_desk.specs.RecordBooks.{closed}
 use Rattle.pcm_desk.specs.MapBooks.{map_closed}
-use Rattle.pcm_sound.specs.Areas.{holds_map, poked}
 use Rattle.pcm_play.specs.Channels.{IsPlayReady}
 use Rattle.pcm_vchan.specs.declared.parent.ParentOf.{ParentOf}
 use Rattle.pcm_vchan.specs.Parents.{map_books, play_books, play_channels, record_books, record_channels}
@@ -44,10 +43,6 @@ write_call fd count device desk = write_on device (held_by desk fd) desk count
 -- a poke of so many, from an offset on
 abbrev pub poke_call : ℕ → ℕ → ℕ → DeviceSeen → Desk → DeskTurn
 poke_call fd offset count device desk = poke_on device (held_by desk fd) desk offset count
-
--- what it writes into the area of each slot
-abbrev pub poked_by : ℕ → ℕ → List ℕ → Desk → ℕ → List ℕ → List ℕ
-poked_by fd offset bytes desk slot area = if holds_map (held_by desk fd) slot then poked offset bytes area else area
 
 -- a read of at most so many
 abbrev pub read_call : ℕ → ℕ → DeviceSeen → Desk → DeskTurn

@@ -1,5 +1,5 @@
 -- What an engine stands for, and what holds of every one.
-use Rattle.std.specs.Prelude.{◌≡◌, ◌≤◌, ◌*◌, ℕ, List, [], ◌∷◌, ◌++◌, All, IsOk, Result, length, map}
+use Rattle.std.specs.Prelude.{◌≡◌, ◌≤◌, ◌*◌, ℕ, ℤ, List, [], ◌∷◌, ◌++◌, All, IsOk, Result, length, map, take}
 use Rattle.pcm_oss.specs.declared.event.Event.{Event}
 use Rattle.pcm_oss.specs.declared.event.Event.TheVariants.{Read, StartGroup}
 use Rattle.pcm_oss.specs.declared.reply.Answer.{Answer}
@@ -7,6 +7,7 @@ use Rattle.pcm_oss.specs.declared.reply.Errno.{Errno}
 use Rattle.pcm_oss.specs.Replies.{Reply}
 use Rattle.pcm_format.specs.Frames.{Frame}
 use Rattle.pcm_wave.specs.declared.pool.Pool.{Pool}
+use Rattle.pcm_fixed.specs.Fixed.{fixed_items}
 use Rattle.pcm_feeder.specs.declared.kind.Kind.{Kind}
 use Rattle.pcm_feeder.specs.Kept.{Kept}
 use Rattle.pcm_desk.specs.Device.{DeviceSeen, IsInLimits, device_frame_bytes, ring_frames, seen}
@@ -25,6 +26,7 @@ use Rattle.pcm_sound.specs.Together.{StartAsOne}
 use Rattle.pcm_desk.specs.Own.{MembersWait}
 use Rattle.pcm_engine.specs.declared.engine.EngineOf.{EngineOf}
 use Rattle.pcm_play.specs.Channels.{IsPlayReady}
+use Rattle.pcm_engine.specs.Brought.{IsCalled, samples_asked}
 use Rattle.pcm_engine.specs.Desks.{desk_with}
 use Rattle.pcm_record.specs.Channels.{IsRecordReady}
 use Rattle.pcm_map.specs.Channels.{IsMapReady}
@@ -104,20 +106,42 @@ abbrev pub TakesFront : {B : Type 0} → Event → EngineOf B → List ℕ → T
 TakesFront event engine got = (fd count : ℕ) → event ≡ Read fd count
     → got ≡ front_taken (waiting_in engine) count (held_by (desk_of engine) fd)
 
+-- a step on an event that a script names, with its pool
+pub record StepsAs {B : Type 0} (kept : B → Kept) (pool : Pool) (event : Event) (old new : EngineOf B) (told : Reply) (handed : List ℕ) : Type 0 where
+  pub stands : StandsForNext kept pool event old new
+  pub reply : RepliesAsTold kept pool event old told
+  pub bytes : HandsOver kept pool event old handed
+  pub plain : HandsOverPlain kept pool event old handed
+  pub mapped : MappedStandInPlace kept pool event old
+  pub together : BeginsAsOne kept pool event old told.result
+
+-- a step on an event that brings such bytes and samples is the step on each event of a script that is the same
+abbrev pub StepsAsCalled : {B : Type 0} → (B → Kept) → Event → List ℕ → List ℤ → EngineOf B → EngineOf B → Reply → List ℕ → Type 0
+StepsAsCalled kept event bytes samples old new told handed = (pool : Pool) (named : Event) → IsCalled (device_of old) old.parent.handed event bytes samples pool named
+    → StepsAs kept pool named old new told handed
+
+-- how many samples an event brings to an engine's device
+abbrev pub samples_most : {B : Type 0} → EngineOf B → Event → ℕ
+samples_most engine event = samples_asked engine.parent.device.settings.layout event
+
+-- those that are at hand in an engine
+abbrev pub samples_at_hand : {B : Type 0} → EngineOf B → Event → List ℤ
+samples_at_hand engine event = take (samples_most engine event) (fixed_items engine.captured)
+
 -- what it moves of the channels that play
-abbrev pub StepMoves : {B : Type 0} → (B → Kind) → (B → Kept) → Pool → Event → EngineOf B → EngineOf B → Type 0
-StepMoves kind kept pool event old new =
-    ChannelsMove kind kept (device_of old) pool old.parent.handed event (play_channels old.parent) (play_channels new.parent)
+abbrev pub StepMoves : {B : Type 0} → (B → Kind) → (B → Kept) → List ℕ → Event → EngineOf B → EngineOf B → Type 0
+StepMoves kind kept bytes event old new =
+    ChannelsMove kind kept (device_of old) bytes old.parent.handed event (play_channels old.parent) (play_channels new.parent)
 
 -- and of those that record
-abbrev pub StepCaptures : {B : Type 0} → (B → Kind) → (B → Kept) → Pool → Event → EngineOf B → EngineOf B → Type 0
-StepCaptures kind kept pool event old new =
-    RecordersMove kind kept (device_of old) pool old.parent.handed event (record_channels old.parent) (record_channels new.parent)
+abbrev pub StepCaptures : {B : Type 0} → (B → Kind) → (B → Kept) → List ℤ → Event → EngineOf B → EngineOf B → Type 0
+StepCaptures kind kept samples event old new =
+    RecordersMove kind kept (device_of old) samples event (record_channels old.parent) (record_channels new.parent)
 
 -- and of the mapped ones
-abbrev pub StepMaps : {B : Type 0} → (B → Kind) → (B → Kept) → Pool → Event → EngineOf B → EngineOf B → Type 0
-StepMaps kind kept pool event old new =
-    MapsMove kind kept old.tables old.parent.device pool (desk_of old) event (map_channels old.parent) (map_channels new.parent)
+abbrev pub StepMaps : {B : Type 0} → (B → Kind) → (B → Kept) → List ℕ → Event → EngineOf B → EngineOf B → Type 0
+StepMaps kind kept bytes event old new =
+    MapsMove kind kept old.tables old.parent.device bytes (desk_of old) event (map_channels old.parent) (map_channels new.parent)
 
 -- and of its bus and the device's ring, whatever bytes its channels stand for
 abbrev pub StepTurns : {B : Type 0} → (B → Kept) → Event → EngineOf B → EngineOf B → Type 0

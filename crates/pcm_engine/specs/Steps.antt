@@ -1,17 +1,14 @@
 -- What one event leaves of an engine's parts.
-use Rattle.std.specs.Prelude.{◌≡◌, ℕ, min, List, [], take, drop, Option, Some, None, slice_index_or}
+use Rattle.std.specs.Prelude.{◌≡◌, ℕ, ℤ, if◌then◌else◌, min, List, [], take, drop, Option, Some, None, slice_index_or}
 use Rattle.pcm_oss.specs.declared.event.Event.{Event}
-use Rattle.pcm_oss.specs.declared.event.Event.TheVariants.{Write, Read, Intr}
-use Rattle.pcm_wave.specs.declared.pool.Pool.{Pool}
-use Rattle.pcm_wave.specs.Pools.{bytes_at, captured_frames}
+use Rattle.pcm_oss.specs.declared.event.Event.TheVariants.{Write, Poke, Read, Intr}
 use Rattle.pcm_feeder.specs.declared.kind.Kind.{Kind}
 use Rattle.pcm_feeder.specs.Filters.{Filters}
 use Rattle.pcm_feeder.specs.Kept.{Kept}
-use Rattle.pcm_feeder.specs.Streams.{interleaved}
 use Rattle.pcm_mixdev.specs.Mixers.{Levels}
 use Rattle.pcm_desk.specs.declared.device.Held.{Held}
 use Rattle.pcm_chain.specs.declared.chain.ChainOf.{ChainOf}
-use Rattle.pcm_desk.specs.Device.{DeviceSeen, device_settings, filters_of, seen}
+use Rattle.pcm_desk.specs.Device.{DeviceSeen, filters_of, seen}
 use Rattle.pcm_desk.specs.Desk.{Desk, by_way, held_by, mixed_by}
 use Rattle.pcm_desk.specs.declared.device.Device.{Device}
 use Rattle.pcm_desk.specs.Own.{Channel, Playing, Recording, Mapped, channel_at}
@@ -21,51 +18,52 @@ use Rattle.pcm_play.specs.Channels.{PlayMoves}
 use Rattle.pcm_record.specs.declared.channel.RecordChannelOf.{RecordChannelOf}
 use Rattle.pcm_record.specs.Channels.{RecordMoves}
 use Rattle.pcm_map.specs.declared.channel.MapChannelOf.{MapChannelOf}
-use Rattle.pcm_sound.specs.Areas.{written_by}
+use Rattle.pcm_sound.specs.Areas.{holds_map, poked}
 use Rattle.pcm_bus.specs.Slots.{Each, MapPlays}
 use Rattle.pcm_vchan.specs.Slots.{MapKeeps}
 use Rattle.pcm_vchan.specs.Starts.{EachAt}
-use Rattle.pcm_vchan.specs.declared.parent.ParentOf.{ParentOf}
-use Rattle.pcm_vchan.specs.Parents.{EachCaptures}
 use Rattle.pcm_bus.specs.Buses.{TurnsBus}
 use Rattle.pcm_vchan.specs.Captures.{Captures}
 
--- the bytes that an event brings
-abbrev pub bytes_brought : Pool → Event → List ℕ
-bytes_brought pool (Write fd source at count) = bytes_at pool source at count
-bytes_brought pool event = []
+-- the bytes that an event moves into rings, of those that it brings
+abbrev pub bytes_moved : List ℕ → Event → List ℕ
+bytes_moved bytes (Write fd source at count) = bytes
+bytes_moved bytes event = []
+
+-- what a poke writes into the area of each slot
+abbrev pub poked_by : ℕ → ℕ → List ℕ → Desk → ℕ → List ℕ → List ℕ
+poked_by fd offset bytes desk slot area = if holds_map (held_by desk fd) slot then poked offset bytes area else area
+
+-- what an event writes there, of the bytes that it brings
+abbrev pub area_written : List ℕ → Desk → Event → ℕ → List ℕ → List ℕ
+area_written bytes desk (Poke fd offset at count) slot area = poked_by fd offset bytes desk slot area
+area_written bytes desk event slot area = area
 
 -- the frames that an event mixes, where so many were handed over before
 abbrev pub frames_mixed : DeviceSeen → ℕ → Event → ℕ
 frames_mixed device handed (Intr n) = mixed_by device handed n
 frames_mixed device handed event = 0
 
--- the channels after an event, where so many frames were handed over before
-abbrev pub ChannelsMove : {B : Type 0} → (B → Kind) → (B → Kept) → DeviceSeen → Pool → ℕ → Event → List (PlayChannelOf B) → List (PlayChannelOf B) → Type 0
-ChannelsMove kind kept device pool handed event old new =
-    Each (PlayMoves kind kept (filters_of device) (bytes_brought pool event) (frames_mixed device handed event)) old new
+-- the channels after an event that brings such bytes, where so many frames were handed over before
+abbrev pub ChannelsMove : {B : Type 0} → (B → Kind) → (B → Kept) → DeviceSeen → List ℕ → ℕ → Event → List (PlayChannelOf B) → List (PlayChannelOf B) → Type 0
+ChannelsMove kind kept device bytes handed event old new =
+    Each (PlayMoves kind kept (filters_of device) (bytes_moved bytes event) (frames_mixed device handed event)) old new
 
 -- the chain between the mix and the device, and the device's ring, after an event
 abbrev pub BusMoves : {B : Type 0} → (B → Kept) → DeviceSeen → ℕ → Levels → Event → List (PlayChannelOf B) → List (MapChannelOf B) → ChainOf B → ChainOf B → List ℕ → List ℕ → Type 0
 BusMoves kept device handed mixer (Intr n) channels maps old new ring after = TurnsBus kept device handed n mixer channels maps old new ring after
 BusMoves kept device handed mixer event channels maps old new ring after = (new ≡ old) × (after ≡ ring)
 
--- the mapped channels after an event at a desk: an interrupt takes what stands in their areas, and another event writes into these what the
--- rules say
-abbrev pub MapsMove : {B : Type 0} → (B → Kind) → (B → Kept) → Filters → Device → Pool → Desk → Event → List (MapChannelOf B) → List (MapChannelOf B) → Type 0
-MapsMove kind kept filters device pool desk (Intr n) old new = Each (MapPlays kind kept filters device (mixed_by (seen filters device) desk.handed n)) old new
-MapsMove kind kept filters device pool desk event old new = EachAt (λ slot. MapKeeps kind kept filters (written_by pool desk event slot)) old new
+-- the mapped channels after an event at a desk that brings such bytes: an interrupt takes what stands in their areas, and another event
+-- writes into these what the rules say
+abbrev pub MapsMove : {B : Type 0} → (B → Kind) → (B → Kept) → Filters → Device → List ℕ → Desk → Event → List (MapChannelOf B) → List (MapChannelOf B) → Type 0
+MapsMove kind kept filters device bytes desk (Intr n) old new = Each (MapPlays kind kept filters device (mixed_by (seen filters device) desk.handed n)) old new
+MapsMove kind kept filters device bytes desk event old new = EachAt (λ slot. MapKeeps kind kept filters (area_written bytes desk event slot)) old new
 
--- the channels that record after an event, once so many frames were handed over
-abbrev pub RecordersMove : {B : Type 0} → (B → Kind) → (B → Kept) → DeviceSeen → Pool → ℕ → Event → List (RecordChannelOf B) → List (RecordChannelOf B) → Type 0
-RecordersMove kind kept device pool handed (Intr n) old new =
-    Each (Captures kind kept device n (interleaved (captured_frames (device_settings device).layout pool handed n))) old new
-RecordersMove kind kept device pool handed event old new = Each (RecordMoves kind kept (filters_of device) [] 0) old new
-
--- an interrupt of n frames brings as many captured frames of a pool to each channel that records
-abbrev pub CapturesPool : {B : Type 0} → (B → Kind) → (B → Kept) → Filters → Pool → ℕ → ParentOf B → ParentOf B → Type 0
-CapturesPool kind kept filters pool n old new =
-    EachCaptures kind kept filters n (interleaved (captured_frames old.device.settings.layout pool old.handed n)) old new
+-- the channels that record after an event that brings such samples
+abbrev pub RecordersMove : {B : Type 0} → (B → Kind) → (B → Kept) → DeviceSeen → List ℤ → Event → List (RecordChannelOf B) → List (RecordChannelOf B) → Type 0
+RecordersMove kind kept device samples (Intr n) old new = Each (Captures kind kept device n samples) old new
+RecordersMove kind kept device samples event old new = Each (RecordMoves kind kept (filters_of device) [] 0) old new
 
 -- the bytes that a read of so many gets of a channel, from those that were kept of its recording: the oldest that no read got
 abbrev pub channel_read : ℕ → Channel → List ℕ → List ℕ

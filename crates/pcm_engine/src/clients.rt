@@ -16,7 +16,8 @@ ghost use Rattle.pcm_play.specs.Channels.{IsPlayHere};
 ghost use Rattle.pcm_bus.specs.Slots.{MapAreOf, PlayAreOf};
 ghost use Rattle.pcm_vchan.specs.Slots.{RecordAreOf};
 ghost use Rattle.pcm_vchan.specs.Parents.{map_channels, play_channels, record_channels, untouched, AreClosable, AreServed, EachMapKeeps, EachPlayMoves, EachRecordMoves, GivenFit, KeepsOutput, TotalsFit};
-ghost use Rattle.pcm_engine.specs.Desks.{front_due, close_call, desk_with, ioctl_call, poke_call, poked_by, read_call, write_call, Closes, ClosesHeld, IsAt, ReadsKept, Replies, RepliesBy, TakesTurn, TakesTurnAt, TurnsBy};
+ghost use Rattle.pcm_engine.specs.Desks.{front_due, close_call, desk_with, ioctl_call, poke_call, read_call, write_call, Closes, ClosesHeld, IsAt, ReadsKept, Replies, RepliesBy, TakesTurn, TakesTurnAt, TurnsBy};
+ghost use Rattle.pcm_engine.specs.Steps.{poked_by};
 
 use crate::descriptors::Descriptors;
 use pcm_desk::{Held, Here};

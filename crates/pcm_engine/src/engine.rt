@@ -17,6 +17,7 @@ ghost use Rattle.pcm_oss.specs.declared.fragments.TheConstants.{RING_BYTES};
 ghost use Rattle.pcm_oss.specs.declared.reply.TheConstants.{REPLY_BYTES};
 ghost use Rattle.pcm_format.specs.Layouts.{channels_of};
 
+use crate::brought::{bytes_brought, load_brought, pad, samples_asked};
 use crate::clients::{answer_read, close, open, poke, write};
 use crate::descriptors::Descriptors;
 use crate::grouped::{ioctl, join, start_group};
@@ -27,7 +28,7 @@ use pcm_feeder::{Feeder, RacksOf, Tables};
 use pcm_fixed::Fixed;
 use pcm_oss::{Answer, Errno, Event, REPLY_BYTES, ReplyBuf};
 use pcm_vchan::ParentOf;
-use pcm_wave::{Pool, Source};
+use pcm_wave::Pool;
 use std::alloc::{AllocError, Global};
 
 /// The descriptors of clients, and the parent whose channels they hold.
@@ -61,8 +62,9 @@ impl<B: Feeder> EngineOf<B> {
     ghost use Rattle.pcm_desk.specs.Device.{IsInLimits, device_settings};
     ghost use Rattle.pcm_desk.specs.Desk.{after};
     ghost use Rattle.pcm_desk.specs.Own.{IsIsolated, MembersWait};
+    ghost use Rattle.pcm_engine.specs.Brought.{bytes_asked, padded, IsAllowed};
     ghost use Rattle.pcm_feeder.specs.Racks.{AreRacks, list_of};
-    ghost use Rattle.pcm_engine.specs.Engines.{device_of, desk_of, AnswersKept, AreReady, BeginsAsOne, BooksAreHere, BooksAreSafe, HandsOver, HandsOverPlain, IsUnchanged, MapBooksAreSafe, MappedStandInPlace, RecordsAreSafe, RepliesAsTold, RingsHold, Stands, StandsForNext, StepCaptures, StepMaps, StepMoves, StepTurns, TakesFront};
+    ghost use Rattle.pcm_engine.specs.Engines.{device_of, desk_of, AnswersKept, AreReady, BeginsAsOne, BooksAreHere, BooksAreSafe, HandsOver, HandsOverPlain, IsUnchanged, MapBooksAreSafe, MappedStandInPlace, RecordsAreSafe, RepliesAsTold, RingsHold, Stands, StandsForNext, StepCaptures, StepMaps, StepMoves, StepsAsCalled, StepTurns, TakesFront, samples_at_hand, samples_most};
 
     /// The engine of a device with its filters, before its first event. Its channels pick their stages from the racks, one rack a slot; after
     /// a refusal the racks are dropped. All memory of the engine is taken here.
@@ -150,7 +152,56 @@ impl<B: Feeder> EngineOf<B> {
         ensures count { result ≡ bytes_handed (device_of self.old) event.now }
         ensures rest { drop result out.new ≡ drop result out.old }
     {
-        self.apply(event, pool, out, reply)
+        let layout = self.parent.device.settings.layout;
+        load_brought(layout, event, pool, self.parent.handed, &mut self.captured);
+        self.answer(event, bytes_brought(event, pool), out, reply)
+    }
+
+    /// Steps through one event whose bytes the caller has, and what is captured: samples at 32 bits, channel by channel, frame by frame, and silence
+    /// behind them. Besides, it is `step`: of each event of a script that is the same, with its pool.
+    pub fn step_with(
+        &mut self,
+        event: &Event,
+        bytes: &[u8],
+        samples: &[i32],
+        out: &mut [u8],
+        reply: &mut ReplyBuf,
+    ) -> usize
+        requires within { IsAllowed (device_of self.old) event.now }
+        requires bytes { length bytes.now ≡ bytes_asked event.now }
+        requires samples { length samples.now ≤ samples_most self.old event.now }
+        requires room { bytes_handed (device_of self.old) event.now ≤ length out.old }
+        requires count { self.old.steps < STEPS }
+        requires ready { AreReady B.kind B.kept self.old }
+
+        ensures device { device_of self.new ≡ device_of self.old }
+        ensures steps { self.new.steps ≡ self.old.steps + 1 }
+        ensures ready { AreReady B.kind B.kept self.new }
+        ensures desk { desk_of self.new
+            ≡ (after (device_of self.old) (desk_of self.old) event.now).desk }
+        ensures result { reply.new.result
+            ≡ (after (device_of self.old) (desk_of self.old) event.now).reply }
+        ensures safe { BooksAreSafe (device_of self.new) (desk_of self.new) }
+        ensures records_safe { RecordsAreSafe (device_of self.new) (desk_of self.new) }
+        ensures maps_safe { MapBooksAreSafe (device_of self.new) (desk_of self.new) }
+        ensures places { BooksAreHere (device_of self.new) (desk_of self.new) }
+        ensures rings { RingsHold self.new }
+        ensures refused { IsErr reply.new.result → IsUnchanged self.old self.new }
+        ensures apart { HoldApart (desk_of self.new) }
+        ensures members { MembersWait (device_of self.new) (desk_of self.new) }
+        ensures isolated { IsIsolated (device_of self.old) event.now
+            (desk_of self.old) (desk_of self.new) reply.new.result }
+        ensures read { AnswersKept B.kept event.now self.old reply.new.bytes }
+        ensures taken { TakesFront event.now self.old reply.new.bytes }
+        ensures count { result ≡ bytes_handed (device_of self.old) event.now }
+        ensures rest { drop result out.new ≡ drop result out.old }
+        ensures called { StepsAsCalled B.kept event.now bytes.now (padded (samples_most self.old event.now) samples.now)
+            self.old self.new reply.new (take result out.new) }
+    {
+        let layout = self.parent.device.settings.layout;
+        let count = samples_asked(layout, event);
+        pad(samples, count, &mut self.captured);
+        self.answer(event, bytes, out, reply)
     }
 
     /// How many steps it has taken.
@@ -160,11 +211,52 @@ impl<B: Feeder> EngineOf<B> {
         self.steps
     }
 
-    // One event on the parts. The reply, and how many device bytes stand at the front of `out`.
-    fn apply(&mut self, event: &Event, pool: &Pool, out: &mut [u8], reply: &mut ReplyBuf) -> usize
-        requires fits { Fits (device_of self.old) pool.now event.now }
+    /// The device.
+    pub fn device(&self) -> &Device
+        ensures { result.now ≡ self.now.parent.device }
+    {
+        &self.parent.device
+    }
+
+    // One event with the bytes that it brings, whose samples are at hand.
+    fn answer(&mut self, event: &Event, bytes: &[u8], out: &mut [u8], reply: &mut ReplyBuf) -> usize
+        requires within { IsAllowed (device_of self.old) event.now }
+        requires bytes { length bytes.now ≡ bytes_asked event.now }
         requires room { bytes_handed (device_of self.old) event.now ≤ length out.old }
-        requires captures { IsCaptureIn (device_settings (device_of self.old)).layout pool.now }
+        requires count { self.old.steps < STEPS }
+        requires ready { AreReady B.kind B.kept self.old }
+        ensures device { device_of self.new ≡ device_of self.old }
+        ensures steps { self.new.steps ≡ self.old.steps + 1 }
+        ensures ready { AreReady B.kind B.kept self.new }
+        ensures desk { desk_of self.new
+            ≡ (after (device_of self.old) (desk_of self.old) event.now).desk }
+        ensures result { reply.new.result
+            ≡ (after (device_of self.old) (desk_of self.old) event.now).reply }
+        ensures safe { BooksAreSafe (device_of self.new) (desk_of self.new) }
+        ensures records_safe { RecordsAreSafe (device_of self.new) (desk_of self.new) }
+        ensures maps_safe { MapBooksAreSafe (device_of self.new) (desk_of self.new) }
+        ensures places { BooksAreHere (device_of self.new) (desk_of self.new) }
+        ensures rings { RingsHold self.new }
+        ensures refused { IsErr reply.new.result → IsUnchanged self.old self.new }
+        ensures apart { HoldApart (desk_of self.new) }
+        ensures members { MembersWait (device_of self.new) (desk_of self.new) }
+        ensures isolated { IsIsolated (device_of self.old) event.now
+            (desk_of self.old) (desk_of self.new) reply.new.result }
+        ensures read { AnswersKept B.kept event.now self.old reply.new.bytes }
+        ensures taken { TakesFront event.now self.old reply.new.bytes }
+        ensures count { result ≡ bytes_handed (device_of self.old) event.now }
+        ensures rest { drop result out.new ≡ drop result out.old }
+        ensures called { StepsAsCalled B.kept event.now bytes.now (samples_at_hand self.old event.now)
+            self.old self.new reply.new (take result out.new) }
+    {
+        self.apply(event, bytes, out, reply)
+    }
+
+    // One event on the parts. The reply, and how many device bytes stand at the front of `out`.
+    fn apply(&mut self, event: &Event, bytes: &[u8], out: &mut [u8], reply: &mut ReplyBuf) -> usize
+        requires within { IsAllowed (device_of self.old) event.now }
+        requires bytes { length bytes.now ≡ bytes_asked event.now }
+        requires room { bytes_handed (device_of self.old) event.now ≤ length out.old }
         requires count { self.old.steps < STEPS }
         requires ready { AreReady B.kind B.kept self.old }
         ensures device { self.new.parent.device ≡ self.old.parent.device }
@@ -182,9 +274,9 @@ impl<B: Feeder> EngineOf<B> {
             ≡ (after (device_of self.old) (desk_of self.old) event.now).reply }
         ensures bytes { AnswersKept B.kept event.now self.old reply.new.bytes }
         ensures refused { IsErr reply.new.result → IsUnchanged self.old self.new }
-        ensures channels { StepMoves B.kind B.kept pool.now event.now self.old self.new }
-        ensures recorders { StepCaptures B.kind B.kept pool.now event.now self.old self.new }
-        ensures maps { StepMaps B.kind B.kept pool.now event.now self.old self.new }
+        ensures channels { StepMoves B.kind B.kept bytes.now event.now self.old self.new }
+        ensures recorders { StepCaptures B.kind B.kept (samples_at_hand self.old event.now) event.now self.old self.new }
+        ensures maps { StepMaps B.kind B.kept bytes.now event.now self.old self.new }
         ensures bus { HasBus B.kept (device_of self.old) self.new.parent }
         ensures turns { StepTurns B.kept event.now self.old self.new }
         ensures count { result ≡ bytes_handed (device_of self.old) event.now }
@@ -200,22 +292,8 @@ impl<B: Feeder> EngineOf<B> {
             Event::Open { fd, way, settings } => {
                 tell(reply, open(parent, tables, descriptors, fd, way, settings))
             }
-            Event::Write {
-                fd,
-                source,
-                at,
-                len,
-            } => {
-                let bytes = pool.bytes_at(source, at, len);
-                tell(reply, write(parent, descriptors, fd, bytes, here))
-            }
-            Event::Poke {
-                fd,
-                offset,
-                at,
-                len,
-            } => {
-                let bytes = pool.bytes_at(Source::Inline, at, len);
+            Event::Write { fd, .. } => tell(reply, write(parent, descriptors, fd, bytes, here)),
+            Event::Poke { fd, offset, .. } => {
                 tell(reply, poke(parent, descriptors, fd, offset, bytes))
             }
             Event::Read { fd, len } => {
@@ -238,7 +316,7 @@ impl<B: Feeder> EngineOf<B> {
             Event::Mixer { request } => tell(reply, ask_mixer(parent, request)),
             Event::Intr { frames } => {
                 reply.keep(Ok(Answer::Number(frames)), &[]);
-                interrupt(parent, tables, pool, frames, &mut self.captured, out)
+                interrupt(parent, tables, frames, &self.captured, out)
             }
         }
     }

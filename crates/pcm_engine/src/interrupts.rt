@@ -1,31 +1,26 @@
-//! The device's interrupt: what is captured is brought to it.
+//! The device's interrupt: it brings what is captured.
 
 ghost use Rattle.std.specs.Prelude.{◌≡◌, ◌+◌, ◌*◌, ◌^◌, ◌<◌, ◌≤◌, [], length, take, drop};
 ghost use Rattle.pcm_format.specs.Frames.{frame_bytes};
 ghost use Rattle.pcm_format.specs.Layouts.{channels_of};
-ghost use Rattle.pcm_wave.specs.Pools.{IsCaptureIn};
 ghost use Rattle.pcm_desk.specs.Device.{seen};
-ghost use Rattle.pcm_vchan.specs.Parents.{map_channels, mixed_in, play_channels, record_channels, AreDue, BusTurns, EachMapPlays, EachPasses, EachPlayMoves, HasBus};
+ghost use Rattle.pcm_vchan.specs.Parents.{map_channels, mixed_in, play_channels, record_channels, AreDue, BusTurns, EachCaptures, EachMapPlays, EachPasses, EachPlayMoves, HasBus};
 ghost use Rattle.pcm_bus.specs.Slots.{MapAreOf, PlayAreOf};
 ghost use Rattle.pcm_vchan.specs.Slots.{RecordAreOf};
-ghost use Rattle.pcm_engine.specs.Steps.{CapturesPool};
 
 use pcm_feeder::{Feeder, Tables};
 use pcm_vchan::ParentOf;
-use pcm_wave::Pool;
 
-/// The device's interrupt, with what a pool has to be captured. `captured` holds it meanwhile. The bytes that are handed over
-/// stand at the front of `out`. Returns how many they are.
+/// The device's interrupt, with what is captured at the front of `captured`. The bytes that are handed over stand at the front of `out`.
+/// Returns how many they are.
 pub fn interrupt<B: Feeder>(
     parent: &mut ParentOf<B>,
     tables: &Tables,
-    pool: &Pool,
     frames: u32,
-    captured: &mut [i32],
+    captured: &[i32],
     out: &mut [u8],
 ) -> usize
-    requires captures { IsCaptureIn parent.old.device.settings.layout pool.now }
-    requires room { frames * channels_of parent.old.device.settings.layout ≤ length captured.old }
+    requires room { frames * channels_of parent.old.device.settings.layout ≤ length captured.now }
     requires some { 0 < frames }
     requires within { frames ≤ parent.old.device.ring_frames }
     requires out { frames * frame_bytes parent.old.device.settings ≤ length out.old }
@@ -40,7 +35,8 @@ pub fn interrupt<B: Feeder>(
     ensures channels { EachPlayMoves B.kind B.kept tables.now []
         (mixed_in tables.now frames parent.old) parent.old parent.new }
     ensures books { EachPasses tables.now frames parent.old parent.new }
-    ensures recorders { CapturesPool B.kind B.kept tables.now pool.now frames parent.old parent.new }
+    ensures recorders { EachCaptures B.kind B.kept tables.now frames
+        (take (frames * channels_of parent.old.device.settings.layout) captured.now) parent.old parent.new }
     ensures maps_own { MapAreOf parent.new.device (map_channels parent.new) }
     ensures maps_slots { length (map_channels parent.new) ≡ length (map_channels parent.old) }
     ensures maps { EachMapPlays B.kind B.kept tables.now frames parent.old parent.new }
@@ -52,13 +48,10 @@ pub fn interrupt<B: Feeder>(
     ensures rest { drop result out.new ≡ drop result out.old }
     ensures bus { HasBus B.kept (seen tables.now parent.old.device) parent.new }
     ensures turns { BusTurns B.kept tables.now frames parent.old parent.new }
-    ensures captured { length captured.new ≡ length captured.old }
 {
     let n = frames as usize;
     let size = n * parent.device.settings.frame_bytes();
-    let layout = parent.device.settings.layout;
-    let captured = &mut captured[..n * layout.channels()];
-    pool.load_captured(layout, parent.handed, n, captured);
+    let captured = &captured[..n * parent.device.settings.layout.channels()];
     parent.interrupt(tables, n, captured, &mut out[..size]);
     size
 }

@@ -2,6 +2,7 @@
 //! After any list of events it stands for them: its books, rings, chains and bytes are those of their story.
 #![tactic(auto)]
 
+mod brought;
 mod clients;
 mod descriptors;
 mod engine;
@@ -11,6 +12,7 @@ mod laws;
 mod limits;
 mod mixer_calls;
 
+pub use brought::{bytes_asked, bytes_handed, samples_asked};
 pub use engine::{Engine, EngineOf};
 pub use laws::engines_stand_with_alike_pools;
 pub use limits::STEPS;

@@ -731,24 +731,29 @@ order_passed device desk n slot d rates o =
 order_left : (device : DeviceSeen) (dropping : Bool) (old new : Desk) (slot : ℕ) → LeavesSlots device 0 dropping old new → IsInOrder device (desk_here device old) (play_at device old slot) → IsInOrder device (desk_here device new) (play_at device new slot)
 order_left device dropping old new slot l o = subst (λ (handed : ℕ). IsInOrder device (here_at device handed) (play_at device new slot)) (sym l.handed_same) (l.order slot o)
 
--- books stay in order through every event that fits
-pub order-after : (device : DeviceSeen) (pool : Pool) (desk : Desk) (event : Event) (slot : ℕ) → IsDevice device → Fits device pool event → HaveRates device desk → IsInOrder device (desk_here device desk) (play_at device desk slot)
+-- an opening has a rate within the limits
+abbrev pub OpensWithin : Event → Type 0
+OpensWithin (Open fd way settings) = IsRate settings.rate
+OpensWithin event = Unit {0}
+
+-- books stay in order through every event, if what is opened has such a rate
+pub order-after : (device : DeviceSeen) (desk : Desk) (event : Event) (slot : ℕ) → IsDevice device → OpensWithin event → HaveRates device desk → IsInOrder device (desk_here device desk) (play_at device desk slot)
     → IsInOrder device (desk_here device (after device desk event).desk) (play_at device (after device desk event).desk slot)
-order-after device pool desk (Open fd way settings) slot d fits rates o = order_left device false desk (open_turn desk fd way settings).desk slot (leaves-open_turn device 0 desk fd way settings fits.1) o
-order-after device pool desk (Write fd source at count) slot d fits rates o =
+order-after device desk (Open fd way settings) slot d fits rates o = order_left device false desk (open_turn desk fd way settings).desk slot (leaves-open_turn device 0 desk fd way settings fits) o
+order-after device desk (Write fd source at count) slot d fits rates o =
     let new : Desk = (write_on device (held_by desk fd) desk count).desk in
     subst (λ (handed : ℕ). IsInOrder device (here_at device handed) (play_at device new slot)) (sym (writes-write_on device (held_by desk fd) desk count).handed_same)
     (order-write_on device (held_by desk fd) desk count slot d rates o)
-order-after device pool desk (Poke fd offset at count) slot d fits rates o = order_left device false desk (poke_on device (held_by desk fd) desk offset count).desk slot (leaves-poke_on device 0 (held_by desk fd) desk offset count) o
-order-after device pool desk (Read fd count) slot d fits rates o = order_left device false desk (read_on device (held_by desk fd) desk count).desk slot (leaves-read_on device 0 (held_by desk fd) desk count) o
-order-after device pool desk (Ioctl fd request) slot d fits rates o =
+order-after device desk (Poke fd offset at count) slot d fits rates o = order_left device false desk (poke_on device (held_by desk fd) desk offset count).desk slot (leaves-poke_on device 0 (held_by desk fd) desk offset count) o
+order-after device desk (Read fd count) slot d fits rates o = order_left device false desk (read_on device (held_by desk fd) desk count).desk slot (leaves-read_on device 0 (held_by desk fd) desk count) o
+order-after device desk (Ioctl fd request) slot d fits rates o =
     order_left device (asks_drop request) desk (request_on device (held_by desk fd) desk request).desk slot (leaves-request_on device 0 (held_by desk fd) desk request d rates) o
-order-after device pool desk (Join fd group) slot d fits rates o = order_left device false desk (join_on device (held_by desk fd) desk group).desk slot (leaves-join_on device 0 (held_by desk fd) desk group d rates) o
-order-after device pool desk (StartGroup fd group) slot d fits rates o = order_left device false desk (start_on device (held_by desk fd) desk group).desk slot (leaves-start_on device 0 (held_by desk fd) desk group d rates) o
-order-after device pool desk (Close fd) slot d fits rates o =
+order-after device desk (Join fd group) slot d fits rates o = order_left device false desk (join_on device (held_by desk fd) desk group).desk slot (leaves-join_on device 0 (held_by desk fd) desk group d rates) o
+order-after device desk (StartGroup fd group) slot d fits rates o = order_left device false desk (start_on device (held_by desk fd) desk group).desk slot (leaves-start_on device 0 (held_by desk fd) desk group d rates) o
+order-after device desk (Close fd) slot d fits rates o =
     order_left device false desk (close_on device (held_by desk fd) (left (held_by desk fd) desk) fd).desk slot (leaves-closing device 0 (held_by desk fd) desk fd d rates) o
-order-after device pool desk (Mixer request) slot d fits rates o = o
-order-after device pool desk (Intr n) slot d fits rates o = order_passed device desk n slot d rates o
+order-after device desk (Mixer request) slot d fits rates o = o
+order-after device desk (Intr n) slot d fits rates o = order_passed device desk n slot d rates o
 
 -- a story stays valid through an interrupt
 valid-interrupted : (device : DeviceSeen) (pool : Pool) (story : Story) (n : ℕ) → StoryIsValid device story → StoryIsValid device (told device pool story (Intr n))

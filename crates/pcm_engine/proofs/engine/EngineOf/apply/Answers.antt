@@ -1,4 +1,4 @@
-use Rattle.std.proofs.Common.{rules, All, ℕ, ◌+◌, ◌*◌, List, [], get_or, length, sym, ap, ◌∙◌, subst, arith}
+use Rattle.std.proofs.Common.{rules, All, ℕ, ℤ, ◌+◌, ◌*◌, List, [], get_or, length, length-take, take, sym, ap, ◌∙◌, subst, arith}
 use Rattle.pcm_fixed.specs.declared.fixed.Fixed.{Fixed}
 use Rattle.pcm_fixed.specs.Fixed.{fixed_items}
 use Rattle.pcm_oss.specs.declared.event.Event.{Event}
@@ -23,9 +23,9 @@ use Rattle.pcm_record.proofs.Moving as recorders
 use Rattle.pcm_bus.specs.Slots.{Each, MapAreOf, PlayAreOf}
 use Rattle.pcm_vchan.specs.Slots.{MapKeeps, RecordAreOf}
 use Rattle.pcm_vchan.specs.Starts.{EachAt}
-use Rattle.pcm_engine.specs.Desks.{desk_with, poked_by}
+use Rattle.pcm_engine.specs.Desks.{desk_with}
 use Rattle.pcm_vchan.specs.declared.parent.ParentOf.{ParentOf}
-use Rattle.pcm_engine.specs.Engines.{device_of, desk_of}
+use Rattle.pcm_engine.specs.Engines.{samples_at_hand, device_of, desk_of, samples_most}
 use Rattle.pcm_engine.specs.Steps.{BusMoves, ChannelsMove, MapsMove, RecordersMove, bytes_answered}
 use Rattle.pcm_vchan.proofs.Channels.{map_books_of-passed, play_books_of-passed, record_books_of-captured}
 use Rattle.pcm_vchan.specs.Parents.{HasBus, map_channels, play_channels, record_channels, untouched}
@@ -43,7 +43,7 @@ invariant_of-self-in-Write g c =
     let same = c.write.ensures.output.slots_same in
     let output = c.write.ensures.output in
     record {
-      apart = subst HoldApart (sym (c.write.ensures.turn.desk old.tables (c.here-here.ensures ∙ here-seen g.B.Feeder.kept old c.requires.ready.bus))) (apart-after (device_of old) (desk_of old) (Write c.in-Write.fd c.in-Write.source c.in-Write.at (length c.bytes_at-bytes.result.now)) old.apart);
+      apart = subst HoldApart (sym (c.write.ensures.turn.desk old.tables (c.here-here.ensures ∙ here-seen g.B.Feeder.kept old c.requires.ready.bus))) (apart-after (device_of old) (desk_of old) (Write c.in-Write.fd c.in-Write.source c.in-Write.at (length c.args.bytes.now)) old.apart);
       own = c.write.ensures.own;
       counted = count-within (λ (c : PlayChannelOf _). c.book.done + c.book.written) RING_BYTES old.steps (play_channels old.parent) (play_channels new) same
           (λ slot other there. let more = (c.write.ensures.channels old.tables slot other there).grown in omega (arith, more)) old.counted;
@@ -145,7 +145,7 @@ invariant_of-self-in-StartGroup g c =
 pub interrupt-requires-clause-due : goal.interrupt-requires-clause-due
 interrupt-requires-clause-due g c =
     let old = c.args.self.now in
-    let fits = rw c.in-Intr.is at c.requires.fits in
+    let fits = rw c.in-Intr.is at c.requires.within in
     let within = old.parent.within in
     let few = mixes-few old.tables c.in-Intr.frames old.parent c.requires.ready.bus.planned.limits fits.1 in
     record {
@@ -232,7 +232,7 @@ pub invariant_of-self-in-Intr : goal.invariant_of-self-in-Intr
 invariant_of-self-in-Intr g c =
     let old = c.args.self.now in
     let new = c.interrupt.new.parent in
-    let fits = rw c.in-Intr.is at c.requires.fits in
+    let fits = rw c.in-Intr.is at c.requires.within in
     let same = c.interrupt.ensures.slots in
     let within = old.parent.within in
     let few = mixes-few old.tables c.in-Intr.frames old.parent c.requires.ready.bus.planned.limits fits.1 in
@@ -240,7 +240,9 @@ invariant_of-self-in-Intr g c =
     let recorded = record_books_of-captured (device_of old) c.in-Intr.frames (record_channels old.parent) (record_channels new) c.interrupt.ensures.recorders_slots (λ slot other there. (c.interrupt.ensures.recorders slot other there).book) in
     let taken = map_books_of-passed (device_of old) old.parent.handed c.in-Intr.frames (map_channels old.parent) (map_channels new) c.interrupt.ensures.maps_slots (λ slot other there. (c.interrupt.ensures.maps slot other there).book) in
     let desk = desk_with-mixed (device_of old) old.parent new old.descriptors c.in-Intr.frames books recorded taken c.interrupt.ensures.mixer c.interrupt.ensures.handed c.interrupt.ensures.mixed in
-    let brought = length-captured old.parent.device.settings.layout c.args.pool.now old.parent.handed c.in-Intr.frames c.requires.captures in
+    let room : ℕ = samples_most old (Intr c.in-Intr.frames) in
+    let samples : List ℤ = take room c.deref.result.now in
+    let brought = length-captured old.parent.device.settings.layout c.in-Intr.frames samples (omega (arith, length-take room c.deref.result.now)) in
     record {
       apart = subst HoldApart (sym desk) (apart-after (device_of old) (desk_of old) (Intr c.in-Intr.frames) old.apart);
       own = c.interrupt.ensures.own;
@@ -276,17 +278,17 @@ returns-in-Intr-clause-desk g c =
 pub returns-in-Write-clause-desk : goal.returns-in-Write-clause-desk
 returns-in-Write-clause-desk g c =
     let old = c.args.self.now in
-    c.write.ensures.turn.desk old.tables (c.here-here.ensures ∙ here-seen g.B.Feeder.kept old c.requires.ready.bus) ∙ ap (λ (n : ℕ). (write_on (device_of old) (held_by (desk_of old) c.in-Write.fd) (desk_of old) n).desk) c.bytes_at-bytes.ensures.length ∙ sym (ap (λ (event : Event). (after (device_of old) (desk_of old) event).desk) c.in-Write.is)
+    c.write.ensures.turn.desk old.tables (c.here-here.ensures ∙ here-seen g.B.Feeder.kept old c.requires.ready.bus) ∙ ap (λ (n : ℕ). (write_on (device_of old) (held_by (desk_of old) c.in-Write.fd) (desk_of old) n).desk) (rw c.in-Write.is at c.requires.bytes) ∙ sym (ap (λ (event : Event). (after (device_of old) (desk_of old) event).desk) c.in-Write.is)
 
 pub returns-in-Write-clause-reply : goal.returns-in-Write-clause-reply
 returns-in-Write-clause-reply g c =
     let old = c.args.self.now in
-    ap (λ (r : Reply). r.result) c.tell-in-Write.ensures.kept ∙ c.write.ensures.turn.reply old.tables (c.here-here.ensures ∙ here-seen g.B.Feeder.kept old c.requires.ready.bus) ∙ ap (λ (n : ℕ). (write_on (device_of old) (held_by (desk_of old) c.in-Write.fd) (desk_of old) n).reply) c.bytes_at-bytes.ensures.length ∙ sym (ap (λ (event : Event). (after (device_of old) (desk_of old) event).reply) c.in-Write.is)
+    ap (λ (r : Reply). r.result) c.tell-in-Write.ensures.kept ∙ c.write.ensures.turn.reply old.tables (c.here-here.ensures ∙ here-seen g.B.Feeder.kept old c.requires.ready.bus) ∙ ap (λ (n : ℕ). (write_on (device_of old) (held_by (desk_of old) c.in-Write.fd) (desk_of old) n).reply) (rw c.in-Write.is at c.requires.bytes) ∙ sym (ap (λ (event : Event). (after (device_of old) (desk_of old) event).reply) c.in-Write.is)
 
 pub returns-in-Write-clause-recorders : goal.returns-in-Write-clause-recorders
 returns-in-Write-clause-recorders g c =
     let old = c.args.self.now in
-    subst (λ (event : Event). RecordersMove g.B.Feeder.kind g.B.Feeder.kept (device_of old) c.args.pool.now old.parent.handed event (record_channels old.parent) (record_channels c.write.new.parent)) (sym c.in-Write.is)
+    subst (λ (event : Event). RecordersMove g.B.Feeder.kind g.B.Feeder.kept (device_of old) (samples_at_hand old event) event (record_channels old.parent) (record_channels c.write.new.parent)) (sym c.in-Write.is)
     (subst (λ (v : Fixed (RecordChannelOf _)). Each (RecordMoves g.B.Feeder.kind g.B.Feeder.kept old.tables [] 0) (record_channels old.parent) (fixed_items v)) (sym c.write.ensures.recorders)
     (λ slot other there. recorders.moves-nothing g.B.Feeder.kind g.B.Feeder.kept old.tables [] 0 (get_or (record_channels old.parent) slot other)))
 
@@ -308,32 +310,32 @@ returns-in-Read-clause-bytes g c = λ bytes frames stand.
 pub returns-in-Read-clause-channels : goal.returns-in-Read-clause-channels
 returns-in-Read-clause-channels g c =
     let old = c.args.self.now in
-    subst (λ (event : Event). ChannelsMove g.B.Feeder.kind g.B.Feeder.kept (device_of old) c.args.pool.now old.parent.handed event (play_channels old.parent) (play_channels c.answer_read.new.parent)) (sym c.in-Read.is)
+    subst (λ (event : Event). ChannelsMove g.B.Feeder.kind g.B.Feeder.kept (device_of old) c.args.bytes.now old.parent.handed event (play_channels old.parent) (play_channels c.answer_read.new.parent)) (sym c.in-Read.is)
     (subst (λ (v : Fixed (PlayChannelOf _)). Each (PlayMoves g.B.Feeder.kind g.B.Feeder.kept old.tables [] 0) (play_channels old.parent) (fixed_items v)) (sym c.answer_read.ensures.channels)
     (λ slot other there. moves-nothing g.B.Feeder.kind g.B.Feeder.kept old.tables [] 0 (get_or (play_channels old.parent) slot other)))
 
 pub returns-in-Read-clause-recorders : goal.returns-in-Read-clause-recorders
 returns-in-Read-clause-recorders g c =
     let old = c.args.self.now in
-    subst (λ (event : Event). RecordersMove g.B.Feeder.kind g.B.Feeder.kept (device_of old) c.args.pool.now old.parent.handed event (record_channels old.parent) (record_channels c.answer_read.new.parent)) (sym c.in-Read.is)
+    subst (λ (event : Event). RecordersMove g.B.Feeder.kind g.B.Feeder.kept (device_of old) (samples_at_hand old event) event (record_channels old.parent) (record_channels c.answer_read.new.parent)) (sym c.in-Read.is)
     (c.answer_read.ensures.recorders old.tables)
 
 pub returns-in-Ioctl-clause-channels : goal.returns-in-Ioctl-clause-channels
 returns-in-Ioctl-clause-channels g c =
     let old = c.args.self.now in
-    subst (λ (event : Event). ChannelsMove g.B.Feeder.kind g.B.Feeder.kept (device_of old) c.args.pool.now old.parent.handed event (play_channels old.parent) (play_channels c.ioctl.new.parent)) (sym c.in-Ioctl.is)
+    subst (λ (event : Event). ChannelsMove g.B.Feeder.kind g.B.Feeder.kept (device_of old) c.args.bytes.now old.parent.handed event (play_channels old.parent) (play_channels c.ioctl.new.parent)) (sym c.in-Ioctl.is)
     (c.ioctl.ensures.channels)
 
 pub returns-in-Join-clause-channels : goal.returns-in-Join-clause-channels
 returns-in-Join-clause-channels g c =
     let old = c.args.self.now in
-    subst (λ (event : Event). ChannelsMove g.B.Feeder.kind g.B.Feeder.kept (device_of old) c.args.pool.now old.parent.handed event (play_channels old.parent) (play_channels c.join.new.parent)) (sym c.in-Join.is)
+    subst (λ (event : Event). ChannelsMove g.B.Feeder.kind g.B.Feeder.kept (device_of old) c.args.bytes.now old.parent.handed event (play_channels old.parent) (play_channels c.join.new.parent)) (sym c.in-Join.is)
     (c.join.ensures.channels)
 
 pub returns-in-StartGroup-clause-channels : goal.returns-in-StartGroup-clause-channels
 returns-in-StartGroup-clause-channels g c =
     let old = c.args.self.now in
-    subst (λ (event : Event). ChannelsMove g.B.Feeder.kind g.B.Feeder.kept (device_of old) c.args.pool.now old.parent.handed event (play_channels old.parent) (play_channels c.start_group.new.parent)) (sym c.in-StartGroup.is)
+    subst (λ (event : Event). ChannelsMove g.B.Feeder.kind g.B.Feeder.kept (device_of old) c.args.bytes.now old.parent.handed event (play_channels old.parent) (play_channels c.start_group.new.parent)) (sym c.in-StartGroup.is)
     (c.start_group.ensures.channels)
 
 pub returns-in-Close-clause-desk : goal.returns-in-Close-clause-desk
@@ -349,25 +351,25 @@ returns-in-Close-clause-reply g c =
 pub returns-in-Close-clause-channels : goal.returns-in-Close-clause-channels
 returns-in-Close-clause-channels g c =
     let old = c.args.self.now in
-    subst (λ (event : Event). ChannelsMove g.B.Feeder.kind g.B.Feeder.kept (device_of old) c.args.pool.now old.parent.handed event (play_channels old.parent) (play_channels c.close.new.parent)) (sym c.in-Close.is)
+    subst (λ (event : Event). ChannelsMove g.B.Feeder.kind g.B.Feeder.kept (device_of old) c.args.bytes.now old.parent.handed event (play_channels old.parent) (play_channels c.close.new.parent)) (sym c.in-Close.is)
     (c.close.ensures.channels old.tables)
 
 pub returns-in-Close-clause-recorders : goal.returns-in-Close-clause-recorders
 returns-in-Close-clause-recorders g c =
     let old = c.args.self.now in
-    subst (λ (event : Event). RecordersMove g.B.Feeder.kind g.B.Feeder.kept (device_of old) c.args.pool.now old.parent.handed event (record_channels old.parent) (record_channels c.close.new.parent)) (sym c.in-Close.is)
+    subst (λ (event : Event). RecordersMove g.B.Feeder.kind g.B.Feeder.kept (device_of old) (samples_at_hand old event) event (record_channels old.parent) (record_channels c.close.new.parent)) (sym c.in-Close.is)
     (c.close.ensures.recorders old.tables)
 
 pub returns-in-Write-clause-channels : goal.returns-in-Write-clause-channels
 returns-in-Write-clause-channels g c =
     let before = (play_channels c.args.self.now.parent) in
     let now = (play_channels c.write.new.parent) in
-    subst (λ (event : Event). ChannelsMove g.B.Feeder.kind g.B.Feeder.kept (device_of c.args.self.now) c.args.pool.now c.args.self.now.parent.handed event before now) (sym c.in-Write.is)
-    (subst (λ (bytes : List ℕ). Each (PlayMoves g.B.Feeder.kind g.B.Feeder.kept c.args.self.now.tables bytes 0) before now) c.bytes_at-bytes.ensures.bytes (c.write.ensures.channels c.args.self.now.tables))
+    subst (λ (event : Event). ChannelsMove g.B.Feeder.kind g.B.Feeder.kept (device_of c.args.self.now) c.args.bytes.now c.args.self.now.parent.handed event before now) (sym c.in-Write.is)
+    (c.write.ensures.channels c.args.self.now.tables)
 
 pub returns-in-Intr-clause-channels : goal.returns-in-Intr-clause-channels
 returns-in-Intr-clause-channels g c =
-    subst (λ (event : Event). ChannelsMove g.B.Feeder.kind g.B.Feeder.kept (device_of c.args.self.now) c.args.pool.now c.args.self.now.parent.handed event (play_channels c.args.self.now.parent) (play_channels c.interrupt.new.parent)) (sym c.in-Intr.is)
+    subst (λ (event : Event). ChannelsMove g.B.Feeder.kind g.B.Feeder.kept (device_of c.args.self.now) c.args.bytes.now c.args.self.now.parent.handed event (play_channels c.args.self.now.parent) (play_channels c.interrupt.new.parent)) (sym c.in-Intr.is)
     c.interrupt.ensures.channels
 
 pub invariant_of-self : goal.invariant_of-self
@@ -542,14 +544,14 @@ returns-in-Intr-clause-turns g c =
 pub interrupt-requires-clause-mixed : goal.interrupt-requires-clause-mixed
 interrupt-requires-clause-mixed g c =
     let old = c.args.self.now in
-    let fits = rw c.in-Intr.is at c.requires.fits in
+    let fits = rw c.in-Intr.is at c.requires.within in
     let few = mixes-few old.tables c.in-Intr.frames old.parent c.requires.ready.bus.planned.limits fits.1 in
     omega (arith, few, old.mixed_within, c.requires.count)
 
 pub returns-in-Open-clause-channels : goal.returns-in-Open-clause-channels
 returns-in-Open-clause-channels g c =
     let old = c.args.self.now in
-    subst (λ (event : Event). ChannelsMove g.B.Feeder.kind g.B.Feeder.kept (device_of old) c.args.pool.now old.parent.handed event (play_channels old.parent) (play_channels c.open.new.parent)) (sym c.in-Open.is)
+    subst (λ (event : Event). ChannelsMove g.B.Feeder.kind g.B.Feeder.kept (device_of old) c.args.bytes.now old.parent.handed event (play_channels old.parent) (play_channels c.open.new.parent)) (sym c.in-Open.is)
     (c.open.ensures.channels)
 
 pub returns-in-Open-clause-refused : goal.returns-in-Open-clause-refused
@@ -567,59 +569,58 @@ start_group-requires-clause-given g c = λ slot other there. (let given = c.args
 pub returns-in-Open-clause-maps : goal.returns-in-Open-clause-maps
 returns-in-Open-clause-maps g c =
     let old = c.args.self.now in
-    subst (λ (event : Event). MapsMove g.B.Feeder.kind g.B.Feeder.kept old.tables old.parent.device c.args.pool.now (desk_of old) event (map_channels old.parent) (map_channels c.open.new.parent)) (sym c.in-Open.is)
+    subst (λ (event : Event). MapsMove g.B.Feeder.kind g.B.Feeder.kept old.tables old.parent.device c.args.bytes.now (desk_of old) event (map_channels old.parent) (map_channels c.open.new.parent)) (sym c.in-Open.is)
     c.open.ensures.maps
 
 pub returns-in-Ioctl-clause-maps : goal.returns-in-Ioctl-clause-maps
 returns-in-Ioctl-clause-maps g c =
     let old = c.args.self.now in
-    subst (λ (event : Event). MapsMove g.B.Feeder.kind g.B.Feeder.kept old.tables old.parent.device c.args.pool.now (desk_of old) event (map_channels old.parent) (map_channels c.ioctl.new.parent)) (sym c.in-Ioctl.is)
+    subst (λ (event : Event). MapsMove g.B.Feeder.kind g.B.Feeder.kept old.tables old.parent.device c.args.bytes.now (desk_of old) event (map_channels old.parent) (map_channels c.ioctl.new.parent)) (sym c.in-Ioctl.is)
     c.ioctl.ensures.maps
 
 pub returns-in-Join-clause-maps : goal.returns-in-Join-clause-maps
 returns-in-Join-clause-maps g c =
     let old = c.args.self.now in
-    subst (λ (event : Event). MapsMove g.B.Feeder.kind g.B.Feeder.kept old.tables old.parent.device c.args.pool.now (desk_of old) event (map_channels old.parent) (map_channels c.join.new.parent)) (sym c.in-Join.is)
+    subst (λ (event : Event). MapsMove g.B.Feeder.kind g.B.Feeder.kept old.tables old.parent.device c.args.bytes.now (desk_of old) event (map_channels old.parent) (map_channels c.join.new.parent)) (sym c.in-Join.is)
     c.join.ensures.maps
 
 pub returns-in-StartGroup-clause-maps : goal.returns-in-StartGroup-clause-maps
 returns-in-StartGroup-clause-maps g c =
     let old = c.args.self.now in
-    subst (λ (event : Event). MapsMove g.B.Feeder.kind g.B.Feeder.kept old.tables old.parent.device c.args.pool.now (desk_of old) event (map_channels old.parent) (map_channels c.start_group.new.parent)) (sym c.in-StartGroup.is)
+    subst (λ (event : Event). MapsMove g.B.Feeder.kind g.B.Feeder.kept old.tables old.parent.device c.args.bytes.now (desk_of old) event (map_channels old.parent) (map_channels c.start_group.new.parent)) (sym c.in-StartGroup.is)
     c.start_group.ensures.maps
 
 pub returns-in-Close-clause-maps : goal.returns-in-Close-clause-maps
 returns-in-Close-clause-maps g c =
     let old = c.args.self.now in
-    subst (λ (event : Event). MapsMove g.B.Feeder.kind g.B.Feeder.kept old.tables old.parent.device c.args.pool.now (desk_of old) event (map_channels old.parent) (map_channels c.close.new.parent)) (sym c.in-Close.is)
+    subst (λ (event : Event). MapsMove g.B.Feeder.kind g.B.Feeder.kept old.tables old.parent.device c.args.bytes.now (desk_of old) event (map_channels old.parent) (map_channels c.close.new.parent)) (sym c.in-Close.is)
     (c.close.ensures.maps old.tables)
 
 pub returns-in-Intr-clause-maps : goal.returns-in-Intr-clause-maps
 returns-in-Intr-clause-maps g c =
     let old = c.args.self.now in
-    subst (λ (event : Event). MapsMove g.B.Feeder.kind g.B.Feeder.kept old.tables old.parent.device c.args.pool.now (desk_of old) event (map_channels old.parent) (map_channels c.interrupt.new.parent)) (sym c.in-Intr.is)
+    subst (λ (event : Event). MapsMove g.B.Feeder.kind g.B.Feeder.kept old.tables old.parent.device c.args.bytes.now (desk_of old) event (map_channels old.parent) (map_channels c.interrupt.new.parent)) (sym c.in-Intr.is)
     c.interrupt.ensures.maps
 
 pub returns-in-Write-clause-maps : goal.returns-in-Write-clause-maps
 returns-in-Write-clause-maps g c =
     let old = c.args.self.now in
-    subst (λ (event : Event). MapsMove g.B.Feeder.kind g.B.Feeder.kept old.tables old.parent.device c.args.pool.now (desk_of old) event (map_channels old.parent) (map_channels c.write.new.parent)) (sym c.in-Write.is)
+    subst (λ (event : Event). MapsMove g.B.Feeder.kind g.B.Feeder.kept old.tables old.parent.device c.args.bytes.now (desk_of old) event (map_channels old.parent) (map_channels c.write.new.parent)) (sym c.in-Write.is)
     (subst (λ (v : Fixed (MapChannelOf _)). EachAt (λ slot. MapKeeps g.B.Feeder.kind g.B.Feeder.kept old.tables (untouched slot)) (map_channels old.parent) (fixed_items v)) (sym c.write.ensures.maps)
     (λ slot other there. map-keeps-nothing g.B.Feeder.kind g.B.Feeder.kept old.tables (get_or (map_channels old.parent) slot other)))
 
 pub returns-in-Read-clause-maps : goal.returns-in-Read-clause-maps
 returns-in-Read-clause-maps g c =
     let old = c.args.self.now in
-    subst (λ (event : Event). MapsMove g.B.Feeder.kind g.B.Feeder.kept old.tables old.parent.device c.args.pool.now (desk_of old) event (map_channels old.parent) (map_channels c.answer_read.new.parent)) (sym c.in-Read.is)
+    subst (λ (event : Event). MapsMove g.B.Feeder.kind g.B.Feeder.kept old.tables old.parent.device c.args.bytes.now (desk_of old) event (map_channels old.parent) (map_channels c.answer_read.new.parent)) (sym c.in-Read.is)
     (subst (λ (v : Fixed (MapChannelOf _)). EachAt (λ slot. MapKeeps g.B.Feeder.kind g.B.Feeder.kept old.tables (untouched slot)) (map_channels old.parent) (fixed_items v)) (sym c.answer_read.ensures.maps)
     (λ slot other there. map-keeps-nothing g.B.Feeder.kind g.B.Feeder.kept old.tables (get_or (map_channels old.parent) slot other)))
 
 pub returns-in-Poke-clause-maps : goal.returns-in-Poke-clause-maps
 returns-in-Poke-clause-maps g c =
     let old = c.args.self.now in
-    subst (λ (event : Event). MapsMove g.B.Feeder.kind g.B.Feeder.kept old.tables old.parent.device c.args.pool.now (desk_of old) event (map_channels old.parent) (map_channels c.poke.new.parent)) (sym c.in-Poke.is)
-    (subst (λ (bytes : List ℕ). EachAt (λ slot. MapKeeps g.B.Feeder.kind g.B.Feeder.kept old.tables (poked_by c.in-Poke.fd c.in-Poke.offset bytes (desk_of old) slot)) (map_channels old.parent) (map_channels c.poke.new.parent)) c.bytes_at-bytes-in-Poke.ensures.bytes
-    (c.poke.ensures.maps old.tables))
+    subst (λ (event : Event). MapsMove g.B.Feeder.kind g.B.Feeder.kept old.tables old.parent.device c.args.bytes.now (desk_of old) event (map_channels old.parent) (map_channels c.poke.new.parent)) (sym c.in-Poke.is)
+    (c.poke.ensures.maps old.tables)
 
 pub invariant_of-self-in-Poke : goal.invariant_of-self-in-Poke
 invariant_of-self-in-Poke g c =
@@ -629,7 +630,7 @@ invariant_of-self-in-Poke g c =
     let plays = ap (λ (v : Fixed (PlayChannelOf _)). fixed_items v) c.poke.ensures.channels in
     let records = ap (λ (v : Fixed (RecordChannelOf _)). fixed_items v) c.poke.ensures.recorders in
     record {
-      apart = subst HoldApart (sym (c.poke.ensures.turn.desk old.tables)) (apart-after (device_of old) (desk_of old) (Poke c.in-Poke.fd c.in-Poke.offset c.in-Poke.at (length c.bytes_at-bytes-in-Poke.result.now)) old.apart);
+      apart = subst HoldApart (sym (c.poke.ensures.turn.desk old.tables)) (apart-after (device_of old) (desk_of old) (Poke c.in-Poke.fd c.in-Poke.offset c.in-Poke.at (length c.args.bytes.now)) old.apart);
       own = subst (λ (v : Fixed (PlayChannelOf _)). PlayAreOf new.device (fixed_items v)) (sym c.poke.ensures.channels) (subst (λ (d : Device). PlayAreOf d (play_channels old.parent)) (sym output.device_same) old.own);
       counted = count-stays (λ (c : PlayChannelOf _). c.book.done + c.book.written) RING_BYTES old.steps (play_channels old.parent) (play_channels new) plays old.counted;
       given = count-stays (λ (c : PlayChannelOf _). c.book.given) MIX_FRAMES old.steps (play_channels old.parent) (play_channels new) plays old.given;
@@ -648,27 +649,27 @@ invariant_of-self-in-Poke g c =
 pub returns-in-Poke-clause-desk : goal.returns-in-Poke-clause-desk
 returns-in-Poke-clause-desk g c =
     let old = c.args.self.now in
-    c.poke.ensures.turn.desk old.tables ∙ ap (λ (n : ℕ). (poke_on (device_of old) (held_by (desk_of old) c.in-Poke.fd) (desk_of old) c.in-Poke.offset n).desk) c.bytes_at-bytes-in-Poke.ensures.length
+    c.poke.ensures.turn.desk old.tables ∙ ap (λ (n : ℕ). (poke_on (device_of old) (held_by (desk_of old) c.in-Poke.fd) (desk_of old) c.in-Poke.offset n).desk) (rw c.in-Poke.is at c.requires.bytes)
     ∙ sym (ap (λ (event : Event). (after (device_of old) (desk_of old) event).desk) c.in-Poke.is)
 
 pub returns-in-Poke-clause-reply : goal.returns-in-Poke-clause-reply
 returns-in-Poke-clause-reply g c =
     let old = c.args.self.now in
     ap (λ (r : Reply). r.result) c.tell-in-Poke.ensures.kept ∙ c.poke.ensures.turn.reply old.tables
-    ∙ ap (λ (n : ℕ). (poke_on (device_of old) (held_by (desk_of old) c.in-Poke.fd) (desk_of old) c.in-Poke.offset n).reply) c.bytes_at-bytes-in-Poke.ensures.length
+    ∙ ap (λ (n : ℕ). (poke_on (device_of old) (held_by (desk_of old) c.in-Poke.fd) (desk_of old) c.in-Poke.offset n).reply) (rw c.in-Poke.is at c.requires.bytes)
     ∙ sym (ap (λ (event : Event). (after (device_of old) (desk_of old) event).reply) c.in-Poke.is)
 
 pub returns-in-Poke-clause-channels : goal.returns-in-Poke-clause-channels
 returns-in-Poke-clause-channels g c =
     let old = c.args.self.now in
-    subst (λ (event : Event). ChannelsMove g.B.Feeder.kind g.B.Feeder.kept (device_of old) c.args.pool.now old.parent.handed event (play_channels old.parent) (play_channels c.poke.new.parent)) (sym c.in-Poke.is)
+    subst (λ (event : Event). ChannelsMove g.B.Feeder.kind g.B.Feeder.kept (device_of old) c.args.bytes.now old.parent.handed event (play_channels old.parent) (play_channels c.poke.new.parent)) (sym c.in-Poke.is)
     (subst (λ (v : Fixed (PlayChannelOf _)). Each (PlayMoves g.B.Feeder.kind g.B.Feeder.kept old.tables [] 0) (play_channels old.parent) (fixed_items v)) (sym c.poke.ensures.channels)
     (λ slot other there. moves-nothing g.B.Feeder.kind g.B.Feeder.kept old.tables [] 0 (get_or (play_channels old.parent) slot other)))
 
 pub returns-in-Poke-clause-recorders : goal.returns-in-Poke-clause-recorders
 returns-in-Poke-clause-recorders g c =
     let old = c.args.self.now in
-    subst (λ (event : Event). RecordersMove g.B.Feeder.kind g.B.Feeder.kept (device_of old) c.args.pool.now old.parent.handed event (record_channels old.parent) (record_channels c.poke.new.parent)) (sym c.in-Poke.is)
+    subst (λ (event : Event). RecordersMove g.B.Feeder.kind g.B.Feeder.kept (device_of old) (samples_at_hand old event) event (record_channels old.parent) (record_channels c.poke.new.parent)) (sym c.in-Poke.is)
     (subst (λ (v : Fixed (RecordChannelOf _)). Each (RecordMoves g.B.Feeder.kind g.B.Feeder.kept old.tables [] 0) (record_channels old.parent) (fixed_items v)) (sym c.poke.ensures.recorders)
     (λ slot other there. recorders.moves-nothing g.B.Feeder.kind g.B.Feeder.kept old.tables [] 0 (get_or (record_channels old.parent) slot other)))
 
@@ -732,21 +733,21 @@ returns-in-Mixer-clause-reply g c =
 pub returns-in-Mixer-clause-channels : goal.returns-in-Mixer-clause-channels
 returns-in-Mixer-clause-channels g c =
     let old = c.args.self.now in
-    subst (λ (event : Event). ChannelsMove g.B.Feeder.kind g.B.Feeder.kept (device_of old) c.args.pool.now old.parent.handed event (play_channels old.parent) (play_channels c.ask_mixer.new.parent)) (sym c.in-Mixer.is)
+    subst (λ (event : Event). ChannelsMove g.B.Feeder.kind g.B.Feeder.kept (device_of old) c.args.bytes.now old.parent.handed event (play_channels old.parent) (play_channels c.ask_mixer.new.parent)) (sym c.in-Mixer.is)
     (subst (λ (p : ParentOf _). Each (PlayMoves g.B.Feeder.kind g.B.Feeder.kept old.tables [] 0) (play_channels old.parent) (play_channels p)) (sym c.ask_mixer.ensures.parent)
     (λ slot other there. moves-nothing g.B.Feeder.kind g.B.Feeder.kept old.tables [] 0 (get_or (play_channels old.parent) slot other)))
 
 pub returns-in-Mixer-clause-recorders : goal.returns-in-Mixer-clause-recorders
 returns-in-Mixer-clause-recorders g c =
     let old = c.args.self.now in
-    subst (λ (event : Event). RecordersMove g.B.Feeder.kind g.B.Feeder.kept (device_of old) c.args.pool.now old.parent.handed event (record_channels old.parent) (record_channels c.ask_mixer.new.parent)) (sym c.in-Mixer.is)
+    subst (λ (event : Event). RecordersMove g.B.Feeder.kind g.B.Feeder.kept (device_of old) (samples_at_hand old event) event (record_channels old.parent) (record_channels c.ask_mixer.new.parent)) (sym c.in-Mixer.is)
     (subst (λ (p : ParentOf _). Each (RecordMoves g.B.Feeder.kind g.B.Feeder.kept old.tables [] 0) (record_channels old.parent) (record_channels p)) (sym c.ask_mixer.ensures.parent)
     (λ slot other there. recorders.moves-nothing g.B.Feeder.kind g.B.Feeder.kept old.tables [] 0 (get_or (record_channels old.parent) slot other)))
 
 pub returns-in-Mixer-clause-maps : goal.returns-in-Mixer-clause-maps
 returns-in-Mixer-clause-maps g c =
     let old = c.args.self.now in
-    subst (λ (event : Event). MapsMove g.B.Feeder.kind g.B.Feeder.kept old.tables old.parent.device c.args.pool.now (desk_of old) event (map_channels old.parent) (map_channels c.ask_mixer.new.parent)) (sym c.in-Mixer.is)
+    subst (λ (event : Event). MapsMove g.B.Feeder.kind g.B.Feeder.kept old.tables old.parent.device c.args.bytes.now (desk_of old) event (map_channels old.parent) (map_channels c.ask_mixer.new.parent)) (sym c.in-Mixer.is)
     (subst (λ (p : ParentOf _). EachAt (λ slot. MapKeeps g.B.Feeder.kind g.B.Feeder.kept old.tables (untouched slot)) (map_channels old.parent) (map_channels p)) (sym c.ask_mixer.ensures.parent)
     (λ slot other there. map-keeps-nothing g.B.Feeder.kind g.B.Feeder.kept old.tables (get_or (map_channels old.parent) slot other)))
 

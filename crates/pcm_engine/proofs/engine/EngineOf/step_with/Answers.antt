@@ -1,0 +1,16 @@
+use Rattle.std.proofs.Common.{List, ℤ, length, ap, ◌∙◌}
+use Rattle.pcm_engine.proofs.Called.{padded-called}
+use Rattle.pcm_engine.proofs.engine.EngineOf.step_with.Goals as goal
+
+pub returns-clause-called : goal.returns-clause-called
+returns-clause-called g c = λ pool named called.
+    let step = c.answer.ensures.called pool named (padded-called c.args.self.now pool c.args.event.now named c.args.bytes.now c.args.samples.now _ c.samples_asked-count.result c.samples_asked-count.ensures
+    (c.pad.ensures.length ∙ ap (λ (samples : List ℤ). length samples) c.deref_mut.ensures.value) c.pad.ensures.padded called) in
+    record {
+      stands = λ events s. step.stands events (record { playing = s.playing; recording = s.recording });
+      reply = λ events s. step.reply events (record { playing = s.playing; recording = s.recording });
+      bytes = λ events s. step.bytes events (record { playing = s.playing; recording = s.recording });
+      plain = λ events s unbroken. step.plain events (record { playing = s.playing; recording = s.recording }) unbroken;
+      mapped = λ events slot s. step.mapped events slot (record { playing = s.playing; recording = s.recording });
+      together = λ events fd group s is ok. step.together events fd group (record { playing = s.playing; recording = s.recording }) is ok;
+    }
