@@ -1,0 +1,4 @@
+pub mod Judging
+pub mod FilterLimits
+pub mod SectionLimits
+pub mod TableLimits

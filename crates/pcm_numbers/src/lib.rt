@@ -1,0 +1,21 @@
+//! Devices, filters, requests and answers as numbers alone, for callers whose language has no types of this one.
+//! What can't be had of such numbers is refused before any memory is taken.
+#![tactic(auto)]
+
+mod answers;
+mod device;
+mod fault;
+mod filters;
+mod refusals;
+mod requests;
+mod sections;
+mod tables;
+
+pub use answers::{AnswerNumbers, numbers_of, refusal_number};
+pub use device::{DeviceNumbers, device_from, settings_from, way_from};
+pub use fault::{NumbersFault, fault_number};
+pub use filters::FilterNumbers;
+pub use refusals::{AGAIN, BAD_DESCRIPTOR, BUSY, EXISTS, INVALID, NO_MEMORY, WRONG_ARGUMENT};
+pub use requests::{mix_request_from, request_from};
+pub use sections::SectionNumbers;
+pub use tables::tables_from;

@@ -1,0 +1,22 @@
+//! The numbers of what a call refuses: each has its one home here.
+
+/// The ring has no room for a write now, or no byte for a read.
+pub const AGAIN: i32 = -1;
+
+/// No slot is free, or the channel's state doesn't allow it.
+pub const BUSY: i32 = -2;
+
+/// The request is of the other way, or its argument is outside its set.
+pub const INVALID: i32 = -3;
+
+/// The descriptor isn't open.
+pub const BAD_DESCRIPTOR: i32 = -4;
+
+/// The descriptor is open already.
+pub const EXISTS: i32 = -5;
+
+/// Memory ran out.
+pub const NO_MEMORY: i32 = -6;
+
+/// An argument is none that there is.
+pub const WRONG_ARGUMENT: i32 = -7;

@@ -1,0 +1,77 @@
+-- What a call in numbers comes to: a step, and a number for its reply.
+use Rattle.std.specs.Prelude.{◌≡◌, ℕ, ℤ, pos, if◌then◌else◌, Bool, true, false, List, ◌++◌, length, drop, min, Option, Some, None, Result, Ok, Err}
+use Rattle.std.specs.Bool.{OnTrue, OnFalse}
+use Rattle.pcm_oss.specs.declared.event.Event.{Event}
+use Rattle.pcm_oss.specs.declared.event.Event.TheVariants.{Intr}
+use Rattle.pcm_oss.specs.declared.reply.Answer.{Answer}
+use Rattle.pcm_oss.specs.declared.reply.Answer.TheVariants.{Number, Got}
+use Rattle.pcm_oss.specs.declared.reply.Errno.{Errno}
+use Rattle.pcm_oss.specs.Replies.{Reply}
+use Rattle.pcm_feeder.specs.Kept.{Kept}
+use Rattle.pcm_numbers.specs.Answers.{answer_numbers, fault_number, refusal_number}
+use Rattle.pcm_numbers.specs.declared.answers.AnswerNumbers.{AnswerNumbers}
+use Rattle.pcm_numbers.specs.declared.fault.NumbersFault.TheVariants.{Argument}
+use Rattle.pcm_desk.specs.Events.{bytes_handed}
+use Rattle.pcm_engine.specs.declared.engine.EngineOf.{EngineOf}
+use Rattle.pcm_engine.specs.Engines.{device_of}
+use Rattle.pcm_session.specs.Steps.{IsCallStep}
+use Rattle.pcm_session.specs.Taken.{is_taken}
+
+-- the greatest number that a call answers
+abbrev pub most : ℕ
+most = 2147483647
+
+-- what is call_count, as a call answers it
+abbrev pub call_count : ℕ → ℤ
+call_count count = pos (min count most)
+
+-- the number of a result: what it counts
+abbrev pub count_number : Result Answer Errno → ℤ
+count_number (Ok (Number count)) = call_count count
+count_number (Ok (Got count)) = call_count count
+count_number (Ok answer) = pos 0
+count_number (Err errno) = refusal_number errno
+
+-- or 0, where what it counts stands elsewhere
+abbrev pub done_number : Result Answer Errno → ℤ
+done_number (Ok answer) = pos 0
+done_number (Err errno) = refusal_number errno
+
+-- the numbers beside it, which a refusal leaves
+abbrev pub numbers_beside : Result Answer Errno → AnswerNumbers → AnswerNumbers
+numbers_beside (Ok answer) numbers = answer_numbers answer
+numbers_beside (Err errno) numbers = numbers
+
+-- whether an engine takes an event, if there is one, with so many bytes and samples and so much room
+abbrev pub is_asked : {B : Type 0} → EngineOf B → Option Event → ℕ → ℕ → ℕ → Bool
+is_asked engine None bytes samples room = false
+is_asked engine (Some event) bytes samples room = is_taken (device_of engine) engine.steps event bytes samples room
+
+-- the step on the event that there is
+abbrev pub IsStepOf : {B : Type 0} → (B → Kept) → Option Event → List ℕ → List ℤ → EngineOf B → EngineOf B → Reply → List ℕ → Type 0
+IsStepOf kept None bytes samples old new told handed = ⊥
+IsStepOf kept (Some event) bytes samples old new told handed = IsCallStep kept event bytes samples old new told handed
+
+-- A call with these bytes, samples and room takes the step on its event, and hands these bytes over. Where there is no event, or the engine
+-- doesn't take it, nothing happens.
+pub record Takes {B : Type 0} (kept : B → Kept) (event : Option Event) (bytes : List ℕ) (samples : List ℤ) (room : ℕ) (old new : EngineOf B) (told : Reply) (handed : List ℕ) : Type 0 where
+  pub step : OnTrue (is_asked old event (length bytes) (length samples) room) (IsStepOf kept event bytes samples old new told handed)
+  pub same : OnFalse (is_asked old event (length bytes) (length samples) room) (new ≡ old)
+
+-- how many bytes an interrupt hands over, with so many samples and so much room
+abbrev pub handed_count : {B : Type 0} → EngineOf B → ℕ → ℕ → ℕ → ℕ
+handed_count engine frames samples room = if is_asked engine (Some (Intr frames)) 0 samples room then bytes_handed (device_of engine) (Intr frames) else 0
+
+-- the number that a call answers: that of its result, where it is a step, and else that of a wrong argument
+abbrev pub call_number : (Result Answer Errno → ℤ) → Bool → Result Answer Errno → ℤ
+call_number number true result = number result
+call_number number false result = fault_number Argument
+
+-- the numbers beside an answer, where a call is a step
+abbrev pub beside : Bool → Result Answer Errno → AnswerNumbers → AnswerNumbers
+beside true result numbers = numbers_beside result numbers
+beside false result numbers = numbers
+
+-- bytes at the front of others
+abbrev pub front_put : List ℕ → List ℕ → List ℕ
+front_put bytes out = bytes ++ drop (length bytes) out

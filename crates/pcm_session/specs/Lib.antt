@@ -1,0 +1,5 @@
+pub mod Taken
+pub mod Steps
+pub mod Runs
+pub mod Events
+pub mod Calls

@@ -1,0 +1,269 @@
+//! Calls in numbers, as programs of other languages make them. Each makes an event of its numbers, takes the step on it, and answers a number: 0
+//! or more, or the number of a refusal or of a wrong argument. A call that answers a number below 0 has changed nothing.
+
+ghost use Rattle.std.specs.Prelude.{◌≡◌, ◌≤◌, if◌then◌else◌, Some, [], length, take, drop};
+ghost use Rattle.std.specs.Bool.{OnTrue, OnFalse};
+ghost use Rattle.pcm_desk.specs.Events.{bytes_handed};
+ghost use Rattle.pcm_engine.specs.Engines.{device_of, AreReady};
+ghost use Rattle.pcm_numbers.specs.Answers.{fault_number};
+ghost use Rattle.pcm_numbers.specs.declared.fault.NumbersFault.TheVariants.{Argument};
+ghost use Rattle.pcm_oss.specs.declared.event.Event.TheVariants.{Intr};
+ghost use Rattle.pcm_session.specs.Calls.{IsStepOf, Takes, beside, call_number, count_number, call_count, done_number, front_put, handed_count, is_asked};
+ghost use Rattle.pcm_session.specs.Events.{event_for_close, event_for_ioctl, event_for_join, event_for_mixer, event_for_open, event_for_poke, event_for_read, event_for_start, event_for_write};
+
+use crate::events::{
+    event_for_close, event_for_ioctl, event_for_join, event_for_mixer, event_for_open,
+    event_for_poke, event_for_read, event_for_start, event_for_write,
+};
+use crate::session::{SessionOf, WrongArgument};
+use pcm_feeder::Feeder;
+use pcm_numbers::{AnswerNumbers, WRONG_ARGUMENT, numbers_of, refusal_number};
+use pcm_oss::{Answer, Errno, Event};
+
+/// Opens a descriptor with such frames. Answers the number of its slot.
+pub fn open<B: Feeder>(
+    session: &mut SessionOf<B>,
+    fd: u32,
+    way: u32,
+    format: u32,
+    channels: u32,
+    rate: u32,
+) -> i32
+    requires ready { AreReady B.kind B.kept session.old.engine }
+    ensures ready { AreReady B.kind B.kept session.new.engine }
+    ensures number { result ≡ call_number count_number (is_asked session.old.engine (event_for_open fd way format channels rate) 0 0 0) session.new.reply.result }
+    ensures takes { Takes B.kept (event_for_open fd way format channels rate) [] [] 0
+        session.old.engine session.new.engine session.new.reply [] }
+{
+    count_of(
+        session,
+        event_for_open(fd, way, format, channels, rate),
+        &[],
+    )
+}
+
+/// Writes bytes. Answers how many of them were taken: the first ones.
+pub fn write<B: Feeder>(session: &mut SessionOf<B>, fd: u32, bytes: &[u8]) -> i32
+    requires ready { AreReady B.kind B.kept session.old.engine }
+    ensures ready { AreReady B.kind B.kept session.new.engine }
+    ensures number { result ≡ call_number count_number (is_asked session.old.engine (event_for_write fd (length bytes.now)) (length bytes.now) 0 0) session.new.reply.result }
+    ensures takes { Takes B.kept (event_for_write fd (length bytes.now)) bytes.now [] 0
+        session.old.engine session.new.engine session.new.reply [] }
+{
+    count_of(session, event_for_write(fd, bytes.len()), bytes)
+}
+
+/// Writes bytes into an area, from its byte `offset` on.
+pub fn poke<B: Feeder>(session: &mut SessionOf<B>, fd: u32, offset: u32, bytes: &[u8]) -> i32
+    requires ready { AreReady B.kind B.kept session.old.engine }
+    ensures ready { AreReady B.kind B.kept session.new.engine }
+    ensures number { result ≡ call_number count_number (is_asked session.old.engine (event_for_poke fd offset (length bytes.now)) (length bytes.now) 0 0) session.new.reply.result }
+    ensures takes { Takes B.kept (event_for_poke fd offset (length bytes.now)) bytes.now [] 0
+        session.old.engine session.new.engine session.new.reply [] }
+{
+    count_of(session, event_for_poke(fd, offset, bytes.len()), bytes)
+}
+
+/// Starts all members of a group.
+pub fn start<B: Feeder>(session: &mut SessionOf<B>, fd: u32, group: u32) -> i32
+    requires ready { AreReady B.kind B.kept session.old.engine }
+    ensures ready { AreReady B.kind B.kept session.new.engine }
+    ensures number { result ≡ call_number count_number (is_asked session.old.engine (event_for_start fd group) 0 0 0) session.new.reply.result }
+    ensures takes { Takes B.kept (event_for_start fd group) [] [] 0
+        session.old.engine session.new.engine session.new.reply [] }
+{
+    count_of(session, event_for_start(fd, group), &[])
+}
+
+/// Closes a descriptor.
+pub fn close<B: Feeder>(session: &mut SessionOf<B>, fd: u32) -> i32
+    requires ready { AreReady B.kind B.kept session.old.engine }
+    ensures ready { AreReady B.kind B.kept session.new.engine }
+    ensures number { result ≡ call_number count_number (is_asked session.old.engine (event_for_close fd) 0 0 0) session.new.reply.result }
+    ensures takes { Takes B.kept (event_for_close fd) [] [] 0
+        session.old.engine session.new.engine session.new.reply [] }
+{
+    count_of(session, event_for_close(fd), &[])
+}
+
+/// Asks something of the channel of a descriptor. What is asked comes into `answer`.
+pub fn ioctl<B: Feeder>(
+    session: &mut SessionOf<B>,
+    fd: u32,
+    request: u32,
+    argument: u32,
+    answer: &mut AnswerNumbers,
+) -> i32
+    requires ready { AreReady B.kind B.kept session.old.engine }
+    ensures ready { AreReady B.kind B.kept session.new.engine }
+    ensures number { result ≡ call_number done_number (is_asked session.old.engine (event_for_ioctl fd request argument) 0 0 0) session.new.reply.result }
+    ensures takes { Takes B.kept (event_for_ioctl fd request argument) [] [] 0
+        session.old.engine session.new.engine session.new.reply [] }
+    ensures answer { answer.new ≡ beside (is_asked session.old.engine (event_for_ioctl fd request argument) 0 0 0)
+        session.new.reply.result answer.old }
+{
+    done_beside(session, event_for_ioctl(fd, request, argument), answer)
+}
+
+/// Makes a descriptor a member of a group. The number of the group comes into `answer`.
+pub fn join<B: Feeder>(
+    session: &mut SessionOf<B>,
+    fd: u32,
+    group: u32,
+    answer: &mut AnswerNumbers,
+) -> i32
+    requires ready { AreReady B.kind B.kept session.old.engine }
+    ensures ready { AreReady B.kind B.kept session.new.engine }
+    ensures number { result ≡ call_number done_number (is_asked session.old.engine (event_for_join fd group) 0 0 0) session.new.reply.result }
+    ensures takes { Takes B.kept (event_for_join fd group) [] [] 0
+        session.old.engine session.new.engine session.new.reply [] }
+    ensures answer { answer.new ≡ beside (is_asked session.old.engine (event_for_join fd group) 0 0 0)
+        session.new.reply.result answer.old }
+{
+    done_beside(session, event_for_join(fd, group), answer)
+}
+
+/// Asks something of the mixer device. What is asked comes into `answer`.
+pub fn ask_mixer<B: Feeder>(
+    session: &mut SessionOf<B>,
+    request: u32,
+    slot: u32,
+    value: u32,
+    answer: &mut AnswerNumbers,
+) -> i32
+    requires ready { AreReady B.kind B.kept session.old.engine }
+    ensures ready { AreReady B.kind B.kept session.new.engine }
+    ensures number { result ≡ call_number done_number (is_asked session.old.engine (event_for_mixer request slot value) 0 0 0) session.new.reply.result }
+    ensures takes { Takes B.kept (event_for_mixer request slot value) [] [] 0
+        session.old.engine session.new.engine session.new.reply [] }
+    ensures answer { answer.new ≡ beside (is_asked session.old.engine (event_for_mixer request slot value) 0 0 0)
+        session.new.reply.result answer.old }
+{
+    done_beside(session, event_for_mixer(request, slot, value), answer)
+}
+
+/// Reads at most as many bytes as there is room for. Answers how many stand at the front of `out`; the rest of it stays.
+pub fn read<B: Feeder>(session: &mut SessionOf<B>, fd: u32, out: &mut [u8]) -> i32
+    requires ready { AreReady B.kind B.kept session.old.engine }
+    ensures ready { AreReady B.kind B.kept session.new.engine }
+    ensures number { result ≡ call_number count_number (is_asked session.old.engine (event_for_read fd (length out.old)) 0 0 0) session.new.reply.result }
+    ensures takes { Takes B.kept (event_for_read fd (length out.old)) [] [] 0
+        session.old.engine session.new.engine session.new.reply [] }
+    ensures out { out.new ≡ (if is_asked session.old.engine (event_for_read fd (length out.old)) 0 0 0
+        then front_put session.new.reply.bytes out.old else out.old) }
+{
+    if !takes(session, event_for_read(fd, out.len()), &[]) {
+        return WRONG_ARGUMENT;
+    }
+    put_front(session.bytes(), out);
+    count_number(session.result())
+}
+
+/// The device takes so many frames, and brings what it captured meanwhile: samples at 32 bits, behind which is silence. Answers how many
+/// bytes were handed over: they stand at the front of `out`, and the rest of it stays.
+pub fn interrupt<B: Feeder>(
+    session: &mut SessionOf<B>,
+    frames: u32,
+    samples: &[i32],
+    out: &mut [u8],
+) -> i32
+    requires ready { AreReady B.kind B.kept session.old.engine }
+    ensures ready { AreReady B.kind B.kept session.new.engine }
+    ensures number { result ≡ (if is_asked session.old.engine (Some (Intr frames)) 0 (length samples.now) (length out.old)
+        then call_count (bytes_handed (device_of session.old.engine) (Intr frames)) else fault_number Argument) }
+    ensures takes { Takes B.kept (Some (Intr frames)) [] samples.now (length out.old)
+        session.old.engine session.new.engine session.new.reply
+        (take (handed_count session.old.engine frames (length samples.now) (length out.old)) out.new) }
+    ensures rest { drop (handed_count session.old.engine frames (length samples.now) (length out.old)) out.new
+        ≡ drop (handed_count session.old.engine frames (length samples.now) (length out.old)) out.old }
+{
+    match session.step(&Event::Intr { frames }, &[], samples, out) {
+        Ok(count) => call_count(count),
+        Err(WrongArgument) => WRONG_ARGUMENT,
+    }
+}
+
+// Takes the step on an event, if there is one and the engine takes it. Whether that is so.
+fn takes<B: Feeder>(session: &mut SessionOf<B>, event: Option<Event>, bytes: &[u8]) -> bool
+    requires ready { AreReady B.kind B.kept session.old.engine }
+    ensures ready { AreReady B.kind B.kept session.new.engine }
+    ensures asked { result ≡ is_asked session.old.engine event (length bytes.now) 0 0 }
+    ensures step { OnTrue result (IsStepOf B.kept event bytes.now []
+        session.old.engine session.new.engine session.new.reply []) }
+    ensures same { OnFalse result (session.new ≡ session.old) }
+{
+    match event {
+        Some(event) => match session.step(&event, bytes, &[], &mut []) {
+            Ok(_) => true,
+            Err(WrongArgument) => false,
+        },
+        None => false,
+    }
+}
+
+// The step on an event, and what its reply counts.
+fn count_of<B: Feeder>(session: &mut SessionOf<B>, event: Option<Event>, bytes: &[u8]) -> i32
+    requires ready { AreReady B.kind B.kept session.old.engine }
+    ensures ready { AreReady B.kind B.kept session.new.engine }
+    ensures number { result ≡ call_number count_number (is_asked session.old.engine event (length bytes.now) 0 0) session.new.reply.result }
+    ensures takes { Takes B.kept event bytes.now [] 0
+        session.old.engine session.new.engine session.new.reply [] }
+{
+    if takes(session, event, bytes) {
+        count_number(session.result())
+    } else {
+        WRONG_ARGUMENT
+    }
+}
+
+// The step on an event without bytes, and the numbers of its reply.
+fn done_beside<B: Feeder>(
+    session: &mut SessionOf<B>,
+    event: Option<Event>,
+    answer: &mut AnswerNumbers,
+) -> i32
+    requires ready { AreReady B.kind B.kept session.old.engine }
+    ensures ready { AreReady B.kind B.kept session.new.engine }
+    ensures number { result ≡ call_number done_number (is_asked session.old.engine event 0 0 0) session.new.reply.result }
+    ensures takes { Takes B.kept event [] [] 0
+        session.old.engine session.new.engine session.new.reply [] }
+    ensures answer { answer.new ≡ beside (is_asked session.old.engine event 0 0 0)
+        session.new.reply.result answer.old }
+{
+    if !takes(session, event, &[]) {
+        return WRONG_ARGUMENT;
+    }
+    match session.result() {
+        Ok(told) => {
+            *answer = numbers_of(told);
+            0
+        }
+        Err(errno) => refusal_number(errno),
+    }
+}
+
+// What a result counts, if anything.
+fn count_number(told: Result<Answer, Errno>) -> i32
+    ensures { result ≡ count_number told }
+{
+    match told {
+        Ok(Answer::Number(count) | Answer::Got(count)) => call_count(count as usize),
+        Ok(_) => 0,
+        Err(errno) => refusal_number(errno),
+    }
+}
+
+// A count, as a call answers it.
+fn call_count(count: usize) -> i32
+    ensures { result ≡ call_count count }
+{
+    count.min(i32::MAX as usize) as i32
+}
+
+// Puts bytes at the front of others.
+fn put_front(bytes: &[u8], out: &mut [u8])
+    requires { length bytes.now ≤ length out.old }
+    ensures { out.new ≡ front_put bytes.now out.old }
+{
+    out[..bytes.len()].copy_from_slice(bytes);
+}

@@ -1,0 +1,40 @@
+//! What a session lets through to its engine.
+
+ghost use Rattle.std.specs.Prelude.{◌≡◌};
+ghost use Rattle.pcm_session.specs.Taken.{is_descriptor, is_allowed};
+ghost use Rattle.pcm_numbers.specs.Devices.{is_rate};
+ghost use Rattle.pcm_desk.specs.Device.{unfiltered};
+
+use pcm_desk::{DESCRIPTORS, Device, READ_BYTES};
+use pcm_format::{RATE_LEAST, RATE_MOST};
+use pcm_oss::Event;
+
+/// Whether an event keeps the limits of a device.
+pub fn is_allowed(device: &Device, event: &Event) -> bool
+    ensures { result ≡ is_allowed (unfiltered device.now) event.now }
+{
+    match *event {
+        Event::Open { fd, settings, .. } => is_descriptor(fd) && is_rate(settings.rate),
+        Event::Write { fd, .. } => is_descriptor(fd),
+        Event::Poke { fd, .. } => is_descriptor(fd),
+        Event::Read { fd, len } => is_descriptor(fd) && len <= READ_BYTES,
+        Event::Ioctl { fd, .. } => is_descriptor(fd),
+        Event::Join { fd, .. } => is_descriptor(fd),
+        Event::StartGroup { fd, .. } => is_descriptor(fd),
+        Event::Close { fd } => is_descriptor(fd),
+        Event::Mixer { .. } => true,
+        Event::Intr { frames } => 0 < frames && frames <= device.ring_frames,
+    }
+}
+
+fn is_descriptor(fd: u8) -> bool
+    ensures { result ≡ is_descriptor fd }
+{
+    usize::from(fd) < DESCRIPTORS
+}
+
+fn is_rate(rate: u32) -> bool
+    ensures { result ≡ is_rate rate }
+{
+    RATE_LEAST <= rate && rate <= RATE_MOST
+}

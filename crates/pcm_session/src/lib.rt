@@ -1,0 +1,13 @@
+//! A session: an engine for a program of others, which brings its own bytes, call by call, and may ask anything.
+//! What the engine can't take is refused here, and changes nothing; what it takes is one of its steps.
+#![tactic(auto)]
+
+mod calls;
+mod events;
+mod judge;
+mod laws;
+mod session;
+
+pub use calls::{ask_mixer, close, interrupt, ioctl, join, open, poke, read, start, write};
+pub use laws::sessions_run_scripts;
+pub use session::{SessionOf, WrongArgument};

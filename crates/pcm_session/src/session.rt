@@ -1,0 +1,108 @@
+//! The session, and its calls.
+
+ghost use Rattle.std.specs.Prelude.{◌≡◌, true, false, IfOk, IsErr, IsOk, OnErr, [], length, take, drop};
+ghost use Rattle.pcm_desk.specs.Device.{seen, IsInLimits};
+ghost use Rattle.pcm_desk.specs.Events.{bytes_handed};
+ghost use Rattle.pcm_engine.specs.Engines.{device_of, AreReady, Stands};
+ghost use Rattle.pcm_feeder.specs.Racks.{AreRacks, list_of};
+ghost use Rattle.pcm_session.specs.Steps.{IsCallStep};
+ghost use Rattle.pcm_session.specs.Taken.{is_taken};
+ghost use Rattle.pcm_wave.specs.declared.pool.Pool.{Pool};
+
+use crate::judge::is_allowed;
+use pcm_desk::Device;
+use pcm_engine::{EngineOf, STEPS, bytes_asked, bytes_handed, samples_asked};
+use pcm_feeder::{Feeder, RacksOf, Tables};
+use pcm_oss::{Answer, Errno, Event, ReplyBuf};
+use std::alloc::{AllocError, Global};
+
+/// What a call is told that no engine takes: a number is outside its limits, or it came with other bytes, more samples or less room than
+/// its event has. Nothing has changed then.
+#[derive(Clone, Copy, Debug, PartialEq, Eq)]
+pub struct WrongArgument;
+
+/// An engine, with the reply to its last call.
+#[derive(Drop)]
+pub struct SessionOf<B> {
+    engine: EngineOf<B>,
+    reply: ReplyBuf,
+}
+
+impl<B: Feeder> SessionOf<B> {
+    /// The session of a device with its filters, before its first call. Its channels pick their stages from the racks. All memory is
+    /// taken here.
+    pub fn new(
+        alloc: Global,
+        device: Device,
+        tables: Tables,
+        racks: RacksOf<B>,
+    ) -> Result<SessionOf<B>, AllocError>
+        requires limits { IsInLimits (seen tables device) }
+        requires kinds { AreRacks B.kind (list_of racks) }
+        ensures device { IfOk result (λ session. device_of session.engine ≡ seen tables device) }
+        ensures steps { IfOk result (λ session. session.engine.steps ≡ 0) }
+        ensures ready { IfOk result (λ session. AreReady B.kind B.kept session.engine) }
+        ensures stands { IfOk result (λ session. (pool : Pool) → Stands B.kept session.engine pool []) }
+    {
+        let engine = EngineOf::new(alloc, device, tables, racks)?;
+        let reply = ReplyBuf::new(alloc)?;
+        Ok(SessionOf { engine, reply })
+    }
+
+    /// Takes one step on an event: with its bytes, if it is a write or a poke, and with what is captured, if it is an interrupt: samples at 32 bits,
+    /// channel by channel, frame by frame, behind which is silence. Returns how many device bytes it handed over: they stand at the front of
+    /// `out`, and the rest of `out` stays. Takes no memory.
+    pub fn step(
+        &mut self,
+        event: &Event,
+        bytes: &[u8],
+        samples: &[i32],
+        out: &mut [u8],
+    ) -> Result<usize, WrongArgument>
+        requires ready { AreReady B.kind B.kept self.old.engine }
+        ensures ready { AreReady B.kind B.kept self.new.engine }
+        ensures taken { IsOk result → is_taken (device_of self.old.engine) self.old.engine.steps event.now
+            (length bytes.now) (length samples.now) (length out.old) ≡ true }
+        ensures refused { IsErr result → is_taken (device_of self.old.engine) self.old.engine.steps event.now
+            (length bytes.now) (length samples.now) (length out.old) ≡ false }
+        ensures count { IfOk result (λ count. count ≡ bytes_handed (device_of self.old.engine) event.now) }
+        ensures wrong { OnErr result ((self.new ≡ self.old) × (out.new ≡ out.old)) }
+        ensures step { IfOk result (λ count. IsCallStep B.kept event.now bytes.now samples.now
+            self.old.engine self.new.engine self.new.reply (take count out.new)) }
+        ensures rest { IfOk result (λ count. drop count out.new ≡ drop count out.old) }
+    {
+        if !self.takes(event, bytes.len(), samples.len(), out.len()) {
+            return Err(WrongArgument);
+        }
+        let count = self
+            .engine
+            .step_with(event, bytes, samples, out, &mut self.reply);
+        Ok(count)
+    }
+
+    /// What the last call was answered, or why it was refused.
+    pub fn result(&self) -> Result<Answer, Errno>
+        ensures { result ≡ self.now.reply.result }
+    {
+        self.reply.result()
+    }
+
+    /// The bytes that the last call got, if it was a read.
+    pub fn bytes(&self) -> &[u8]
+        ensures { result.now ≡ self.now.reply.bytes }
+    {
+        self.reply.bytes()
+    }
+
+    // Whether the engine can take an event with so many bytes and samples, and with so much room.
+    fn takes(&self, event: &Event, bytes: usize, samples: usize, room: usize) -> bool
+        ensures { result ≡ is_taken (device_of self.now.engine) self.now.engine.steps event.now bytes samples room }
+    {
+        let device = self.engine.device();
+        is_allowed(device, event)
+            && bytes == bytes_asked(event)
+            && samples <= samples_asked(device.settings.layout, event)
+            && bytes_handed(device, event) <= room
+            && self.engine.steps() < STEPS
+    }
+}

@@ -1,0 +1,2 @@
+-- What a pointer owns that the heap gave out.
+pub mod Heap
