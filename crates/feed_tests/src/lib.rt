@@ -1,5 +1,5 @@
-//! Tests of the stages and of what holds them: the stages in boxes, a long stream in pieces, the racks, chains and conversions.
-//! They hold what no clause says: that what is generic runs with boxes, and that there is memory where it is ample.
+//! Tests of the stages and of what holds them: the stages in boxes and without, a long stream in pieces, the racks, chains and conversions.
+//! They hold what no clause says: that what is generic runs with boxes and without, and that there is memory where it is ample.
 #![tactic(auto)]
 
 #[cfg(test)]
@@ -14,3 +14,5 @@ mod gives;
 mod racks;
 #[cfg(test)]
 mod stages;
+#[cfg(test)]
+mod unboxed;

@@ -1,4 +1,4 @@
-//! Each kind of stage in a box, by one table.
+//! Each kind of stage, by one table, which is tried here with boxes.
 
 ghost use Rattle.std.specs.Prelude.{◌≡◌, true, length, All};
 ghost use Rattle.pcm_feeder.specs.Kinds.{kind_of};
@@ -11,9 +11,9 @@ use pcm_format::{Layout, RATE_LEAST, RATE_MOST};
 use std::alloc::{AllocError, Global};
 use std::test::Fail;
 
-// What a stage is fitted to, how many frames are wanted, the samples in, how many frames of them are eaten and how many
-// are given, and the samples out.
-type Row = (Spec, usize, &'static [i32], (usize, usize), &'static [i32]);
+/// What a stage is fitted to, how many frames are wanted, the samples in, how many frames of them are eaten and how many
+/// are given, and the samples out.
+pub type Row = (Spec, usize, &'static [i32], (usize, usize), &'static [i32]);
 
 const SIX_TO_TWO: Spec = Spec::Matrix {
     from: Layout::Six,
@@ -146,7 +146,8 @@ const GAIN: Gain = Gain {
     right: 32768,
 };
 
-const ROWS: [Row; 34] = [
+/// Rows of each kind of stage, by hand.
+pub const ROWS: [Row; 34] = [
     (SIX_TO_TWO, 5, &[], (0, 0), &[]),
     (ONE_TO_TWO, 5, &[5, -7], (2, 2), &[5, 5, -7, -7]),
     // A half is rounded down, also below zero.
@@ -336,8 +337,8 @@ fn section() -> Section
     }
 }
 
-// One filter: frames, and points half way between two. And one section.
-fn tables(alloc: Global) -> Result<Tables, AllocError> {
+/// One filter: frames, and points half way between two. And one section.
+pub fn tables(alloc: Global) -> Result<Tables, AllocError> {
     let mut list = Vec::new(alloc);
     list.push(filter(Vec::from_slice(alloc, &[2, 0, 1, 1])?))?;
     let mut sections = Vec::new(alloc);
@@ -433,8 +434,8 @@ pub fn has_table(spec: Spec, tables: &Tables) -> bool
     }
 }
 
-// Whether a feeder that is fitted to a row's spec moves what the row says.
-fn is_right<B: Feeder>(feeder: &mut B, tables: &Tables, row: &Row) -> bool {
+/// Whether a feeder that is fitted to a row's spec moves what the row says.
+pub fn is_right<B: Feeder>(feeder: &mut B, tables: &Tables, row: &Row) -> bool {
     let (spec, want, input, moved, samples) = row;
     let channels = channels_in(*spec);
     if feeder.kind() != kind_of(*spec)

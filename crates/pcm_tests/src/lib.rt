@@ -11,6 +11,10 @@ mod memory_forms;
 #[cfg(test)]
 mod mixes;
 #[cfg(test)]
+mod numbers;
+#[cfg(test)]
+mod raw_boxes;
+#[cfg(test)]
 mod real_forms;
 #[cfg(test)]
 mod rings;

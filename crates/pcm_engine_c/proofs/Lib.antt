@@ -1,0 +1,3 @@
+-- What C holds, as the machine has it.
+pub mod Readiness
+pub mod Slots

@@ -1,0 +1,273 @@
+//! The engine as C calls it: each function is one call of a session that C holds, and adds nothing to what that call does.
+//! Numbers, lengths and references come from C; that these are what C says they are is trusted.
+#![tactic(auto)]
+
+ghost use Rattle.std.specs.Prelude.{◌≡◌, None, Some, [], length, take, drop, if◌then◌else◌};
+ghost use Rattle.pcm_desk.specs.Events.{bytes_handed};
+ghost use Rattle.pcm_engine.specs.Engines.{device_of};
+ghost use Rattle.pcm_engine_c.specs.Calls.{On};
+ghost use Rattle.pcm_engine_c.specs.Sessions.{IsMade};
+ghost use Rattle.pcm_numbers.specs.Answers.{fault_number};
+ghost use Rattle.pcm_numbers.specs.declared.fault.NumbersFault.TheVariants.{Argument};
+ghost use Rattle.pcm_oss.specs.declared.event.Event.TheVariants.{Intr};
+ghost use Rattle.pcm_session.specs.Calls.{Takes, beside, call_count, call_number, count_number, done_number, front_put, handed_count, is_asked};
+ghost use Rattle.pcm_session.specs.Events.{event_for_close, event_for_ioctl, event_for_join, event_for_mixer, event_for_open, event_for_poke, event_for_read, event_for_start, event_for_write};
+
+mod handle;
+mod session;
+
+use feed_stages::Stage;
+use handle::Handle;
+use pcm_feeder::Feeder;
+use pcm_numbers::{
+    AnswerNumbers, DeviceNumbers, FilterNumbers, SectionNumbers, WRONG_ARGUMENT, fault_number,
+};
+use session::session_from;
+use std::alloc::Global;
+
+/// Makes the engine of a device, with filters and sections. Where there is one, none is made.
+#[unsafe(no_mangle)]
+pub extern "C" fn dsp_raw_new(
+    alloc: Global,
+    engine: &mut Handle,
+    device: &DeviceNumbers,
+    filters: &[FilterNumbers],
+    coefs: &[i32],
+    sections: &[SectionNumbers],
+) -> i32
+    ensures { IsMade (λ session. session.of.engine) ⟦<Stage as Feeder>⟧.kept device.now filters.now coefs.now sections.now
+        engine.old.slot.session engine.new.slot.session result }
+{
+    if engine.is_there() {
+        return WRONG_ARGUMENT;
+    }
+    match session_from(alloc, device, filters, coefs, sections) {
+        Ok(session) => {
+            engine.put(session);
+            0
+        }
+        Err(fault) => fault_number(fault),
+    }
+}
+
+/// Frees an engine, if there is one.
+#[unsafe(no_mangle)]
+pub extern "C" fn dsp_raw_free(alloc: Global, engine: &mut Handle)
+    ensures { engine.new.slot.session ≡ None }
+{
+    drop(engine.take(alloc));
+}
+
+/// Opens a descriptor.
+#[unsafe(no_mangle)]
+pub extern "C" fn dsp_raw_open(
+    alloc: Global,
+    engine: &mut Handle,
+    fd: u32,
+    way: u32,
+    format: u32,
+    channels: u32,
+    rate: u32,
+) -> i32
+    ensures takes { On engine.old.slot.session engine.new.slot.session
+        (λ old new. Takes ⟦<Stage as Feeder>⟧.kept (event_for_open fd way format channels rate) [] [] 0 old.of.engine new.of.engine new.of.reply []) (result ≡ fault_number Argument) }
+    ensures number { On engine.old.slot.session engine.new.slot.session
+        (λ old new. result ≡ call_number count_number (is_asked old.of.engine (event_for_open fd way format channels rate) 0 0 0) new.of.reply.result) (result ≡ fault_number Argument) }
+{
+    let Some(mut session) = engine.take(alloc) else {
+        return WRONG_ARGUMENT;
+    };
+    let number = pcm_session::open(&mut session.of, fd, way, format, channels, rate);
+    engine.put(session);
+    number
+}
+
+/// Writes bytes to a descriptor that plays.
+#[unsafe(no_mangle)]
+pub extern "C" fn dsp_raw_write(alloc: Global, engine: &mut Handle, fd: u32, bytes: &[u8]) -> i32
+    ensures takes { On engine.old.slot.session engine.new.slot.session
+        (λ old new. Takes ⟦<Stage as Feeder>⟧.kept (event_for_write fd (length bytes.now)) bytes.now [] 0 old.of.engine new.of.engine new.of.reply []) (result ≡ fault_number Argument) }
+    ensures number { On engine.old.slot.session engine.new.slot.session
+        (λ old new. result ≡ call_number count_number (is_asked old.of.engine (event_for_write fd (length bytes.now)) (length bytes.now) 0 0) new.of.reply.result) (result ≡ fault_number Argument) }
+{
+    let Some(mut session) = engine.take(alloc) else {
+        return WRONG_ARGUMENT;
+    };
+    let number = pcm_session::write(&mut session.of, fd, bytes);
+    engine.put(session);
+    number
+}
+
+/// Writes bytes into the area of a mapped descriptor.
+#[unsafe(no_mangle)]
+pub extern "C" fn dsp_raw_poke(
+    alloc: Global,
+    engine: &mut Handle,
+    fd: u32,
+    offset: u32,
+    bytes: &[u8],
+) -> i32
+    ensures takes { On engine.old.slot.session engine.new.slot.session
+        (λ old new. Takes ⟦<Stage as Feeder>⟧.kept (event_for_poke fd offset (length bytes.now)) bytes.now [] 0 old.of.engine new.of.engine new.of.reply []) (result ≡ fault_number Argument) }
+    ensures number { On engine.old.slot.session engine.new.slot.session
+        (λ old new. result ≡ call_number count_number (is_asked old.of.engine (event_for_poke fd offset (length bytes.now)) (length bytes.now) 0 0) new.of.reply.result) (result ≡ fault_number Argument) }
+{
+    let Some(mut session) = engine.take(alloc) else {
+        return WRONG_ARGUMENT;
+    };
+    let number = pcm_session::poke(&mut session.of, fd, offset, bytes);
+    engine.put(session);
+    number
+}
+
+/// Reads what a descriptor has recorded.
+#[unsafe(no_mangle)]
+pub extern "C" fn dsp_raw_read(alloc: Global, engine: &mut Handle, fd: u32, out: &mut [u8]) -> i32
+    ensures takes { On engine.old.slot.session engine.new.slot.session
+        (λ old new. Takes ⟦<Stage as Feeder>⟧.kept (event_for_read fd (length out.old)) [] [] 0 old.of.engine new.of.engine new.of.reply []) (result ≡ fault_number Argument) }
+    ensures number { On engine.old.slot.session engine.new.slot.session
+        (λ old new. result ≡ call_number count_number (is_asked old.of.engine (event_for_read fd (length out.old)) 0 0 0) new.of.reply.result) (result ≡ fault_number Argument) }
+    ensures out { On engine.old.slot.session engine.new.slot.session
+        (λ old new. out.new ≡ (if is_asked old.of.engine (event_for_read fd (length out.old)) 0 0 0 then front_put new.of.reply.bytes out.old else out.old))
+        (out.new ≡ out.old) }
+{
+    let Some(mut session) = engine.take(alloc) else {
+        return WRONG_ARGUMENT;
+    };
+    let number = pcm_session::read(&mut session.of, fd, out);
+    engine.put(session);
+    number
+}
+
+/// Asks something of the channel of a descriptor.
+#[unsafe(no_mangle)]
+pub extern "C" fn dsp_raw_ioctl(
+    alloc: Global,
+    engine: &mut Handle,
+    fd: u32,
+    request: u32,
+    argument: u32,
+    answer: &mut AnswerNumbers,
+) -> i32
+    ensures takes { On engine.old.slot.session engine.new.slot.session
+        (λ old new. Takes ⟦<Stage as Feeder>⟧.kept (event_for_ioctl fd request argument) [] [] 0 old.of.engine new.of.engine new.of.reply []) (result ≡ fault_number Argument) }
+    ensures number { On engine.old.slot.session engine.new.slot.session
+        (λ old new. result ≡ call_number done_number (is_asked old.of.engine (event_for_ioctl fd request argument) 0 0 0) new.of.reply.result) (result ≡ fault_number Argument) }
+    ensures answer { On engine.old.slot.session engine.new.slot.session
+        (λ old new. answer.new ≡ beside (is_asked old.of.engine (event_for_ioctl fd request argument) 0 0 0) new.of.reply.result answer.old) (answer.new ≡ answer.old) }
+{
+    let Some(mut session) = engine.take(alloc) else {
+        return WRONG_ARGUMENT;
+    };
+    let number = pcm_session::ioctl(&mut session.of, fd, request, argument, answer);
+    engine.put(session);
+    number
+}
+
+/// Makes a descriptor a member of a group.
+#[unsafe(no_mangle)]
+pub extern "C" fn dsp_raw_join(
+    alloc: Global,
+    engine: &mut Handle,
+    fd: u32,
+    group: u32,
+    answer: &mut AnswerNumbers,
+) -> i32
+    ensures takes { On engine.old.slot.session engine.new.slot.session
+        (λ old new. Takes ⟦<Stage as Feeder>⟧.kept (event_for_join fd group) [] [] 0 old.of.engine new.of.engine new.of.reply []) (result ≡ fault_number Argument) }
+    ensures number { On engine.old.slot.session engine.new.slot.session
+        (λ old new. result ≡ call_number done_number (is_asked old.of.engine (event_for_join fd group) 0 0 0) new.of.reply.result) (result ≡ fault_number Argument) }
+    ensures answer { On engine.old.slot.session engine.new.slot.session
+        (λ old new. answer.new ≡ beside (is_asked old.of.engine (event_for_join fd group) 0 0 0) new.of.reply.result answer.old) (answer.new ≡ answer.old) }
+{
+    let Some(mut session) = engine.take(alloc) else {
+        return WRONG_ARGUMENT;
+    };
+    let number = pcm_session::join(&mut session.of, fd, group, answer);
+    engine.put(session);
+    number
+}
+
+/// Starts all members of a group.
+#[unsafe(no_mangle)]
+pub extern "C" fn dsp_raw_start(alloc: Global, engine: &mut Handle, fd: u32, group: u32) -> i32
+    ensures takes { On engine.old.slot.session engine.new.slot.session
+        (λ old new. Takes ⟦<Stage as Feeder>⟧.kept (event_for_start fd group) [] [] 0 old.of.engine new.of.engine new.of.reply []) (result ≡ fault_number Argument) }
+    ensures number { On engine.old.slot.session engine.new.slot.session
+        (λ old new. result ≡ call_number count_number (is_asked old.of.engine (event_for_start fd group) 0 0 0) new.of.reply.result) (result ≡ fault_number Argument) }
+{
+    let Some(mut session) = engine.take(alloc) else {
+        return WRONG_ARGUMENT;
+    };
+    let number = pcm_session::start(&mut session.of, fd, group);
+    engine.put(session);
+    number
+}
+
+/// Closes a descriptor.
+#[unsafe(no_mangle)]
+pub extern "C" fn dsp_raw_close(alloc: Global, engine: &mut Handle, fd: u32) -> i32
+    ensures takes { On engine.old.slot.session engine.new.slot.session
+        (λ old new. Takes ⟦<Stage as Feeder>⟧.kept (event_for_close fd) [] [] 0 old.of.engine new.of.engine new.of.reply []) (result ≡ fault_number Argument) }
+    ensures number { On engine.old.slot.session engine.new.slot.session
+        (λ old new. result ≡ call_number count_number (is_asked old.of.engine (event_for_close fd) 0 0 0) new.of.reply.result) (result ≡ fault_number Argument) }
+{
+    let Some(mut session) = engine.take(alloc) else {
+        return WRONG_ARGUMENT;
+    };
+    let number = pcm_session::close(&mut session.of, fd);
+    engine.put(session);
+    number
+}
+
+/// Asks something of the mixer device.
+#[unsafe(no_mangle)]
+pub extern "C" fn dsp_raw_mixer(
+    alloc: Global,
+    engine: &mut Handle,
+    request: u32,
+    slot: u32,
+    value: u32,
+    answer: &mut AnswerNumbers,
+) -> i32
+    ensures takes { On engine.old.slot.session engine.new.slot.session
+        (λ old new. Takes ⟦<Stage as Feeder>⟧.kept (event_for_mixer request slot value) [] [] 0 old.of.engine new.of.engine new.of.reply []) (result ≡ fault_number Argument) }
+    ensures number { On engine.old.slot.session engine.new.slot.session
+        (λ old new. result ≡ call_number done_number (is_asked old.of.engine (event_for_mixer request slot value) 0 0 0) new.of.reply.result) (result ≡ fault_number Argument) }
+    ensures answer { On engine.old.slot.session engine.new.slot.session
+        (λ old new. answer.new ≡ beside (is_asked old.of.engine (event_for_mixer request slot value) 0 0 0) new.of.reply.result answer.old) (answer.new ≡ answer.old) }
+{
+    let Some(mut session) = engine.take(alloc) else {
+        return WRONG_ARGUMENT;
+    };
+    let number = pcm_session::ask_mixer(&mut session.of, request, slot, value, answer);
+    engine.put(session);
+    number
+}
+
+/// The device takes frames, and brings what it captured.
+#[unsafe(no_mangle)]
+pub extern "C" fn dsp_raw_interrupt(
+    alloc: Global,
+    engine: &mut Handle,
+    frames: u32,
+    samples: &[i32],
+    out: &mut [u8],
+) -> i32
+    ensures number { On engine.old.slot.session engine.new.slot.session
+        (λ old new. result ≡ (if is_asked old.of.engine (Some (Intr frames)) 0 (length samples.now) (length out.old)
+        then call_count (bytes_handed (device_of old.of.engine) (Intr frames)) else fault_number Argument)) (result ≡ fault_number Argument) }
+    ensures takes { On engine.old.slot.session engine.new.slot.session
+        (λ old new. Takes ⟦<Stage as Feeder>⟧.kept (Some (Intr frames)) [] samples.now (length out.old) old.of.engine new.of.engine new.of.reply
+        (take (handed_count old.of.engine frames (length samples.now) (length out.old)) out.new)) (result ≡ fault_number Argument) }
+    ensures rest { On engine.old.slot.session engine.new.slot.session
+        (λ old new. drop (handed_count old.of.engine frames (length samples.now) (length out.old)) out.new
+        ≡ drop (handed_count old.of.engine frames (length samples.now) (length out.old)) out.old) (out.new ≡ out.old) }
+{
+    let Some(mut session) = engine.take(alloc) else {
+        return WRONG_ARGUMENT;
+    };
+    let number = pcm_session::interrupt(&mut session.of, frames, samples, out);
+    engine.put(session);
+    number
+}

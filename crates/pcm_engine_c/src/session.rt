@@ -1,0 +1,48 @@
+//! The session that C holds, out of numbers.
+
+ghost use Rattle.std.specs.Prelude.{◌≡◌, false, IfOk, IfErr};
+ghost use Rattle.pcm_engine.specs.Engines.{AreReady};
+ghost use Rattle.pcm_engine_c.specs.Sessions.{IsNew, is_possible};
+ghost use Rattle.pcm_numbers.specs.declared.fault.NumbersFault.TheVariants.{Argument};
+
+use feed_stages::{Stage, stage_racks};
+use pcm_feeder::Feeder;
+use pcm_numbers::{
+    DeviceNumbers, FilterNumbers, NumbersFault, SectionNumbers, device_from, tables_from,
+};
+use pcm_session::SessionOf;
+use std::alloc::Global;
+
+/// A session whose stages are of any kind.
+#[derive(Drop)]
+pub struct Session {
+    pub of: SessionOf<Stage>,
+}
+
+/// The session of a device with these filters and sections. All memory is taken here.
+///
+/// # Errors
+///
+/// `Argument` where there is no such device, or a filter or section isn't within its limits. `Memory` where the allocator refuses.
+pub fn session_from(
+    alloc: Global,
+    device: &DeviceNumbers,
+    filters: &[FilterNumbers],
+    coefs: &[i32],
+    sections: &[SectionNumbers],
+) -> Result<Box<Session>, NumbersFault>
+    ensures made { IfOk result (λ made. IsNew ⟦<Stage as Feeder>⟧.kept device.now filters.now coefs.now sections.now made.value.of.engine) }
+    ensures ready { IfOk result (λ made. AreReady ⟦<Stage as Feeder>⟧.kind ⟦<Stage as Feeder>⟧.kept made.value.of.engine) }
+    ensures fault { IfErr result (λ fault. fault ≡ Argument → is_possible device.now filters.now coefs.now sections.now ≡ false) }
+{
+    let Some(device) = device_from(device) else {
+        return Err(NumbersFault::Argument);
+    };
+    let tables = tables_from(alloc, filters, coefs, sections)?;
+    let Ok(racks) = stage_racks(alloc) else {
+        return Err(NumbersFault::Memory);
+    };
+    let session = SessionOf::new(alloc, device, tables, racks)?;
+    let session = Box::new(alloc, Session { of: session })?;
+    Ok(session)
+}

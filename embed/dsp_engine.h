@@ -1,0 +1,287 @@
+/*
+ * The engine of dsp_replay as a library: what a kernel does with the sound of several clients, call by call, with the caller's own
+ * bytes. It is proved to do what docs/SPEC.md says; docs/EMBEDDING.md tells what that is for a caller, and what is trusted.
+ *
+ * An engine is one device. A client opens a descriptor of it, writes frames, and asks for its room and its position by the requests of
+ * the Open Sound System. Each call is one indivisible step. An interrupt, which is a call too, mixes what the clients gave and hands
+ * over the bytes that leave the device then.
+ *
+ * Each call answers a number: 0 or more where it was accepted, and one of the negative ones below where not. A call that answers a
+ * negative number has changed nothing. No call but dsp_engine_new takes memory, none waits, and none keeps a pointer of the caller.
+ *
+ * One engine may be used by one thread at a time. Two engines have nothing in common.
+ */
+#ifndef DSP_ENGINE_H
+#define DSP_ENGINE_H
+
+#include <stdbool.h>
+#include <stddef.h>
+#include <stdint.h>
+
+#ifdef __cplusplus
+extern "C" {
+#endif
+
+/* ---- what calls answer ---- */
+
+/* The ring has no room for a write now, or no byte for a read. */
+#define DSP_AGAIN (-1)
+/* No slot is free, or the channel's state doesn't allow it. */
+#define DSP_BUSY (-2)
+/* The request is of the other way, or its argument is outside its set. */
+#define DSP_INVALID (-3)
+/* The descriptor isn't open. */
+#define DSP_BAD_DESCRIPTOR (-4)
+/* The descriptor is open already. */
+#define DSP_EXISTS (-5)
+/* There is no memory. Only dsp_engine_new answers it. */
+#define DSP_NO_MEMORY (-6)
+/*
+ * No engine takes such a call: there is none, a pointer is null, a number is outside its limits, the room for what is handed over is too
+ * small, or the engine has taken its 2147483648 steps.
+ */
+#define DSP_WRONG_ARGUMENT (-7)
+
+/* ---- an engine ---- */
+
+/*
+ * An engine, or none. The caller has the struct and the library what it points to. It begins as DSP_NO_ENGINE, and may be moved, but not
+ * be copied: of two copies one alone may be used again.
+ */
+struct dsp_engine {
+    bool there;
+    void *at;
+};
+
+#define DSP_NO_ENGINE {false, NULL}
+
+/* Sample formats, by the codes of SNDCTL_DSP_SETFMT: the bits, and which byte comes first. 24 bits are three bytes. */
+enum dsp_format {
+    DSP_U8 = 0x8,
+    DSP_S8 = 0x40,
+    DSP_S16_LE = 0x10,
+    DSP_S16_BE = 0x20,
+    DSP_U16_LE = 0x80,
+    DSP_U16_BE = 0x100,
+    DSP_S24_LE = 0x10000,
+    DSP_S24_BE = 0x20000,
+    DSP_U24_LE = 0x40000,
+    DSP_U24_BE = 0x80000,
+    DSP_S32_LE = 0x1000,
+    DSP_S32_BE = 0x2000,
+    DSP_U32_LE = 0x4000,
+    DSP_U32_BE = 0x8000
+};
+
+/* A device. */
+struct dsp_device {
+    uint32_t format;       /* of the frames that are handed over: one of enum dsp_format */
+    uint32_t channels;     /* 1, 2, 4, 6 or 8 */
+    uint32_t rate;         /* frames per second, 4000 to 192000 */
+    uint32_t mix_channels; /* channels of the mix; 0: as the device */
+    uint32_t mix_rate;     /* frames per second of the mix; 0: as the device */
+    uint32_t ring_frames;  /* frames of the device's ring, 1 to 262144: what is mixed is handed over so many frames later */
+    uint32_t play_slots;   /* how many clients can play at once. With those that are mapped at most 16 */
+    uint32_t record_slots; /* how many can record at once, at most 16 */
+    uint32_t map_slots;    /* how many can have a mapped area at once */
+    uint32_t quality;      /* of changes of rate: 0 holds frames, 1 draws lines, 2 to 4 take a filter where there is one */
+};
+
+/* A filter for a change of rate, or for any where src and dst are 0. Its phases * taps coefficients stand in the array of all, from first on. */
+struct dsp_filter {
+    uint32_t src;    /* frames per second on its side of the input */
+    uint32_t dst;    /* and of the output */
+    uint32_t phases; /* rows of coefficients */
+    uint32_t taps;   /* coefficients of a row: an even number, 2 to 64 */
+    uint32_t shift;  /* a coefficient counts as divided by 2 to the power of this */
+    uint32_t first;  /* where its first coefficient stands */
+};
+
+/* A section of the equaliser: two poles and two zeros. Its coefficients count as divided by 2 to the power of shift. */
+struct dsp_section {
+    uint32_t shift;
+    int32_t b0;
+    int32_t b1;
+    int32_t b2;
+    int32_t a1;
+    int32_t a2;
+};
+
+/* What a call is answered beside its number. What each request puts there stands with it; what it doesn't name is 0. */
+struct dsp_answer {
+    uint64_t first;
+    uint64_t second;
+    uint64_t third;
+    uint64_t fourth;
+};
+
+/* Which way sound goes through a descriptor. */
+enum dsp_way {
+    DSP_PLAY = 0,   /* from the client to the device */
+    DSP_RECORD = 1, /* from the device to the client */
+    DSP_MAP = 2     /* to the device, out of an area that the client writes anywhere at any time */
+};
+
+/* What a client asks of its channel, with an argument where it has one. Positions, room and delay are bytes of the client's own frames. */
+enum dsp_request {
+    DSP_SETFMT = 0,       /* argument: a code of enum dsp_format, or 0. first: the format */
+    DSP_SPEED = 1,        /* argument: frames per second, or 0. first: the rate */
+    DSP_CHANNELS = 2,     /* argument: a number of channels, or 0. first: how many */
+    DSP_GETFMTS = 3,      /* first: the codes of all formats in one number */
+    DSP_GETCAPS = 4,      /* first: what the device can do */
+    DSP_GETBLKSIZE = 5,   /* first: bytes of a fragment */
+    DSP_SETFRAGMENT = 6,  /* argument: 0xCCCCSSSS, CCCC fragments of 2 to the power SSSS bytes. first: the same, as it is now */
+    DSP_GETOSPACE = 7,    /* what a write would take now. first: whole fragments, second: fragments in all, third: bytes of one, fourth: bytes */
+    DSP_GETISPACE = 8,    /* what a read would get now, in the same numbers */
+    DSP_GETOPTR = 9,      /* how far it has played. first: bytes, second: fragments passed since it was told last, third: the place in the ring */
+    DSP_GETIPTR = 10,     /* how far it has recorded, in the same numbers */
+    DSP_GETODELAY = 11,   /* first: bytes that wait */
+    DSP_GETERROR = 12,    /* shortages since it was told last. first: of playing, second: of recording */
+    DSP_SETTRIGGER = 13,  /* argument: whether the channel may start, by 1 for recording and 2 for playing */
+    DSP_GETTRIGGER = 14,  /* first: what it is */
+    DSP_SETPLAYVOL = 15,  /* argument: left + 256 * right, 0 to 100 each. first: the same, as it is now */
+    DSP_GETPLAYVOL = 16,  /* first: what it is */
+    DSP_POST = 17,        /* start now */
+    DSP_SYNC = 18,        /* no more comes for now: play what is there */
+    DSP_HALT = 19         /* drop what is there */
+};
+
+/* What the mixer device is asked. Volumes are numbers as those of DSP_SETPLAYVOL, and slots those that openings are told. */
+enum dsp_mixer_request {
+    DSP_SET_MASTER = 0, /* value: the volume of all that is mixed. first: the same, as it is now */
+    DSP_GET_MASTER = 1, /* first: what it is */
+    DSP_SET_SLOT = 2,   /* slot; value: the volume of what is heard of it. first: the same, as it is now */
+    DSP_GET_SLOT = 3,   /* slot. first: what it is */
+    DSP_MUTE_SLOT = 4   /* slot; value: 1, and it isn't heard from now on; 0, and it is again */
+};
+
+/* The library's own functions, which take no null pointer. What a caller calls stands below. */
+int32_t dsp_raw_new(struct dsp_engine *engine, const struct dsp_device *device, const struct dsp_filter *filters, size_t filter_count,
+                    const int32_t *coefs, size_t coef_count, const struct dsp_section *sections, size_t section_count);
+void dsp_raw_free(struct dsp_engine *engine);
+int32_t dsp_raw_open(struct dsp_engine *engine, uint32_t fd, uint32_t way, uint32_t format, uint32_t channels, uint32_t rate);
+int32_t dsp_raw_write(struct dsp_engine *engine, uint32_t fd, const uint8_t *bytes, size_t length);
+int32_t dsp_raw_poke(struct dsp_engine *engine, uint32_t fd, uint32_t offset, const uint8_t *bytes, size_t length);
+int32_t dsp_raw_read(struct dsp_engine *engine, uint32_t fd, uint8_t *bytes, size_t length);
+int32_t dsp_raw_ioctl(struct dsp_engine *engine, uint32_t fd, uint32_t request, uint32_t argument, struct dsp_answer *answer);
+int32_t dsp_raw_join(struct dsp_engine *engine, uint32_t fd, uint32_t group, struct dsp_answer *answer);
+int32_t dsp_raw_start(struct dsp_engine *engine, uint32_t fd, uint32_t group);
+int32_t dsp_raw_close(struct dsp_engine *engine, uint32_t fd);
+int32_t dsp_raw_mixer(struct dsp_engine *engine, uint32_t request, uint32_t slot, uint32_t value, struct dsp_answer *answer);
+int32_t dsp_raw_interrupt(struct dsp_engine *engine, uint32_t frames, const int32_t *samples, size_t sample_count, uint8_t *out, size_t room);
+
+/* ---- calls ---- */
+
+/* A place for arrays of no elements, whose pointers may be null. */
+static inline void *dsp_some_place(const void *place, size_t count, void *spare) {
+    return place != NULL || count != 0 ? (void *)(uintptr_t)place : spare;
+}
+
+/*
+ * Makes the engine of a device, with the filters and the equaliser's sections of these arrays. Each array may have no elements, and then be
+ * null. It reads them now and doesn't keep them. All memory of the engine is taken here. Where there is an engine already, none is made.
+ * Answers 0, DSP_NO_MEMORY or DSP_WRONG_ARGUMENT.
+ */
+static inline int32_t dsp_engine_new(struct dsp_engine *engine, const struct dsp_device *device, const struct dsp_filter *filters,
+                                     size_t filter_count, const int32_t *coefs, size_t coef_count, const struct dsp_section *sections,
+                                     size_t section_count) {
+    struct dsp_section spare = {0, 0, 0, 0, 0, 0};
+    if (engine == NULL || device == NULL || (filters == NULL && filter_count != 0) || (coefs == NULL && coef_count != 0)
+        || (sections == NULL && section_count != 0)) {
+        return DSP_WRONG_ARGUMENT;
+    }
+    return dsp_raw_new(engine, device, (const struct dsp_filter *)dsp_some_place(filters, filter_count, &spare), filter_count,
+                       (const int32_t *)dsp_some_place(coefs, coef_count, &spare), coef_count,
+                       (const struct dsp_section *)dsp_some_place(sections, section_count, &spare), section_count);
+}
+
+/* Frees an engine, if there is one. There is none then. */
+static inline void dsp_engine_free(struct dsp_engine *engine) {
+    if (engine != NULL) {
+        dsp_raw_free(engine);
+    }
+}
+
+/* Opens descriptor fd, 0 to 63, with such frames, in the least free slot of its way. Answers the number of the slot. */
+static inline int32_t dsp_engine_open(struct dsp_engine *engine, uint32_t fd, enum dsp_way way, uint32_t format, uint32_t channels,
+                                      uint32_t rate) {
+    return engine == NULL ? DSP_WRONG_ARGUMENT : dsp_raw_open(engine, fd, (uint32_t)way, format, channels, rate);
+}
+
+/* Writes so many bytes to a descriptor that plays. Answers how many of them its ring took: the first ones. */
+static inline int32_t dsp_engine_write(struct dsp_engine *engine, uint32_t fd, const void *bytes, size_t length) {
+    uint8_t spare = 0;
+    if (engine == NULL || (bytes == NULL && length != 0)) {
+        return DSP_WRONG_ARGUMENT;
+    }
+    return dsp_raw_write(engine, fd, (const uint8_t *)dsp_some_place(bytes, length, &spare), length);
+}
+
+/* Writes so many bytes into the area of a mapped descriptor, from its byte offset on. Answers 0. */
+static inline int32_t dsp_engine_poke(struct dsp_engine *engine, uint32_t fd, uint32_t offset, const void *bytes, size_t length) {
+    uint8_t spare = 0;
+    if (engine == NULL || (bytes == NULL && length != 0)) {
+        return DSP_WRONG_ARGUMENT;
+    }
+    return dsp_raw_poke(engine, fd, offset, (const uint8_t *)dsp_some_place(bytes, length, &spare), length);
+}
+
+/* Reads at most so many bytes, and never more than 4096, of what a descriptor has recorded. Answers how many stand at the front of bytes. */
+static inline int32_t dsp_engine_read(struct dsp_engine *engine, uint32_t fd, void *bytes, size_t length) {
+    uint8_t spare = 0;
+    if (engine == NULL || (bytes == NULL && length != 0)) {
+        return DSP_WRONG_ARGUMENT;
+    }
+    return dsp_raw_read(engine, fd, (uint8_t *)dsp_some_place(bytes, length, &spare), length);
+}
+
+/* Asks something of the channel of a descriptor. Answers 0, and what is asked in answer. */
+static inline int32_t dsp_engine_ioctl(struct dsp_engine *engine, uint32_t fd, enum dsp_request request, uint32_t argument,
+                                       struct dsp_answer *answer) {
+    struct dsp_answer spare = {0, 0, 0, 0};
+    return engine == NULL ? DSP_WRONG_ARGUMENT : dsp_raw_ioctl(engine, fd, (uint32_t)request, argument, answer == NULL ? &spare : answer);
+}
+
+/* Makes a descriptor a member of a group: of a new one by 0, or of one that is there. Answers 0, and the group's number, 1 to 8, as first. */
+static inline int32_t dsp_engine_join(struct dsp_engine *engine, uint32_t fd, uint32_t group, struct dsp_answer *answer) {
+    struct dsp_answer spare = {0, 0, 0, 0};
+    return engine == NULL ? DSP_WRONG_ARGUMENT : dsp_raw_join(engine, fd, group, answer == NULL ? &spare : answer);
+}
+
+/* Starts all members of a group at one frame, asked by any open descriptor that plays or records. The group is gone then. Answers 0. */
+static inline int32_t dsp_engine_start(struct dsp_engine *engine, uint32_t fd, uint32_t group) {
+    return engine == NULL ? DSP_WRONG_ARGUMENT : dsp_raw_start(engine, fd, group);
+}
+
+/* Closes a descriptor. What was written plays to its end, and what was recorded and not read is dropped. Answers 0. */
+static inline int32_t dsp_engine_close(struct dsp_engine *engine, uint32_t fd) {
+    return engine == NULL ? DSP_WRONG_ARGUMENT : dsp_raw_close(engine, fd);
+}
+
+/* Asks something of the mixer device. Answers 0, and what is asked in answer. */
+static inline int32_t dsp_engine_mixer(struct dsp_engine *engine, enum dsp_mixer_request request, uint32_t slot, uint32_t value,
+                                       struct dsp_answer *answer) {
+    struct dsp_answer spare = {0, 0, 0, 0};
+    return engine == NULL ? DSP_WRONG_ARGUMENT : dsp_raw_mixer(engine, (uint32_t)request, slot, value, answer == NULL ? &spare : answer);
+}
+
+/*
+ * The device takes so many frames, 1 to those of its ring. Answers how many bytes they are: they stand at the front of out, whose room they
+ * need. With them come the frames that the device captured meanwhile: samples of 32 bits, as many as the device has channels for each frame,
+ * frame by frame. There may be fewer, or none and then null: behind them is silence.
+ */
+static inline int32_t dsp_engine_interrupt(struct dsp_engine *engine, uint32_t frames, const int32_t *samples, size_t sample_count,
+                                           void *out, size_t room) {
+    int32_t spare = 0;
+    if (engine == NULL || (samples == NULL && sample_count != 0) || (out == NULL && room != 0)) {
+        return DSP_WRONG_ARGUMENT;
+    }
+    return dsp_raw_interrupt(engine, frames, (const int32_t *)dsp_some_place(samples, sample_count, &spare), sample_count,
+                             (uint8_t *)dsp_some_place(out, room, &spare), room);
+}
+
+#ifdef __cplusplus
+}
+#endif
+
+#endif
