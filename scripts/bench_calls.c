@@ -1,7 +1,7 @@
 /*
  * So many rounds of five calls: bench_calls ROUNDS OUT
  *
- * In each round four clients write 16 frames each, and an interrupt takes 16. What is handed over goes to the file, as `run` writes
+ * In each round four clients write four frames each, and an interrupt takes four. What is handed over goes to the file, as `run` writes
  * what the same lines of a script hand over.
  */
 #include <stdio.h>
@@ -9,7 +9,7 @@
 
 #include "dsp_engine.h"
 
-enum { CLIENTS = 4, FRAMES = 16, BYTES = 4 * FRAMES };
+enum { CLIENTS = 4, FRAMES = 4, BYTES = 4 * FRAMES };
 
 static const struct dsp_device device = {DSP_S16_LE, 2, 48000, 0, 0, 1024, 4, 4, 0, 1};
 
