@@ -22,7 +22,8 @@ pub struct Slot {
 }
 
 impl Model for Slot {
-    ghost also_owns = { λ slot. owned (λ session. AreReady ⟦<Stage as Feeder>⟧.kind ⟦<Stage as Feeder>⟧.kept session.of.engine) slot.at slot.session };
+    ghost also_owns = { λ slot. owned (λ session. AreReady
+        ⟦<Stage as Feeder>⟧.kind ⟦<Stage as Feeder>⟧.kept session.of.engine) slot.at slot.session };
 }
 
 impl Slot {
@@ -37,7 +38,8 @@ impl Slot {
 
     // A session out of its box.
     fn of(session: RawBox<Session>) -> Slot
-        requires { AreReady ⟦<Stage as Feeder>⟧.kind ⟦<Stage as Feeder>⟧.kept session.value.of.engine }
+        requires { AreReady
+            ⟦<Stage as Feeder>⟧.kind ⟦<Stage as Feeder>⟧.kept session.value.of.engine }
         ensures { result.session ≡ Some session.value }
     {
         let RawBox { at } = session;
@@ -47,7 +49,8 @@ impl Slot {
     // The session.
     fn into_raw(self) -> RawBox<Session>
         requires { IsSome self.session }
-        ensures { (Some result.value ≡ self.session) × AreReady ⟦<Stage as Feeder>⟧.kind ⟦<Stage as Feeder>⟧.kept result.value.of.engine }
+        ensures { (Some result.value ≡ self.session) × AreReady
+            ⟦<Stage as Feeder>⟧.kind ⟦<Stage as Feeder>⟧.kept result.value.of.engine }
     {
         let Slot { at } = self;
         RawBox {
@@ -84,7 +87,8 @@ impl Handle {
 
     // A session in its box.
     fn of(session: Box<Session>) -> Handle
-        requires { AreReady ⟦<Stage as Feeder>⟧.kind ⟦<Stage as Feeder>⟧.kept session.value.of.engine }
+        requires { AreReady
+            ⟦<Stage as Feeder>⟧.kind ⟦<Stage as Feeder>⟧.kept session.value.of.engine }
         ensures { result.slot.session ≡ Some session.value }
     {
         Handle {
@@ -96,7 +100,8 @@ impl Handle {
     // The session in its box again, if there is one.
     fn into_box(self, alloc: Global) -> Option<Box<Session>>
         ensures value { value_in result ≡ self.slot.session }
-        ensures ready { IfSome result (λ session. AreReady ⟦<Stage as Feeder>⟧.kind ⟦<Stage as Feeder>⟧.kept session.value.of.engine) }
+        ensures ready { IfSome result (λ session. AreReady
+            ⟦<Stage as Feeder>⟧.kind ⟦<Stage as Feeder>⟧.kept session.value.of.engine) }
     {
         let Handle { there, slot } = self;
         if there {
@@ -118,7 +123,8 @@ impl Handle {
     pub fn take(&mut self, alloc: Global) -> Option<Box<Session>>
         ensures value { value_in result ≡ self.old.slot.session }
         ensures empty { self.new.slot.session ≡ None }
-        ensures ready { IfSome result (λ session. AreReady ⟦<Stage as Feeder>⟧.kind ⟦<Stage as Feeder>⟧.kept session.value.of.engine) }
+        ensures ready { IfSome result (λ session. AreReady
+            ⟦<Stage as Feeder>⟧.kind ⟦<Stage as Feeder>⟧.kept session.value.of.engine) }
     {
         mem::replace(self, Handle::empty()).into_box(alloc)
     }
@@ -126,7 +132,8 @@ impl Handle {
     /// Puts a session into an empty handle.
     pub fn put(&mut self, session: Box<Session>)
         requires empty { self.old.slot.session ≡ None }
-        requires ready { AreReady ⟦<Stage as Feeder>⟧.kind ⟦<Stage as Feeder>⟧.kept session.value.of.engine }
+        requires ready { AreReady
+            ⟦<Stage as Feeder>⟧.kind ⟦<Stage as Feeder>⟧.kept session.value.of.engine }
         ensures { self.new.slot.session ≡ Some session.value }
     {
         let Handle { there: _, slot } = mem::replace(self, Handle::of(session));

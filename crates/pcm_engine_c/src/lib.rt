@@ -2,15 +2,12 @@
 //! Numbers, lengths and references come from C; that these are what C says they are is trusted.
 #![tactic(auto)]
 
-ghost use Rattle.std.specs.Prelude.{◌≡◌, None, Some, [], length, take, drop, if◌then◌else◌};
-ghost use Rattle.pcm_desk.specs.Events.{bytes_handed};
-ghost use Rattle.pcm_engine.specs.Engines.{device_of};
+ghost use Rattle.std.specs.Prelude.{◌≡◌, None, [], length, drop};
 ghost use Rattle.pcm_engine_c.specs.Calls.{On};
 ghost use Rattle.pcm_engine_c.specs.Sessions.{IsMade};
 ghost use Rattle.pcm_numbers.specs.Answers.{fault_number};
 ghost use Rattle.pcm_numbers.specs.declared.fault.NumbersFault.TheVariants.{Argument};
-ghost use Rattle.pcm_oss.specs.declared.event.Event.TheVariants.{Intr};
-ghost use Rattle.pcm_session.specs.Calls.{Takes, beside, call_count, call_number, count_number, done_number, front_put, handed_count, is_asked};
+ghost use Rattle.pcm_session.specs.Calls.{Interrupts, MakesCall, beside, call_number, count_number, done_number, handed_count, handed_number, read_into};
 ghost use Rattle.pcm_session.specs.Events.{event_for_close, event_for_ioctl, event_for_join, event_for_mixer, event_for_open, event_for_poke, event_for_read, event_for_start, event_for_write};
 
 mod handle;
@@ -25,7 +22,7 @@ use pcm_numbers::{
 use session::session_from;
 use std::alloc::Global;
 
-/// Makes the engine of a device, with filters and sections. Where there is one, none is made.
+/// MakesCall the engine of a device, with filters and sections. Where there is one, none is made.
 #[unsafe(no_mangle)]
 pub extern "C" fn dsp_raw_new(
     alloc: Global,
@@ -69,10 +66,12 @@ pub extern "C" fn dsp_raw_open(
     channels: u32,
     rate: u32,
 ) -> i32
-    ensures takes { On engine.old.slot.session engine.new.slot.session
-        (λ old new. Takes ⟦<Stage as Feeder>⟧.kept (event_for_open fd way format channels rate) [] [] 0 old.of.engine new.of.engine new.of.reply []) (result ≡ fault_number Argument) }
-    ensures number { On engine.old.slot.session engine.new.slot.session
-        (λ old new. result ≡ call_number count_number (is_asked old.of.engine (event_for_open fd way format channels rate) 0 0 0) new.of.reply.result) (result ≡ fault_number Argument) }
+    ensures makes { On engine.old engine.new (λ old new.
+        MakesCall ⟦<Stage as Feeder>⟧.kept (event_for_open fd way format channels rate) [] old.of new.of) }
+    ensures number { On engine.old engine.new (λ old new.
+        result ≡ call_number count_number (event_for_open fd way format channels rate) [] old.of new.of) }
+    ensures none { engine.old.slot.session ≡ None
+        → result ≡ fault_number Argument }
 {
     let Some(mut session) = engine.take(alloc) else {
         return WRONG_ARGUMENT;
@@ -85,10 +84,12 @@ pub extern "C" fn dsp_raw_open(
 /// Writes bytes to a descriptor that plays.
 #[unsafe(no_mangle)]
 pub extern "C" fn dsp_raw_write(alloc: Global, engine: &mut Handle, fd: u32, bytes: &[u8]) -> i32
-    ensures takes { On engine.old.slot.session engine.new.slot.session
-        (λ old new. Takes ⟦<Stage as Feeder>⟧.kept (event_for_write fd (length bytes.now)) bytes.now [] 0 old.of.engine new.of.engine new.of.reply []) (result ≡ fault_number Argument) }
-    ensures number { On engine.old.slot.session engine.new.slot.session
-        (λ old new. result ≡ call_number count_number (is_asked old.of.engine (event_for_write fd (length bytes.now)) (length bytes.now) 0 0) new.of.reply.result) (result ≡ fault_number Argument) }
+    ensures makes { On engine.old engine.new (λ old new.
+        MakesCall ⟦<Stage as Feeder>⟧.kept (event_for_write fd (length bytes.now)) bytes.now old.of new.of) }
+    ensures number { On engine.old engine.new (λ old new.
+        result ≡ call_number count_number (event_for_write fd (length bytes.now)) bytes.now old.of new.of) }
+    ensures none { engine.old.slot.session ≡ None
+        → result ≡ fault_number Argument }
 {
     let Some(mut session) = engine.take(alloc) else {
         return WRONG_ARGUMENT;
@@ -107,10 +108,12 @@ pub extern "C" fn dsp_raw_poke(
     offset: u32,
     bytes: &[u8],
 ) -> i32
-    ensures takes { On engine.old.slot.session engine.new.slot.session
-        (λ old new. Takes ⟦<Stage as Feeder>⟧.kept (event_for_poke fd offset (length bytes.now)) bytes.now [] 0 old.of.engine new.of.engine new.of.reply []) (result ≡ fault_number Argument) }
-    ensures number { On engine.old.slot.session engine.new.slot.session
-        (λ old new. result ≡ call_number count_number (is_asked old.of.engine (event_for_poke fd offset (length bytes.now)) (length bytes.now) 0 0) new.of.reply.result) (result ≡ fault_number Argument) }
+    ensures makes { On engine.old engine.new (λ old new.
+        MakesCall ⟦<Stage as Feeder>⟧.kept (event_for_poke fd offset (length bytes.now)) bytes.now old.of new.of) }
+    ensures number { On engine.old engine.new (λ old new.
+        result ≡ call_number count_number (event_for_poke fd offset (length bytes.now)) bytes.now old.of new.of) }
+    ensures none { engine.old.slot.session ≡ None
+        → result ≡ fault_number Argument }
 {
     let Some(mut session) = engine.take(alloc) else {
         return WRONG_ARGUMENT;
@@ -123,13 +126,14 @@ pub extern "C" fn dsp_raw_poke(
 /// Reads what a descriptor has recorded.
 #[unsafe(no_mangle)]
 pub extern "C" fn dsp_raw_read(alloc: Global, engine: &mut Handle, fd: u32, out: &mut [u8]) -> i32
-    ensures takes { On engine.old.slot.session engine.new.slot.session
-        (λ old new. Takes ⟦<Stage as Feeder>⟧.kept (event_for_read fd (length out.old)) [] [] 0 old.of.engine new.of.engine new.of.reply []) (result ≡ fault_number Argument) }
-    ensures number { On engine.old.slot.session engine.new.slot.session
-        (λ old new. result ≡ call_number count_number (is_asked old.of.engine (event_for_read fd (length out.old)) 0 0 0) new.of.reply.result) (result ≡ fault_number Argument) }
-    ensures out { On engine.old.slot.session engine.new.slot.session
-        (λ old new. out.new ≡ (if is_asked old.of.engine (event_for_read fd (length out.old)) 0 0 0 then front_put new.of.reply.bytes out.old else out.old))
-        (out.new ≡ out.old) }
+    ensures makes { On engine.old engine.new (λ old new.
+        MakesCall ⟦<Stage as Feeder>⟧.kept (event_for_read fd (length out.old)) [] old.of new.of) }
+    ensures number { On engine.old engine.new (λ old new.
+        result ≡ call_number count_number (event_for_read fd (length out.old)) [] old.of new.of) }
+    ensures out { On engine.old engine.new (λ old new.
+        out.new ≡ read_into (event_for_read fd (length out.old)) old.of new.of out.old) }
+    ensures none { engine.old.slot.session ≡ None
+        → (result ≡ fault_number Argument) × (out.new ≡ out.old) }
 {
     let Some(mut session) = engine.take(alloc) else {
         return WRONG_ARGUMENT;
@@ -149,12 +153,14 @@ pub extern "C" fn dsp_raw_ioctl(
     argument: u32,
     answer: &mut AnswerNumbers,
 ) -> i32
-    ensures takes { On engine.old.slot.session engine.new.slot.session
-        (λ old new. Takes ⟦<Stage as Feeder>⟧.kept (event_for_ioctl fd request argument) [] [] 0 old.of.engine new.of.engine new.of.reply []) (result ≡ fault_number Argument) }
-    ensures number { On engine.old.slot.session engine.new.slot.session
-        (λ old new. result ≡ call_number done_number (is_asked old.of.engine (event_for_ioctl fd request argument) 0 0 0) new.of.reply.result) (result ≡ fault_number Argument) }
-    ensures answer { On engine.old.slot.session engine.new.slot.session
-        (λ old new. answer.new ≡ beside (is_asked old.of.engine (event_for_ioctl fd request argument) 0 0 0) new.of.reply.result answer.old) (answer.new ≡ answer.old) }
+    ensures makes { On engine.old engine.new (λ old new.
+        MakesCall ⟦<Stage as Feeder>⟧.kept (event_for_ioctl fd request argument) [] old.of new.of) }
+    ensures number { On engine.old engine.new (λ old new.
+        result ≡ call_number done_number (event_for_ioctl fd request argument) [] old.of new.of) }
+    ensures answer { On engine.old engine.new (λ old new.
+        answer.new ≡ beside (event_for_ioctl fd request argument) old.of new.of answer.old) }
+    ensures none { engine.old.slot.session ≡ None
+        → (result ≡ fault_number Argument) × (answer.new ≡ answer.old) }
 {
     let Some(mut session) = engine.take(alloc) else {
         return WRONG_ARGUMENT;
@@ -164,7 +170,7 @@ pub extern "C" fn dsp_raw_ioctl(
     number
 }
 
-/// Makes a descriptor a member of a group.
+/// MakesCall a descriptor a member of a group.
 #[unsafe(no_mangle)]
 pub extern "C" fn dsp_raw_join(
     alloc: Global,
@@ -173,12 +179,14 @@ pub extern "C" fn dsp_raw_join(
     group: u32,
     answer: &mut AnswerNumbers,
 ) -> i32
-    ensures takes { On engine.old.slot.session engine.new.slot.session
-        (λ old new. Takes ⟦<Stage as Feeder>⟧.kept (event_for_join fd group) [] [] 0 old.of.engine new.of.engine new.of.reply []) (result ≡ fault_number Argument) }
-    ensures number { On engine.old.slot.session engine.new.slot.session
-        (λ old new. result ≡ call_number done_number (is_asked old.of.engine (event_for_join fd group) 0 0 0) new.of.reply.result) (result ≡ fault_number Argument) }
-    ensures answer { On engine.old.slot.session engine.new.slot.session
-        (λ old new. answer.new ≡ beside (is_asked old.of.engine (event_for_join fd group) 0 0 0) new.of.reply.result answer.old) (answer.new ≡ answer.old) }
+    ensures makes { On engine.old engine.new (λ old new.
+        MakesCall ⟦<Stage as Feeder>⟧.kept (event_for_join fd group) [] old.of new.of) }
+    ensures number { On engine.old engine.new (λ old new.
+        result ≡ call_number done_number (event_for_join fd group) [] old.of new.of) }
+    ensures answer { On engine.old engine.new (λ old new.
+        answer.new ≡ beside (event_for_join fd group) old.of new.of answer.old) }
+    ensures none { engine.old.slot.session ≡ None
+        → (result ≡ fault_number Argument) × (answer.new ≡ answer.old) }
 {
     let Some(mut session) = engine.take(alloc) else {
         return WRONG_ARGUMENT;
@@ -191,10 +199,12 @@ pub extern "C" fn dsp_raw_join(
 /// Starts all members of a group.
 #[unsafe(no_mangle)]
 pub extern "C" fn dsp_raw_start(alloc: Global, engine: &mut Handle, fd: u32, group: u32) -> i32
-    ensures takes { On engine.old.slot.session engine.new.slot.session
-        (λ old new. Takes ⟦<Stage as Feeder>⟧.kept (event_for_start fd group) [] [] 0 old.of.engine new.of.engine new.of.reply []) (result ≡ fault_number Argument) }
-    ensures number { On engine.old.slot.session engine.new.slot.session
-        (λ old new. result ≡ call_number count_number (is_asked old.of.engine (event_for_start fd group) 0 0 0) new.of.reply.result) (result ≡ fault_number Argument) }
+    ensures makes { On engine.old engine.new (λ old new.
+        MakesCall ⟦<Stage as Feeder>⟧.kept (event_for_start fd group) [] old.of new.of) }
+    ensures number { On engine.old engine.new (λ old new.
+        result ≡ call_number count_number (event_for_start fd group) [] old.of new.of) }
+    ensures none { engine.old.slot.session ≡ None
+        → result ≡ fault_number Argument }
 {
     let Some(mut session) = engine.take(alloc) else {
         return WRONG_ARGUMENT;
@@ -207,10 +217,12 @@ pub extern "C" fn dsp_raw_start(alloc: Global, engine: &mut Handle, fd: u32, gro
 /// Closes a descriptor.
 #[unsafe(no_mangle)]
 pub extern "C" fn dsp_raw_close(alloc: Global, engine: &mut Handle, fd: u32) -> i32
-    ensures takes { On engine.old.slot.session engine.new.slot.session
-        (λ old new. Takes ⟦<Stage as Feeder>⟧.kept (event_for_close fd) [] [] 0 old.of.engine new.of.engine new.of.reply []) (result ≡ fault_number Argument) }
-    ensures number { On engine.old.slot.session engine.new.slot.session
-        (λ old new. result ≡ call_number count_number (is_asked old.of.engine (event_for_close fd) 0 0 0) new.of.reply.result) (result ≡ fault_number Argument) }
+    ensures makes { On engine.old engine.new (λ old new.
+        MakesCall ⟦<Stage as Feeder>⟧.kept (event_for_close fd) [] old.of new.of) }
+    ensures number { On engine.old engine.new (λ old new.
+        result ≡ call_number count_number (event_for_close fd) [] old.of new.of) }
+    ensures none { engine.old.slot.session ≡ None
+        → result ≡ fault_number Argument }
 {
     let Some(mut session) = engine.take(alloc) else {
         return WRONG_ARGUMENT;
@@ -230,12 +242,14 @@ pub extern "C" fn dsp_raw_mixer(
     value: u32,
     answer: &mut AnswerNumbers,
 ) -> i32
-    ensures takes { On engine.old.slot.session engine.new.slot.session
-        (λ old new. Takes ⟦<Stage as Feeder>⟧.kept (event_for_mixer request slot value) [] [] 0 old.of.engine new.of.engine new.of.reply []) (result ≡ fault_number Argument) }
-    ensures number { On engine.old.slot.session engine.new.slot.session
-        (λ old new. result ≡ call_number done_number (is_asked old.of.engine (event_for_mixer request slot value) 0 0 0) new.of.reply.result) (result ≡ fault_number Argument) }
-    ensures answer { On engine.old.slot.session engine.new.slot.session
-        (λ old new. answer.new ≡ beside (is_asked old.of.engine (event_for_mixer request slot value) 0 0 0) new.of.reply.result answer.old) (answer.new ≡ answer.old) }
+    ensures makes { On engine.old engine.new (λ old new.
+        MakesCall ⟦<Stage as Feeder>⟧.kept (event_for_mixer request slot value) [] old.of new.of) }
+    ensures number { On engine.old engine.new (λ old new.
+        result ≡ call_number done_number (event_for_mixer request slot value) [] old.of new.of) }
+    ensures answer { On engine.old engine.new (λ old new.
+        answer.new ≡ beside (event_for_mixer request slot value) old.of new.of answer.old) }
+    ensures none { engine.old.slot.session ≡ None
+        → (result ≡ fault_number Argument) × (answer.new ≡ answer.old) }
 {
     let Some(mut session) = engine.take(alloc) else {
         return WRONG_ARGUMENT;
@@ -254,15 +268,15 @@ pub extern "C" fn dsp_raw_interrupt(
     samples: &[i32],
     out: &mut [u8],
 ) -> i32
-    ensures number { On engine.old.slot.session engine.new.slot.session
-        (λ old new. result ≡ (if is_asked old.of.engine (Some (Intr frames)) 0 (length samples.now) (length out.old)
-        then call_count (bytes_handed (device_of old.of.engine) (Intr frames)) else fault_number Argument)) (result ≡ fault_number Argument) }
-    ensures takes { On engine.old.slot.session engine.new.slot.session
-        (λ old new. Takes ⟦<Stage as Feeder>⟧.kept (Some (Intr frames)) [] samples.now (length out.old) old.of.engine new.of.engine new.of.reply
-        (take (handed_count old.of.engine frames (length samples.now) (length out.old)) out.new)) (result ≡ fault_number Argument) }
-    ensures rest { On engine.old.slot.session engine.new.slot.session
-        (λ old new. drop (handed_count old.of.engine frames (length samples.now) (length out.old)) out.new
-        ≡ drop (handed_count old.of.engine frames (length samples.now) (length out.old)) out.old) (out.new ≡ out.old) }
+    ensures interrupts { On engine.old engine.new (λ old new.
+        Interrupts ⟦<Stage as Feeder>⟧.kept frames samples.now out.new old.of new.of) }
+    ensures number { On engine.old engine.new (λ old new.
+        result ≡ handed_number old.of frames (length samples.now) (length out.old)) }
+    ensures rest { On engine.old engine.new (λ old new.
+        drop (handed_count old.of frames (length samples.now) (length out.old)) out.new
+        ≡ drop (handed_count old.of frames (length samples.now) (length out.old)) out.old) }
+    ensures none { engine.old.slot.session ≡ None
+        → (result ≡ fault_number Argument) × (out.new ≡ out.old) }
 {
     let Some(mut session) = engine.take(alloc) else {
         return WRONG_ARGUMENT;

@@ -31,9 +31,12 @@ pub fn session_from(
     coefs: &[i32],
     sections: &[SectionNumbers],
 ) -> Result<Box<Session>, NumbersFault>
-    ensures made { IfOk result (λ made. IsNew ⟦<Stage as Feeder>⟧.kept device.now filters.now coefs.now sections.now made.value.of.engine) }
-    ensures ready { IfOk result (λ made. AreReady ⟦<Stage as Feeder>⟧.kind ⟦<Stage as Feeder>⟧.kept made.value.of.engine) }
-    ensures fault { IfErr result (λ fault. fault ≡ Argument → is_possible device.now filters.now coefs.now sections.now ≡ false) }
+    ensures made { IfOk result (λ made. IsNew ⟦<Stage as Feeder>⟧.kept
+        device.now filters.now coefs.now sections.now made.value.of.engine) }
+    ensures ready { IfOk result (λ made. AreReady
+        ⟦<Stage as Feeder>⟧.kind ⟦<Stage as Feeder>⟧.kept made.value.of.engine) }
+    ensures fault { IfErr result (λ fault. fault ≡ Argument
+        → is_possible device.now filters.now coefs.now sections.now ≡ false) }
 {
     let Some(device) = device_from(device) else {
         return Err(NumbersFault::Argument);

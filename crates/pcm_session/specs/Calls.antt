@@ -1,5 +1,5 @@
 -- What a call in numbers comes to: a step, and a number for its reply.
-use Rattle.std.specs.Prelude.{◌≡◌, ℕ, ℤ, pos, if◌then◌else◌, Bool, true, false, List, ◌++◌, length, drop, min, Option, Some, None, Result, Ok, Err}
+use Rattle.std.specs.Prelude.{◌≡◌, ℕ, ℤ, pos, if◌then◌else◌, Bool, true, false, List, [], ◌++◌, length, take, drop, min, Option, Some, None, Result, Ok, Err}
 use Rattle.std.specs.Bool.{OnTrue, OnFalse}
 use Rattle.pcm_oss.specs.declared.event.Event.{Event}
 use Rattle.pcm_oss.specs.declared.event.Event.TheVariants.{Intr}
@@ -14,6 +14,7 @@ use Rattle.pcm_numbers.specs.declared.fault.NumbersFault.TheVariants.{Argument}
 use Rattle.pcm_desk.specs.Events.{bytes_handed}
 use Rattle.pcm_engine.specs.declared.engine.EngineOf.{EngineOf}
 use Rattle.pcm_engine.specs.Engines.{device_of}
+use Rattle.pcm_session.specs.declared.session.SessionOf.{SessionOf}
 use Rattle.pcm_session.specs.Steps.{IsCallStep}
 use Rattle.pcm_session.specs.Taken.{is_taken}
 
@@ -54,24 +55,49 @@ IsStepOf kept (Some event) bytes samples old new told handed = IsCallStep kept e
 
 -- A call with these bytes, samples and room takes the step on its event, and hands these bytes over. Where there is no event, or the engine
 -- doesn't take it, nothing happens.
-pub record Takes {B : Type 0} (kept : B → Kept) (event : Option Event) (bytes : List ℕ) (samples : List ℤ) (room : ℕ) (old new : EngineOf B) (told : Reply) (handed : List ℕ) : Type 0 where
-  pub step : OnTrue (is_asked old event (length bytes) (length samples) room) (IsStepOf kept event bytes samples old new told handed)
-  pub same : OnFalse (is_asked old event (length bytes) (length samples) room) (new ≡ old)
+pub record Takes {B : Type 0} (kept : B → Kept) (event : Option Event) (bytes : List ℕ) (samples : List ℤ) (room : ℕ) (handed : List ℕ) (old new : SessionOf B) : Type 0 where
+  pub step : OnTrue (is_asked old.engine event (length bytes) (length samples) room) (IsStepOf kept event bytes samples old.engine new.engine new.reply handed)
+  pub same : OnFalse (is_asked old.engine event (length bytes) (length samples) room) (new.engine ≡ old.engine)
+
+-- so one that comes with bytes at most, and hands none over
+abbrev pub MakesCall : {B : Type 0} → (B → Kept) → Option Event → List ℕ → SessionOf B → SessionOf B → Type 0
+MakesCall kept event bytes old new = Takes kept event bytes [] 0 [] old new
 
 -- how many bytes an interrupt hands over, with so many samples and so much room
-abbrev pub handed_count : {B : Type 0} → EngineOf B → ℕ → ℕ → ℕ → ℕ
-handed_count engine frames samples room = if is_asked engine (Some (Intr frames)) 0 samples room then bytes_handed (device_of engine) (Intr frames) else 0
+abbrev pub handed_count : {B : Type 0} → SessionOf B → ℕ → ℕ → ℕ → ℕ
+handed_count session frames samples room =
+    if is_asked session.engine (Some (Intr frames)) 0 samples room then bytes_handed (device_of session.engine) (Intr frames) else 0
+
+-- the number that it answers
+abbrev pub handed_number : {B : Type 0} → SessionOf B → ℕ → ℕ → ℕ → ℤ
+handed_number session frames samples room =
+    if is_asked session.engine (Some (Intr frames)) 0 samples room then call_count (bytes_handed (device_of session.engine) (Intr frames)) else fault_number Argument
+
+-- an interrupt with these samples, which leaves these bytes in its room
+abbrev pub Interrupts : {B : Type 0} → (B → Kept) → ℕ → List ℤ → List ℕ → SessionOf B → SessionOf B → Type 0
+Interrupts kept frames samples out old new =
+    Takes kept (Some (Intr frames)) [] samples (length out) (take (handed_count old frames (length samples) (length out)) out) old new
 
 -- the number that a call answers: that of its result, where it is a step, and else that of a wrong argument
-abbrev pub call_number : (Result Answer Errno → ℤ) → Bool → Result Answer Errno → ℤ
-call_number number true result = number result
-call_number number false result = fault_number Argument
+abbrev pub number_where : Bool → (Result Answer Errno → ℤ) → Result Answer Errno → ℤ
+number_where true number result = number result
+number_where false number result = fault_number Argument
+
+abbrev pub call_number : {B : Type 0} → (Result Answer Errno → ℤ) → Option Event → List ℕ → SessionOf B → SessionOf B → ℤ
+call_number number event bytes old new = number_where (is_asked old.engine event (length bytes) 0 0) number new.reply.result
 
 -- the numbers beside an answer, where a call is a step
-abbrev pub beside : Bool → Result Answer Errno → AnswerNumbers → AnswerNumbers
-beside true result numbers = numbers_beside result numbers
-beside false result numbers = numbers
+abbrev pub beside_where : Bool → Result Answer Errno → AnswerNumbers → AnswerNumbers
+beside_where true result numbers = numbers_beside result numbers
+beside_where false result numbers = numbers
+
+abbrev pub beside : {B : Type 0} → Option Event → SessionOf B → SessionOf B → AnswerNumbers → AnswerNumbers
+beside event old new numbers = beside_where (is_asked old.engine event 0 0 0) new.reply.result numbers
 
 -- bytes at the front of others
 abbrev pub front_put : List ℕ → List ℕ → List ℕ
 front_put bytes out = bytes ++ drop (length bytes) out
+
+-- what a read leaves of its room
+abbrev pub read_into : {B : Type 0} → Option Event → SessionOf B → SessionOf B → List ℕ → List ℕ
+read_into event old new out = if is_asked old.engine event 0 0 0 then front_put new.reply.bytes out else out

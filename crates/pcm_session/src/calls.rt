@@ -1,14 +1,10 @@
 //! Calls in numbers, as programs of other languages make them. Each makes an event of its numbers, takes the step on it, and answers a number: 0
 //! or more, or the number of a refusal or of a wrong argument. A call that answers a number below 0 has changed nothing.
 
-ghost use Rattle.std.specs.Prelude.{◌≡◌, ◌≤◌, if◌then◌else◌, Some, [], length, take, drop};
+ghost use Rattle.std.specs.Prelude.{◌≡◌, ◌≤◌, [], length, drop};
 ghost use Rattle.std.specs.Bool.{OnTrue, OnFalse};
-ghost use Rattle.pcm_desk.specs.Events.{bytes_handed};
-ghost use Rattle.pcm_engine.specs.Engines.{device_of, AreReady};
-ghost use Rattle.pcm_numbers.specs.Answers.{fault_number};
-ghost use Rattle.pcm_numbers.specs.declared.fault.NumbersFault.TheVariants.{Argument};
-ghost use Rattle.pcm_oss.specs.declared.event.Event.TheVariants.{Intr};
-ghost use Rattle.pcm_session.specs.Calls.{IsStepOf, Takes, beside, call_number, count_number, call_count, done_number, front_put, handed_count, is_asked};
+ghost use Rattle.pcm_engine.specs.Engines.{AreReady};
+ghost use Rattle.pcm_session.specs.Calls.{Interrupts, IsStepOf, MakesCall, beside, call_count, call_number, count_number, done_number, front_put, handed_count, handed_number, is_asked, read_into};
 ghost use Rattle.pcm_session.specs.Events.{event_for_close, event_for_ioctl, event_for_join, event_for_mixer, event_for_open, event_for_poke, event_for_read, event_for_start, event_for_write};
 
 use crate::events::{
@@ -31,9 +27,10 @@ pub fn open<B: Feeder>(
 ) -> i32
     requires ready { AreReady B.kind B.kept session.old.engine }
     ensures ready { AreReady B.kind B.kept session.new.engine }
-    ensures number { result ≡ call_number count_number (is_asked session.old.engine (event_for_open fd way format channels rate) 0 0 0) session.new.reply.result }
-    ensures takes { Takes B.kept (event_for_open fd way format channels rate) [] [] 0
-        session.old.engine session.new.engine session.new.reply [] }
+    ensures makes { MakesCall B.kept (event_for_open fd way format channels rate) []
+        session.old session.new }
+    ensures number { result ≡ call_number count_number
+        (event_for_open fd way format channels rate) [] session.old session.new }
 {
     count_of(
         session,
@@ -46,9 +43,10 @@ pub fn open<B: Feeder>(
 pub fn write<B: Feeder>(session: &mut SessionOf<B>, fd: u32, bytes: &[u8]) -> i32
     requires ready { AreReady B.kind B.kept session.old.engine }
     ensures ready { AreReady B.kind B.kept session.new.engine }
-    ensures number { result ≡ call_number count_number (is_asked session.old.engine (event_for_write fd (length bytes.now)) (length bytes.now) 0 0) session.new.reply.result }
-    ensures takes { Takes B.kept (event_for_write fd (length bytes.now)) bytes.now [] 0
-        session.old.engine session.new.engine session.new.reply [] }
+    ensures makes { MakesCall B.kept (event_for_write fd (length bytes.now)) bytes.now
+        session.old session.new }
+    ensures number { result ≡ call_number count_number
+        (event_for_write fd (length bytes.now)) bytes.now session.old session.new }
 {
     count_of(session, event_for_write(fd, bytes.len()), bytes)
 }
@@ -57,9 +55,10 @@ pub fn write<B: Feeder>(session: &mut SessionOf<B>, fd: u32, bytes: &[u8]) -> i3
 pub fn poke<B: Feeder>(session: &mut SessionOf<B>, fd: u32, offset: u32, bytes: &[u8]) -> i32
     requires ready { AreReady B.kind B.kept session.old.engine }
     ensures ready { AreReady B.kind B.kept session.new.engine }
-    ensures number { result ≡ call_number count_number (is_asked session.old.engine (event_for_poke fd offset (length bytes.now)) (length bytes.now) 0 0) session.new.reply.result }
-    ensures takes { Takes B.kept (event_for_poke fd offset (length bytes.now)) bytes.now [] 0
-        session.old.engine session.new.engine session.new.reply [] }
+    ensures makes { MakesCall B.kept (event_for_poke fd offset (length bytes.now)) bytes.now
+        session.old session.new }
+    ensures number { result ≡ call_number count_number
+        (event_for_poke fd offset (length bytes.now)) bytes.now session.old session.new }
 {
     count_of(session, event_for_poke(fd, offset, bytes.len()), bytes)
 }
@@ -68,9 +67,9 @@ pub fn poke<B: Feeder>(session: &mut SessionOf<B>, fd: u32, offset: u32, bytes: 
 pub fn start<B: Feeder>(session: &mut SessionOf<B>, fd: u32, group: u32) -> i32
     requires ready { AreReady B.kind B.kept session.old.engine }
     ensures ready { AreReady B.kind B.kept session.new.engine }
-    ensures number { result ≡ call_number count_number (is_asked session.old.engine (event_for_start fd group) 0 0 0) session.new.reply.result }
-    ensures takes { Takes B.kept (event_for_start fd group) [] [] 0
-        session.old.engine session.new.engine session.new.reply [] }
+    ensures makes { MakesCall B.kept (event_for_start fd group) [] session.old session.new }
+    ensures number { result ≡ call_number count_number
+        (event_for_start fd group) [] session.old session.new }
 {
     count_of(session, event_for_start(fd, group), &[])
 }
@@ -79,9 +78,9 @@ pub fn start<B: Feeder>(session: &mut SessionOf<B>, fd: u32, group: u32) -> i32
 pub fn close<B: Feeder>(session: &mut SessionOf<B>, fd: u32) -> i32
     requires ready { AreReady B.kind B.kept session.old.engine }
     ensures ready { AreReady B.kind B.kept session.new.engine }
-    ensures number { result ≡ call_number count_number (is_asked session.old.engine (event_for_close fd) 0 0 0) session.new.reply.result }
-    ensures takes { Takes B.kept (event_for_close fd) [] [] 0
-        session.old.engine session.new.engine session.new.reply [] }
+    ensures makes { MakesCall B.kept (event_for_close fd) [] session.old session.new }
+    ensures number { result ≡ call_number count_number
+        (event_for_close fd) [] session.old session.new }
 {
     count_of(session, event_for_close(fd), &[])
 }
@@ -96,16 +95,17 @@ pub fn ioctl<B: Feeder>(
 ) -> i32
     requires ready { AreReady B.kind B.kept session.old.engine }
     ensures ready { AreReady B.kind B.kept session.new.engine }
-    ensures number { result ≡ call_number done_number (is_asked session.old.engine (event_for_ioctl fd request argument) 0 0 0) session.new.reply.result }
-    ensures takes { Takes B.kept (event_for_ioctl fd request argument) [] [] 0
-        session.old.engine session.new.engine session.new.reply [] }
-    ensures answer { answer.new ≡ beside (is_asked session.old.engine (event_for_ioctl fd request argument) 0 0 0)
-        session.new.reply.result answer.old }
+    ensures makes { MakesCall B.kept (event_for_ioctl fd request argument) []
+        session.old session.new }
+    ensures number { result ≡ call_number done_number
+        (event_for_ioctl fd request argument) [] session.old session.new }
+    ensures answer { answer.new
+        ≡ beside (event_for_ioctl fd request argument) session.old session.new answer.old }
 {
     done_beside(session, event_for_ioctl(fd, request, argument), answer)
 }
 
-/// Makes a descriptor a member of a group. The number of the group comes into `answer`.
+/// MakesCall a descriptor a member of a group. The number of the group comes into `answer`.
 pub fn join<B: Feeder>(
     session: &mut SessionOf<B>,
     fd: u32,
@@ -114,11 +114,11 @@ pub fn join<B: Feeder>(
 ) -> i32
     requires ready { AreReady B.kind B.kept session.old.engine }
     ensures ready { AreReady B.kind B.kept session.new.engine }
-    ensures number { result ≡ call_number done_number (is_asked session.old.engine (event_for_join fd group) 0 0 0) session.new.reply.result }
-    ensures takes { Takes B.kept (event_for_join fd group) [] [] 0
-        session.old.engine session.new.engine session.new.reply [] }
-    ensures answer { answer.new ≡ beside (is_asked session.old.engine (event_for_join fd group) 0 0 0)
-        session.new.reply.result answer.old }
+    ensures makes { MakesCall B.kept (event_for_join fd group) [] session.old session.new }
+    ensures number { result ≡ call_number done_number
+        (event_for_join fd group) [] session.old session.new }
+    ensures answer { answer.new
+        ≡ beside (event_for_join fd group) session.old session.new answer.old }
 {
     done_beside(session, event_for_join(fd, group), answer)
 }
@@ -133,11 +133,12 @@ pub fn ask_mixer<B: Feeder>(
 ) -> i32
     requires ready { AreReady B.kind B.kept session.old.engine }
     ensures ready { AreReady B.kind B.kept session.new.engine }
-    ensures number { result ≡ call_number done_number (is_asked session.old.engine (event_for_mixer request slot value) 0 0 0) session.new.reply.result }
-    ensures takes { Takes B.kept (event_for_mixer request slot value) [] [] 0
-        session.old.engine session.new.engine session.new.reply [] }
-    ensures answer { answer.new ≡ beside (is_asked session.old.engine (event_for_mixer request slot value) 0 0 0)
-        session.new.reply.result answer.old }
+    ensures makes { MakesCall B.kept (event_for_mixer request slot value) []
+        session.old session.new }
+    ensures number { result ≡ call_number done_number
+        (event_for_mixer request slot value) [] session.old session.new }
+    ensures answer { answer.new
+        ≡ beside (event_for_mixer request slot value) session.old session.new answer.old }
 {
     done_beside(session, event_for_mixer(request, slot, value), answer)
 }
@@ -146,11 +147,12 @@ pub fn ask_mixer<B: Feeder>(
 pub fn read<B: Feeder>(session: &mut SessionOf<B>, fd: u32, out: &mut [u8]) -> i32
     requires ready { AreReady B.kind B.kept session.old.engine }
     ensures ready { AreReady B.kind B.kept session.new.engine }
-    ensures number { result ≡ call_number count_number (is_asked session.old.engine (event_for_read fd (length out.old)) 0 0 0) session.new.reply.result }
-    ensures takes { Takes B.kept (event_for_read fd (length out.old)) [] [] 0
-        session.old.engine session.new.engine session.new.reply [] }
-    ensures out { out.new ≡ (if is_asked session.old.engine (event_for_read fd (length out.old)) 0 0 0
-        then front_put session.new.reply.bytes out.old else out.old) }
+    ensures makes { MakesCall B.kept (event_for_read fd (length out.old)) []
+        session.old session.new }
+    ensures number { result ≡ call_number count_number
+        (event_for_read fd (length out.old)) [] session.old session.new }
+    ensures out { out.new
+        ≡ read_into (event_for_read fd (length out.old)) session.old session.new out.old }
 {
     if !takes(session, event_for_read(fd, out.len()), &[]) {
         return WRONG_ARGUMENT;
@@ -169,13 +171,10 @@ pub fn interrupt<B: Feeder>(
 ) -> i32
     requires ready { AreReady B.kind B.kept session.old.engine }
     ensures ready { AreReady B.kind B.kept session.new.engine }
-    ensures number { result ≡ (if is_asked session.old.engine (Some (Intr frames)) 0 (length samples.now) (length out.old)
-        then call_count (bytes_handed (device_of session.old.engine) (Intr frames)) else fault_number Argument) }
-    ensures takes { Takes B.kept (Some (Intr frames)) [] samples.now (length out.old)
-        session.old.engine session.new.engine session.new.reply
-        (take (handed_count session.old.engine frames (length samples.now) (length out.old)) out.new) }
-    ensures rest { drop (handed_count session.old.engine frames (length samples.now) (length out.old)) out.new
-        ≡ drop (handed_count session.old.engine frames (length samples.now) (length out.old)) out.old }
+    ensures interrupts { Interrupts B.kept frames samples.now out.new session.old session.new }
+    ensures number { result ≡ handed_number session.old frames (length samples.now) (length out.old) }
+    ensures rest { drop (handed_count session.old frames (length samples.now) (length out.old)) out.new
+        ≡ drop (handed_count session.old frames (length samples.now) (length out.old)) out.old }
 {
     match session.step(&Event::Intr { frames }, &[], samples, out) {
         Ok(count) => call_count(count),
@@ -205,9 +204,9 @@ fn takes<B: Feeder>(session: &mut SessionOf<B>, event: Option<Event>, bytes: &[u
 fn count_of<B: Feeder>(session: &mut SessionOf<B>, event: Option<Event>, bytes: &[u8]) -> i32
     requires ready { AreReady B.kind B.kept session.old.engine }
     ensures ready { AreReady B.kind B.kept session.new.engine }
-    ensures number { result ≡ call_number count_number (is_asked session.old.engine event (length bytes.now) 0 0) session.new.reply.result }
-    ensures takes { Takes B.kept event bytes.now [] 0
-        session.old.engine session.new.engine session.new.reply [] }
+    ensures makes { MakesCall B.kept event bytes.now session.old session.new }
+    ensures number { result ≡ call_number count_number
+        event bytes.now session.old session.new }
 {
     if takes(session, event, bytes) {
         count_number(session.result())
@@ -224,11 +223,9 @@ fn done_beside<B: Feeder>(
 ) -> i32
     requires ready { AreReady B.kind B.kept session.old.engine }
     ensures ready { AreReady B.kind B.kept session.new.engine }
-    ensures number { result ≡ call_number done_number (is_asked session.old.engine event 0 0 0) session.new.reply.result }
-    ensures takes { Takes B.kept event [] [] 0
-        session.old.engine session.new.engine session.new.reply [] }
-    ensures answer { answer.new ≡ beside (is_asked session.old.engine event 0 0 0)
-        session.new.reply.result answer.old }
+    ensures makes { MakesCall B.kept event [] session.old session.new }
+    ensures number { result ≡ call_number done_number event [] session.old session.new }
+    ensures answer { answer.new ≡ beside event session.old session.new answer.old }
 {
     if !takes(session, event, &[]) {
         return WRONG_ARGUMENT;
