@@ -1,5 +1,5 @@
 -- The session that numbers make.
-use Rattle.std.specs.Prelude.{◌≡◌, ◌≢◌, ℤ, pos, Bool, false, ◌&&◌, is_some, List, [], Option, Some, None, IfSome, IsSome}
+use Rattle.std.specs.Prelude.{◌≡◌, ◌≢◌, ℤ, pos, Bool, true, false, ◌&&◌, is_some, List, [], Option, Some, None, IfSome, IsSome}
 use Rattle.pcm_feeder.specs.Kept.{Kept}
 use Rattle.pcm_wave.specs.declared.pool.Pool.{Pool}
 use Rattle.pcm_desk.specs.declared.device.Device.{Device}
@@ -10,7 +10,7 @@ use Rattle.pcm_engine.specs.Engines.{Stands, device_of}
 use Rattle.pcm_numbers.specs.declared.device.DeviceNumbers.{DeviceNumbers}
 use Rattle.pcm_numbers.specs.declared.filters.FilterNumbers.{FilterNumbers}
 use Rattle.pcm_numbers.specs.declared.sections.SectionNumbers.{SectionNumbers}
-use Rattle.pcm_numbers.specs.declared.fault.NumbersFault.TheVariants.{Argument}
+use Rattle.pcm_numbers.specs.declared.fault.NumbersFault.TheVariants.{Memory, Argument}
 use Rattle.pcm_numbers.specs.Answers.{fault_number}
 use Rattle.pcm_numbers.specs.Devices.{device_from}
 use Rattle.pcm_numbers.specs.Tables.{tables_from}
@@ -30,10 +30,11 @@ pub record IsNew {B : Type 0} (kept : B → Kept) (device : DeviceNumbers) (filt
 abbrev pub is_possible : DeviceNumbers → List FilterNumbers → List ℤ → List SectionNumbers → Bool
 is_possible device filters coefs sections = is_some (device_from device) && is_some (tables_from filters coefs sections)
 
--- What making an engine comes to. Where there is one already, nothing is made. Else 0 says that there is one of these numbers now; another number is
--- that of a fault, and says that there is none; and that of a wrong argument says that there can be none.
+-- What making an engine comes to. Where there is one already, nothing is made. Else 0 says that there is one of these numbers now; that of a wrong
+-- argument, that there can be none; and that of want of memory, the only other, that there could be one.
 pub record IsMade {B : Type 0} (engine_in : Session → EngineOf B) (kept : B → Kept) (device : DeviceNumbers) (filters : List FilterNumbers) (coefs : List ℤ) (sections : List SectionNumbers) (old new : Option Session) (result : ℤ) : Type 0 where
   pub there : IsSome old → (new ≡ old) × (result ≡ fault_number Argument)
   pub made : old ≡ None → result ≡ pos 0 → IfSome new (λ session. IsNew kept device filters coefs sections (engine_in session))
   pub none : old ≡ None → result ≢ pos 0 → new ≡ None
   pub cause : old ≡ None → result ≡ fault_number Argument → is_possible device filters coefs sections ≡ false
+  pub memory : old ≡ None → result ≢ pos 0 → result ≢ fault_number Argument → (result ≡ fault_number Memory) × (is_possible device filters coefs sections ≡ true)

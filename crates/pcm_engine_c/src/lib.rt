@@ -22,7 +22,7 @@ use pcm_numbers::{
 use session::session_from;
 use std::alloc::Global;
 
-/// MakesCall the engine of a device, with filters and sections. Where there is one, none is made.
+/// Makes the engine of a device, with filters and sections. Where there is one, none is made.
 #[unsafe(no_mangle)]
 pub extern "C" fn dsp_raw_new(
     alloc: Global,
@@ -170,7 +170,7 @@ pub extern "C" fn dsp_raw_ioctl(
     number
 }
 
-/// MakesCall a descriptor a member of a group.
+/// Makes a descriptor a member of a group.
 #[unsafe(no_mangle)]
 pub extern "C" fn dsp_raw_join(
     alloc: Global,

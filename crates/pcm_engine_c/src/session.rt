@@ -1,9 +1,9 @@
 //! The session that C holds, out of numbers.
 
-ghost use Rattle.std.specs.Prelude.{◌≡◌, false, IfOk, IfErr};
+ghost use Rattle.std.specs.Prelude.{◌≡◌, true, false, IfOk, IfErr};
 ghost use Rattle.pcm_engine.specs.Engines.{AreReady};
 ghost use Rattle.pcm_engine_c.specs.Sessions.{IsNew, is_possible};
-ghost use Rattle.pcm_numbers.specs.declared.fault.NumbersFault.TheVariants.{Argument};
+ghost use Rattle.pcm_numbers.specs.declared.fault.NumbersFault.TheVariants.{Argument, Memory};
 
 use feed_stages::{Stage, stage_racks};
 use pcm_feeder::Feeder;
@@ -37,6 +37,8 @@ pub fn session_from(
         ⟦<Stage as Feeder>⟧.kind ⟦<Stage as Feeder>⟧.kept made.value.of.engine) }
     ensures fault { IfErr result (λ fault. fault ≡ Argument
         → is_possible device.now filters.now coefs.now sections.now ≡ false) }
+    ensures memory { IfErr result (λ fault. fault ≡ Memory
+        → is_possible device.now filters.now coefs.now sections.now ≡ true) }
 {
     let Some(device) = device_from(device) else {
         return Err(NumbersFault::Argument);

@@ -130,8 +130,8 @@ pub fn settings_from(format: u32, channels: u32, rate: u32) -> Option<Settings>
     })
 }
 
-// Whether a stream can have so many frames per second.
-pub(crate) fn is_rate(rate: u32) -> bool
+/// Whether a stream can have so many frames per second.
+pub fn is_rate(rate: u32) -> bool
     ensures { result ≡ is_rate rate }
 {
     RATE_LEAST <= rate && rate <= RATE_MOST

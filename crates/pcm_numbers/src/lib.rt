@@ -12,7 +12,7 @@ mod sections;
 mod tables;
 
 pub use answers::{AnswerNumbers, numbers_of, refusal_number};
-pub use device::{DeviceNumbers, device_from, settings_from, way_from};
+pub use device::{DeviceNumbers, device_from, is_rate, settings_from, way_from};
 pub use fault::{NumbersFault, fault_number};
 pub use filters::FilterNumbers;
 pub use refusals::{AGAIN, BAD_DESCRIPTOR, BUSY, EXISTS, INVALID, NO_MEMORY, WRONG_ARGUMENT};

@@ -3,27 +3,19 @@ use Rattle.std.proofs.Common.{◌≡◌, ℕ, ◌<◌, ◌≤◌, true, arith}
 use Rattle.std.specs.Prelude.{◌&&◌, ◌==◌, nat_le, nat_lt}
 use Rattle.std.proofs.lemmas.Bool.{and_parts, eqb-true}
 use Rattle.std.proofs.lemmas.Bool.Decides.{nat_tests}
-use Rattle.pcm_format.specs.declared.settings.TheConstants.{RATE_LEAST, RATE_MOST}
 use Rattle.pcm_oss.specs.declared.event.Event.{Event}
 use Rattle.pcm_oss.specs.declared.event.Event.TheVariants.{Open, Write, Poke, Read, Ioctl, Join, StartGroup, Close, Mixer, Intr}
-use Rattle.pcm_feeder.specs.Limits.{IsRate}
 use Rattle.pcm_desk.specs.declared.limits.TheConstants.{DESCRIPTORS, READ_BYTES}
 use Rattle.pcm_desk.specs.Device.{DeviceSeen, device_settings, ring_frames}
 use Rattle.pcm_desk.specs.Events.{bytes_handed}
 use Rattle.pcm_engine.specs.declared.limits.TheConstants.{STEPS}
 use Rattle.pcm_engine.specs.Brought.{IsAllowed, bytes_asked, samples_asked}
 use Rattle.pcm_numbers.specs.Devices.{is_rate}
+use Rattle.pcm_numbers.proofs.Judging.{rate-is}
 use Rattle.pcm_session.specs.Taken.{is_descriptor, is_taken, is_allowed}
 
 descriptor_is : (fd : ℕ) → is_descriptor fd ≡ true → fd < DESCRIPTORS
 descriptor_is fd is = grind (arith, nat_tests)
-
-rate_is : (rate : ℕ) → is_rate rate ≡ true → IsRate rate
-rate_is rate is =
-    let within = and_parts (nat_le RATE_LEAST rate) (nat_le rate RATE_MOST) is in
-    let least = within.0 in
-    let most = within.1 in
-    record { least = grind (arith, nat_tests); most = grind (arith, nat_tests) }
 
 at_most : (one other : ℕ) → nat_le one other ≡ true → one ≤ other
 at_most one other is = grind (arith, nat_tests)
@@ -34,7 +26,7 @@ below one other is = grind (arith, nat_tests)
 allowed_is : (device : DeviceSeen) (event : Event) → is_allowed device event ≡ true → IsAllowed device event
 allowed_is device (Open fd way settings) is =
     let both = and_parts (is_descriptor fd) (is_rate settings.rate) is in
-    (descriptor_is fd both.0, rate_is settings.rate both.1)
+    (descriptor_is fd both.0, rate-is settings.rate both.1)
 allowed_is device (Write fd source at count) is = descriptor_is fd is
 allowed_is device (Poke fd offset at count) is = descriptor_is fd is
 allowed_is device (Read fd count) is =

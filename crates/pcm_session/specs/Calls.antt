@@ -22,7 +22,7 @@ use Rattle.pcm_session.specs.Taken.{is_taken}
 abbrev pub most : ℕ
 most = 2147483647
 
--- what is call_count, as a call answers it
+-- what is counted, as a call answers it
 abbrev pub call_count : ℕ → ℤ
 call_count count = pos (min count most)
 
@@ -54,10 +54,10 @@ IsStepOf kept None bytes samples old new told handed = ⊥
 IsStepOf kept (Some event) bytes samples old new told handed = IsCallStep kept event bytes samples old new told handed
 
 -- A call with these bytes, samples and room takes the step on its event, and hands these bytes over. Where there is no event, or the engine
--- doesn't take it, nothing happens.
+-- doesn't take it, nothing of the session changes.
 pub record Takes {B : Type 0} (kept : B → Kept) (event : Option Event) (bytes : List ℕ) (samples : List ℤ) (room : ℕ) (handed : List ℕ) (old new : SessionOf B) : Type 0 where
   pub step : OnTrue (is_asked old.engine event (length bytes) (length samples) room) (IsStepOf kept event bytes samples old.engine new.engine new.reply handed)
-  pub same : OnFalse (is_asked old.engine event (length bytes) (length samples) room) (new.engine ≡ old.engine)
+  pub same : OnFalse (is_asked old.engine event (length bytes) (length samples) room) (new ≡ old)
 
 -- so one that comes with bytes at most, and hands none over
 abbrev pub MakesCall : {B : Type 0} → (B → Kept) → Option Event → List ℕ → SessionOf B → SessionOf B → Type 0

@@ -105,7 +105,7 @@ pub fn ioctl<B: Feeder>(
     done_beside(session, event_for_ioctl(fd, request, argument), answer)
 }
 
-/// MakesCall a descriptor a member of a group. The number of the group comes into `answer`.
+/// Makes a descriptor a member of a group. The number of the group comes into `answer`.
 pub fn join<B: Feeder>(
     session: &mut SessionOf<B>,
     fd: u32,

@@ -2,11 +2,10 @@
 
 ghost use Rattle.std.specs.Prelude.{◌≡◌};
 ghost use Rattle.pcm_session.specs.Taken.{is_descriptor, is_allowed};
-ghost use Rattle.pcm_numbers.specs.Devices.{is_rate};
 ghost use Rattle.pcm_desk.specs.Device.{unfiltered};
 
 use pcm_desk::{DESCRIPTORS, Device, READ_BYTES};
-use pcm_format::{RATE_LEAST, RATE_MOST};
+use pcm_numbers::is_rate;
 use pcm_oss::Event;
 
 /// Whether an event keeps the limits of a device.
@@ -31,10 +30,4 @@ fn is_descriptor(fd: u8) -> bool
     ensures { result ≡ is_descriptor fd }
 {
     usize::from(fd) < DESCRIPTORS
-}
-
-fn is_rate(rate: u32) -> bool
-    ensures { result ≡ is_rate rate }
-{
-    RATE_LEAST <= rate && rate <= RATE_MOST
 }
