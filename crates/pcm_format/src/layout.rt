@@ -41,6 +41,18 @@ pub enum Position {
     SR,
 }
 
+// The positions of eight channels, of which the first six are those of six.
+const SURROUND: &[Position] = &[
+    Position::FL,
+    Position::FR,
+    Position::FC,
+    Position::LFE,
+    Position::BL,
+    Position::BR,
+    Position::SL,
+    Position::SR,
+];
+
 impl Layout {
     /// The layout with this many channels.
     pub fn of(channels: u32) -> Option<Layout>
@@ -84,24 +96,8 @@ impl Layout {
             Layout::One => &[Position::M],
             Layout::Two => &[Position::FL, Position::FR],
             Layout::Four => &[Position::FL, Position::FR, Position::BL, Position::BR],
-            Layout::Six => &[
-                Position::FL,
-                Position::FR,
-                Position::FC,
-                Position::LFE,
-                Position::BL,
-                Position::BR,
-            ],
-            Layout::Eight => &[
-                Position::FL,
-                Position::FR,
-                Position::FC,
-                Position::LFE,
-                Position::BL,
-                Position::BR,
-                Position::SL,
-                Position::SR,
-            ],
+            Layout::Six => &SURROUND[..6],
+            Layout::Eight => SURROUND,
         }
     }
 }
