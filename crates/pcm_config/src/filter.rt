@@ -13,11 +13,13 @@ ghost use Rattle.pcm_config.specs.declared.place.ConfigPlace.TheVariants.{Tables
 use crate::fault::{refused, required};
 use crate::lookup::member_of;
 use crate::number::in_range;
-use crate::rows::{Row, Rows, rows_in};
+use crate::rows::{Row, rows_in};
 use crate::shape::{coefs_in, has_filter_shape, taps_of};
+use crate::tables::Entry;
 use crate::{ConfigFault, ConfigKind, ConfigPlace, ConfigRefusal};
 use pcm_feeder::SHIFT_MOST;
 use pcm_format::{RATE_LEAST, RATE_MOST};
+use pcm_sequence::Sequence;
 use std::alloc::Global;
 use toml::{Table, Value};
 
@@ -30,12 +32,20 @@ pub(crate) struct Spelled {
     pub(crate) src: Option<i64>,
     pub(crate) dst: Option<i64>,
     pub(crate) shift: i64,
-    pub(crate) rows: Rows,
+    pub(crate) rows: Sequence<Row>,
+}
+
+impl Entry for pcm_feeder::Table {
+    ghost read = { filter_in };
+
+    fn read(alloc: Global, table: Option<&Table>) -> Result<pcm_feeder::Table, ConfigFault> {
+        filter_in(alloc, table)
+    }
 }
 
 // The filter of a table.
 #[tactic(auto, unfolding(crate::specs::Tables::filter_in))]
-pub(crate) fn filter_in(
+fn filter_in(
     alloc: Global,
     table: Option<&Table>,
 ) -> Result<pcm_feeder::Table, ConfigFault>

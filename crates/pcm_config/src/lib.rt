@@ -18,7 +18,6 @@ mod place;
 mod reader;
 mod rows;
 mod section;
-mod sections;
 mod shape;
 mod slots;
 mod tables;

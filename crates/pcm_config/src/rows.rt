@@ -12,72 +12,15 @@ ghost use Rattle.toml.specs.Data.{as_integer};
 
 use crate::fault::refused;
 use crate::{ConfigFault, ConfigKind, ConfigPlace};
+use pcm_sequence::Sequence;
 use std::alloc::Global;
-use std::marker::Model;
 use toml::Value;
 
 // A row of whole numbers.
-#[derive(Drop)]
-pub(crate) struct Row {
-    numbers: Vec<i64>,
-}
-
-impl Model for Row {
-    ghost use Rattle.std.specs.Prelude.{List, ℤ};
-
-    ghost Value = { List ℤ };
-
-    ghost view = { λ row. row.numbers.items };
-}
-
-impl Row {
-    // Takes the numbers of a vector over.
-    fn new(numbers: Vec<i64>) -> Self
-        ensures { result ≡ numbers.items }
-    {
-        Row { numbers }
-    }
-
-    // Lends the numbers.
-    pub(crate) fn as_slice(&self) -> &[i64]
-        ensures { result.now ≡ self.now }
-    {
-        self.numbers.as_slice()
-    }
-}
-
-// Rows, one after another.
-#[derive(Drop)]
-pub(crate) struct Rows {
-    list: Vec<Row>,
-}
-
-impl Model for Rows {
-    ghost use Rattle.std.specs.Prelude.{List, ℤ};
-
-    ghost Value = { List (List ℤ) };
-
-    ghost view = { λ rows. rows.list.items };
-}
-
-impl Rows {
-    // Takes the rows of a vector over.
-    fn new(list: Vec<Row>) -> Self
-        ensures { result ≡ list.items }
-    {
-        Rows { list }
-    }
-
-    // Lends the rows.
-    pub(crate) fn as_slice(&self) -> &[Row]
-        ensures { result.now ≡ self.now }
-    {
-        self.list.as_slice()
-    }
-}
+pub(crate) type Row = Sequence<i64>;
 
 // A value as rows of whole numbers.
-pub(crate) fn rows_in(alloc: Global, value: &Value) -> Result<Rows, ConfigFault>
+pub(crate) fn rows_in(alloc: Global, value: &Value) -> Result<Sequence<Row>, ConfigFault>
     ensures { Reads result (required Kind Tables (rows_in (view value.now))) }
 {
     match value.as_array() {
@@ -86,14 +29,14 @@ pub(crate) fn rows_in(alloc: Global, value: &Value) -> Result<Rows, ConfigFault>
     }
 }
 
-fn each_row(alloc: Global, values: &[Value]) -> Result<Rows, ConfigFault>
+fn each_row(alloc: Global, values: &[Value]) -> Result<Sequence<Row>, ConfigFault>
     ensures { Reads result (required Kind Tables (each_in numbers_in values.now)) }
 {
     let mut rows = Vec::new(alloc);
     for value in values {
         rows.push(numbers_in(alloc, value)?)?;
     }
-    Ok(Rows::new(rows))
+    Ok(Sequence::new(rows))
 }
 
 // A value as whole numbers.
@@ -116,5 +59,5 @@ fn each_number(alloc: Global, values: &[Value]) -> Result<Row, ConfigFault>
         };
         numbers.push(number)?;
     }
-    Ok(Row::new(numbers))
+    Ok(Sequence::new(numbers))
 }

@@ -8,8 +8,10 @@ use crate::fault::required;
 use crate::lists::has_each;
 use crate::lookup::member_of;
 use crate::number::{as_coef, in_range};
-use crate::{ConfigKind, ConfigPlace, ConfigRefusal};
+use crate::tables::Entry;
+use crate::{ConfigFault, ConfigKind, ConfigPlace, ConfigRefusal};
 use pcm_feeder::{SECTION_COEF_MOST, SECTION_SHIFT_MOST, Section};
+use std::alloc::Global;
 use toml::{Table, Value};
 
 // The keys of a section, each of which must be there.
@@ -26,9 +28,17 @@ pub(crate) struct Numbers {
     pub(crate) a2: i64,
 }
 
+impl Entry for Section {
+    ghost read = { section_in };
+
+    fn read(_: Global, table: Option<&Table>) -> Result<Section, ConfigFault> {
+        Ok(section_in(table)?)
+    }
+}
+
 // The section of a table.
 #[tactic(auto, unfolding(crate::specs::Sections::section_in))]
-pub(crate) fn section_in(table: Option<&Table>) -> Result<Section, ConfigRefusal>
+fn section_in(table: Option<&Table>) -> Result<Section, ConfigRefusal>
     ensures { result ≡ section_in (members_seen table.entry) }
 {
     if !has_each(table, &SECTION_KEYS) {

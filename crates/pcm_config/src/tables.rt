@@ -1,41 +1,63 @@
-//! The filters of a configuration.
+//! What is read of the arrays of tables: the filters, and the sections of the equaliser.
 
 ghost use Rattle.std.specs.Prelude.{IfOk};
-ghost use Rattle.pcm_feeder.specs.Limits.{IsTable};
-ghost use Rattle.pcm_feeder.specs.declared.limits.TheConstants.{FILTERS};
+ghost use Rattle.pcm_feeder.specs.Limits.{IsSection, IsTable};
+ghost use Rattle.pcm_feeder.specs.declared.limits.TheConstants.{FILTERS, SECTIONS};
 ghost use Rattle.pcm_config.specs.Answers.{Reads};
 ghost use Rattle.pcm_config.specs.Lists.{AreFew, each_read};
 ghost use Rattle.pcm_config.specs.Judgements.{as_seen};
 ghost use Rattle.pcm_config.specs.Lookups.{table_seen, tables_seen};
-ghost use Rattle.pcm_config.specs.Tables.{filter_in, filters_in};
+ghost use Rattle.pcm_config.specs.Sections.{sections_in};
+ghost use Rattle.pcm_config.specs.Tables.{filters_in};
 
-use crate::filter::filter_in;
 use crate::lists::few;
 use crate::{ConfigFault, ConfigPlace};
-use pcm_feeder::{FILTERS, Table};
+use pcm_feeder::{FILTERS, SECTIONS, Section, Table};
 use std::alloc::Global;
 use toml::Value;
+
+// What a table of an array stands for.
+pub(crate) trait Entry: Drop {
+    ghost use Rattle.std.specs.Prelude.{Result};
+    ghost use Rattle.toml.specs.Data.{Members};
+    ghost use Rattle.pcm_config.specs.declared.fault.ConfigRefusal.{ConfigRefusal};
+    ghost use Rattle.pcm_config.specs.Answers.{Reads};
+    ghost use Rattle.pcm_config.specs.Lookups.{members_seen};
+
+    ghost read: { Members → Result Self ConfigRefusal };
+
+    fn read(alloc: Global, table: Option<&toml::Table>) -> Result<Self, ConfigFault>
+        ensures { Reads result (read (members_seen table.entry)) };
+}
 
 // The filters of tables, of which there are only so many.
 pub(crate) fn filters_in(alloc: Global, tables: &[Value]) -> Result<Vec<Table>, ConfigFault>
     ensures read { Reads (as_seen (λ filters. filters.items) result) (filters_in (tables_seen tables.now)) }
     ensures limits { IfOk result (λ filters. AreFew FILTERS IsTable filters.items) }
 {
-    each_filter(alloc, few(tables, FILTERS, ConfigPlace::Tables)?)
+    each_of(alloc, few(tables, FILTERS, ConfigPlace::Tables)?)
 }
 
-fn each_filter(alloc: Global, tables: &[Value]) -> Result<Vec<Table>, ConfigFault>
-    ensures { Reads (as_seen (λ filters. filters.items) result) (each_read filter_in (tables_seen tables.now)) }
+// The sections of tables, of which there are only so many.
+pub(crate) fn sections_in(alloc: Global, tables: &[Value]) -> Result<Vec<Section>, ConfigFault>
+    ensures read { Reads (as_seen (λ sections. sections.items) result) (sections_in (tables_seen tables.now)) }
+    ensures limits { IfOk result (λ sections. AreFew SECTIONS IsSection sections.items) }
 {
-    let mut filters = Vec::new(alloc);
+    each_of(alloc, few(tables, SECTIONS, ConfigPlace::Eq)?)
+}
+
+fn each_of<T: Entry>(alloc: Global, tables: &[Value]) -> Result<Vec<T>, ConfigFault>
+    ensures { Reads (as_seen (λ entries. entries.items) result) (each_read T.read (tables_seen tables.now)) }
+{
+    let mut entries = Vec::new(alloc);
     for table in tables {
-        filters.push(filter_of(alloc, table)?)?;
+        entries.push(entry_of::<T>(alloc, table)?)?;
     }
-    Ok(filters)
+    Ok(entries)
 }
 
-fn filter_of(alloc: Global, table: &Value) -> Result<Table, ConfigFault>
-    ensures { Reads result (filter_in (table_seen table.now)) }
+fn entry_of<T: Entry>(alloc: Global, table: &Value) -> Result<T, ConfigFault>
+    ensures { Reads result (T.read (table_seen table.now)) }
 {
-    filter_in(alloc, table.as_table())
+    T::read(alloc, table.as_table())
 }
