@@ -196,8 +196,7 @@ setting_in word = number_within 0 most_argument word
 -- without a number the master volume is asked for
 abbrev pub asked_alone : Control → Result MixRequest ScriptKind
 asked_alone Master = Ok mixes.GetMaster
-asked_alone Slot = Err Count
-asked_alone Mute = Err Count
+asked_alone control = Err Count
 
 -- with one number it is set, or the volume of a slot is asked for
 abbrev pub asked_of_one : Control → List ℕ → Result MixRequest ScriptKind
