@@ -11,7 +11,7 @@ use pcm_numbers::{
     DeviceNumbers, FilterNumbers, NumbersFault, SectionNumbers, device_from, tables_from,
 };
 use pcm_session::SessionOf;
-use std::alloc::Global;
+use std::alloc::{AllocError, Global};
 
 /// A session whose stages are of any kind.
 #[derive(Drop)]
@@ -48,6 +48,12 @@ pub fn session_from(
         return Err(NumbersFault::Memory);
     };
     let session = SessionOf::new(alloc, device, tables, racks)?;
-    let session = Box::new(alloc, Session { of: session })?;
+    let session = boxed(alloc, session)?;
     Ok(session)
+}
+
+fn boxed(alloc: Global, session: SessionOf<Stage>) -> Result<Box<Session>, AllocError>
+    ensures ok { IfOk result (λ made. made.value ≡ record { of = session }) }
+{
+    Ok(Box::new(alloc, Session { of: session })?)
 }

@@ -4,7 +4,7 @@ ghost use Rattle.std.specs.Prelude.{◌≡◌};
 ghost use Rattle.pcm_numbers.specs.Answers.{fault_number};
 
 use crate::refusals::{NO_MEMORY, WRONG_ARGUMENT};
-use std::alloc::{AllocError, AllocFailed};
+use std::alloc::AllocError;
 
 /// Why no tables come of numbers.
 #[derive(Clone, Copy, Debug, PartialEq, Eq)]
@@ -31,16 +31,6 @@ impl From<AllocError> for NumbersFault {
     ghost from_gives = { λ _ fault. fault ≡ Memory };
 
     fn from(_: AllocError) -> NumbersFault {
-        NumbersFault::Memory
-    }
-}
-
-impl<T: Drop> From<AllocFailed<T>> for NumbersFault {
-    ghost use Rattle.pcm_numbers.specs.declared.fault.NumbersFault.TheVariants.{Memory};
-
-    ghost from_gives = { λ _ fault. fault ≡ Memory };
-
-    fn from(_: AllocFailed<T>) -> NumbersFault {
         NumbersFault::Memory
     }
 }
