@@ -10,6 +10,7 @@ use Rattle.pcm_feeder.specs.declared.stage.Spec.{Spec}
 use Rattle.pcm_feeder.specs.declared.stage.Spec.TheVariants.{Matrix, Hold, Linear, Poly, Volume, Depth, Eq}
 use Rattle.pcm_feeder.specs.declared.table.Table.{Table}
 use Rattle.pcm_feeder.specs.Filters.{Filters}
+use Rattle.pcm_feeder.specs.Limits.{IsRate}
 use Rattle.pcm_feeder.specs.Stages.{rate_of, table_at}
 
 -- a plan: the layouts of both ends, and the stages between them, the first one first
@@ -71,6 +72,11 @@ converting tables quality source target =
     if nat_le (channels_of target.layout) (channels_of source.layout)
     then matrix ++ rate_stages tables quality source.rate target.rate (channels_of target.layout)
     else rate_stages tables quality source.rate target.rate (channels_of source.layout) ++ matrix
+
+-- both have a rate that there can be
+pub record AreRated (one other : Settings) : Type 0 where
+  pub client : IsRate one.rate
+  pub device : IsRate other.rate
 
 -- a client's way into a device, which always has its volume, directly behind the equaliser
 abbrev pub plan_play : Filters → ℕ → Settings → Settings → PlanSeen

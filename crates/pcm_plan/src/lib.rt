@@ -5,13 +5,11 @@
 mod laws;
 mod parts;
 mod plan;
-mod play;
-mod record;
+mod ways;
 
 pub use laws::{
     gain_changes_nothing_without_a_volume, more_frames_change_no_output,
     outputs_have_the_channels_of_the_target, plans_fit, records_have_the_bits_of_the_client,
 };
 pub use plan::{Plan, STAGES};
-pub use play::plan_play;
-pub use record::plan_record;
+pub use ways::{plan_play, plan_record};

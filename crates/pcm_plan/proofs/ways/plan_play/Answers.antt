@@ -5,7 +5,7 @@ use Rattle.pcm_format.specs.Formats.{bits_of}
 use Rattle.pcm_format.specs.Layouts.{channels_of}
 use Rattle.pcm_plan.specs.Plans.{plan_play, converting, equaliser_stages, depth_stages}
 use Rattle.pcm_plan.proofs.Fits.{play-fits}
-use Rattle.pcm_plan.proofs.play.plan_play.Goals as goal
+use Rattle.pcm_plan.proofs.ways.plan_play.Goals as goal
 
 pub of-requires : goal.of-requires
 of-requires c =
@@ -19,4 +19,4 @@ of-requires c =
     let stages : c.push_depth.new.stages.items ≡ (plan_play tables c.args.quality client device).stages =
     rw (c.push_depth.ensures, c.push.ensures.items, c.push_equaliser.ensures.stages, c.push_converting.ensures.stages, c.list.ensures.value, c.bits.ensures, c.channels-channels.ensures)
     (append_assoc (way ++ equaliser) (Volume device.layout ∷ []) last ∙ append_assoc way equaliser (Volume device.layout ∷ last)) in
-    rw stages (play-fits tables c.args.quality client device limits c.requires.client c.requires.device)
+    rw stages (play-fits tables c.args.quality client device limits c.requires.rates.client c.requires.rates.device)
