@@ -14,7 +14,7 @@ use Rattle.pcm_script.specs.declared.fault.ScriptKind.{ScriptKind}
 use Rattle.pcm_script.specs.declared.fault.ScriptKind.TheVariants.{Long}
 use Rattle.pcm_script.specs.declared.limits.TheConstants.{TEXT_BYTES}
 use Rattle.pcm_script.specs.declared.line_event.LineEvent.{LineEvent}
-use Rattle.pcm_script.specs.declared.line_event.LineEvent.TheVariants.{Open, Write, Send, Poke, Read, Ioctl, Join, StartGroup, Close, Mixer, Intr}
+use Rattle.pcm_script.specs.declared.line_event.LineEvent.TheVariants.{Write, Poke, Whole}
 use Rattle.pcm_script.specs.declared.script.Script.{Script}
 use Rattle.pcm_script.specs.Words.{lines_of, words_of}
 use Rattle.pcm_script.specs.Commands.{line_event}
@@ -35,33 +35,18 @@ pub record IsSound (device : DeviceSeen) (files : List DataFileSeen) (script : S
 -- the event of a line fits
 event_at-fits : (device : DeviceSeen) (files : List DataFileSeen) (script : Script) (line : LineEvent) → HasBlocks device → IsWithin device files line
     → Fits device (pool_of files (script_with script line)) (event_at (length script.inline_bytes) line)
-event_at-fits device files script (Open fd way settings) blocks within = within
 event_at-fits device files script (Write fd bytes) blocks within =
     (within.0, within.1, record { has = tt; within = omega (arith, length-append script.inline_bytes bytes) })
-event_at-fits device files script (Send fd file at count) blocks within = (within.0, tt, record { has = within.1; within = within.2 })
 event_at-fits device files script (Poke fd offset bytes) blocks within =
     (within.0, within.1, record { has = tt; within = omega (arith, length-append script.inline_bytes bytes) })
-event_at-fits device files script (Read fd count) blocks within = within
-event_at-fits device files script (Ioctl fd request) blocks within = within
-event_at-fits device files script (Join fd group) blocks within = within
-event_at-fits device files script (StartGroup fd group) blocks within = within
-event_at-fits device files script (Close fd) blocks within = within
-event_at-fits device files script (Mixer request) blocks within = within
-event_at-fits device files script (Intr frames) blocks within = within blocks
+event_at-fits device files script (Whole event) blocks within =
+    Fits-more device (pool_of files empty_script) (pool_of files (script_with script (Whole event))) event refl (omega arith) (within blocks)
 
 -- the place of its bytes changes nothing of the frames that an event takes
 frames_taken-event_at : (place : ℕ) (line : LineEvent) → frames_taken (event_at place line) ≡ frames_asked line
-frames_taken-event_at place (Open fd way settings) = refl
 frames_taken-event_at place (Write fd bytes) = refl
-frames_taken-event_at place (Send fd file at count) = refl
 frames_taken-event_at place (Poke fd offset bytes) = refl
-frames_taken-event_at place (Read fd count) = refl
-frames_taken-event_at place (Ioctl fd request) = refl
-frames_taken-event_at place (Join fd group) = refl
-frames_taken-event_at place (StartGroup fd group) = refl
-frames_taken-event_at place (Close fd) = refl
-frames_taken-event_at place (Mixer request) = refl
-frames_taken-event_at place (Intr frames) = refl
+frames_taken-event_at place (Whole event) = refl
 
 script_with-sound : (device : DeviceSeen) (files : List DataFileSeen) (script : Script) (line : LineEvent) → IsSound device files script
     → Fits device (pool_of files (script_with script line)) (event_at (length script.inline_bytes) line) → length script.events < EVENTS

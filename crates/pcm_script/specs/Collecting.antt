@@ -2,7 +2,7 @@
 use Rattle.std.specs.Prelude.{ℕ, ◌+◌, ◌*◌, Bool, ◌&&◌, nat_le, nat_lt, if◌then◌else◌, List, [], ◌∷◌, ◌++◌, length, Option, Some, None, Result, Ok, Err}
 use Rattle.pcm_oss.specs.declared.event.Event.{Event}
 use Rattle.pcm_oss.specs.declared.event.Event.TheVariants as events
-use Rattle.pcm_wave.specs.declared.pool.Source.TheVariants.{Inline, File}
+use Rattle.pcm_wave.specs.declared.pool.Source.TheVariants.{Inline}
 use Rattle.pcm_wave.specs.DataFiles.{DataFileSeen}
 use Rattle.pcm_desk.specs.declared.limits.TheConstants.{DEVICE_BYTES, EVENTS}
 use Rattle.pcm_desk.specs.Device.{DeviceSeen, device_frame_bytes}
@@ -10,7 +10,7 @@ use Rattle.pcm_desk.specs.Events.{frames_taken}
 use Rattle.pcm_script.specs.declared.fault.ScriptKind.{ScriptKind}
 use Rattle.pcm_script.specs.declared.fault.ScriptKind.TheVariants.{Long}
 use Rattle.pcm_script.specs.declared.line_event.LineEvent.{LineEvent}
-use Rattle.pcm_script.specs.declared.line_event.LineEvent.TheVariants.{Open, Write, Send, Poke, Read, Ioctl, Join, StartGroup, Close, Mixer, Intr}
+use Rattle.pcm_script.specs.declared.line_event.LineEvent.TheVariants.{Write, Poke, Whole}
 use Rattle.pcm_script.specs.declared.script.Script.{Script}
 use Rattle.pcm_script.specs.Commands.{line_event}
 use Rattle.pcm_script.specs.Words.{words_of}
@@ -19,21 +19,13 @@ use Rattle.pcm_script.specs.Words.{words_of}
 abbrev pub own_bytes : LineEvent → List ℕ
 own_bytes (Write fd bytes) = bytes
 own_bytes (Poke fd offset bytes) = bytes
-own_bytes event = []
+own_bytes (Whole event) = []
 
--- the event of a line whose own bytes stand at a place; to send is to write what stands in a file
+-- the event of a line whose own bytes stand at a place
 abbrev pub event_at : ℕ → LineEvent → Event
-event_at place (Open fd way settings) = events.Open fd way settings
 event_at place (Write fd bytes) = events.Write fd Inline place (length bytes)
-event_at place (Send fd file at count) = events.Write fd (File file) at count
 event_at place (Poke fd offset bytes) = events.Poke fd offset place (length bytes)
-event_at place (Read fd count) = events.Read fd count
-event_at place (Ioctl fd request) = events.Ioctl fd request
-event_at place (Join fd group) = events.Join fd group
-event_at place (StartGroup fd group) = events.StartGroup fd group
-event_at place (Close fd) = events.Close fd
-event_at place (Mixer request) = events.Mixer request
-event_at place (Intr frames) = events.Intr frames
+event_at place (Whole event) = event
 
 -- the frames that a line takes out of the device's ring
 abbrev pub frames_asked : LineEvent → ℕ

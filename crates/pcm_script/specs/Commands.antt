@@ -9,9 +9,12 @@ use Rattle.pcm_format.specs.declared.layout.Layout.{Layout}
 use Rattle.pcm_format.specs.declared.settings.TheConstants.{RATE_LEAST, RATE_MOST}
 use Rattle.pcm_format.specs.Formats.{code_of, format_named}
 use Rattle.pcm_format.specs.Layouts.{layout_of}
+use Rattle.pcm_oss.specs.declared.event.Event.{Event}
+use Rattle.pcm_oss.specs.declared.event.Event.TheVariants as events
 use Rattle.pcm_oss.specs.declared.event.Way.{Way}
 use Rattle.pcm_oss.specs.declared.mix_request.MixRequest.{MixRequest}
 use Rattle.pcm_oss.specs.declared.mix_request.MixRequest.TheVariants as mixes
+use Rattle.pcm_wave.specs.declared.pool.Source.TheVariants.{File}
 use Rattle.pcm_wave.specs.DataFiles.{DataFileSeen}
 use Rattle.pcm_wave.specs.Pools.{body_in}
 use Rattle.pcm_desk.specs.declared.device.TheConstants.{OPENING}
@@ -20,7 +23,7 @@ use Rattle.pcm_desk.specs.Device.{DeviceSeen, block_frames, ring_frames}
 use Rattle.pcm_script.specs.declared.fault.ScriptKind.{ScriptKind}
 use Rattle.pcm_script.specs.declared.fault.ScriptKind.TheVariants.{Word, Count, Name, Hex, Range}
 use Rattle.pcm_script.specs.declared.line_event.LineEvent.{LineEvent}
-use Rattle.pcm_script.specs.declared.line_event.LineEvent.TheVariants.{Open, Write, Send, Poke, Read, Ioctl, Close, Mixer, Intr}
+use Rattle.pcm_script.specs.declared.line_event.LineEvent.TheVariants.{Write, Poke, Whole}
 use Rattle.pcm_script.specs.declared.names.Command.{Command}
 use Rattle.pcm_script.specs.declared.names.Command.TheVariants as commands
 use Rattle.pcm_script.specs.declared.names.Control.{Control}
@@ -88,18 +91,18 @@ argument_in SetFmt word = code_in word
 argument_in setter word = number_within 0 most_argument word
 
 -- `open D WAY` and `open D WAY FORMAT CHANNELS RATE`
-unfoldable pub open_line : List (List ℕ) → Result LineEvent ScriptKind
+unfoldable pub open_line : List (List ℕ) → Result Event ScriptKind
 open_line (d ∷ w ∷ []) = do
   fd ← descriptor_in d
   way ← way_in w
-  Ok (Open fd way OPENING)
+  Ok (events.Open fd way OPENING)
 open_line (d ∷ w ∷ f ∷ c ∷ r ∷ []) = do
   fd ← descriptor_in d
   way ← way_in w
   format ← format_in f
   layout ← layout_in c
   rate ← rate_in r
-  Ok (Open fd way (record { format = format; layout = layout; rate = rate }))
+  Ok (events.Open fd way (record { format = format; layout = layout; rate = rate }))
 open_line arguments = Err Count
 
 -- `write D HEX`
@@ -133,13 +136,13 @@ abbrev pub size_of : List DataFileSeen → ℕ → ℕ
 size_of files file = length (body_in (slice_get files file))
 
 -- `send D FILE OFFSET LENGTH`
-unfoldable pub send_line : List DataFileSeen → List (List ℕ) → Result LineEvent ScriptKind
+unfoldable pub send_line : List DataFileSeen → List (List ℕ) → Result Event ScriptKind
 send_line files (d ∷ f ∷ o ∷ l ∷ []) = do
   fd ← descriptor_in d
   file ← file_in files f
   at ← number_in o
   count ← length_in (size_of files file) at l
-  Ok (Send fd file at count)
+  Ok (events.Write fd (File file) at count)
 send_line files arguments = Err Count
 
 -- the greatest offset of a poke
@@ -156,20 +159,20 @@ poke_line (d ∷ o ∷ h ∷ []) = do
 poke_line arguments = Err Count
 
 -- `read D LENGTH`
-unfoldable pub read_line : List (List ℕ) → Result LineEvent ScriptKind
+unfoldable pub read_line : List (List ℕ) → Result Event ScriptKind
 read_line (d ∷ l ∷ []) = do
   fd ← descriptor_in d
   count ← number_within 0 READ_BYTES l
-  Ok (Read fd count)
+  Ok (events.Read fd count)
 read_line arguments = Err Count
 
 -- `ioctl D NAME` and `ioctl D NAME A`. The name says how many words there are. Whether it is one is judged in its turn.
-unfoldable pub ioctl_line : List (List ℕ) → Result LineEvent ScriptKind
+unfoldable pub ioctl_line : List (List ℕ) → Result Event ScriptKind
 ioctl_line (d ∷ name ∷ []) = do
   named ← as_plain (request_named name)
   fd ← descriptor_in d
   request ← or_fault named Name
-  Ok (Ioctl fd request)
+  Ok (events.Ioctl fd request)
 ioctl_line (d ∷ name ∷ a ∷ []) = do
   named ← as_full (request_named name)
   fd ← descriptor_in d
@@ -179,10 +182,10 @@ ioctl_line (d ∷ name ∷ a ∷ []) = do
 ioctl_line arguments = Err Count
 
 -- `close D`
-unfoldable pub close_line : List (List ℕ) → Result LineEvent ScriptKind
+unfoldable pub close_line : List (List ℕ) → Result Event ScriptKind
 close_line (d ∷ []) = do
   fd ← descriptor_in d
-  Ok (Close fd)
+  Ok (events.Close fd)
 close_line arguments = Err Count
 
 -- what is asked of the mixer device
@@ -221,40 +224,46 @@ asked_of_two Mute s a = do
   Ok (mixes.Mute slot on)
 
 -- `mixer master`, `mixer master A`, `mixer slot S`, `mixer slot S A` and `mixer mute S A`. The second word says how many words there are.
-unfoldable pub mixer_line : List (List ℕ) → Result LineEvent ScriptKind
+unfoldable pub mixer_line : List (List ℕ) → Result Event ScriptKind
 mixer_line (c ∷ []) = do
   control ← control_in c
   request ← asked_alone control
-  Ok (Mixer request)
+  Ok (events.Mixer request)
 mixer_line (c ∷ a ∷ []) = do
   control ← control_in c
   request ← asked_of_one control a
-  Ok (Mixer request)
+  Ok (events.Mixer request)
 mixer_line (c ∷ s ∷ a ∷ []) = do
   control ← control_in c
   request ← asked_of_two control s a
-  Ok (Mixer request)
+  Ok (events.Mixer request)
 mixer_line arguments = Err Count
 
 -- `intr` and `intr N`
-unfoldable pub interrupt_line : DeviceSeen → List (List ℕ) → Result LineEvent ScriptKind
-interrupt_line device [] = Ok (Intr (block_frames device))
+unfoldable pub interrupt_line : DeviceSeen → List (List ℕ) → Result Event ScriptKind
+interrupt_line device [] = Ok (events.Intr (block_frames device))
 interrupt_line device (n ∷ []) = do
   frames ← number_within 1 (ring_frames device) n
-  Ok (Intr frames)
+  Ok (events.Intr frames)
 interrupt_line device arguments = Err Count
+
+-- an event without bytes of its line
+abbrev pub as_whole : Result Event ScriptKind → Result LineEvent ScriptKind
+as_whole asked = do
+  event ← asked
+  Ok (Whole event)
 
 -- the event of a command
 abbrev pub asked_by : DeviceSeen → List DataFileSeen → Command → List (List ℕ) → Result LineEvent ScriptKind
-asked_by device files commands.Open arguments = open_line arguments
+asked_by device files commands.Open arguments = as_whole (open_line arguments)
 asked_by device files commands.Write arguments = write_line arguments
-asked_by device files commands.Send arguments = send_line files arguments
+asked_by device files commands.Send arguments = as_whole (send_line files arguments)
 asked_by device files commands.Poke arguments = poke_line arguments
-asked_by device files commands.Read arguments = read_line arguments
-asked_by device files commands.Ioctl arguments = ioctl_line arguments
-asked_by device files commands.Close arguments = close_line arguments
-asked_by device files commands.Mixer arguments = mixer_line arguments
-asked_by device files commands.Intr arguments = interrupt_line device arguments
+asked_by device files commands.Read arguments = as_whole (read_line arguments)
+asked_by device files commands.Ioctl arguments = as_whole (ioctl_line arguments)
+asked_by device files commands.Close arguments = as_whole (close_line arguments)
+asked_by device files commands.Mixer arguments = as_whole (mixer_line arguments)
+asked_by device files commands.Intr arguments = as_whole (interrupt_line device arguments)
 
 -- a command by its first word
 unfoldable pub command_line : DeviceSeen → List DataFileSeen → List ℕ → List (List ℕ) → Result LineEvent ScriptKind

@@ -1,12 +1,12 @@
 -- What is asked of a channel or of a group, by its name.
 use Rattle.std.specs.Prelude.{ℕ, List, [], ◌∷◌, Option, Some, None, Result, Ok, Err, find}
 use Rattle.std.specs.Str.{bytes_eq}
+use Rattle.pcm_oss.specs.declared.event.Event.{Event}
+use Rattle.pcm_oss.specs.declared.event.Event.TheVariants.{Ioctl, Join, StartGroup}
 use Rattle.pcm_oss.specs.declared.request.Request.{Request}
 use Rattle.pcm_oss.specs.declared.request.Request.TheVariants as requests
 use Rattle.pcm_script.specs.declared.fault.ScriptKind.{ScriptKind}
 use Rattle.pcm_script.specs.declared.fault.ScriptKind.TheVariants.{Count}
-use Rattle.pcm_script.specs.declared.line_event.LineEvent.{LineEvent}
-use Rattle.pcm_script.specs.declared.line_event.LineEvent.TheVariants.{Ioctl, Join, StartGroup}
 use Rattle.pcm_script.specs.declared.request.Named.{Named}
 use Rattle.pcm_script.specs.declared.request.Named.TheVariants.{Plain, Full}
 use Rattle.pcm_script.specs.declared.request.Setter.{Setter}
@@ -14,7 +14,7 @@ use Rattle.pcm_script.specs.declared.request.Setter.TheVariants as setters
 use Rattle.pcm_script.specs.Names.{join_name, request_name, start_group_name}
 
 -- what a line asks by a name, of a descriptor and with an argument
-abbrev pub asked_with : Setter → ℕ → ℕ → LineEvent
+abbrev pub asked_with : Setter → ℕ → ℕ → Event
 asked_with setters.SetFmt fd argument = Ioctl fd (requests.SetFmt argument)
 asked_with setters.Speed fd argument = Ioctl fd (requests.Speed argument)
 asked_with setters.Channels fd argument = Ioctl fd (requests.Channels argument)
@@ -24,12 +24,12 @@ asked_with setters.SetPlayVol fd argument = Ioctl fd (requests.SetPlayVol argume
 asked_with setters.Join fd group = Join fd group
 asked_with setters.StartGroup fd group = StartGroup fd group
 
--- the name by which a line asks, whatever its argument; a line of another command has none
-abbrev pub name_asked : LineEvent → List ℕ
+-- the name by which an event asks, whatever its argument; that of another command has none
+abbrev pub name_asked : Event → List ℕ
 name_asked (Ioctl fd request) = request_name request
 name_asked (Join fd group) = join_name
 name_asked (StartGroup fd group) = start_group_name
-name_asked line = []
+name_asked event = []
 
 -- all that a name can stand for
 abbrev pub all_requests : List Named

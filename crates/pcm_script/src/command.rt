@@ -19,7 +19,8 @@ use crate::number::{number_in, number_within};
 use crate::request::{full_request, plain_request};
 use pcm_desk::{Device, OPENING, READ_BYTES};
 use pcm_format::{Bytes, Settings};
-use pcm_wave::DataFile;
+use pcm_oss::Event;
+use pcm_wave::{DataFile, Source};
 use std::alloc::Global;
 
 // What a line of these words asks for.
@@ -65,20 +66,20 @@ fn asked_by(
         (asked_by (unfiltered device.now) files.now command (lent arguments.now)) }
 {
     match command {
-        Command::Open => Ok(open_line(arguments)?),
+        Command::Open => Ok(LineEvent::Whole(open_line(arguments)?)),
         Command::Write => write_line(alloc, arguments),
-        Command::Send => Ok(send_line(files, arguments)?),
+        Command::Send => Ok(LineEvent::Whole(send_line(files, arguments)?)),
         Command::Poke => poke_line(alloc, arguments),
-        Command::Read => Ok(read_line(arguments)?),
-        Command::Ioctl => Ok(ioctl_line(arguments)?),
-        Command::Close => Ok(close_line(arguments)?),
-        Command::Mixer => Ok(mixer_line(arguments)?),
-        Command::Intr => Ok(interrupt_line(device, arguments)?),
+        Command::Read => Ok(LineEvent::Whole(read_line(arguments)?)),
+        Command::Ioctl => Ok(LineEvent::Whole(ioctl_line(arguments)?)),
+        Command::Close => Ok(LineEvent::Whole(close_line(arguments)?)),
+        Command::Mixer => Ok(LineEvent::Whole(mixer_line(arguments)?)),
+        Command::Intr => Ok(LineEvent::Whole(interrupt_line(device, arguments)?)),
     }
 }
 
 #[tactic(auto, unfolding(crate::specs::Commands::open_line))]
-fn open_line(arguments: &[&[u8]]) -> Result<LineEvent, ScriptKind>
+fn open_line(arguments: &[&[u8]]) -> Result<Event, ScriptKind>
     ensures { result ≡ open_line (lent arguments.now) }
 {
     match arguments {
@@ -90,18 +91,18 @@ fn open_line(arguments: &[&[u8]]) -> Result<LineEvent, ScriptKind>
 
 // An open that names no settings.
 #[tactic(auto, unfolding(crate::specs::Commands::open_line))]
-fn plain_open(d: &[u8], w: &[u8]) -> Result<LineEvent, ScriptKind>
+fn plain_open(d: &[u8], w: &[u8]) -> Result<Event, ScriptKind>
     ensures { result ≡ open_line (d.now ∷ w.now ∷ []) }
 {
     let fd = descriptor_in(d)?;
     let way = way_in(w)?;
     let settings = OPENING;
-    Ok(LineEvent::Open { fd, way, settings })
+    Ok(Event::Open { fd, way, settings })
 }
 
 // An open that names a format, a number of channels and a rate.
 #[tactic(auto, unfolding(crate::specs::Commands::open_line))]
-fn full_open(d: &[u8], w: &[u8], f: &[u8], c: &[u8], r: &[u8]) -> Result<LineEvent, ScriptKind>
+fn full_open(d: &[u8], w: &[u8], f: &[u8], c: &[u8], r: &[u8]) -> Result<Event, ScriptKind>
     ensures { result ≡ open_line (d.now ∷ w.now ∷ f.now ∷ c.now ∷ r.now ∷ []) }
 {
     let fd = descriptor_in(d)?;
@@ -111,7 +112,7 @@ fn full_open(d: &[u8], w: &[u8], f: &[u8], c: &[u8], r: &[u8]) -> Result<LineEve
         layout: layout_in(c)?,
         rate: rate_in(r)?,
     };
-    Ok(LineEvent::Open { fd, way, settings })
+    Ok(Event::Open { fd, way, settings })
 }
 
 #[tactic(auto, unfolding(crate::specs::Commands::write_line))]
@@ -135,7 +136,7 @@ fn full_write(alloc: Global, d: &[u8], h: &[u8]) -> Result<LineEvent, LineFault>
 }
 
 #[tactic(auto, unfolding(crate::specs::Commands::send_line))]
-fn send_line(files: &[DataFile], arguments: &[&[u8]]) -> Result<LineEvent, ScriptKind>
+fn send_line(files: &[DataFile], arguments: &[&[u8]]) -> Result<Event, ScriptKind>
     ensures { result ≡ send_line files.now (lent arguments.now) }
 {
     let [d, f, o, l] = arguments else {
@@ -152,18 +153,18 @@ fn full_send(
     f: &[u8],
     o: &[u8],
     l: &[u8],
-) -> Result<LineEvent, ScriptKind>
+) -> Result<Event, ScriptKind>
     ensures { result ≡ send_line files.now (d.now ∷ f.now ∷ o.now ∷ l.now ∷ []) }
 {
     let fd = descriptor_in(d)?;
     let file = file_in(files, f)?;
     let at = number_in(o)?;
     let count = length_in(size_of(files, file), at, l)?;
-    Ok(LineEvent::Send {
+    Ok(Event::Write {
         fd,
-        file,
+        source: Source::File(file),
         at: at as u32,
-        count: count as u32,
+        len: count as u32,
     })
 }
 
@@ -189,7 +190,7 @@ fn full_poke(alloc: Global, d: &[u8], o: &[u8], h: &[u8]) -> Result<LineEvent, L
 }
 
 #[tactic(auto, unfolding(crate::specs::Commands::read_line))]
-fn read_line(arguments: &[&[u8]]) -> Result<LineEvent, ScriptKind>
+fn read_line(arguments: &[&[u8]]) -> Result<Event, ScriptKind>
     ensures { result ≡ read_line (lent arguments.now) }
 {
     let [d, l] = arguments else {
@@ -200,16 +201,16 @@ fn read_line(arguments: &[&[u8]]) -> Result<LineEvent, ScriptKind>
 
 // A read that names a descriptor and a number of bytes.
 #[tactic(auto, unfolding(crate::specs::Commands::read_line))]
-fn full_read(d: &[u8], l: &[u8]) -> Result<LineEvent, ScriptKind>
+fn full_read(d: &[u8], l: &[u8]) -> Result<Event, ScriptKind>
     ensures { result ≡ read_line (d.now ∷ l.now ∷ []) }
 {
     let fd = descriptor_in(d)?;
-    let count = number_within(0, READ_BYTES, l)?;
-    Ok(LineEvent::Read { fd, count })
+    let len = number_within(0, READ_BYTES, l)?;
+    Ok(Event::Read { fd, len })
 }
 
 #[tactic(auto, unfolding(crate::specs::Commands::ioctl_line))]
-fn ioctl_line(arguments: &[&[u8]]) -> Result<LineEvent, ScriptKind>
+fn ioctl_line(arguments: &[&[u8]]) -> Result<Event, ScriptKind>
     ensures { result ≡ ioctl_line (lent arguments.now) }
 {
     match arguments {
@@ -221,18 +222,18 @@ fn ioctl_line(arguments: &[&[u8]]) -> Result<LineEvent, ScriptKind>
 
 // A request without an argument.
 #[tactic(auto, unfolding(crate::specs::Commands::ioctl_line))]
-fn plain_ioctl(d: &[u8], name: &[u8]) -> Result<LineEvent, ScriptKind>
+fn plain_ioctl(d: &[u8], name: &[u8]) -> Result<Event, ScriptKind>
     ensures { result ≡ ioctl_line (d.now ∷ name.now ∷ []) }
 {
     let named = plain_request(name)?;
     let fd = descriptor_in(d)?;
     let request = named.ok_or(ScriptKind::Name)?;
-    Ok(LineEvent::Ioctl { fd, request })
+    Ok(Event::Ioctl { fd, request })
 }
 
 // A request with an argument.
 #[tactic(auto, unfolding(crate::specs::Commands::ioctl_line))]
-fn full_ioctl(d: &[u8], name: &[u8], a: &[u8]) -> Result<LineEvent, ScriptKind>
+fn full_ioctl(d: &[u8], name: &[u8], a: &[u8]) -> Result<Event, ScriptKind>
     ensures { result ≡ ioctl_line (d.now ∷ name.now ∷ a.now ∷ []) }
 {
     let named = full_request(name)?;
@@ -243,18 +244,18 @@ fn full_ioctl(d: &[u8], name: &[u8], a: &[u8]) -> Result<LineEvent, ScriptKind>
 }
 
 #[tactic(auto, unfolding(crate::specs::Commands::close_line))]
-fn close_line(arguments: &[&[u8]]) -> Result<LineEvent, ScriptKind>
+fn close_line(arguments: &[&[u8]]) -> Result<Event, ScriptKind>
     ensures { result ≡ close_line (lent arguments.now) }
 {
     let [d] = arguments else {
         return Err(ScriptKind::Count);
     };
     let fd = descriptor_in(d)?;
-    Ok(LineEvent::Close { fd })
+    Ok(Event::Close { fd })
 }
 
 #[tactic(auto, unfolding(crate::specs::Commands::interrupt_line))]
-fn interrupt_line(device: &Device, arguments: &[&[u8]]) -> Result<LineEvent, ScriptKind>
+fn interrupt_line(device: &Device, arguments: &[&[u8]]) -> Result<Event, ScriptKind>
     ensures { result ≡ interrupt_line (unfiltered device.now) (lent arguments.now) }
 {
     let frames = match arguments {
@@ -262,5 +263,5 @@ fn interrupt_line(device: &Device, arguments: &[&[u8]]) -> Result<LineEvent, Scr
         [n] => number_within(1, device.ring_frames, n)?,
         _ => return Err(ScriptKind::Count),
     };
-    Ok(LineEvent::Intr { frames })
+    Ok(Event::Intr { frames })
 }

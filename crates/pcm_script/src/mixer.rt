@@ -5,14 +5,13 @@ ghost use Rattle.pcm_script.specs.Commands.{asked_alone, asked_of_one, asked_of_
 ghost use Rattle.pcm_script.specs.Words.{lent};
 
 use crate::ScriptKind;
-use crate::line_event::LineEvent;
 use crate::names::Control;
 use crate::number::number_within;
-use pcm_oss::MixRequest;
+use pcm_oss::{Event, MixRequest};
 
 // What a line asks whose first word is that of the mixer device.
 #[tactic(auto, unfolding(crate::specs::Commands::mixer_line))]
-pub(crate) fn mixer_line(arguments: &[&[u8]]) -> Result<LineEvent, ScriptKind>
+pub(crate) fn mixer_line(arguments: &[&[u8]]) -> Result<Event, ScriptKind>
     ensures { result ≡ mixer_line (lent arguments.now) }
 {
     let request = match arguments {
@@ -21,7 +20,7 @@ pub(crate) fn mixer_line(arguments: &[&[u8]]) -> Result<LineEvent, ScriptKind>
         [c, s, a] => asked_of_two(control_in(c)?, s, a)?,
         _ => return Err(ScriptKind::Count),
     };
-    Ok(LineEvent::Mixer { request })
+    Ok(Event::Mixer { request })
 }
 
 fn control_in(word: &[u8]) -> Result<Control, ScriptKind>

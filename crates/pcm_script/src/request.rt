@@ -1,12 +1,11 @@
 //! What is asked of a channel or of a group, by its name.
 
 ghost use Rattle.std.specs.Prelude.{◌≡◌};
-ghost use Rattle.pcm_script.specs.Requests.{as_full, as_plain, asked_with, name_in_table, request_named};
+ghost use Rattle.pcm_script.specs.Requests.{as_full, as_plain, asked_with, name_asked, name_in_table, request_named};
 
 use crate::ScriptKind;
-use crate::line_event::LineEvent;
-use crate::names::request_name;
-use pcm_oss::Request;
+use crate::names::{join_name, request_name, start_group_name};
+use pcm_oss::{Event, Request};
 
 // What the name of a request stands for.
 #[derive(Clone, Copy)]
@@ -63,14 +62,14 @@ impl Named {
     {
         match self {
             Named::Plain(request) => request_name(request),
-            Named::Full(setter) => setter.with(0, 0).name_asked(),
+            Named::Full(setter) => name_asked(setter.with(0, 0)),
         }
     }
 }
 
 impl Setter {
     // What a line asks by it, of a descriptor and with an argument.
-    pub(crate) fn with(self, fd: u8, argument: u32) -> LineEvent
+    pub(crate) fn with(self, fd: u8, argument: u32) -> Event
         ensures { result ≡ asked_with self fd argument }
     {
         let group = argument;
@@ -81,10 +80,22 @@ impl Setter {
             Setter::SetFragment => Request::SetFragment(argument),
             Setter::SetTrigger => Request::SetTrigger(argument),
             Setter::SetPlayVol => Request::SetPlayVol(argument),
-            Setter::Join => return LineEvent::Join { fd, group },
-            Setter::StartGroup => return LineEvent::StartGroup { fd, group },
+            Setter::Join => return Event::Join { fd, group },
+            Setter::StartGroup => return Event::StartGroup { fd, group },
         };
-        LineEvent::Ioctl { fd, request }
+        Event::Ioctl { fd, request }
+    }
+}
+
+// The name by which an event asks, whatever its argument.
+fn name_asked(event: Event) -> &'static [u8]
+    ensures { result.now ≡ name_asked event }
+{
+    match event {
+        Event::Ioctl { request, .. } => request_name(request),
+        Event::Join { .. } => join_name(),
+        Event::StartGroup { .. } => start_group_name(),
+        _ => &[],
     }
 }
 

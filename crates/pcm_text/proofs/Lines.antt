@@ -32,8 +32,7 @@ use Rattle.pcm_script.specs.declared.names.Command.{Command}
 use Rattle.pcm_script.specs.declared.names.Command.TheVariants as commands
 use Rattle.pcm_script.specs.declared.names.Control.{Control}
 use Rattle.pcm_script.specs.declared.names.Control.TheVariants.{Master, Slot, Mute}
-use Rattle.pcm_script.specs.Commands.{asked_by, close_line, command_line, interrupt_line, ioctl_line, line_event, mixer_line, most_argument, most_offset, open_line, or_fault, poke_line, read_line, send_line, write_line}
-use Rattle.pcm_script.specs.declared.line_event.LineEvent.TheVariants as lines
+use Rattle.pcm_script.specs.Commands.{as_whole, asked_by, close_line, command_line, interrupt_line, ioctl_line, line_event, mixer_line, most_argument, most_offset, open_line, or_fault, poke_line, read_line, send_line, write_line}
 use Rattle.pcm_script.specs.Numbers.{is_decimal_digit, number_within, within}
 use Rattle.pcm_script.specs.Names.{command_name, command_named, control_name, join_name, request_name, start_group_name, way_name, way_named}
 use Rattle.pcm_script.specs.Steps.{◌>>=◌}
@@ -242,7 +241,7 @@ few-bytes : (count : ℕ) (xs : List ℕ) → count ≤ WRITE_BYTES → length (
 few-bytes count xs few = omega (arith, length-take count xs)
 
 request-read : (fd : ℕ) (request : Request) → fd < 64 → IfSome (argument_of request) (λ argument. argument < 2 ^ 32)
-    → ioctl_line (decimal fd ∷ request_name request ∷ argument_words (argument_of request)) ≡ Ok (lines.Ioctl fd request)
+    → ioctl_line (decimal fd ∷ request_name request ∷ argument_words (argument_of request)) ≡ Ok (Ioctl fd request)
 unfolding ioctl_line
 request-read fd (requests.SetFmt a) low small = rw (decimal-within 0 63 fd (omega arith) (omega arith) (omega arith), no-format a small, decimal-read a small, limited a small) refl
 request-read fd (requests.Speed a) low small = rw (decimal-within 0 63 fd (omega arith) (omega arith) (omega arith), decimal-within 0 4294967295 a small (omega arith) (omega (arith, small))) refl
@@ -266,11 +265,11 @@ request-read fd requests.Sync low small = rw (decimal-within 0 63 fd (omega arit
 request-read fd requests.Halt low small = rw (decimal-within 0 63 fd (omega arith) (omega arith) (omega arith)) refl
 
 -- a join and a start are read as what they ask
-join-read : (fd group : ℕ) → fd < 64 → group < 2 ^ 32 → ioctl_line (decimal fd ∷ join_name ∷ decimal group ∷ []) ≡ Ok (lines.Join fd group)
+join-read : (fd group : ℕ) → fd < 64 → group < 2 ^ 32 → ioctl_line (decimal fd ∷ join_name ∷ decimal group ∷ []) ≡ Ok (Join fd group)
 unfolding ioctl_line
 join-read fd group low small = rw (decimal-within 0 63 fd (omega arith) (omega arith) (omega arith), decimal-within 0 4294967295 group small (omega arith) (omega arith)) refl
 
-start_group-read : (fd group : ℕ) → fd < 64 → group < 2 ^ 32 → ioctl_line (decimal fd ∷ start_group_name ∷ decimal group ∷ []) ≡ Ok (lines.StartGroup fd group)
+start_group-read : (fd group : ℕ) → fd < 64 → group < 2 ^ 32 → ioctl_line (decimal fd ∷ start_group_name ∷ decimal group ∷ []) ≡ Ok (StartGroup fd group)
 unfolding ioctl_line
 start_group-read fd group low small = rw (decimal-within 0 63 fd (omega arith) (omega arith) (omega arith), decimal-within 0 4294967295 group small (omega arith) (omega arith)) refl
 
@@ -278,7 +277,7 @@ start_group-read fd group low small = rw (decimal-within 0 63 fd (omega arith) (
 setting-read : (number : ℕ) → number < 2 ^ 32 → number_within 0 most_argument (decimal number) ≡ Ok number
 setting-read number small = decimal-within 0 most_argument number small (omega arith) (omega (arith, small))
 
-mixer-read : (request : MixRequest) → HasSmallSettings request → mixer_line (control_name (control_for request) ∷ setting_words request) ≡ Ok (lines.Mixer request)
+mixer-read : (request : MixRequest) → HasSmallSettings request → mixer_line (control_name (control_for request) ∷ setting_words request) ≡ Ok (Mixer request)
 unfolding mixer_line
 mixer-read (mixes.SetMaster volume) small = rw (setting-read volume small) refl
 mixer-read mixes.GetMaster small = refl
@@ -321,11 +320,11 @@ event-read device pool (Poke fd offset at count) fits small bytes named =
     ) refl
 event-read device pool (Read fd count) fits small bytes named =
     rw (decimal-within 0 63 fd (omega (arith, fits.0)) (omega arith) (omega (arith, fits.0)), decimal-within 0 READ_BYTES count (omega (arith, fits.1)) (omega arith) fits.1) refl
-event-read device pool (Ioctl fd request) fits small bytes named = request-read fd request fits small
-event-read device pool (Join fd group) fits small bytes named = join-read fd group fits small
-event-read device pool (StartGroup fd group) fits small bytes named = start_group-read fd group fits small
+event-read device pool (Ioctl fd request) fits small bytes named = ap as_whole (request-read fd request fits small)
+event-read device pool (Join fd group) fits small bytes named = ap as_whole (join-read fd group fits small)
+event-read device pool (StartGroup fd group) fits small bytes named = ap as_whole (start_group-read fd group fits small)
 event-read device pool (Close fd) fits small bytes named = rw (decimal-within 0 63 fd (omega (arith, fits)) (omega arith) (omega (arith, fits))) refl
-event-read device pool (Mixer request) fits small bytes named = mixer-read request small
+event-read device pool (Mixer request) fits small bytes named = ap as_whole (mixer-read request small)
 event-read device pool (Intr frames) fits small bytes named = rw (decimal-within 1 (ring_frames device) frames small fits.0 fits.1) refl
 
 -- the line of an event is read as what it spells

@@ -3,7 +3,7 @@ use Rattle.std.specs.Prelude.{IfSome, ◌≡◌, ℕ, ◌*◌, ◌^◌, ◌<◌,
 use Rattle.std.specs.List.{list_all}
 use Rattle.hex.specs.Hex.{IsBytes}
 use Rattle.pcm_oss.specs.declared.event.Event.{Event}
-use Rattle.pcm_oss.specs.declared.event.Event.TheVariants.{Open, Write, Poke, Read, Ioctl, Join, StartGroup, Close, Mixer, Intr}
+use Rattle.pcm_oss.specs.declared.event.Event.TheVariants.{Write, Poke, Ioctl, Join, StartGroup, Mixer, Intr}
 use Rattle.pcm_oss.specs.declared.mix_request.MixRequest.{MixRequest}
 use Rattle.pcm_oss.specs.declared.mix_request.MixRequest.TheVariants.{SetMaster, GetMaster, SetSlot, GetSlot, Mute}
 use Rattle.pcm_wave.specs.declared.pool.Pool.{Pool}
@@ -25,17 +25,9 @@ use Rattle.pcm_text.specs.Texts.{argument_of, file_name_in, text_of}
 
 -- what the line of an event asks for
 abbrev pub line_asked : Pool → Event → LineEvent
-line_asked pool (Open fd way settings) = lines.Open fd way settings
 line_asked pool (Write fd Inline at count) = lines.Write fd (bytes_at pool Inline at count)
-line_asked pool (Write fd (File place) at count) = lines.Send fd place at count
 line_asked pool (Poke fd offset at count) = lines.Poke fd offset (bytes_at pool Inline at count)
-line_asked pool (Read fd count) = lines.Read fd count
-line_asked pool (Ioctl fd request) = lines.Ioctl fd request
-line_asked pool (Join fd group) = lines.Join fd group
-line_asked pool (StartGroup fd group) = lines.StartGroup fd group
-line_asked pool (Close fd) = lines.Close fd
-line_asked pool (Mixer request) = lines.Mixer request
-line_asked pool (Intr frames) = lines.Intr frames
+line_asked pool event = lines.Whole event
 
 -- a script with the lines of more events
 abbrev pub with_asked : Pool → Script → List Event → Script
