@@ -1,6 +1,5 @@
 //! Rows of whole numbers.
 
-ghost use Rattle.std.specs.Prelude.{◌≡◌};
 ghost use Rattle.toml.specs.View.{view};
 ghost use Rattle.pcm_config.specs.Answers.{Reads};
 ghost use Rattle.pcm_config.specs.Judgements.{required};

@@ -7,7 +7,7 @@ use Rattle.pcm_oss.specs.declared.event.Event.TheVariants.{Write, Poke, Ioctl, J
 use Rattle.pcm_oss.specs.declared.mix_request.MixRequest.{MixRequest}
 use Rattle.pcm_oss.specs.declared.mix_request.MixRequest.TheVariants.{SetMaster, GetMaster, SetSlot, GetSlot, Mute}
 use Rattle.pcm_wave.specs.declared.pool.Pool.{Pool}
-use Rattle.pcm_wave.specs.declared.pool.Source.TheVariants.{Inline, File}
+use Rattle.pcm_wave.specs.declared.pool.Source.TheVariants.{Inline}
 use Rattle.pcm_wave.specs.DataFiles.{DataFileSeen}
 use Rattle.pcm_wave.specs.Pools.{bytes_at}
 use Rattle.pcm_desk.specs.declared.limits.TheConstants.{DEVICE_BYTES, EVENTS}
