@@ -6,8 +6,7 @@ use Rattle.pcm_feeder.specs.declared.kind.Kind.{Kind}
 use Rattle.pcm_feeder.specs.declared.stage.Gain.{Gain}
 use Rattle.pcm_feeder.specs.Filters.{Filters}
 use Rattle.pcm_feeder.specs.Kept.{Kept}
-use Rattle.pcm_feeder.specs.Racks.{HaveKinds}
-use Rattle.pcm_chain.specs.Chains.{boxes_in, ChainStands}
+use Rattle.pcm_chain.specs.Chains.{ChainStands}
 use Rattle.pcm_oss.specs.declared.event.Way.TheVariants.{Map}
 use Rattle.pcm_desk.specs.declared.map_book.MapBook.{MapBook}
 use Rattle.pcm_desk.specs.declared.device.Device.{Device}
@@ -18,7 +17,7 @@ use Rattle.pcm_desk.specs.Desk.{map_unopened}
 use Rattle.pcm_sound.specs.Added.{map_turned}
 use Rattle.pcm_sound.specs.Areas.{is_recut, silent_area}
 use Rattle.pcm_sound.specs.MapRuns.{area_taken}
-use Rattle.pcm_path.specs.Paths.{IsPlanned}
+use Rattle.pcm_path.specs.Paths.{HasBoxes, IsPlanned}
 use Rattle.pcm_map.specs.declared.channel.MapChannelOf.{MapChannelOf}
 
 -- what stands in a channel's area: as many bytes as its fragments have
@@ -42,7 +41,7 @@ pub record MapStandsForSome {B : Type 0} (kept : B → Kept) (filters : Filters)
 
 -- each box of a channel is of its place's kind, its chain goes by its plan, and the channel stands for some bytes
 pub record IsMapReady {B : Type 0} (kind : B → Kind) (kept : B → Kept) (filters : Filters) (channel : MapChannelOf B) : Type 0 where
-  pub kinds : HaveKinds kind (boxes_in channel.path.chain)
+  pub kinds : HasBoxes kind channel.path
   pub planned : IsMapPlanned filters channel
   pub stands : MapStandsForSome kept filters channel
 
@@ -60,7 +59,7 @@ RecutsArea old new = area_of new ≡ (if is_recut old.book.opening new.book.open
 pub record IsMapUnopened {B : Type 0} (kind : B → Kind) (kept : B → Kept) (filters : Filters) (device : Device) (channel : MapChannelOf B) : Type 0 where
   pub device_is : channel.path.device ≡ device
   pub book : channel.book ≡ map_unopened (seen filters device)
-  pub kinds : HaveKinds kind (boxes_in channel.path.chain)
+  pub kinds : HasBoxes kind channel.path
   pub planned : IsMapPlanned filters channel
   pub stands : MapStands kept filters channel channel.book []
   pub area : area_of channel ≡ silent_area channel.book.opening
@@ -68,7 +67,7 @@ pub record IsMapUnopened {B : Type 0} (kind : B → Kind) (kept : B → Kept) (f
 -- What an event leaves of a channel, which may take these bytes of the area and give so many frames: whatever bytes it stood for, it
 -- stands for these and what it took, or for none where its run is over.
 pub record MapMoves {B : Type 0} (kind : B → Kind) (kept : B → Kept) (filters : Filters) (more : List ℕ) (frames : ℕ) (old new : MapChannelOf B) : Type 0 where
-  pub kinds : HaveKinds kind (boxes_in old.path.chain) → HaveKinds kind (boxes_in new.path.chain)
+  pub kinds : HasBoxes kind old.path → HasBoxes kind new.path
   pub planned : IsMapPlanned filters old → IsMapPlanned filters new
   pub stands : (bytes : List ℕ) → MapStands kept filters old old.book bytes → MapStands kept filters new new.book (take (taken_of new.book) (bytes ++ more))
   pub given : new.book.given ≤ old.book.given + frames

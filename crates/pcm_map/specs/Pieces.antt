@@ -4,8 +4,7 @@ use Rattle.pcm_format.specs.Layouts.{channels_of}
 use Rattle.pcm_feeder.specs.declared.kind.Kind.{Kind}
 use Rattle.pcm_feeder.specs.Filters.{Filters}
 use Rattle.pcm_feeder.specs.Kept.{Kept}
-use Rattle.pcm_feeder.specs.Racks.{HaveKinds}
-use Rattle.pcm_chain.specs.Chains.{boxes_in, plan_in}
+use Rattle.pcm_chain.specs.Chains.{plan_in}
 use Rattle.pcm_desk.specs.declared.map_book.MapBook.{MapBook}
 use Rattle.pcm_desk.specs.Device.{seen}
 use Rattle.pcm_desk.specs.MapBooks.{map_gives, taken_of}
@@ -13,6 +12,7 @@ use Rattle.pcm_desk.specs.Desk.{map_rate_at}
 use Rattle.pcm_sound.specs.Areas.{area_bytes}
 use Rattle.pcm_sound.specs.Gains.{map_gain}
 use Rattle.pcm_sound.specs.Given.{given_samples}
+use Rattle.pcm_path.specs.Paths.{HasBoxes}
 use Rattle.pcm_map.specs.declared.channel.MapChannelOf.{MapChannelOf}
 use Rattle.pcm_map.specs.Channels.{area_of, MapStands}
 
@@ -35,7 +35,7 @@ pub record MapGives {B : Type 0} (kind : B → Kind) (kept : B → Kept) (filter
   pub device : new.path.device ≡ old.path.device
   pub area : new.area ≡ old.area
   pub plan : plan_in new.path.chain ≡ plan_in old.path.chain
-  pub kinds : HaveKinds kind (boxes_in old.path.chain) → HaveKinds kind (boxes_in new.path.chain)
+  pub kinds : HasBoxes kind old.path → HasBoxes kind new.path
   pub stands : (bytes : List ℕ) → MapStands kept filters old old.book bytes → MapStands kept filters new new.book (bytes ++ taken_for filters n old)
   pub samples_are : (bytes : List ℕ) → MapStands kept filters old old.book bytes
       → take (n * channels_of old.path.device.mix.layout) samples ≡ samples_for filters n old bytes

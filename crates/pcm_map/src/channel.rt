@@ -6,21 +6,18 @@ ghost use Rattle.pcm_format.specs.Formats.{bits_of};
 ghost use Rattle.pcm_format.specs.Layouts.{channels_of};
 ghost use Rattle.pcm_num.specs.Limit.{FitsBits};
 ghost use Rattle.pcm_feeder.specs.Limits.{IsGain, IsRate};
-ghost use Rattle.pcm_feeder.specs.Racks.{HaveKinds, IsRack};
+ghost use Rattle.pcm_feeder.specs.Racks.{IsRack};
 ghost use Rattle.pcm_oss.specs.declared.event.Way.TheVariants.{Map};
 ghost use Rattle.pcm_oss.specs.declared.fragments.TheConstants.{RING_BYTES};
-ghost use Rattle.pcm_oss.specs.Fragments.{AreFragments};
 ghost use Rattle.pcm_rate.specs.Rates.{IsRatio};
 ghost use Rattle.pcm_ring.specs.Ring.{empty_ring};
-ghost use Rattle.pcm_plan.specs.Plans.{rate_in_plan};
-ghost use Rattle.pcm_chain.specs.Chains.{boxes_in, plan_in};
 ghost use Rattle.pcm_desk.specs.Device.{HasRates, seen};
 ghost use Rattle.pcm_desk.specs.MapBooks.{is_map_free, is_map_running, is_map_setup, map_begun, map_closed, poke_turn};
 ghost use Rattle.pcm_desk.specs.MapRequests.{map_ask};
 ghost use Rattle.pcm_desk.specs.MapSafe.{MapIsSafe};
 ghost use Rattle.pcm_desk.specs.Desk.{map_mixing};
 ghost use Rattle.pcm_desk.proofs.Props.{map_props};
-ghost use Rattle.pcm_path.specs.Paths.{HoldBlock, IsEmpty, IsPlanned};
+ghost use Rattle.pcm_path.specs.Paths.{path_rate, CanBegin, HasBoxes, HoldBlock, IsEmpty, IsPlanned};
 ghost use Rattle.std.proofs.Props.{props};
 ghost use Rattle.pcm_sound.specs.Areas.{poked, silent_area};
 
@@ -47,10 +44,10 @@ pub struct MapChannelOf<B> {
     pub area: Fixed<u8>,
     ghost rates: { HasRates path.device } by { Prim.hlevel props },
     ghost rate: { IsRate book.opening.settings.rate } by { Prim.hlevel props },
-    ghost ratio: { IsRatio (rate_in_plan (plan_in path.chain)) } by { Prim.hlevel props },
+    ghost ratio: { IsRatio (path_rate path) } by { Prim.hlevel props },
     // Between two calls no byte waits, and all of the ring's room is free.
     ghost ring: { path.ring ≡ empty_ring RING_BYTES },
-    ghost safe: { MapIsSafe (rate_in_plan (plan_in path.chain)) book } by { Prim.hlevel map_props },
+    ghost safe: { MapIsSafe (path_rate path) book } by { Prim.hlevel map_props },
     ghost size: { fixed_len area ≡ RING_BYTES },
 }
 
@@ -99,7 +96,7 @@ impl<B: Feeder> MapChannelOf<B> {
     /// A new opening begins, whose area is silent, and whose sound goes through the plan of its settings.
     pub fn begin(&mut self, tables: &Tables, settings: Settings)
         requires rate { IsRate settings.rate }
-        requires kinds { HaveKinds B.kind (boxes_in self.old.path.chain) }
+        requires kinds { HasBoxes B.kind self.old.path }
         ensures book { self.new.book ≡ map_begun settings }
         ensures device { self.new.path.device ≡ self.old.path.device }
         ensures area { area_of self.new ≡ silent_area self.new.book.opening }
@@ -129,7 +126,7 @@ impl<B: Feeder> MapChannelOf<B> {
     /// Does what a request asks. Where it hasn't started, the chain begins anew, and another format, other channels or other fragments make
     /// the area silent.
     pub fn ioctl(&mut self, tables: &Tables, request: Request) -> Result<Answer, Errno>
-        requires kinds { HaveKinds B.kind (boxes_in self.old.path.chain) }
+        requires kinds { HasBoxes B.kind self.old.path }
         requires planned { IsMapPlanned tables.now self.old }
         requires count { self.old.book.given < 2 ^ 50 }
         ensures book { self.new.book ≡ (map_ask request self.old.book).book }
@@ -151,7 +148,7 @@ impl<B: Feeder> MapChannelOf<B> {
 
     /// No descriptor has the channel any more: nothing more is taken.
     pub fn close(&mut self)
-        requires kinds { HaveKinds B.kind (boxes_in self.old.path.chain) }
+        requires kinds { HasBoxes B.kind self.old.path }
         ensures book { self.new.book ≡ map_closed self.old.book }
         ensures device { self.new.path.device ≡ self.old.path.device }
         ensures area { area_of self.new ≡ area_of self.old }
@@ -236,16 +233,12 @@ impl<B: Feeder> MapChannelOf<B> {
 
 // A run of an opening begins, with all of the ring's room for a piece of it.
 fn begin_run<B: Feeder>(path: &mut PathOf<B>, tables: &Tables, opening: &Opening)
-    requires device { HasRates path.old.device }
-    requires rate { IsRate opening.now.settings.rate }
-    requires fragments { AreFragments opening.now.fragments }
-    requires room { path.old.ring.max ≡ RING_BYTES }
-    requires kinds { HaveKinds B.kind (boxes_in path.old.chain) }
+    requires can { CanBegin B.kind opening.now path.old }
     ensures device { path.new.device ≡ path.old.device }
-    ensures ratio { IsRatio (rate_in_plan (plan_in path.new.chain)) }
+    ensures ratio { IsRatio (path_rate path.new) }
     ensures ring { path.new.ring ≡ empty_ring RING_BYTES }
     ensures planned { IsPlanned Map tables.now opening.now.settings path.new }
-    ensures kinds { HaveKinds B.kind (boxes_in path.new.chain) }
+    ensures kinds { HasBoxes B.kind path.new }
     ensures empty { IsEmpty B.kept path.new }
 {
     path.begin(Way::Map, tables, opening);

@@ -4,14 +4,18 @@ use Rattle.pcm_num.specs.Limit.{FitsBits}
 use Rattle.pcm_format.specs.declared.settings.Settings.{Settings}
 use Rattle.pcm_format.specs.Formats.{bits_of}
 use Rattle.pcm_format.specs.Layouts.{channels_of}
+use Rattle.pcm_rate.specs.declared.rate.Rate.{Rate}
 use Rattle.pcm_rate.specs.Rates.{IsRatio}
+use Rattle.pcm_feeder.specs.declared.kind.Kind.{Kind}
 use Rattle.pcm_feeder.specs.Filters.{Filters}
 use Rattle.pcm_feeder.specs.Kept.{Kept}
 use Rattle.pcm_feeder.specs.Limits.{AreFilters, IsRate}
+use Rattle.pcm_feeder.specs.Racks.{HaveKinds}
 use Rattle.pcm_oss.specs.declared.event.Way.{Way}
 use Rattle.pcm_oss.specs.declared.fragments.TheConstants.{RING_BYTES}
+use Rattle.pcm_oss.specs.Fragments.{AreFragments}
 use Rattle.pcm_plan.specs.Plans.{rate_in_plan}
-use Rattle.pcm_chain.specs.Chains.{plan_in, ChainStands}
+use Rattle.pcm_chain.specs.Chains.{boxes_in, plan_in, ChainStands}
 use Rattle.pcm_chain.specs.Pushes.{HasRecorded}
 use Rattle.pcm_desk.specs.declared.device.Device.{Device}
 use Rattle.pcm_desk.specs.declared.opening.Opening.{Opening}
@@ -20,12 +24,28 @@ use Rattle.pcm_desk.specs.Openings.{ring_bytes}
 use Rattle.pcm_path.specs.Ways.{plan_between}
 use Rattle.pcm_path.specs.declared.path.PathOf.{PathOf}
 
+-- each box of a path's chain is of its place's kind
+abbrev pub HasBoxes : {B : Type 0} → (B → Kind) → PathOf B → Type 0
+HasBoxes kind path = HaveKinds kind (boxes_in path.chain)
+
+-- the rate of the plan that its chain goes by
+abbrev pub path_rate : {B : Type 0} → PathOf B → Rate
+path_rate path = rate_in_plan (plan_in path.chain)
+
+-- what a path needs so that a run of an opening can begin
+pub record CanBegin {B : Type 0} (kind : B → Kind) (opening : Opening) (path : PathOf B) : Type 0 where
+  pub device : HasRates path.device
+  pub rate : IsRate opening.settings.rate
+  pub fragments : AreFragments opening.fragments
+  pub room : path.ring.max ≡ RING_BYTES
+  pub kinds : HasBoxes kind path
+
 -- A path serves an opening: the rates of device, mix and client are within the limits, those of the chain's plan are above 0, and the
 -- ring has the size that the opening's fragments give, out of the room that the greatest ring takes.
 pub record Serves {B : Type 0} (opening : Opening) (path : PathOf B) : Type 0 where
   pub device : HasRates path.device
   pub rate : IsRate opening.settings.rate
-  pub ratio : IsRatio (rate_in_plan (plan_in path.chain))
+  pub ratio : IsRatio (path_rate path)
   pub room : path.ring.max ≡ RING_BYTES
   pub size : path.ring.size ≡ ring_bytes opening
 

@@ -2,12 +2,11 @@
 
 ghost use Rattle.std.specs.Prelude.{◌≡◌, [], IfOk};
 ghost use Rattle.pcm_oss.specs.declared.fragments.TheConstants.{RING_BYTES};
-ghost use Rattle.pcm_oss.specs.Fragments.{AreFragments};
 ghost use Rattle.pcm_rate.specs.Rates.{IsRatio};
 ghost use Rattle.pcm_feeder.specs.Limits.{AreFilters, IsRate};
-ghost use Rattle.pcm_feeder.specs.Racks.{HaveKinds, IsRack};
+ghost use Rattle.pcm_feeder.specs.Racks.{IsRack};
 ghost use Rattle.pcm_plan.specs.Plans.{rate_in_plan};
-ghost use Rattle.pcm_chain.specs.Chains.{boxes_in, plan_in};
+ghost use Rattle.pcm_chain.specs.Chains.{plan_in};
 ghost use Rattle.pcm_desk.specs.Device.{HasRates, seen};
 ghost use Rattle.pcm_path.specs.Ways.{plan_between};
 
@@ -29,14 +28,14 @@ pub struct PathOf<B> {
 }
 
 impl<B: Feeder> PathOf<B> {
-    ghost use Rattle.pcm_path.specs.Paths.{IsEmpty, IsPlanned, Serves};
+    ghost use Rattle.pcm_path.specs.Paths.{CanBegin, HasBoxes, IsEmpty, IsPlanned, Serves};
 
     /// A path of a device with the boxes of a rack, for no opening yet. All its memory is taken here.
     pub fn new(alloc: Global, device: Device, rack: RackOf<B>) -> Result<PathOf<B>, AllocError>
         requires kinds { IsRack B.kind rack }
         ensures device { IfOk result (λ made. made.device ≡ device) }
         ensures room { IfOk result (λ made. made.ring.max ≡ RING_BYTES) }
-        ensures kinds { IfOk result (λ made. HaveKinds B.kind (boxes_in made.chain)) }
+        ensures kinds { IfOk result (λ made. HasBoxes B.kind made) }
     {
         let ring = ByteRing::new(alloc, RING_BYTES as usize)?;
         let chain = ChainOf::new(alloc, rack)?;
@@ -50,15 +49,11 @@ impl<B: Feeder> PathOf<B> {
     /// A run of an opening of a way begins: an empty ring, of the size that its fragments give, and a chain that goes by the
     /// plan of its settings.
     pub fn begin(&mut self, way: Way, tables: &Tables, opening: &Opening)
-        requires device { HasRates self.old.device }
-        requires rate { IsRate opening.now.settings.rate }
-        requires fragments { AreFragments opening.now.fragments }
-        requires room { self.old.ring.max ≡ RING_BYTES }
-        requires kinds { HaveKinds B.kind (boxes_in self.old.chain) }
+        requires can { CanBegin B.kind opening.now self.old }
         ensures device { self.new.device ≡ self.old.device }
         ensures serves { Serves opening.now self.new }
         ensures planned { IsPlanned way tables.now opening.now.settings self.new }
-        ensures kinds { HaveKinds B.kind (boxes_in self.new.chain) }
+        ensures kinds { HasBoxes B.kind self.new }
         ensures empty { IsEmpty B.kept self.new }
     {
         let plan = plan_of(way, tables, &self.device, &opening.settings);
@@ -70,11 +65,11 @@ impl<B: Feeder> PathOf<B> {
 
     /// A run ends, and nothing of it is left: an empty ring of the same size, and a chain that goes by the same plan.
     pub fn restart(&mut self)
-        requires { HaveKinds B.kind (boxes_in self.old.chain) }
+        requires { HasBoxes B.kind self.old }
         ensures device { self.new.device ≡ self.old.device }
         ensures ring { self.new.ring ≡ record self.old.ring { bytes = [] } }
         ensures plan { plan_in self.new.chain ≡ plan_in self.old.chain }
-        ensures kinds { HaveKinds B.kind (boxes_in self.new.chain) }
+        ensures kinds { HasBoxes B.kind self.new }
         ensures empty { IsEmpty B.kept self.new }
     {
         self.ring.clear();

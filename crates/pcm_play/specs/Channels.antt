@@ -5,8 +5,7 @@ use Rattle.pcm_feeder.specs.declared.kind.Kind.{Kind}
 use Rattle.pcm_feeder.specs.declared.stage.Gain.{Gain}
 use Rattle.pcm_feeder.specs.Filters.{Filters}
 use Rattle.pcm_feeder.specs.Kept.{Kept}
-use Rattle.pcm_feeder.specs.Racks.{HaveKinds}
-use Rattle.pcm_chain.specs.Chains.{boxes_in, ChainStands}
+use Rattle.pcm_chain.specs.Chains.{ChainStands}
 use Rattle.pcm_desk.specs.declared.play_book.PlayBook.{PlayBook}
 use Rattle.pcm_desk.specs.Device.{seen}
 use Rattle.pcm_desk.specs.declared.device.Device.{Device}
@@ -17,7 +16,7 @@ use Rattle.pcm_desk.specs.Desk.{closing, play_rate_at, play_unopened}
 use Rattle.pcm_sound.specs.Added.{turned}
 use Rattle.pcm_oss.specs.declared.fragments.TheConstants.{RING_BYTES}
 use Rattle.pcm_oss.specs.declared.event.Way.TheVariants.{Play}
-use Rattle.pcm_path.specs.Paths.{IsPlanned}
+use Rattle.pcm_path.specs.Paths.{HasBoxes, IsPlanned}
 use Rattle.pcm_play.specs.declared.channel.PlayChannelOf.{PlayChannelOf}
 
 -- the bytes of a run that were accepted and not yet eaten
@@ -45,7 +44,7 @@ pub record PlayStandsForSome {B : Type 0} (kept : B → Kept) (filters : Filters
 
 -- each box of a channel is of its place's kind, its chain goes by its plan, and the channel stands for some bytes
 pub record IsPlayReady {B : Type 0} (kind : B → Kind) (kept : B → Kept) (filters : Filters) (channel : PlayChannelOf B) : Type 0 where
-  pub kinds : HaveKinds kind (boxes_in channel.path.chain)
+  pub kinds : HasBoxes kind channel.path
   pub planned : IsPlayPlanned filters channel
   pub stands : PlayStandsForSome kept filters channel
 
@@ -69,14 +68,14 @@ SettlesBook here old new = (filters : Filters) → IsPlayPlanned filters old →
 pub record IsPlayUnopened {B : Type 0} (kind : B → Kind) (kept : B → Kept) (filters : Filters) (device : Device) (channel : PlayChannelOf B) : Type 0 where
   pub device_is : channel.path.device ≡ device
   pub book : channel.book ≡ play_unopened (seen filters device)
-  pub kinds : HaveKinds kind (boxes_in channel.path.chain)
+  pub kinds : HasBoxes kind channel.path
   pub planned : IsPlayPlanned filters channel
   pub stands : PlayStands kept filters channel channel.book []
 
 -- What an event leaves of a channel, which may take bytes from the front of `more` and give so many frames: whatever bytes
 -- it stood for, it stands for these and what it took, or for none where its run is over.
 pub record PlayMoves {B : Type 0} (kind : B → Kind) (kept : B → Kept) (filters : Filters) (more : List ℕ) (frames : ℕ) (old new : PlayChannelOf B) : Type 0 where
-  pub kinds : HaveKinds kind (boxes_in old.path.chain) → HaveKinds kind (boxes_in new.path.chain)
+  pub kinds : HasBoxes kind old.path → HasBoxes kind new.path
   pub planned : IsPlayPlanned filters old → IsPlayPlanned filters new
   pub stands : (bytes : List ℕ) → PlayStands kept filters old old.book bytes → PlayStands kept filters new new.book (take new.book.written (bytes ++ more))
   pub written : new.book.written ≤ old.book.written + length more

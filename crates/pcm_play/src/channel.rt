@@ -5,14 +5,12 @@ ghost use Rattle.pcm_format.specs.Formats.{bits_of};
 ghost use Rattle.pcm_format.specs.Frames.{frame_bytes};
 ghost use Rattle.pcm_num.specs.Limit.{FitsBits};
 ghost use Rattle.pcm_feeder.specs.Limits.{IsGain, IsRate};
-ghost use Rattle.pcm_feeder.specs.Racks.{HaveKinds, IsRack};
-ghost use Rattle.pcm_plan.specs.Plans.{rate_in_plan};
-ghost use Rattle.pcm_chain.specs.Chains.{boxes_in, plan_in};
+ghost use Rattle.pcm_feeder.specs.Racks.{IsRack};
 ghost use Rattle.pcm_desk.specs.Device.{HasRates, seen};
 ghost use Rattle.pcm_desk.specs.PlayBooks.{is_play_free, is_play_setup, play_begun, play_fill_of, play_is_ready, write_turn};
 ghost use Rattle.pcm_desk.specs.PlaySafe.{PlayIsSafe};
 ghost use Rattle.pcm_desk.proofs.Props.{book_props};
-ghost use Rattle.pcm_path.specs.Paths.{HoldBlock, Serves};
+ghost use Rattle.pcm_path.specs.Paths.{path_rate, HasBoxes, HoldBlock, Serves};
 ghost use Rattle.std.proofs.Props.{props};
 ghost use Rattle.pcm_desk.specs.Desk.{asking, mixing, play_unopened};
 ghost use Rattle.pcm_desk.specs.Here.{IsHere};
@@ -34,7 +32,7 @@ pub struct PlayChannelOf<B> {
     ghost serves: { Serves book.opening path } by { Prim.hlevel props },
     ghost fill: { length path.ring.bytes ≡ play_fill_of book },
     ghost within: { book.eaten * frame_bytes book.opening.settings ≤ book.written },
-    ghost safe: { PlayIsSafe (rate_in_plan (plan_in path.chain)) book } by { Prim.hlevel book_props },
+    ghost safe: { PlayIsSafe (path_rate path) book } by { Prim.hlevel book_props },
 }
 
 impl<B: Feeder> PlayChannelOf<B> {
@@ -52,7 +50,7 @@ impl<B: Feeder> PlayChannelOf<B> {
         requires kinds { IsRack B.kind rack }
         ensures book { IfOk result (λ made. made.book ≡ play_unopened (seen tables.now device)) }
         ensures device { IfOk result (λ made. made.path.device ≡ device) }
-        ensures kinds { IfOk result (λ made. HaveKinds B.kind (boxes_in made.path.chain)) }
+        ensures kinds { IfOk result (λ made. HasBoxes B.kind made.path) }
         ensures planned { IfOk result (λ made. IsPlayPlanned tables.now made) }
         ensures stands { IfOk result (λ made. PlayStands B.kept tables.now made made.book []) }
     {
@@ -89,7 +87,7 @@ impl<B: Feeder> PlayChannelOf<B> {
     /// A new opening begins, whose sound goes through the plan of its settings.
     pub fn begin(&mut self, tables: &Tables, settings: Settings)
         requires rate { IsRate settings.rate }
-        requires kinds { HaveKinds B.kind (boxes_in self.old.path.chain) }
+        requires kinds { HasBoxes B.kind self.old.path }
         ensures book { self.new.book ≡ play_begun settings }
         ensures device { self.new.path.device ≡ self.old.path.device }
         ensures moves { PlayMoves B.kind B.kept tables.now [] 0 self.old self.new }
@@ -118,7 +116,7 @@ impl<B: Feeder> PlayChannelOf<B> {
     /// Does what a request asks, where the mix and the device are. Where nothing of a run is left, the ring and the chain begin anew, as
     /// the book says.
     pub fn ioctl(&mut self, tables: &Tables, request: Request, here: Here) -> Result<Answer, Errno>
-        requires kinds { HaveKinds B.kind (boxes_in self.old.path.chain) }
+        requires kinds { HasBoxes B.kind self.old.path }
         requires planned { IsPlayPlanned tables.now self.old }
         requires here { IsHere here }
         requires at { IsPlayHere tables.now here self.old }
@@ -145,7 +143,7 @@ impl<B: Feeder> PlayChannelOf<B> {
 
     /// No descriptor has the channel any more: what was written plays to its end.
     pub fn close(&mut self, here: Here)
-        requires kinds { HaveKinds B.kind (boxes_in self.old.path.chain) }
+        requires kinds { HasBoxes B.kind self.old.path }
         requires count { self.old.book.done + self.old.book.written < 2 ^ 64 }
         ensures book { ClosesBook here self.old self.new }
         ensures device { self.new.path.device ≡ self.old.path.device }
@@ -160,7 +158,7 @@ impl<B: Feeder> PlayChannelOf<B> {
 
     /// Frames were handed over: a draining run of which nothing is left to pass ends.
     pub fn settle(&mut self, here: Here)
-        requires kinds { HaveKinds B.kind (boxes_in self.old.path.chain) }
+        requires kinds { HasBoxes B.kind self.old.path }
         requires count { self.old.book.done + self.old.book.written < 2 ^ 64 }
         ensures book { SettlesBook here self.old self.new }
         ensures device { self.new.path.device ≡ self.old.path.device }

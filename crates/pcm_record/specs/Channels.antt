@@ -5,14 +5,12 @@ use Rattle.pcm_format.specs.Layouts.{channels_of}
 use Rattle.pcm_feeder.specs.declared.kind.Kind.{Kind}
 use Rattle.pcm_feeder.specs.Filters.{Filters}
 use Rattle.pcm_feeder.specs.Kept.{Kept}
-use Rattle.pcm_feeder.specs.Racks.{HaveKinds}
 use Rattle.pcm_feeder.specs.Streams.{frames_of}
 use Rattle.pcm_oss.specs.declared.reply.Answer.{Answer}
 use Rattle.pcm_oss.specs.declared.reply.Errno.{Errno}
 use Rattle.pcm_oss.specs.Replies.{bytes_due}
 use Rattle.pcm_oss.specs.declared.fragments.TheConstants.{RING_BYTES}
 use Rattle.pcm_plan.specs.Fits.{HaveBits}
-use Rattle.pcm_chain.specs.Chains.{boxes_in}
 use Rattle.pcm_chain.specs.Pushes.{HasRecorded}
 use Rattle.pcm_desk.specs.declared.record_book.RecordBook.{RecordBook}
 use Rattle.pcm_desk.specs.declared.device.Device.{Device}
@@ -21,7 +19,7 @@ use Rattle.pcm_desk.specs.Desk.{record_rate_at, record_unopened}
 use Rattle.pcm_desk.specs.RecordBooks.{keeping}
 use Rattle.pcm_sound.specs.Given.{recorded_bytes}
 use Rattle.pcm_oss.specs.declared.event.Way.TheVariants.{Record}
-use Rattle.pcm_path.specs.Paths.{IsPlanned}
+use Rattle.pcm_path.specs.Paths.{HasBoxes, IsPlanned}
 use Rattle.pcm_record.specs.declared.channel.RecordChannelOf.{RecordChannelOf}
 
 -- the bytes that were kept and not yet read
@@ -50,7 +48,7 @@ pub record RecordStandsForSome {B : Type 0} (kept : B → Kept) (filters : Filte
 
 -- each box of a channel is of its place's kind, its chain goes by its plan, and the channel stands for some bytes and frames
 pub record IsRecordReady {B : Type 0} (kind : B → Kind) (kept : B → Kept) (filters : Filters) (channel : RecordChannelOf B) : Type 0 where
-  pub kinds : HaveKinds kind (boxes_in channel.path.chain)
+  pub kinds : HasBoxes kind channel.path
   pub planned : IsRecordPlanned filters channel
   pub stands : RecordStandsForSome kept filters channel
 
@@ -64,14 +62,14 @@ GivesUnread kept channel result out = (filters : Filters) (bytes : List ℕ) (fr
 pub record IsRecordUnopened {B : Type 0} (kind : B → Kind) (kept : B → Kept) (filters : Filters) (device : Device) (channel : RecordChannelOf B) : Type 0 where
   pub device_is : channel.path.device ≡ device
   pub book : channel.book ≡ record_unopened (seen filters device)
-  pub kinds : HaveKinds kind (boxes_in channel.path.chain)
+  pub kinds : HasBoxes kind channel.path
   pub planned : IsRecordPlanned filters channel
   pub stands : RecordStands kept filters channel channel.book [] []
 
 -- What an event leaves of a channel that may capture `input`, of which so many frames of the client are kept: whatever bytes and
 -- frames it stood for, it stands for these with what was kept and captured, or for none where its recording is over.
 pub record RecordMoves {B : Type 0} (kind : B → Kind) (keeps : B → Kept) (filters : Filters) (input : List Frame) (count : ℕ) (old new : RecordChannelOf B) : Type 0 where
-  pub kinds : HaveKinds kind (boxes_in old.path.chain) → HaveKinds kind (boxes_in new.path.chain)
+  pub kinds : HasBoxes kind old.path → HasBoxes kind new.path
   pub planned : IsRecordPlanned filters old → IsRecordPlanned filters new
   pub stands : (bytes : List ℕ) (frames : List Frame) → RecordStands keeps filters old old.book bytes frames
       → RecordStands keeps filters new new.book

@@ -5,16 +5,14 @@ ghost use Rattle.pcm_format.specs.Layouts.{channels_of};
 ghost use Rattle.pcm_oss.specs.declared.fragments.TheConstants.{RING_BYTES};
 ghost use Rattle.pcm_oss.specs.Replies.{bytes_due};
 ghost use Rattle.pcm_feeder.specs.Limits.{IsRate};
-ghost use Rattle.pcm_feeder.specs.Racks.{HaveKinds, IsRack};
-ghost use Rattle.pcm_plan.specs.Plans.{rate_in_plan};
-ghost use Rattle.pcm_chain.specs.Chains.{boxes_in, plan_in};
+ghost use Rattle.pcm_feeder.specs.Racks.{IsRack};
 ghost use Rattle.pcm_desk.specs.declared.limits.TheConstants.{RING_FRAMES};
 ghost use Rattle.pcm_desk.specs.Device.{HasRates, seen};
 ghost use Rattle.pcm_desk.specs.RecordBooks.{closed, is_record_free, is_record_setup, read_turn, record_begun, record_fill_of};
 ghost use Rattle.pcm_desk.specs.RecordRequests.{record_ask};
 ghost use Rattle.pcm_desk.specs.RecordSafe.{RecordIsSafe};
 ghost use Rattle.pcm_desk.proofs.Props.{record_props};
-ghost use Rattle.pcm_path.specs.Paths.{Serves};
+ghost use Rattle.pcm_path.specs.Paths.{path_rate, HasBoxes, Serves};
 ghost use Rattle.std.proofs.Props.{props};
 ghost use Rattle.pcm_desk.specs.Desk.{capturing, record_unopened};
 
@@ -33,7 +31,7 @@ pub struct RecordChannelOf<B> {
     ghost serves: { Serves book.opening path } by { Prim.hlevel props },
     ghost fill: { length path.ring.bytes ≡ record_fill_of book },
     ghost within: { book.read ≤ book.kept },
-    ghost safe: { RecordIsSafe (rate_in_plan (plan_in path.chain)) book } by { Prim.hlevel record_props },
+    ghost safe: { RecordIsSafe (path_rate path) book } by { Prim.hlevel record_props },
 }
 
 impl<B: Feeder> RecordChannelOf<B> {
@@ -51,7 +49,7 @@ impl<B: Feeder> RecordChannelOf<B> {
         requires kinds { IsRack B.kind rack }
         ensures book { IfOk result (λ made. made.book ≡ record_unopened (seen tables.now device)) }
         ensures device { IfOk result (λ made. made.path.device ≡ device) }
-        ensures kinds { IfOk result (λ made. HaveKinds B.kind (boxes_in made.path.chain)) }
+        ensures kinds { IfOk result (λ made. HasBoxes B.kind made.path) }
         ensures planned { IfOk result (λ made. IsRecordPlanned tables.now made) }
         ensures stands { IfOk result (λ made. RecordStands B.kept tables.now made made.book [] []) }
     {
@@ -81,7 +79,7 @@ impl<B: Feeder> RecordChannelOf<B> {
     /// A new opening begins, whose sound comes through the plan of its settings.
     pub fn begin(&mut self, tables: &Tables, settings: Settings)
         requires rate { IsRate settings.rate }
-        requires kinds { HaveKinds B.kind (boxes_in self.old.path.chain) }
+        requires kinds { HasBoxes B.kind self.old.path }
         ensures book { self.new.book ≡ record_begun settings }
         ensures device { self.new.path.device ≡ self.old.path.device }
         ensures moves { RecordMoves B.kind B.kept tables.now [] 0 self.old self.new }
@@ -112,7 +110,7 @@ impl<B: Feeder> RecordChannelOf<B> {
 
     /// Does what a request asks. Where the channel isn't running then, the ring and the chain begin anew, as the book says.
     pub fn ioctl(&mut self, tables: &Tables, request: Request) -> Result<Answer, Errno>
-        requires kinds { HaveKinds B.kind (boxes_in self.old.path.chain) }
+        requires kinds { HasBoxes B.kind self.old.path }
         requires planned { IsRecordPlanned tables.now self.old }
         ensures book { self.new.book ≡ (record_ask request self.old.book).book }
         ensures reply { result ≡ (record_ask request self.old.book).reply }
@@ -131,7 +129,7 @@ impl<B: Feeder> RecordChannelOf<B> {
 
     /// No descriptor has the channel any more: what wasn't read is dropped.
     pub fn close(&mut self)
-        requires kinds { HaveKinds B.kind (boxes_in self.old.path.chain) }
+        requires kinds { HasBoxes B.kind self.old.path }
         ensures book { self.new.book ≡ closed self.old.book }
         ensures device { self.new.path.device ≡ self.old.path.device }
         ensures moves { (filters : Filters) → RecordMoves B.kind B.kept filters [] 0 self.old self.new }

@@ -1,4 +1,4 @@
-use Rattle.std.proofs.Common.{take, sym, ap, subst, ◌∙◌, refl, arith, [], List, ℕ, cond}
+use Rattle.std.proofs.Common.{rules, take, sym, ap, subst, ◌∙◌, refl, arith, [], List, ℕ, cond}
 use Rattle.pcm_fixed.proofs.Items.{items-written}
 use Rattle.pcm_plan.specs.Plans.{PlanSeen, rate_in_plan}
 use Rattle.pcm_desk.specs.declared.device.Device.{Device}
@@ -26,11 +26,11 @@ returns-in_err-answer-clause-book g c =
 pub recut-requires-clause-fragments : goal.recut-requires-clause-fragments
 recut-requires-clause-fragments g c = (book-asked c.args.tables.now c.args.request c.args.self.now c.asked-turn.result c.requires.planned c.asked-turn.ensures).safe.fragments
 
-pub begin_run-requires-clause-rate : goal.begin_run-requires-clause-rate
-begin_run-requires-clause-rate g c = (book-asked c.args.tables.now c.args.request c.args.self.now c.asked-turn.result c.requires.planned c.asked-turn.ensures).rate
-
-pub begin_run-requires-clause-fragments : goal.begin_run-requires-clause-fragments
-begin_run-requires-clause-fragments g c = (book-asked c.args.tables.now c.args.request c.args.self.now c.asked-turn.result c.requires.planned c.asked-turn.ensures).safe.fragments
+pub begin_run-requires : goal.begin_run-requires
+begin_run-requires g c =
+    let old = c.args.self.now in
+    let left = book-asked c.args.tables.now c.args.request old c.asked-turn.result c.requires.planned c.asked-turn.ensures in
+    record { can = record { device = old.rates; rate = left.rate; fragments = left.safe.fragments; room = search rules; kinds = c.requires.kinds } }
 
 pub invariant_of-self : goal.invariant_of-self
 invariant_of-self g c =

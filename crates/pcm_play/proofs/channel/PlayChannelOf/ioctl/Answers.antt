@@ -19,17 +19,12 @@ asked-turn-requires-clause-at g c =
 pub asked-turn-requires-clause-mix : goal.asked-turn-requires-clause-mix
 asked-turn-requires-clause-mix g c = (device-is c.args.tables.now c.args.self.now c.requires.planned).mix_rate
 
-pub begin-requires-clause-rate : goal.begin-requires-clause-rate
-begin-requires-clause-rate g c =
+pub begin-requires : goal.begin-requires
+begin-requires g c =
     let old = c.args.self.now in
-    (book-asked c.args.tables.now c.args.here c.args.request old c.asked-turn.result c.requires.planned
-    (asked-is c.args.tables.now c.args.here c.args.request old c.asked-turn.result c.rate-rate.result c.plan.result.now c.requires.planned c.asked-turn.ensures c.rate-rate.ensures.value c.plan.ensures)).rate
-
-pub begin-requires-clause-fragments : goal.begin-requires-clause-fragments
-begin-requires-clause-fragments g c =
-    let old = c.args.self.now in
-    (book-asked c.args.tables.now c.args.here c.args.request old c.asked-turn.result c.requires.planned
-    (asked-is c.args.tables.now c.args.here c.args.request old c.asked-turn.result c.rate-rate.result c.plan.result.now c.requires.planned c.asked-turn.ensures c.rate-rate.ensures.value c.plan.ensures)).safe.fragments
+    let left = book-asked c.args.tables.now c.args.here c.args.request old c.asked-turn.result c.requires.planned
+    (asked-is c.args.tables.now c.args.here c.args.request old c.asked-turn.result c.rate-rate.result c.plan.result.now c.requires.planned c.asked-turn.ensures c.rate-rate.ensures.value c.plan.ensures) in
+    record { can = record { device = old.serves.device; rate = left.rate; fragments = left.safe.fragments; room = old.serves.room; kinds = c.requires.kinds } }
 
 pub invariant_of-self : goal.invariant_of-self
 invariant_of-self g c =

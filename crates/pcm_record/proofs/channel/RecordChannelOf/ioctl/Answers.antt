@@ -11,13 +11,11 @@ use Rattle.pcm_sound.proofs.Recorded.{idle-unstarted}
 use Rattle.pcm_record.proofs.Moving.{book-asked, moves-ended, moves-read, none-waits, stays-fill, stays-reads}
 use Rattle.pcm_record.proofs.channel.RecordChannelOf.ioctl.Goals as goal
 
-pub begin-requires-clause-rate : goal.begin-requires-clause-rate
-begin-requires-clause-rate g c =
-    (book-asked c.args.tables.now c.args.request c.args.self.now c.asked-turn.result c.requires.planned c.asked-turn.ensures).rate
-
-pub begin-requires-clause-fragments : goal.begin-requires-clause-fragments
-begin-requires-clause-fragments g c =
-    (book-asked c.args.tables.now c.args.request c.args.self.now c.asked-turn.result c.requires.planned c.asked-turn.ensures).safe.fragments
+pub begin-requires : goal.begin-requires
+begin-requires g c =
+    let old = c.args.self.now in
+    let left = book-asked c.args.tables.now c.args.request old c.asked-turn.result c.requires.planned c.asked-turn.ensures in
+    record { can = record { device = old.serves.device; rate = left.rate; fragments = left.safe.fragments; room = old.serves.room; kinds = c.requires.kinds } }
 
 pub invariant_of-self : goal.invariant_of-self
 invariant_of-self g c =
