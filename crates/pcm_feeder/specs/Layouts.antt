@@ -47,14 +47,12 @@ shares Two BR = share FR 46341 ∷ []
 shares _ BR = same BR
 shares One SL = share M 23170 ∷ []
 shares Two SL = share FL 46341 ∷ []
-shares Four SL = share BL 46341 ∷ []
-shares Six SL = share BL 46341 ∷ []
 shares Eight SL = same SL
+shares _ SL = share BL 46341 ∷ []
 shares One SR = share M 23170 ∷ []
 shares Two SR = share FR 46341 ∷ []
-shares Four SR = share BR 46341 ∷ []
-shares Six SR = share BR 46341 ∷ []
 shares Eight SR = same SR
+shares _ SR = share BR 46341 ∷ []
 
 -- a number for each position
 abbrev pub position_number : Position → ℕ

@@ -28,15 +28,10 @@ channels_in (Volume layout) = channels_of layout
 channels_in (Depth bits channels) = channels
 channels_in (Eq channels sections) = channels
 
--- the channels that a stage gives
+-- the channels that a stage gives: a matrix has others, each other stage those that it takes
 abbrev pub channels_out : Spec → ℕ
 channels_out (Matrix from to) = channels_of to
-channels_out (Hold src dst channels) = channels
-channels_out (Linear src dst channels) = channels
-channels_out (Poly src dst channels table taps) = channels
-channels_out (Volume layout) = channels_of layout
-channels_out (Depth bits channels) = channels
-channels_out (Eq channels sections) = channels
+channels_out spec = channels_in spec
 
 -- the rate of a stage
 abbrev pub rate_of : Spec → Rate
