@@ -52,14 +52,8 @@ impl Interpolator for Hold {
         self.last.channels
     }
 
-    fn put_frame(
-        &mut self,
-        channels: usize,
-        tables: &Tables,
-        input: &[i32],
-        point: Point,
-        output: &mut [i32],
-    ) {
+    fn put_frame(&mut self, tables: &Tables, input: &[i32], point: Point, output: &mut [i32]) {
+        let channels = output.len();
         let kept = &self.last.samples()[..channels];
         if point.needed * channels >= kept.len() {
             put_among(channels, kept, input, point.needed, output);

@@ -55,14 +55,8 @@ impl Interpolator for Line {
         self.last.channels
     }
 
-    fn put_frame(
-        &mut self,
-        channels: usize,
-        tables: &Tables,
-        input: &[i32],
-        point: Point,
-        output: &mut [i32],
-    ) {
+    fn put_frame(&mut self, tables: &Tables, input: &[i32], point: Point, output: &mut [i32]) {
+        let channels = output.len();
         let kept = self.last.samples();
         if point.needed >= 2 {
             put_among(

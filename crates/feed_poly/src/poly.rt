@@ -74,14 +74,8 @@ impl Interpolator for Polyphase {
     }
 
     #[inline(always)]
-    fn put_frame(
-        &mut self,
-        channels: usize,
-        tables: &Tables,
-        input: &[i32],
-        point: Point,
-        output: &mut [i32],
-    ) {
+    fn put_frame(&mut self, tables: &Tables, input: &[i32], point: Point, output: &mut [i32]) {
+        let channels = output.len();
         let filter = &tables.list()[self.table];
         let row = Row::of(filter, row_at(point, filter.phases));
         // Then the frames of the window are those around the output.

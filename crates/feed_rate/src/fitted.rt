@@ -114,7 +114,7 @@ impl Fitted {
             let at = j * channels;
             let point = Point::at(start + step.frames, whole, step.phase * factor);
             let frame = &mut output[at..at + channels];
-            interpolator.put_frame(channels, tables, input, point, frame);
+            interpolator.put_frame(tables, input, point, frame);
             step = pace.after(step);
         }
         interpolator.eat(input, eaten);

@@ -48,17 +48,10 @@ pub trait Interpolator: Drop {
         ensures value { result ≡ channels_by (seen self.now).method }
         ensures limits { AreChannels result };
 
-    /// Writes the output at a point. The number of channels is handed in, so that a loop over them
-    /// is unrolled where the caller names it.
-    fn put_frame(
-        &mut self,
-        channels: usize,
-        tables: &Tables,
-        input: &[i32],
-        point: Point,
-        output: &mut [i32],
-    )
-        requires channels { channels ≡ channels_by (seen self.old).method }
+    /// Writes the output at a point. The length of `output` is the number of channels, which the
+    /// compiler knows where the caller's slice has a length that it knows: then a loop over them is
+    /// unrolled.
+    fn put_frame(&mut self, tables: &Tables, input: &[i32], point: Point, output: &mut [i32])
         requires filter { HasFilter (seen self.old).method tables.now }
         requires order { (seen self.old).passed ≤ point.needed }
         requires there { point.needed * channels_by (seen self.old).method ≤ length input.now }
