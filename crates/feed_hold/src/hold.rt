@@ -1,8 +1,8 @@
 //! The hold stage.
 
-ghost use Rattle.std.specs.Prelude.{◌≡◌, ◌≤◌, ◌*◌, length};
-ghost use Rattle.pcm_feeder.specs.Limits.{AreChannels};
+ghost use Rattle.std.specs.Prelude.{◌≡◌};
 ghost use Rattle.pcm_feeder.specs.Streams.{frame_behind};
+ghost use Rattle.feed_hold.specs.Places.{CanHold};
 
 use feed_rate::{Interpolator, Point, RateFeeder};
 use pcm_feeder::{Kind, LastFrames, Spec, Tables, frame_among};
@@ -71,10 +71,7 @@ impl Interpolator for Hold {
 // all that the compiler knows input and output overlap, and then it moves one sample at a time.
 #[inline(always)]
 fn put_among(channels: usize, kept: &[i32], input: &[i32], place: usize, output: &mut [i32])
-    requires limits { AreChannels channels }
-    requires one { length kept.now ≡ channels }
-    requires there { place * channels ≤ length input.now }
-    requires room { length output.old ≡ channels }
+    requires { CanHold channels kept.now input.now place output.old }
     ensures { output.new ≡ frame_behind channels kept.now input.now place }
 {
     let mut frame = [0i32; 8];
@@ -87,10 +84,7 @@ fn put_among(channels: usize, kept: &[i32], input: &[i32], place: usize, output:
 #[cold]
 #[inline(never)]
 fn put_early(channels: usize, kept: &[i32], input: &[i32], place: usize, output: &mut [i32])
-    requires limits { AreChannels channels }
-    requires one { length kept.now ≡ channels }
-    requires there { place * channels ≤ length input.now }
-    requires room { length output.old ≡ channels }
+    requires { CanHold channels kept.now input.now place output.old }
     ensures { output.new ≡ frame_behind channels kept.now input.now place }
 {
     put_among(channels, kept, input, place, output);

@@ -1,14 +1,12 @@
 //! The linear stage.
 
-ghost use Rattle.std.specs.Prelude.{◌≡◌, ◌<◌, ◌≤◌, ◌+◌, ◌*◌, length};
-ghost use Rattle.pcm_feeder.specs.Stages.{blended};
-ghost use Rattle.pcm_feeder.specs.Streams.{frame_behind};
+ghost use Rattle.std.specs.Prelude.{◌≡◌};
+ghost use Rattle.feed_linear.specs.Places.{point_on_line, CanBlend};
 
 use crate::blend::Blend;
 use crate::pairs::pair_among;
 use feed_rate::{Interpolator, Point, RateFeeder};
 use pcm_feeder::{Kind, LastFrames, Spec, Tables};
-use pcm_num::Reciprocal;
 use std::alloc::{AllocError, Global};
 
 /// Gives the point of each output on the line from the frame under it to the next.
@@ -59,25 +57,9 @@ impl Interpolator for Line {
         let channels = output.len();
         let kept = self.last.samples();
         if point.needed >= 2 {
-            put_among(
-                channels,
-                kept,
-                input,
-                point.needed,
-                point.whole,
-                point.parts,
-                output,
-            );
+            put_among(channels, kept, input, point, output);
         } else {
-            put_early(
-                channels,
-                kept,
-                input,
-                point.needed,
-                point.whole,
-                point.parts,
-                output,
-            );
+            put_early(channels, kept, input, point, output);
         }
     }
 
@@ -89,49 +71,21 @@ impl Interpolator for Line {
 // Puts the point on the line from the frame at a place, among two kept and those that come, to the
 // next.
 #[inline(always)]
-fn put_among(
-    channels: usize,
-    kept: &[i32],
-    input: &[i32],
-    place: usize,
-    whole: Reciprocal,
-    parts: u32,
-    output: &mut [i32],
-)
-    requires some { 0 < channels }
-    requires two { length kept.now ≡ 2 * channels }
-    requires there { place * channels ≤ length input.now }
-    requires parts { parts ≤ whole.divisor }
-    requires room { length output.old ≡ channels }
-    ensures { output.new ≡ blended whole.divisor parts
-        (frame_behind channels kept.now input.now place)
-        (frame_behind channels kept.now input.now (place + 1)) }
+fn put_among(channels: usize, kept: &[i32], input: &[i32], point: Point, output: &mut [i32])
+    requires { CanBlend channels kept.now input.now point output.old }
+    ensures { output.new ≡ point_on_line channels kept.now input.now point }
 {
-    let (frame, next) = pair_among(channels, kept, input, place);
-    Blend::at(whole, parts).put_frame(frame, next, output);
+    let (frame, next) = pair_among(channels, kept, input, point.needed);
+    Blend::at(point.whole, point.parts).put_frame(frame, next, output);
 }
 
 // Puts it for the first outputs of a feed, which rest on a frame kept. By itself, so that the walk
 // over all others chooses no address.
 #[cold]
 #[inline(never)]
-fn put_early(
-    channels: usize,
-    kept: &[i32],
-    input: &[i32],
-    place: usize,
-    whole: Reciprocal,
-    parts: u32,
-    output: &mut [i32],
-)
-    requires some { 0 < channels }
-    requires two { length kept.now ≡ 2 * channels }
-    requires there { place * channels ≤ length input.now }
-    requires parts { parts ≤ whole.divisor }
-    requires room { length output.old ≡ channels }
-    ensures { output.new ≡ blended whole.divisor parts
-        (frame_behind channels kept.now input.now place)
-        (frame_behind channels kept.now input.now (place + 1)) }
+fn put_early(channels: usize, kept: &[i32], input: &[i32], point: Point, output: &mut [i32])
+    requires { CanBlend channels kept.now input.now point output.old }
+    ensures { output.new ≡ point_on_line channels kept.now input.now point }
 {
-    put_among(channels, kept, input, place, whole, parts, output);
+    put_among(channels, kept, input, point, output);
 }
