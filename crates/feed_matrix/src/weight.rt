@@ -31,17 +31,23 @@ fn row(from: Layout, to: Layout, target: Position) -> [u32; 8]
     row
 }
 
-// The weight with which sound goes to a position of a layout, where 65536 is one.
+// The weight with which sound goes to a position of a layout, where 65536 is one. Sound of positions
+// that two, four or six lack goes to others or nowhere, and all else as to eight.
 fn weight(to: Layout, target: Position, source: Position) -> u32
     ensures value { result ≡ weight to target source }
     ensures limit { result ≤ 65536 }
 {
-    match to {
-        Layout::One => to_one(target, source),
-        Layout::Two => to_two(target, source),
-        Layout::Four => to_four(target, source),
-        Layout::Six => to_six(target, source),
-        Layout::Eight => to_eight(target, source),
+    match (to, target, source) {
+        (Layout::One, _, _) => to_one(target, source),
+        (Layout::Two | Layout::Four, Position::FL | Position::FR, Position::FC) => 46341,
+        (Layout::Two | Layout::Four, _, Position::FC | Position::LFE) => 0,
+        (Layout::Two, Position::FL, Position::BL | Position::SL) => 46341,
+        (Layout::Two, Position::FR, Position::BR | Position::SR) => 46341,
+        (Layout::Two, _, Position::BL | Position::BR | Position::SL | Position::SR) => 0,
+        (Layout::Four | Layout::Six, Position::BL, Position::SL) => 46341,
+        (Layout::Four | Layout::Six, Position::BR, Position::SR) => 46341,
+        (Layout::Four | Layout::Six, _, Position::SL | Position::SR) => 0,
+        _ => to_eight(target, source),
     }
 }
 
@@ -58,47 +64,7 @@ fn to_one(target: Position, source: Position) -> u32
     }
 }
 
-fn to_two(target: Position, source: Position) -> u32
-    ensures value { result ≡ weight layouts.Two target source }
-    ensures limit { result ≤ 65536 }
-{
-    match (target, source) {
-        (Position::FL, Position::M | Position::FL) => 65536,
-        (Position::FR, Position::M | Position::FR) => 65536,
-        (Position::FL, Position::FC | Position::BL | Position::SL) => 46341,
-        (Position::FR, Position::FC | Position::BR | Position::SR) => 46341,
-        _ => 0,
-    }
-}
-
-fn to_four(target: Position, source: Position) -> u32
-    ensures value { result ≡ weight layouts.Four target source }
-    ensures limit { result ≤ 65536 }
-{
-    match (target, source) {
-        (Position::FL, Position::M | Position::FL) => 65536,
-        (Position::FR, Position::M | Position::FR) => 65536,
-        (Position::FL | Position::FR, Position::FC) => 46341,
-        (Position::BL, Position::BL) | (Position::BR, Position::BR) => 65536,
-        (Position::BL, Position::SL) | (Position::BR, Position::SR) => 46341,
-        _ => 0,
-    }
-}
-
-fn to_six(target: Position, source: Position) -> u32
-    ensures value { result ≡ weight layouts.Six target source }
-    ensures limit { result ≤ 65536 }
-{
-    match (target, source) {
-        (Position::FL, Position::M | Position::FL) => 65536,
-        (Position::FR, Position::M | Position::FR) => 65536,
-        (Position::FC, Position::FC) | (Position::LFE, Position::LFE) => 65536,
-        (Position::BL, Position::BL) | (Position::BR, Position::BR) => 65536,
-        (Position::BL, Position::SL) | (Position::BR, Position::SR) => 46341,
-        _ => 0,
-    }
-}
-
+// Every position goes to itself, and mono to both sides of the front.
 fn to_eight(target: Position, source: Position) -> u32
     ensures value { result ≡ weight layouts.Eight target source }
     ensures limit { result ≤ 65536 }
