@@ -12,7 +12,7 @@ use Rattle.pcm_feeder.specs.Filters.{Filters}
 use Rattle.pcm_feeder.specs.Kept.{past_after}
 use Rattle.pcm_feeder.specs.Limits.{HasTable}
 use Rattle.pcm_feeder.specs.Pace.{rate_by}
-use Rattle.pcm_feeder.specs.Stages.{rate_of, channels_in, blended, filtered, table_at}
+use Rattle.pcm_feeder.specs.Stages.{rate_of, channels_in, channels_out, blended, filtered, table_at}
 use Rattle.pcm_feeder.specs.Streams.{Stream, frames_of, stream_of, HaveChannels, moved_on}
 use Rattle.pcm_feeder.specs.Turns.{frames_by}
 use Rattle.pcm_feeder.proofs.Frames.{frames_of-channels}
@@ -22,11 +22,16 @@ use Rattle.feed_rate.specs.Methods.Method.{ByFrame, ByLine, ByFilter}
 use Rattle.feed_rate.specs.Outputs.{around_place, next_frames}
 use Rattle.feed_rate.specs.Feeders.{kept_at}
 
--- the spec has the method's channels
+-- the spec has the method's channels, and gives as many
 pub channels-are : (method : Method) (rate : Rate) → channels_in (spec_of method rate) ≡ channels_by method
 channels-are (ByFrame channels) rate = refl
 channels-are (ByLine channels) rate = refl
 channels-are (ByFilter channels table taps) rate = refl
+
+pub channels-given : (method : Method) (rate : Rate) → channels_out (spec_of method rate) ≡ channels_by method
+channels-given (ByFrame channels) rate = refl
+channels-given (ByLine channels) rate = refl
+channels-given (ByFilter channels table taps) rate = refl
 
 -- and its rate, which looks as far ahead as the method
 pub rate-is : (method : Method) (rate : Rate) → rate.lookahead ≡ lookahead_by method → rate ≡ rate_of (spec_of method rate)

@@ -1,4 +1,5 @@
 pub mod Methods
 pub mod Outputs
+pub mod Walks
 pub mod LastFrames
 pub mod Feeders

@@ -1,13 +1,13 @@
 //! The counts of a fitted converter, and its walk from output to output.
 
-ghost use Rattle.std.specs.Prelude.{◌≡◌, ◌<◌, ◌≤◌, ◌+◌, ◌*◌, ◌^◌, pos, length};
+ghost use Rattle.std.specs.Prelude.{◌≡◌, ◌≤◌, ◌+◌, pos};
 ghost use Rattle.pcm_feeder.specs.Limits.{AreChannels, IsRate};
-ghost use Rattle.pcm_feeder.specs.Pace.{rate_by, phase_by, ahead_by, factor_of, IsStep};
-ghost use Rattle.feed_rate.specs.Methods.{channels_by, lookahead_by, HasFilter};
-ghost use Rattle.feed_rate.specs.Outputs.{tail_past, AreEnough, PutsNext};
+ghost use Rattle.pcm_feeder.specs.Pace.{rate_by, phase_by, ahead_by, factor_of};
+ghost use Rattle.feed_rate.specs.Methods.{channels_by};
+ghost use Rattle.feed_rate.specs.Walks.{CanWalk, HasWalked};
 
 use crate::{Interpolator, Point};
-use pcm_feeder::{Pace, Step, Tables};
+use pcm_feeder::{Moved, Pace, Step, Tables};
 use pcm_num::Reciprocal;
 use pcm_rate::Rate;
 
@@ -39,40 +39,29 @@ impl Fitted {
         }
     }
 
-    /// Puts the next frames at the front of the output, and takes the frames eaten in. Answers
-    /// where the output after them lies.
+    /// Puts the next frames at the front of the output, as many as are given, and takes the frames
+    /// eaten in. Answers where the output after them lies.
     pub fn put_frames<I: Interpolator>(
         &self,
         interpolator: &mut I,
         tables: &Tables,
         input: &[i32],
-        eaten: usize,
-        count: usize,
+        moved: Moved,
         output: &mut [i32],
     ) -> Step
-        requires level { (rate_by self.now.pace).lookahead ≡ lookahead_by (I.seen interpolator.old).method }
-        requires rested { (I.seen interpolator.old).passed ≡ 0 }
-        requires filter { HasFilter (I.seen interpolator.old).method tables.now }
-        requires room { count * channels_by (I.seen interpolator.old).method ≤ length output.old }
-        requires there { eaten * channels_by (I.seen interpolator.old).method ≤ length input.now }
-        requires enough { AreEnough self.now.pace eaten count }
-        ensures frames { PutsNext self.now.pace (I.seen interpolator.old) tables.now input.now count
-            output.old output.new }
-        ensures tail { (I.seen interpolator.new).tail
-            ≡ tail_past (I.seen interpolator.old) input.now eaten }
-        ensures method { (I.seen interpolator.new).method ≡ (I.seen interpolator.old).method }
-        ensures rested_again { (I.seen interpolator.new).passed ≡ 0 }
-        ensures step { IsStep self.now.pace result count }
-        ensures short { result.frames < 2 ^ 62 }
+        requires { CanWalk self.now.pace (I.seen interpolator.old) tables.now input.now moved
+            output.old }
+        ensures { HasWalked self.now.pace (I.seen interpolator.old) (I.seen interpolator.new)
+            tables.now input.now moved output.old output.new result }
     {
         let channels = interpolator.channels();
         match channels {
-            1 => self.walk(1, interpolator, tables, input, eaten, count, output),
-            2 => self.walk(2, interpolator, tables, input, eaten, count, output),
-            4 => self.walk(4, interpolator, tables, input, eaten, count, output),
-            6 => self.walk(6, interpolator, tables, input, eaten, count, output),
-            8 => self.walk(8, interpolator, tables, input, eaten, count, output),
-            _ => self.walk(channels, interpolator, tables, input, eaten, count, output),
+            1 => self.walk(interpolator, 1, tables, input, moved, output),
+            2 => self.walk(interpolator, 2, tables, input, moved, output),
+            4 => self.walk(interpolator, 4, tables, input, moved, output),
+            6 => self.walk(interpolator, 6, tables, input, moved, output),
+            8 => self.walk(interpolator, 8, tables, input, moved, output),
+            _ => self.walk(interpolator, channels, tables, input, moved, output),
         }
     }
 
@@ -81,43 +70,32 @@ impl Fitted {
     #[inline(always)]
     fn walk<I: Interpolator>(
         &self,
-        channels: usize,
         interpolator: &mut I,
+        channels: usize,
         tables: &Tables,
         input: &[i32],
-        eaten: usize,
-        count: usize,
+        moved: Moved,
         output: &mut [i32],
     ) -> Step
         requires channels { channels ≡ channels_by (I.seen interpolator.old).method }
         requires limits { AreChannels channels }
-        requires level { (rate_by self.now.pace).lookahead ≡ lookahead_by (I.seen interpolator.old).method }
-        requires rested { (I.seen interpolator.old).passed ≡ 0 }
-        requires filter { HasFilter (I.seen interpolator.old).method tables.now }
-        requires room { count * channels_by (I.seen interpolator.old).method ≤ length output.old }
-        requires there { eaten * channels_by (I.seen interpolator.old).method ≤ length input.now }
-        requires enough { AreEnough self.now.pace eaten count }
-        ensures frames { PutsNext self.now.pace (I.seen interpolator.old) tables.now input.now count
-            output.old output.new }
-        ensures tail { (I.seen interpolator.new).tail
-            ≡ tail_past (I.seen interpolator.old) input.now eaten }
-        ensures method { (I.seen interpolator.new).method ≡ (I.seen interpolator.old).method }
-        ensures rested_again { (I.seen interpolator.new).passed ≡ 0 }
-        ensures step { IsStep self.now.pace result count }
-        ensures short { result.frames < 2 ^ 62 }
+        requires walk { CanWalk self.now.pace (I.seen interpolator.old) tables.now input.now moved
+            output.old }
+        ensures { HasWalked self.now.pace (I.seen interpolator.old) (I.seen interpolator.new)
+            tables.now input.now moved output.old output.new result }
     {
         let Fitted { pace, used, whole } = *self;
         let start = pace.place(used);
         let factor = self.factor();
         let mut step = pace.first();
-        for j in 0..count {
+        for j in 0..moved.given {
             let at = j * channels;
             let point = Point::at(start + step.frames, whole, step.phase * factor);
             let frame = &mut output[at..at + channels];
             interpolator.put_frame(tables, input, point, frame);
             step = pace.after(step);
         }
-        interpolator.eat(input, eaten);
+        interpolator.eat(input, moved.eaten);
         step
     }
 

@@ -69,9 +69,10 @@ impl<I: Interpolator> Feeder for RateFeeder<I> {
         let offered = input.len() / self.interpolator.channels();
         let eaten = fitted.pace.eaten(offered, want);
         let given = fitted.pace.given(offered, want);
-        let step = fitted.put_frames(&mut self.interpolator, tables, input, eaten, given, output);
+        let moved = Moved { eaten, given };
+        let step = fitted.put_frames(&mut self.interpolator, tables, input, moved, output);
         fitted.pace = fitted.pace.moved(eaten, step);
-        Moved { eaten, given }
+        moved
     }
 }
 

@@ -15,5 +15,5 @@ invariant-loop-j g l =
       method : (by.seen l.interpolator).method ≡ (by.seen entry).method;
       tail : (by.seen l.interpolator).tail ≡ tail_after (by.seen entry).method (by.seen entry).tail l.input (by.seen l.interpolator).passed;
       order : (by.seen l.interpolator).passed ≤ l.start + l.step.frames;
-      within : (by.seen l.interpolator).passed ≤ l.eaten;
+      within : (by.seen l.interpolator).passed ≤ l.moved.eaten;
     }

@@ -1,19 +1,40 @@
 -- A feed eats and gives by the counts, and gives what the interpolator makes of the frames around each output.
-use Rattle.std.proofs.Common.{◌≡◌, ◌/◌, ℕ, ℤ, List, length, refl, sym, ap, ◌∙◌}
+use Rattle.std.proofs.Common.{◌≡◌, ◌≤◌, ◌*◌, ◌/◌, ℕ, ℤ, List, length, refl, sym, ap, ◌∙◌, subst, arith}
+use Rattle.std.proofs.Math.Nat.{mul-le-mul_right, div-mul-le_self}
 use Rattle.pcm_feeder.specs.Kept.{Kept}
 use Rattle.pcm_feeder.specs.Streams.{frames_of, written}
-use Rattle.pcm_feeder.specs.Turns.{Turn, fed}
+use Rattle.pcm_feeder.specs.Pace.{rate_by}
+use Rattle.pcm_feeder.specs.Turns.{Turn, fed, CanBeFed, CanFeed}
 use Rattle.pcm_feeder.proofs.Writing.{moved-within}
 use Rattle.feed_rate.specs.Feeders.{kept_by, kept_of, kept_at}
-use Rattle.feed_rate.specs.Methods.{channels_by}
+use Rattle.feed_rate.specs.Methods.{spec_of, channels_by}
 use Rattle.feed_rate.proofs.Feeds.{fed-is, turned, kept-is}
+use Rattle.feed_rate.proofs.Methods.{channels-given, filter-is}
 use Rattle.feed_rate.proofs.Walks.{given-eaten}
 use Rattle.feed_rate.proofs.rate_feeder.RateFeederFeeder.feed.Goals as goal
 
-pub put_frames-step-requires-clause-enough : goal.put_frames-step-requires-clause-enough
-put_frames-step-requires-clause-enough g c =
-    given-eaten c.in-Some.fitted.pace (length c.args.input.now / c.channels.result) c.args.want c.eaten-eaten.result c.given-given.result
-    c.eaten-eaten.ensures.value c.given-given.ensures.value
+pub put_frames-step-requires : goal.put_frames-step-requires
+put_frames-step-requires g c =
+    let feeder = c.args.self.now in
+    let fitted = c.in-Some.fitted in
+    let seen = g.I.Interpolator.seen feeder.interpolator in
+    let rate = rate_by fitted.pace in
+    let input = c.args.input.now in
+    let channels = channels_by seen.method in
+    let eaten = c.eaten-eaten.result in
+    let given = c.given-given.result in
+    let can : CanFeed (spec_of seen.method rate) c.args.tables.now c.args.gain input c.args.want c.args.output.now =
+    subst (λ found. CanBeFed (kept_by found seen.method seen.tail) c.args.tables.now c.args.gain input c.args.want c.args.output.now) c.in-Some.is c.requires in
+    let wide : c.args.want * channels ≤ length c.args.output.now = subst (λ n. c.args.want * n ≤ length c.args.output.now) (channels-given seen.method rate) can.room in
+    let few : eaten ≤ length input / channels = subst (λ n. eaten ≤ length input / n) c.channels.ensures.value c.eaten-eaten.ensures.within in
+    record {
+      level = feeder.level fitted c.in-Some.is;
+      rested = feeder.rested;
+      filter = filter-is seen.method rate c.args.tables.now can.filter;
+      room = omega (arith, wide, mul-le-mul_right {m = given} {n = c.args.want} channels c.given-given.ensures.within);
+      there = omega (arith, mul-le-mul_right {m = eaten} {n = length input / channels} channels few, div-mul-le_self (length input) channels);
+      enough = given-eaten fitted.pace (length input / c.channels.result) c.args.want eaten given c.eaten-eaten.ensures.value c.given-given.ensures.value;
+    }
 
 pub moved-fitted-requires-clause-bounds : goal.moved-fitted-requires-clause-bounds
 moved-fitted-requires-clause-bounds g c =
