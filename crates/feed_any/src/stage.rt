@@ -1,6 +1,6 @@
 //! The stage of any type.
 
-use pcm_feeder::{Feeder, Gain, Kind, Moved, Spec, Tables};
+use pcm_feeder::{Feeder, Kind, Moved, Pull, Spec, Tables};
 
 /// A stage of one of seven types, each for a kind of its own.
 #[derive(Drop)]
@@ -46,22 +46,15 @@ impl<M: Feeder, H: Feeder, L: Feeder, P: Feeder, V: Feeder, D: Feeder, E: Feeder
         }
     }
 
-    fn feed(
-        &mut self,
-        tables: &Tables,
-        gain: Gain,
-        input: &[i32],
-        want: usize,
-        output: &mut [i32],
-    ) -> Moved {
+    fn feed(&mut self, tables: &Tables, pull: Pull, input: &[i32], output: &mut [i32]) -> Moved {
         match self {
-            AnyOf::Matrix(stage) => stage.feed(tables, gain, input, want, output),
-            AnyOf::Hold(stage) => stage.feed(tables, gain, input, want, output),
-            AnyOf::Linear(stage) => stage.feed(tables, gain, input, want, output),
-            AnyOf::Poly(stage) => stage.feed(tables, gain, input, want, output),
-            AnyOf::Volume(stage) => stage.feed(tables, gain, input, want, output),
-            AnyOf::Depth(stage) => stage.feed(tables, gain, input, want, output),
-            AnyOf::Eq(stage) => stage.feed(tables, gain, input, want, output),
+            AnyOf::Matrix(stage) => stage.feed(tables, pull, input, output),
+            AnyOf::Hold(stage) => stage.feed(tables, pull, input, output),
+            AnyOf::Linear(stage) => stage.feed(tables, pull, input, output),
+            AnyOf::Poly(stage) => stage.feed(tables, pull, input, output),
+            AnyOf::Volume(stage) => stage.feed(tables, pull, input, output),
+            AnyOf::Depth(stage) => stage.feed(tables, pull, input, output),
+            AnyOf::Eq(stage) => stage.feed(tables, pull, input, output),
         }
     }
 }

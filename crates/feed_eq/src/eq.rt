@@ -5,7 +5,7 @@ ghost use Rattle.pcm_feeder.specs.Kept.{unfitted};
 ghost use Rattle.feed_eq.specs.Feeders.{kept_by_eq};
 
 use crate::equaliser::Equaliser;
-use pcm_feeder::{Feeder, Gain, Kind, Moved, Spec, Tables};
+use pcm_feeder::{Feeder, Kind, Moved, Pull, Spec, Tables};
 use std::alloc::{AllocError, Global};
 
 /// Puts frames through the sections of the tables, one after another.
@@ -41,18 +41,11 @@ impl Feeder for EqFeeder {
         }
     }
 
-    fn feed(
-        &mut self,
-        tables: &Tables,
-        gain: Gain,
-        input: &[i32],
-        want: usize,
-        output: &mut [i32],
-    ) -> Moved {
+    fn feed(&mut self, tables: &Tables, pull: Pull, input: &[i32], output: &mut [i32]) -> Moved {
         let Some(fitted) = &mut self.fitted else {
             return Moved { eaten: 0, given: 0 };
         };
-        let frames = want.min(input.len() / fitted.channels);
+        let frames = pull.want.min(input.len() / fitted.channels);
         let front = frames * fitted.channels;
         let samples = &mut output[..front];
         samples.copy_from_slice(&input[..front]);

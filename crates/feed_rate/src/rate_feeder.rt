@@ -10,7 +10,7 @@ ghost use Rattle.feed_rate.specs.declared.fitted.Fitted.{Fitted};
 
 use crate::Interpolator;
 use crate::fitted::Fitted;
-use pcm_feeder::{Feeder, Gain, Kind, Moved, Spec, Tables};
+use pcm_feeder::{Feeder, Kind, Moved, Pull, Spec, Tables};
 use pcm_rate::{Rate, UNCHANGED};
 use std::alloc::{AllocError, Global};
 
@@ -55,20 +55,13 @@ impl<I: Interpolator> Feeder for RateFeeder<I> {
         self.fitted = Some(Fitted::new(rate_of(spec)));
     }
 
-    fn feed(
-        &mut self,
-        tables: &Tables,
-        gain: Gain,
-        input: &[i32],
-        want: usize,
-        output: &mut [i32],
-    ) -> Moved {
+    fn feed(&mut self, tables: &Tables, pull: Pull, input: &[i32], output: &mut [i32]) -> Moved {
         let Some(fitted) = &mut self.fitted else {
             return Moved { eaten: 0, given: 0 };
         };
         let offered = input.len() / self.interpolator.channels();
-        let eaten = fitted.pace.eaten(offered, want);
-        let given = fitted.pace.given(offered, want);
+        let eaten = fitted.pace.eaten(offered, pull.want);
+        let given = fitted.pace.given(offered, pull.want);
         let moved = Moved { eaten, given };
         let step = fitted.put_frames(&mut self.interpolator, tables, input, moved, output);
         fitted.pace = fitted.pace.moved(eaten, step);

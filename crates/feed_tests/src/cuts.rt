@@ -5,7 +5,7 @@ ghost use Rattle.pcm_feeder.specs.Limits.{IsCoef, IsTable};
 
 use crate::stages::has_table;
 use feed_poly::PolyFeeder;
-use pcm_feeder::{Coefs, Feeder, Kind, Moved, Spec, Table, Tables, UNITY};
+use pcm_feeder::{Coefs, Feeder, Kind, Moved, Pull, Spec, Table, Tables, UNITY};
 use std::alloc::{AllocError, Global};
 use std::test::Fail;
 
@@ -89,7 +89,8 @@ fn fed<B: Feeder>(
         let free = &mut output[given..];
         let room = free.len();
         let want = wants[turn % wants.len()].min(room / 2);
-        let moved = feeder.feed(tables, UNITY, offered, want, free);
+        let pull = Pull { gain: UNITY, want };
+        let moved = feeder.feed(tables, pull, offered, free);
         eaten += moved.eaten.saturating_mul(2).min(offered.len());
         given += moved.given.saturating_mul(2).min(room);
     }

@@ -6,7 +6,7 @@ ghost use Rattle.pcm_feeder.specs.Limits.{AreChannels, HasTable, IsChange, IsCoe
 ghost use Rattle.pcm_feeder.specs.Stages.{channels_in, channels_out};
 
 use crate::racks::boxed;
-use pcm_feeder::{Coefs, Feeder, Gain, Kind, Section, Spec, Table, Tables};
+use pcm_feeder::{Coefs, Feeder, Gain, Kind, Pull, Section, Spec, Table, Tables};
 use pcm_format::{Layout, RATE_LEAST, RATE_MOST};
 use std::alloc::{AllocError, Global};
 use std::test::Fail;
@@ -449,7 +449,11 @@ pub fn is_right<B: Feeder>(feeder: &mut B, tables: &Tables, row: &Row) -> bool {
     }
     let mut output = [99; 16];
     feeder.fit(*spec);
-    let found = feeder.feed(tables, GAIN, input, *want, &mut output);
+    let pull = Pull {
+        gain: GAIN,
+        want: *want,
+    };
+    let found = feeder.feed(tables, pull, input, &mut output);
     (found.eaten, found.given) == *moved && begins_with(&output, samples)
 }
 

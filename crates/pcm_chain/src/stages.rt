@@ -15,7 +15,7 @@ ghost use Rattle.pcm_chain.specs.Feeds.{asked, fed_in, first_staged, GoneThrough
 ghost use Rattle.pcm_chain.specs.declared.staging.TheConstants.{BLOCK_FRAMES};
 
 use crate::staging::Staging;
-use pcm_feeder::{Feeder, Gain, SevenOf, Spec, Tables};
+use pcm_feeder::{Feeder, Gain, Pull, SevenOf, Spec, Tables};
 
 /// Fits the box of each stage to it.
 pub fn fit_stages<B: Feeder>(boxes: &mut SevenOf<B>, stages: &[Spec])
@@ -141,14 +141,16 @@ fn feed_stage<B: Feeder>(
         (fed_in B.kept boxes.old spec tables.now gain frames want input.now).frames output.old }
 {
     let input = &input[..frames * channels_in(spec)];
+    let offered = Pull { gain, want: frames };
+    let wanted = Pull { gain, want };
     let moved = match spec {
-        Spec::Matrix { .. } => boxes.matrix.feed(tables, gain, input, frames, output),
-        Spec::Hold { .. } => boxes.hold.feed(tables, gain, input, want, output),
-        Spec::Linear { .. } => boxes.linear.feed(tables, gain, input, want, output),
-        Spec::Poly { .. } => boxes.poly.feed(tables, gain, input, want, output),
-        Spec::Volume { .. } => boxes.volume.feed(tables, gain, input, frames, output),
-        Spec::Depth { .. } => boxes.depth.feed(tables, gain, input, frames, output),
-        Spec::Eq { .. } => boxes.eq.feed(tables, gain, input, frames, output),
+        Spec::Matrix { .. } => boxes.matrix.feed(tables, offered, input, output),
+        Spec::Hold { .. } => boxes.hold.feed(tables, wanted, input, output),
+        Spec::Linear { .. } => boxes.linear.feed(tables, wanted, input, output),
+        Spec::Poly { .. } => boxes.poly.feed(tables, wanted, input, output),
+        Spec::Volume { .. } => boxes.volume.feed(tables, offered, input, output),
+        Spec::Depth { .. } => boxes.depth.feed(tables, offered, input, output),
+        Spec::Eq { .. } => boxes.eq.feed(tables, offered, input, output),
     };
     moved.given
 }

@@ -1,6 +1,6 @@
 //! The interface that every stage meets.
 
-use crate::{Gain, Kind, Moved, Spec, Tables};
+use crate::{Kind, Moved, Pull, Spec, Tables};
 
 /// A stage of a chain. What it gives follows from what it keeps and from the arguments alone.
 pub trait Feeder: Drop {
@@ -27,26 +27,19 @@ pub trait Feeder: Drop {
         ensures kept { kept self.new ≡ fresh spec }
         ensures kind { kind self.new ≡ kind self.old };
 
-    /// Eats frames of `input`, no more than `want` outputs use, and gives at most `want` frames at
-    /// the front of `output`. Both hold interleaved samples. Takes no memory.
-    fn feed(
-        &mut self,
-        tables: &Tables,
-        gain: Gain,
-        input: &[i32],
-        want: usize,
-        output: &mut [i32],
-    ) -> Moved
-        requires { CanBeFed (kept self.old) tables.now gain input.now want output.old }
+    /// Eats frames of `input`, no more than the frames wanted use, and gives at most so many at the
+    /// front of `output`. Both hold interleaved samples. Takes no memory.
+    fn feed(&mut self, tables: &Tables, pull: Pull, input: &[i32], output: &mut [i32]) -> Moved
+        requires { CanBeFed (kept self.old) tables.now pull.gain input.now pull.want output.old }
         ensures eaten { result.eaten
-            ≡ (fed (kept self.old) tables.now gain input.now want).eaten }
+            ≡ (fed (kept self.old) tables.now pull.gain input.now pull.want).eaten }
         ensures given { result.given
-            ≡ (fed (kept self.old) tables.now gain input.now want).given }
-        ensures most { result.given ≤ want }
-        ensures frames { output.new
-            ≡ written (fed (kept self.old) tables.now gain input.now want).frames output.old }
+            ≡ (fed (kept self.old) tables.now pull.gain input.now pull.want).given }
+        ensures most { result.given ≤ pull.want }
+        ensures frames { output.new ≡ written
+            (fed (kept self.old) tables.now pull.gain input.now pull.want).frames output.old }
         ensures kept { kept self.new
-            ≡ (fed (kept self.old) tables.now gain input.now want).kept }
+            ≡ (fed (kept self.old) tables.now pull.gain input.now pull.want).kept }
         ensures spec { (kept self.new).spec ≡ (kept self.old).spec }
         ensures kind { kind self.new ≡ kind self.old };
 }
@@ -64,14 +57,7 @@ impl Feeder for Box<dyn Feeder> {
         (**self).fit(spec)
     }
 
-    fn feed(
-        &mut self,
-        tables: &Tables,
-        gain: Gain,
-        input: &[i32],
-        want: usize,
-        output: &mut [i32],
-    ) -> Moved {
-        (**self).feed(tables, gain, input, want, output)
+    fn feed(&mut self, tables: &Tables, pull: Pull, input: &[i32], output: &mut [i32]) -> Moved {
+        (**self).feed(tables, pull, input, output)
     }
 }

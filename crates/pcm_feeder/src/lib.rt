@@ -34,6 +34,6 @@ pub use rack::{
     RACKS, Rack, RackFault, RackOf, Racks, RacksOf, Seven, SevenOf, WrongCount, WrongKind,
 };
 pub use section::Section;
-pub use stage::{Gain, Moved, Spec, UNITY};
+pub use stage::{Gain, Moved, Pull, Spec, UNITY};
 pub use sums::{product, scaled_down};
 pub use table::{Coefs, Table, Tables};

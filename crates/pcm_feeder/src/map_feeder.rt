@@ -3,7 +3,7 @@
 ghost use Rattle.std.specs.Prelude.{◌≡◌, IfOk, IsOk};
 ghost use Rattle.pcm_feeder.specs.Kept.{unfitted};
 
-use crate::{Feeder, Gain, Kind, Moved, Spec, Tables};
+use crate::{Feeder, Gain, Kind, Moved, Pull, Spec, Tables};
 use std::alloc::{AllocError, Global};
 
 /// What a stage does to each frame, whatever came before it.
@@ -86,19 +86,12 @@ impl<M: FrameMap> Feeder for MapFeeder<M> {
         self.fitted = M::of(spec);
     }
 
-    fn feed(
-        &mut self,
-        tables: &Tables,
-        gain: Gain,
-        input: &[i32],
-        want: usize,
-        output: &mut [i32],
-    ) -> Moved {
+    fn feed(&mut self, tables: &Tables, pull: Pull, input: &[i32], output: &mut [i32]) -> Moved {
         let Some(fitted) = &self.fitted else {
             return Moved { eaten: 0, given: 0 };
         };
-        let frames = want.min(input.len() / fitted.channels());
-        fitted.put_frames(gain, input, frames, output);
+        let frames = pull.want.min(input.len() / fitted.channels());
+        fitted.put_frames(pull.gain, input, frames, output);
         Moved {
             eaten: frames,
             given: frames,

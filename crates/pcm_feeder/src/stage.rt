@@ -73,6 +73,13 @@ pub const UNITY: Gain = Gain {
     right: 65536,
 };
 
+/// What is wanted of a stage at once: at most so many frames, at a gain.
+#[derive(Clone, Copy)]
+pub struct Pull {
+    pub gain: Gain,
+    pub want: usize,
+}
+
 /// How many frames a feed took from its input, and how many it gave.
 #[derive(Clone, Copy, Debug, PartialEq, Eq)]
 pub struct Moved {

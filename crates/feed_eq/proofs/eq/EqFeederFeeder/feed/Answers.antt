@@ -22,12 +22,12 @@ pass-requires-clause-whole_frames c =
 
 -- what a feed comes to
 done : (c : goal.After-output-1) → Does c.in-Some.fitted.channels c.in-Some.fitted.sections c.args.tables.now (tail_of c.in-Some.fitted) (frames_of c.in-Some.fitted.channels c.args.input.now) c.min-frames.result
-    (fed (kept_when c.args.self.now.fitted) c.args.tables.now c.args.gain c.args.input.now c.args.want)
+    (fed (kept_when c.args.self.now.fitted) c.args.tables.now c.args.pull.gain c.args.input.now c.args.pull.want)
 done c =
     let found = c.in-Some.fitted in
-    let can : CanFeed (Eq found.channels found.sections) c.args.tables.now c.args.gain c.args.input.now c.args.want c.args.output.now =
-    subst (λ f. CanBeFed (kept_when f) c.args.tables.now c.args.gain c.args.input.now c.args.want c.args.output.now) c.in-Some.is c.requires in
-    rw c.in-Some.is (does found.channels found.sections c.args.tables.now c.args.gain (tail_of found) c.args.input.now c.args.want c.min-frames.result can.filter c.min-frames.ensures)
+    let can : CanFeed (Eq found.channels found.sections) c.args.tables.now c.args.pull.gain c.args.input.now c.args.pull.want c.args.output.now =
+    subst (λ f. CanBeFed (kept_when f) c.args.tables.now c.args.pull.gain c.args.input.now c.args.pull.want c.args.output.now) c.in-Some.is c.requires in
+    rw c.in-Some.is (does found.channels found.sections c.args.tables.now c.args.pull.gain (tail_of found) c.args.input.now c.args.pull.want c.min-frames.result can.filter c.min-frames.ensures)
 
 -- the samples that go through, as frames
 input-is : (c : goal.After-output-1) → frames_of c.in-Some.fitted.channels c.copy_from_slice.new.self ≡ take c.min-frames.result (frames_of c.in-Some.fitted.channels c.args.input.now)
@@ -53,7 +53,7 @@ returns-clause-frames c =
     let within : m ≤ length c.args.input.now / n = omega (arith, c.min-frames.ensures) in
     let long : length samples ≡ m * n =
     c.pass.ensures.len ∙ ap length c.copy_from_slice.ensures.after ∙ length-take-le (m * n) c.args.input.now (front-within n m c.args.input.now within) in
-    let same : samples ≡ interleaved (fed (kept_when c.args.self.now.fitted) c.args.tables.now c.args.gain c.args.input.now c.args.want).frames =
+    let same : samples ≡ interleaved (fed (kept_when c.args.self.now.fitted) c.args.tables.now c.args.pull.gain c.args.input.now c.args.pull.want).frames =
     c.pass.ensures.samples
     ∙ ap (λ list. interleaved (sections_on n list (tail_of found) (frames_of n c.copy_from_slice.new.self))) c.sections.ensures.value
     ∙ ap (λ list. interleaved (sections_on n c.args.tables.now.sections (tail_of found) list)) (input-is c)

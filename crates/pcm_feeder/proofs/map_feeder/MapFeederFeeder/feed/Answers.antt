@@ -14,16 +14,16 @@ returns g c =
     let by = g.M.FrameMap in
     let made = c.in-Some.fitted in
     let spec = by.stage made in
-    let f = by.mapped made c.args.gain in
-    let want = c.args.want in
+    let f = by.mapped made c.args.pull.gain in
+    let want = c.args.pull.want in
     let samples = c.args.input.now in
     let old = c.args.output.now in
     let n = c.min-frames.result in
     let list = frames_of (channels_in spec) samples in
     let kept = kept_for by.stage c.args.self.now.fitted in
     let before : kept ≡ fresh spec = ap (kept_for by.stage) c.in-Some.is in
-    let does : MapsFrames spec f list want (fed kept c.args.tables.now c.args.gain samples want) =
-    rw before (fed-maps spec (by.mapped made) c.args.tables.now c.args.gain samples want (g.met.M.FrameMap.maps made)) in
+    let does : MapsFrames spec f list want (fed kept c.args.tables.now c.args.pull.gain samples want) =
+    rw before (fed-maps spec (by.mapped made) c.args.tables.now c.args.pull.gain samples want (g.met.M.FrameMap.maps made)) in
     let count : min want (length list) ≡ n =
     ap (min want) (length-frames_of (channels_in spec) samples) ∙ sym (c.min-frames.ensures ∙ ap (λ k. min want (length samples / k)) c.channels.ensures.value) in
     record {
