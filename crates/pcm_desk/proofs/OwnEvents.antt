@@ -202,18 +202,17 @@ other_by device event desk fd at held n differ h e a =
     record { channel = turned.strangers fd held differ e; holds = turned.holds fd differ ∙ e; alone = theirs_group device event desk fd at held (held_by desk at) refl differ h e turned ∙ a }
 
 -- whose an event is
-mine_named : (fd : ℕ) (named : Option ℕ) → names fd named ≡ true → (named ≡ None) ⊎ (named ≡ Some fd)
-mine_named fd None e = inl refl
-mine_named fd (Some at) e = inr (ap (λ (k : ℕ). Some k) (eqb-true at fd e))
+mine_named : (fd : ℕ) (named : Option ℕ) → names fd named ≡ true → named ≡ Some fd
+mine_named fd None e = cc
+mine_named fd (Some at) e = ap (λ (k : ℕ). Some k) (eqb-true at fd e)
 
-concerned : (fd : ℕ) (event : Event) → concerns fd event ≡ true → names fd (descriptor_of event) ≡ true
+concerned : (fd : ℕ) (event : Event) → concerns fd event ≡ true → (descriptor_of event ≡ None) ⊎ (descriptor_of event ≡ Some fd)
+concerned fd (Intr n) e = inl refl
 concerned fd (Join at group) e = cc
-concerned fd (StartGroup at group) e = cc
-concerned fd (Mixer request) e = cc
-concerned fd _ e = e
+concerned fd event e = inr (mine_named fd (descriptor_of event) e)
 
 pub mine-turns : (device : DeviceSeen) (event : Event) (desk : Desk) (fd : ℕ) (held : Held) → concerns fd event ≡ true → HoldApart desk → held_by desk fd ≡ Some held → IsAlone desk held → IsMine device event held fd desk
-mine-turns device event desk fd held e h m a = mine_by device event desk fd held (descriptor_of event) refl e (mine_named fd (descriptor_of event) (concerned fd event e)) h m a
+mine-turns device event desk fd held e h m a = mine_by device event desk fd held (descriptor_of event) refl e (concerned fd event e) h m a
 
 -- a start of a group leaves what is in none
 started_leaves : (device : DeviceSeen) (desk new : Desk) (group fd : ℕ) (held : Held) (reply : Result Answer Errno) → StartsTogether device group desk new reply → held_by desk fd ≡ Some held → IsAlone desk held → (IsErr reply ⊎ (0 < group)) → IsOther device held fd desk new

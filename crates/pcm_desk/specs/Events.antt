@@ -1,8 +1,8 @@
 -- Lists of events: which fit, how many frames they take, and the desk after them.
-use Rattle.std.specs.Prelude.{ℕ, ◌*◌, ◌<◌, ◌≤◌, List, [], ◌∷◌}
+use Rattle.std.specs.Prelude.{ℕ, ◌*◌, ◌<◌, ◌≤◌, List, [], ◌∷◌, Option, Some, None}
 use Rattle.std.specs.List.{sum_by}
 use Rattle.pcm_oss.specs.declared.event.Event.{Event}
-use Rattle.pcm_oss.specs.declared.event.Event.TheVariants.{Open, Write, Poke, Read, Ioctl, Join, StartGroup, Close, Mixer, Intr}
+use Rattle.pcm_oss.specs.declared.event.Event.TheVariants.{Open, Write, Poke, Read, StartGroup, Intr}
 use Rattle.pcm_wave.specs.declared.pool.Pool.{Pool}
 use Rattle.pcm_wave.specs.declared.pool.Source.{Source}
 use Rattle.pcm_wave.specs.declared.pool.Source.TheVariants.{Inline, File}
@@ -11,11 +11,17 @@ use Rattle.pcm_feeder.specs.Limits.{IsRate}
 use Rattle.pcm_desk.specs.declared.limits.TheConstants.{DESCRIPTORS, READ_BYTES, WRITE_BYTES}
 use Rattle.pcm_desk.specs.Device.{DeviceSeen, device_frame_bytes, ring_frames}
 use Rattle.pcm_desk.specs.Desk.{Desk, after}
+use Rattle.pcm_desk.specs.Own.{descriptor_of}
 
 -- how many bytes a write may have: a line spells so many, and a file as many as it has
 abbrev pub IsWriteOf : Source → ℕ → Type 0
 IsWriteOf Inline count = count ≤ WRITE_BYTES
 IsWriteOf (File place) count = Unit {0}
+
+-- the descriptor whose channel an event is of, if any, is one that there can be
+abbrev pub IsDescriptor : Option ℕ → Type 0
+IsDescriptor None = Unit {0}
+IsDescriptor (Some fd) = fd < DESCRIPTORS
 
 -- The event keeps the limits of a device, and names bytes that are there. A client may have any rate within the limits.
 abbrev pub Fits : DeviceSeen → Pool → Event → Type 0
@@ -23,12 +29,9 @@ Fits device pool (Open fd way settings) = (fd < DESCRIPTORS) × IsRate settings.
 Fits device pool (Write fd source at count) = (fd < DESCRIPTORS) × IsWriteOf source count × HasBytes pool source at count
 Fits device pool (Poke fd offset at count) = (fd < DESCRIPTORS) × IsWriteOf Inline count × HasBytes pool Inline at count
 Fits device pool (Read fd count) = (fd < DESCRIPTORS) × (count ≤ READ_BYTES)
-Fits device pool (Ioctl fd request) = fd < DESCRIPTORS
-Fits device pool (Join fd group) = fd < DESCRIPTORS
 Fits device pool (StartGroup fd group) = fd < DESCRIPTORS
-Fits device pool (Close fd) = fd < DESCRIPTORS
-Fits device pool (Mixer request) = Unit {0}
 Fits device pool (Intr frames) = (0 < frames) × (frames ≤ ring_frames device)
+Fits device pool event = IsDescriptor (descriptor_of event)
 
 -- the frames that an event takes out of the device's ring
 abbrev pub frames_taken : Event → ℕ

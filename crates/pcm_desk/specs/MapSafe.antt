@@ -6,14 +6,13 @@ use Rattle.pcm_rate.specs.declared.rate.Rate.{Rate}
 use Rattle.pcm_rate.specs.Rates.{need}
 use Rattle.pcm_desk.specs.declared.map_book.MapBook.{MapBook}
 use Rattle.pcm_desk.specs.declared.map_book.MapState.{MapState}
-use Rattle.pcm_desk.specs.declared.map_book.MapState.TheVariants.{Free, Setup, Running}
+use Rattle.pcm_desk.specs.declared.map_book.MapState.TheVariants.{Running}
 use Rattle.pcm_desk.specs.MapBooks.{taken_of}
 
 -- a book that isn't running counts nothing
 abbrev pub IsMapInOrder : MapState → MapBook → Type 0
-IsMapInOrder Free book = book.given ≡ 0
-IsMapInOrder Setup book = book.given ≡ 0
 IsMapInOrder Running book = Unit {0}
+IsMapInOrder state book = book.given ≡ 0
 
 -- just what the frames given need was taken, and what a client may set is within its limits
 pub record MapIsSafe (rate : Rate) (book : MapBook) : Type 0 where

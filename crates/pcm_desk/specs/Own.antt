@@ -14,7 +14,7 @@ use Rattle.pcm_group.specs.declared.sync_groups.Groups.{Groups}
 use Rattle.pcm_group.specs.Groups.{dissolved, groups_joined, joining}
 use Rattle.pcm_desk.specs.declared.play_book.PlayBook.{PlayBook}
 use Rattle.pcm_desk.specs.declared.play_book.PlayState.{PlayState}
-use Rattle.pcm_desk.specs.declared.play_book.PlayState.TheVariants.{Free, Setup, Primed, Draining}
+use Rattle.pcm_desk.specs.declared.play_book.PlayState.TheVariants.{Free, Setup, Draining}
 use Rattle.pcm_desk.specs.declared.device.Held.{Held}
 use Rattle.pcm_desk.specs.declared.here.Here.{Here}
 use Rattle.pcm_desk.specs.declared.record_book.RecordBook.{RecordBook}
@@ -22,7 +22,7 @@ use Rattle.pcm_desk.specs.declared.map_book.MapBook.{MapBook}
 use Rattle.pcm_desk.specs.Device.{DeviceSeen, here_at}
 use Rattle.pcm_desk.specs.declared.turn.Turn.{Turn}
 use Rattle.pcm_desk.specs.BookTurns.{doing, refused, telling}
-use Rattle.pcm_desk.specs.PlayBooks.{write_turn}
+use Rattle.pcm_desk.specs.PlayBooks.{is_primed, write_turn}
 use Rattle.pcm_desk.specs.RecordBooks as records
 use Rattle.pcm_desk.specs.RecordBooks.{is_record_free, is_record_setup}
 use Rattle.pcm_desk.specs.RecordRequests.{record_ask}
@@ -40,9 +40,7 @@ descriptor_of (Read fd count) = Some fd
 descriptor_of (Ioctl fd request) = Some fd
 descriptor_of (Join fd group) = Some fd
 descriptor_of (Close fd) = Some fd
-descriptor_of (StartGroup fd group) = None
-descriptor_of (Mixer request) = None
-descriptor_of (Intr n) = None
+descriptor_of event = None
 
 -- the book of a channel, of whichever way
 pub data Channel : Type 0 where
@@ -225,8 +223,7 @@ IsIsolated device event old new reply = IsIsolatedBy (descriptor_of event) devic
 
 abbrev pub is_waiting : PlayState → Bool
 is_waiting Setup = true
-is_waiting Primed = true
-is_waiting state = false
+is_waiting state = is_primed state
 
 -- A channel waits for the start of its group: it hasn't started, and its trigger is off. A mapped one waits for none.
 abbrev pub Waits : Channel → Type 0

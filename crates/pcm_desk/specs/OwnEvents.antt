@@ -17,16 +17,16 @@ use Rattle.pcm_desk.specs.declared.turn.Turn.{Turn}
 use Rattle.pcm_desk.specs.Events.{frames_taken}
 use Rattle.pcm_desk.specs.Own.{Channel, Playing, Recording, Mapped, descriptor_of, own_turn, ungrouped}
 
--- a descriptor is this one; an event that names none is everyone's
+-- a descriptor is this one; none is nobody's
 abbrev pub names : ℕ → Option ℕ → Bool
-names fd None = true
+names fd None = false
 names fd (Some at) = at == fd
 
--- an event of the descriptor that has nothing to do with groups, or an interrupt; what the mixer device is asked is nobody's
+-- an event of the descriptor that has nothing to do with groups, or an interrupt, which is everyone's; what the mixer device is asked is
+-- nobody's
 abbrev pub concerns : ℕ → Event → Bool
+concerns fd (Intr frames) = true
 concerns fd (Join at group) = false
-concerns fd (StartGroup at group) = false
-concerns fd (Mixer request) = false
 concerns fd event = names fd (descriptor_of event)
 
 -- a join of the descriptor

@@ -34,8 +34,7 @@ is_draining state = false
 
 abbrev pub is_started : PlayState → Bool
 is_started Running = true
-is_started (Draining _) = true
-is_started state = false
+is_started state = is_draining state
 
 -- the whole frames accepted in this run
 abbrev pub frames_written : PlayBook → ℕ

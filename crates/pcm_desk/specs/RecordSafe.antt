@@ -5,7 +5,7 @@ use Rattle.pcm_rate.specs.declared.rate.Rate.{Rate}
 use Rattle.pcm_rate.specs.Rates.{can}
 use Rattle.pcm_desk.specs.declared.record_book.RecordBook.{RecordBook}
 use Rattle.pcm_desk.specs.declared.record_book.RecordState.{RecordState}
-use Rattle.pcm_desk.specs.declared.record_book.RecordState.TheVariants.{Free, Setup, Running}
+use Rattle.pcm_desk.specs.declared.record_book.RecordState.TheVariants.{Running}
 use Rattle.pcm_desk.specs.RecordBooks.{record_fill_of}
 use Rattle.pcm_desk.specs.Openings.{ring_bytes}
 
@@ -17,9 +17,8 @@ pub record IsRecordUnstarted (book : RecordBook) : Type 0 where
 
 -- a book that isn't running counts nothing
 abbrev pub IsRecordInOrder : RecordState → RecordBook → Type 0
-IsRecordInOrder Free book = IsRecordUnstarted book
-IsRecordInOrder Setup book = IsRecordUnstarted book
 IsRecordInOrder Running book = Unit {0}
+IsRecordInOrder state book = IsRecordUnstarted book
 
 -- all that came of the captured frames did, no more was read than was kept, no more waits than the ring holds, and what a
 -- client may set is within its limits
