@@ -12,7 +12,7 @@ use Rattle.pcm_desk.specs.declared.map_book.MapState.TheVariants.{Setup, Running
 use Rattle.pcm_desk.specs.declared.play_requests.TheConstants.{PLAY_BIT}
 use Rattle.pcm_desk.specs.declared.turn.Turn.{Turn}
 use Rattle.pcm_desk.specs.Openings as openings
-use Rattle.pcm_desk.specs.Openings.{tell_pointer}
+use Rattle.pcm_desk.specs.Openings.{tell_pointer, with_trigger}
 use Rattle.pcm_desk.specs.PlayRequests.{has_play_bit}
 use Rattle.pcm_desk.specs.MapBooks.{is_map_setup, map_halted, taken_of}
 use Rattle.pcm_desk.specs.BookTurns.{doing, refused, telling}
@@ -29,7 +29,7 @@ map_set_volume volume book = if is_volume volume then telling (Number volume) (r
 
 -- the book with its trigger on or off
 abbrev pub map_with_trigger : Bool → MapBook → MapBook
-map_with_trigger trigger book = record book { opening = record book.opening { trigger = trigger } }
+map_with_trigger trigger book = record book { opening = with_trigger trigger book.opening }
 
 -- a book in Setup starts
 abbrev pub map_roused_in : MapState → MapBook → MapBook

@@ -32,6 +32,10 @@ fragment_bytes opening = fragment_size opening.fragments
 abbrev pub ring_bytes : Opening → ℕ
 ring_bytes opening = ring_size opening.fragments
 
+-- with its trigger on or off
+abbrev pub with_trigger : Bool → Opening → Opening
+with_trigger trigger opening = record opening { trigger = trigger }
+
 -- ---- settings
 
 -- Other settings, which are taken before a run alone. What isn't in its set is refused first.

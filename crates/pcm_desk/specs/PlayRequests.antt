@@ -15,7 +15,7 @@ use Rattle.pcm_desk.specs.declared.opening.Opening.{Opening}
 use Rattle.pcm_desk.specs.declared.play_requests.TheConstants.{PLAY_BIT}
 use Rattle.pcm_desk.specs.declared.turn.Turn.{Turn}
 use Rattle.pcm_desk.specs.Openings as openings
-use Rattle.pcm_desk.specs.Openings.{space_of, tell_pointer}
+use Rattle.pcm_desk.specs.Openings.{space_of, tell_pointer, with_trigger}
 use Rattle.pcm_desk.specs.PlayBooks.{drained_in, frames_written, has_given_all, is_draining, is_play_setup, is_started, play_dropped, play_fill_of, play_free_of, played_of, started_at}
 use Rattle.pcm_desk.specs.BookTurns.{doing, refused, telling}
 
@@ -59,7 +59,7 @@ delay_of rate mix_rate here book = play_fill_of book + device_holds rate mix_rat
 
 -- the book with its trigger on or off
 abbrev pub play_with_trigger : Bool → PlayBook → PlayBook
-play_with_trigger trigger book = record book { opening = record book.opening { trigger = trigger } }
+play_with_trigger trigger book = record book { opening = with_trigger trigger book.opening }
 
 -- a primed book with a whole frame starts
 abbrev pub play_roused_in : ℕ → PlayState → PlayBook → PlayBook

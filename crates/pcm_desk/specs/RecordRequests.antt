@@ -11,7 +11,7 @@ use Rattle.pcm_desk.specs.declared.record_book.RecordState.TheVariants.{Setup, R
 use Rattle.pcm_desk.specs.declared.record_requests.TheConstants.{RECORD_BIT}
 use Rattle.pcm_desk.specs.declared.turn.Turn.{Turn}
 use Rattle.pcm_desk.specs.Openings as openings
-use Rattle.pcm_desk.specs.Openings.{space_of, tell_pointer}
+use Rattle.pcm_desk.specs.Openings.{space_of, tell_pointer, with_trigger}
 use Rattle.pcm_desk.specs.RecordBooks.{is_record_setup, record_dropped, record_fill_of}
 use Rattle.pcm_desk.specs.BookTurns.{doing, refused, telling}
 
@@ -27,7 +27,7 @@ record_tell_errors book = telling (Errors 0 book.overruns) (record book { overru
 
 -- the book with its trigger on or off
 abbrev pub record_with_trigger : Bool → RecordBook → RecordBook
-record_with_trigger trigger book = record book { opening = record book.opening { trigger = trigger } }
+record_with_trigger trigger book = record book { opening = with_trigger trigger book.opening }
 
 -- a book in Setup starts
 abbrev pub record_roused_in : RecordState → RecordBook → RecordBook

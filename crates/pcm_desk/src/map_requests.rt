@@ -3,7 +3,7 @@
 ghost use Rattle.std.specs.Prelude.{◌≡◌, ◌*◌, ◌^◌, ◌<◌};
 ghost use Rattle.pcm_format.specs.Frames.{frame_bytes};
 ghost use Rattle.pcm_oss.specs.Fragments.{AreFragments};
-ghost use Rattle.pcm_desk.specs.MapRequests.{map_ask, map_posted, map_roused_in, map_set_trigger, map_set_volume, map_stopped_in, map_triggered, map_with_opening, map_with_trigger};
+ghost use Rattle.pcm_desk.specs.MapRequests.{map_ask, map_posted, map_roused_in, map_set_trigger, map_set_volume, map_stopped_in, map_triggered, map_with_opening};
 
 use crate::{MapBook, MapState, Opening, PLAY_BIT, Turn};
 use pcm_oss::{Answer, Errno, Request, is_volume};
@@ -85,21 +85,12 @@ impl MapBook {
         }
     }
 
-    fn with_trigger(self, trigger: bool) -> MapBook
-        ensures { result ≡ map_with_trigger trigger self }
-    {
-        let opening = Opening {
-            trigger,
-            ..self.opening
-        };
-        MapBook { opening, ..self }
-    }
-
     // The book once its trigger was set: on, it starts; off, it stops.
     fn triggered(self, trigger: bool) -> MapBook
         ensures { result ≡ map_triggered trigger self }
     {
-        let book = self.with_trigger(trigger);
+        let opening = self.opening.with_trigger(trigger);
+        let book = MapBook { opening, ..self };
         if trigger {
             book.roused()
         } else {

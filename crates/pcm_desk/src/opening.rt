@@ -2,7 +2,7 @@
 
 ghost use Rattle.std.specs.Prelude.{◌≡◌};
 ghost use Rattle.pcm_oss.specs.Fragments.{AreFragments};
-ghost use Rattle.pcm_desk.specs.Openings.{ask, at_rate, begun, pointer_of, set_channels, set_format, set_fragments, set_rate, space_of, tell_pointer, trigger_of, with_settings};
+ghost use Rattle.pcm_desk.specs.Openings.{ask, at_rate, begun, pointer_of, set_channels, set_format, set_fragments, set_rate, space_of, tell_pointer, trigger_of, with_settings, with_trigger};
 
 use crate::Turn;
 use pcm_format::{Format, Layout, RATE_LEAST, RATE_MOST, Settings};
@@ -129,6 +129,13 @@ impl Opening {
         let fragments = Fragments::from_arg(arg);
         let opening = Opening { fragments, ..self };
         opening.telling(fragments.to_arg())
+    }
+
+    /// The opening with its trigger on or off.
+    pub(crate) fn with_trigger(self, trigger: bool) -> Opening
+        ensures { result ≡ with_trigger trigger self }
+    {
+        Opening { trigger, ..self }
     }
 
     fn trigger_bits(&self, bit: u32) -> u32

@@ -9,7 +9,7 @@ ghost use Rattle.pcm_desk.specs.Openings.{ring_bytes};
 ghost use Rattle.pcm_desk.specs.Here.{IsHere, held_most};
 ghost use Rattle.pcm_desk.specs.PlaySafe.{PlayIsHere};
 ghost use Rattle.pcm_feeder.specs.Limits.{IsRate};
-ghost use Rattle.pcm_desk.specs.PlayRequests.{delay_of, device_holds, mark_of, still_to_pass, play_ask, play_posted, play_roused_in, play_set_trigger, play_stopped_in, play_tell_errors, play_triggered, play_with_opening, play_with_trigger, set_volume};
+ghost use Rattle.pcm_desk.specs.PlayRequests.{delay_of, device_holds, mark_of, still_to_pass, play_ask, play_posted, play_roused_in, play_set_trigger, play_stopped_in, play_tell_errors, play_triggered, play_with_opening, set_volume};
 
 use crate::{Here, Opening, PlayBook, PlayState, Turn};
 use pcm_oss::{Answer, Errno, Request, is_volume};
@@ -180,21 +180,12 @@ impl PlayBook {
         }
     }
 
-    fn with_trigger(self, trigger: bool) -> PlayBook
-        ensures { result ≡ play_with_trigger trigger self }
-    {
-        let opening = Opening {
-            trigger,
-            ..self.opening
-        };
-        PlayBook { opening, ..self }
-    }
-
     // The book once its trigger was set: on, it starts if it can; off, it stops.
     fn triggered(self, mixed: u64, trigger: bool) -> PlayBook
         ensures { result ≡ play_triggered mixed trigger self }
     {
-        let book = self.with_trigger(trigger);
+        let opening = self.opening.with_trigger(trigger);
+        let book = PlayBook { opening, ..self };
         if trigger {
             book.roused(mixed)
         } else {

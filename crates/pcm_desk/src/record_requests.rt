@@ -4,7 +4,7 @@ ghost use Rattle.std.specs.Prelude.{◌≡◌, ◌≤◌};
 ghost use Rattle.pcm_oss.specs.Fragments.{AreFragments};
 ghost use Rattle.pcm_desk.specs.Openings.{ring_bytes};
 ghost use Rattle.pcm_desk.specs.RecordBooks.{record_fill_of};
-ghost use Rattle.pcm_desk.specs.RecordRequests.{record_ask, record_posted, record_roused_in, record_set_trigger, record_stopped_in, record_tell_errors, record_triggered, record_with_opening, record_with_trigger};
+ghost use Rattle.pcm_desk.specs.RecordRequests.{record_ask, record_posted, record_roused_in, record_set_trigger, record_stopped_in, record_tell_errors, record_triggered, record_with_opening};
 
 use crate::{Opening, RecordBook, RecordState, Turn};
 use pcm_oss::{Answer, Errno, Request};
@@ -95,21 +95,12 @@ impl RecordBook {
         }
     }
 
-    fn with_trigger(self, trigger: bool) -> RecordBook
-        ensures { result ≡ record_with_trigger trigger self }
-    {
-        let opening = Opening {
-            trigger,
-            ..self.opening
-        };
-        RecordBook { opening, ..self }
-    }
-
     // The book once its trigger was set: on, it starts; off, it stops.
     fn triggered(self, trigger: bool) -> RecordBook
         ensures { result ≡ record_triggered trigger self }
     {
-        let book = self.with_trigger(trigger);
+        let opening = self.opening.with_trigger(trigger);
+        let book = RecordBook { opening, ..self };
         if trigger {
             book.roused()
         } else {
