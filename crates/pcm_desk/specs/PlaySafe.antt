@@ -3,8 +3,10 @@ use Rattle.std.specs.Prelude.{◌≡◌, ℕ, ◌+◌, ◌-◌, ◌<◌, ◌≤�
 use Rattle.pcm_oss.specs.Fragments.{AreFragments}
 use Rattle.pcm_oss.specs.Volumes.{is_volume}
 use Rattle.pcm_rate.specs.declared.rate.Rate.{Rate}
-use Rattle.pcm_rate.specs.Rates.{need, can, len}
+use Rattle.pcm_feeder.specs.Limits.{IsRate}
+use Rattle.pcm_rate.specs.Rates.{IsRatio, need, can, len}
 use Rattle.pcm_desk.specs.declared.here.Here.{Here}
+use Rattle.pcm_desk.specs.Here.{IsHere}
 use Rattle.pcm_desk.specs.declared.play_book.PlayBook.{PlayBook}
 use Rattle.pcm_desk.specs.declared.play_book.PlayState.{PlayState}
 use Rattle.pcm_desk.specs.declared.play_book.PlayState.TheVariants.{Free, Setup, Primed, Running, Draining}
@@ -56,3 +58,11 @@ pub record PlayIsSafe (rate : Rate) (book : PlayBook) : Type 0 where
 pub record PlayIsHere (rate : Rate) (here : Here) (book : PlayBook) : Type 0 where
   pub last : is_started book.state ≡ true → book.last ≤ here.mixed
   pub left : is_draining book.state ≡ true → is_over rate here.passed book ≡ false
+
+-- what is needed so that a delay can be told, by the rate between the book and the mix, and the rate of the mix
+pub record CanTellDelay (rate : Rate) (mix_rate : ℕ) (here : Here) (book : PlayBook) : Type 0 where
+  pub ratio : IsRatio rate
+  pub client : IsRate book.opening.settings.rate
+  pub mix : IsRate mix_rate
+  pub place : IsHere here
+  pub at : PlayIsHere rate here book

@@ -7,7 +7,7 @@ ghost use Rattle.pcm_rate.specs.Rates.{IsRatio};
 ghost use Rattle.pcm_desk.specs.PlayBooks.{play_fill_of, played_of};
 ghost use Rattle.pcm_desk.specs.Openings.{ring_bytes};
 ghost use Rattle.pcm_desk.specs.Here.{IsHere, held_most};
-ghost use Rattle.pcm_desk.specs.PlaySafe.{PlayIsHere};
+ghost use Rattle.pcm_desk.specs.PlaySafe.{CanTellDelay, PlayIsHere};
 ghost use Rattle.pcm_feeder.specs.Limits.{IsRate};
 ghost use Rattle.pcm_desk.specs.PlayRequests.{delay_of, device_holds, mark_of, still_to_pass, play_ask, play_posted, play_roused_in, play_set_trigger, play_stopped_in, play_tell_errors, play_triggered, play_with_opening, set_volume};
 
@@ -69,11 +69,7 @@ impl PlayBook {
 
     // The bytes that wait in the ring, and those that the device's still holds.
     fn delay(&self, rate: Rate, mix_rate: u32, here: Here) -> u32
-        requires rate { IsRatio rate }
-        requires client { IsRate self.now.opening.settings.rate }
-        requires mix { IsRate mix_rate }
-        requires here { IsHere here }
-        requires at { PlayIsHere rate here self.now }
+        requires delay { CanTellDelay rate mix_rate here self.now }
         requires eaten { self.now.eaten * frame_bytes self.now.opening.settings ≤ self.now.written }
         requires fill { play_fill_of self.now ≤ ring_bytes self.now.opening }
         requires fragments { AreFragments self.now.opening.fragments }
@@ -84,11 +80,7 @@ impl PlayBook {
 
     // The bytes of the run that the device's ring still holds.
     fn device_holds(&self, rate: Rate, mix_rate: u32, here: Here) -> u32
-        requires rate { IsRatio rate }
-        requires client { IsRate self.now.opening.settings.rate }
-        requires mix { IsRate mix_rate }
-        requires here { IsHere here }
-        requires at { PlayIsHere rate here self.now }
+        requires { CanTellDelay rate mix_rate here self.now }
         ensures value { result ≡ device_holds rate mix_rate here self.now }
         ensures within { result < 2 ^ 30 }
     {
