@@ -1,12 +1,13 @@
 -- What holds of the counts of a record book at every moment.
-use Rattle.std.specs.Prelude.{◌≡◌, ◌≤◌}
+use Rattle.std.specs.Prelude.{◌≡◌, ℕ, ◌+◌, ◌*◌, ◌^◌, ◌<◌, ◌≤◌}
+use Rattle.pcm_format.specs.Frames.{frame_bytes}
 use Rattle.pcm_oss.specs.Fragments.{AreFragments}
 use Rattle.pcm_rate.specs.declared.rate.Rate.{Rate}
-use Rattle.pcm_rate.specs.Rates.{can}
+use Rattle.pcm_rate.specs.Rates.{IsRatio, can}
 use Rattle.pcm_desk.specs.declared.record_book.RecordBook.{RecordBook}
 use Rattle.pcm_desk.specs.declared.record_book.RecordState.{RecordState}
 use Rattle.pcm_desk.specs.declared.record_book.RecordState.TheVariants.{Running}
-use Rattle.pcm_desk.specs.RecordBooks.{record_fill_of}
+use Rattle.pcm_desk.specs.RecordBooks.{coming, keeping, record_fill_of}
 use Rattle.pcm_desk.specs.Openings.{ring_bytes}
 
 -- nothing was captured, kept or read
@@ -30,3 +31,13 @@ pub record RecordIsSafe (rate : Rate) (book : RecordBook) : Type 0 where
   pub fragments : AreFragments book.opening.fragments
   -- no position was told that wasn't reached
   pub told : book.opening.told ≤ book.kept
+
+-- what is needed so that n more captured frames can be counted: the counts have room, and no more waits than the ring holds
+pub record CanCapture (rate : Rate) (n : ℕ) (book : RecordBook) : Type 0 where
+  pub ratio : IsRatio rate
+  pub captured : book.captured + n < 2 ^ 64
+  pub given : book.given + coming rate n book < 2 ^ 64
+  pub kept : book.kept + keeping rate n book * frame_bytes book.opening.settings < 2 ^ 64
+  pub read : book.read ≤ book.kept
+  pub fill : record_fill_of book ≤ ring_bytes book.opening
+  pub fragments : AreFragments book.opening.fragments

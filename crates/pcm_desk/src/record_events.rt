@@ -1,11 +1,11 @@
 //! What each event does to a record book, as plain arithmetic.
 
-ghost use Rattle.std.specs.Prelude.{◌≡◌, ◌+◌, ◌*◌, ◌^◌, ◌<◌, ◌≤◌};
-ghost use Rattle.pcm_format.specs.Frames.{frame_bytes};
+ghost use Rattle.std.specs.Prelude.{◌≡◌, ◌+◌, ◌^◌, ◌<◌, ◌≤◌};
 ghost use Rattle.pcm_rate.specs.Rates.{IsRatio};
 ghost use Rattle.pcm_oss.specs.Fragments.{AreFragments};
 ghost use Rattle.pcm_desk.specs.Openings.{ring_bytes};
 ghost use Rattle.pcm_desk.specs.RecordBooks.{captured, captures, closed, coming, is_record_free, is_record_setup, is_running, keeping, overruns_after, read_turn, record_begun, record_dropped, record_emptied, record_fill_of, record_free_of};
+ghost use Rattle.pcm_desk.specs.RecordSafe.{CanCapture};
 
 use crate::{Opening, RecordBook, RecordState, Turn};
 use pcm_format::Settings;
@@ -144,13 +144,7 @@ impl RecordBook {
 
     /// The book after an interrupt that captures `n` frames.
     pub fn captured(self, rate: Rate, n: u64) -> RecordBook
-        requires rate { IsRatio rate }
-        requires captured { self.captured + n < 2 ^ 64 }
-        requires given { self.given + coming rate n self < 2 ^ 64 }
-        requires kept { self.kept + keeping rate n self * frame_bytes self.opening.settings < 2 ^ 64 }
-        requires read { self.read ≤ self.kept }
-        requires fill { record_fill_of self ≤ ring_bytes self.opening }
-        requires fragments { AreFragments self.opening.fragments }
+        requires { CanCapture rate n self }
         ensures { result ≡ captured rate n self }
     {
         match self.state {
@@ -161,13 +155,7 @@ impl RecordBook {
 
     // All that come of the captured frames do, and the first ones are kept.
     fn captures(self, rate: Rate, n: u64) -> RecordBook
-        requires rate { IsRatio rate }
-        requires captured { self.captured + n < 2 ^ 64 }
-        requires given { self.given + coming rate n self < 2 ^ 64 }
-        requires kept { self.kept + keeping rate n self * frame_bytes self.opening.settings < 2 ^ 64 }
-        requires read { self.read ≤ self.kept }
-        requires fill { record_fill_of self ≤ ring_bytes self.opening }
-        requires fragments { AreFragments self.opening.fragments }
+        requires { CanCapture rate n self }
         ensures { result ≡ captures rate n self }
     {
         let frame_bytes = self.opening.settings.frame_bytes() as u64;

@@ -36,23 +36,23 @@ pub push-requires-clause-few : goal.push-requires-clause-few
 push-requires-clause-few g c =
     omega (arith, pushed-count c.args.tables.now c.args.self.now c.args.frames c.args.input.now c.requires.planned c.requires.whole, c.requires.few)
 
-pub captured-self-requires-clause-given : goal.captured-self-requires-clause-given
-captured-self-requires-clause-given g c =
+pub captured-self-requires : goal.captured-self-requires
+captured-self-requires g c =
     let old = c.args.self.now in
     let tables = c.args.tables.now in
     let planned = c.requires.planned in
     let rate = rate-pushed tables old c.push.new.self c.rate-rate.result c.plan.result.now planned c.rate-rate.ensures.value c.plan.ensures c.push.ensures.plan in
-    let most = given-most (seen tables old.path.device) c.args.frames old.book (device-is tables old planned) old.serves.rate (safe-at tables old planned) c.requires.count in
-    subst (λ (r : Rate). old.book.given + coming r c.args.frames old.book < 2 ^ 64) (sym rate) most
-
-pub captured-self-requires-clause-kept : goal.captured-self-requires-clause-kept
-captured-self-requires-clause-kept g c =
-    let old = c.args.self.now in
-    let tables = c.args.tables.now in
-    let planned = c.requires.planned in
-    let rate = rate-pushed tables old c.push.new.self c.rate-rate.result c.plan.result.now planned c.rate-rate.ensures.value c.plan.ensures c.push.ensures.plan in
+    let more = given-most (seen tables old.path.device) c.args.frames old.book (device-is tables old planned) old.serves.rate (safe-at tables old planned) c.requires.count in
     let most = kept-most (seen tables old.path.device) c.args.frames old.book (sym c.if-not-is_running.ensures) (safe-at tables old planned) in
-    subst (λ (r : Rate). old.book.kept + keeping r c.args.frames old.book * frame_bytes old.book.opening.settings < 2 ^ 64) (sym rate) (omega (arith, most, c.requires.kept))
+    record {
+      ratio = c.rate-rate.ensures.ratio;
+      captured = omega (arith, c.requires.count);
+      given = subst (λ (r : Rate). old.book.given + coming r c.args.frames old.book < 2 ^ 64) (sym rate) more;
+      kept = subst (λ (r : Rate). old.book.kept + keeping r c.args.frames old.book * frame_bytes old.book.opening.settings < 2 ^ 64) (sym rate) (omega (arith, most, c.requires.kept));
+      read = old.within;
+      fill = old.safe.fill;
+      fragments = old.safe.fragments;
+    }
 
 pub invariant_of-self : goal.invariant_of-self
 invariant_of-self g c =
