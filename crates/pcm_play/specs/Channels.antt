@@ -1,5 +1,5 @@
 -- A channel that plays: what it stands for, and what an event changes of it.
-use Rattle.std.specs.Prelude.{◌≡◌, ℕ, ◌+◌, ◌*◌, ◌<◌, ◌≤◌, true, ℤ, List, [], ◌++◌, length, take, drop}
+use Rattle.std.specs.Prelude.{◌≡◌, ℕ, ◌+◌, ◌*◌, ◌^◌, ◌<◌, ◌≤◌, true, ℤ, List, [], ◌++◌, length, take, drop}
 use Rattle.pcm_format.specs.Frames.{frame_bytes, frames}
 use Rattle.pcm_feeder.specs.declared.kind.Kind.{Kind}
 use Rattle.pcm_feeder.specs.declared.stage.Gain.{Gain}
@@ -55,6 +55,11 @@ AddsTo kept filters device n gain old new channel = (bytes : List ℕ) → PlayS
 -- where the mix and the device are, the channel's run gave no frame past what is mixed, and isn't over
 abbrev pub IsPlayHere : {B : Type 0} → Filters → Here → PlayChannelOf B → Type 0
 IsPlayHere filters here channel = PlayIsHere (play_rate_at (seen filters channel.path.device) channel.book) here channel.book
+
+-- a channel has the boxes of a rack, and its counts have room for the bytes of a run that ends
+pub record MayEnd {B : Type 0} (kind : B → Kind) (channel : PlayChannelOf B) : Type 0 where
+  pub kinds : HasBoxes kind channel.path
+  pub counted : channel.book.done + channel.book.written < 2 ^ 64
 
 -- a close leaves the book that the rules say, by whichever filters the chain's plan is of
 abbrev pub ClosesBook : {B : Type 0} → Here → PlayChannelOf B → PlayChannelOf B → Type 0

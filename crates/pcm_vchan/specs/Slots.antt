@@ -3,8 +3,6 @@ use Rattle.std.specs.Prelude.{◌≡◌, ℕ, ◌+◌, ◌^◌, ◌<◌, if◌th
 use Rattle.pcm_feeder.specs.declared.kind.Kind.{Kind}
 use Rattle.pcm_feeder.specs.Filters.{Filters}
 use Rattle.pcm_feeder.specs.Kept.{Kept}
-use Rattle.pcm_feeder.specs.Racks.{HaveKinds}
-use Rattle.pcm_chain.specs.Chains.{boxes_in}
 use Rattle.pcm_format.specs.Frames.{Frame}
 use Rattle.pcm_desk.specs.declared.record_book.RecordBook.{RecordBook}
 use Rattle.pcm_desk.specs.declared.device.Device.{Device}
@@ -23,11 +21,6 @@ use Rattle.pcm_sound.specs.Areas.{silences, silent_area}
 -- the book of a channel after an interrupt of n frames, where so many were handed over before
 abbrev pub Passes : {B : Type 0} → DeviceSeen → ℕ → ℕ → PlayChannelOf B → PlayChannelOf B → Type 0
 Passes device handed n old new = new.book ≡ play_passing device handed n old.book
-
--- a channel has the boxes of a rack, and its counts have room for the bytes of a run that ends
-pub record MaySettle {B : Type 0} (kind : B → Kind) (channel : PlayChannelOf B) : Type 0 where
-  pub kinds : HaveKinds kind (boxes_in channel.path.chain)
-  pub counted : channel.book.done + channel.book.written < 2 ^ 64
 
 -- what frames that are handed over leave of a channel
 pub record Settles {B : Type 0} (kind : B → Kind) (kept : B → Kept) (here : Here) (old new : PlayChannelOf B) : Type 0 where

@@ -4,11 +4,8 @@ use Rattle.pcm_play.specs.declared.channel.PlayChannelOf.{PlayChannelOf}
 use Rattle.pcm_vchan.specs.Slots.{Settles}
 use Rattle.pcm_vchan.proofs.settler.settle_slot.Goals as goal
 
-pub settle-requires-clause-kinds : goal.settle-requires-clause-kinds
-settle-requires-clause-kinds g c = (c.requires.due c.index-channels-slot.result).kinds
-
-pub settle-requires-clause-count : goal.settle-requires-clause-count
-settle-requires-clause-count g c = (c.requires.due c.index-channels-slot.result).counted
+pub settle-requires : goal.settle-requires
+settle-requires g c = c.requires.due c.index-channels-slot.result
 
 pub returns-clause-settled : goal.returns-clause-settled
 returns-clause-settled g c = λ other.
