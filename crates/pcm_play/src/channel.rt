@@ -12,7 +12,7 @@ ghost use Rattle.pcm_desk.specs.PlaySafe.{PlayIsSafe};
 ghost use Rattle.pcm_desk.proofs.Props.{book_props};
 ghost use Rattle.pcm_path.specs.Paths.{path_rate, HasBoxes, HoldBlock, Serves};
 ghost use Rattle.std.proofs.Props.{props};
-ghost use Rattle.pcm_desk.specs.Desk.{asking, mixing, play_unopened};
+ghost use Rattle.pcm_desk.specs.Desk.{asking, mixing};
 ghost use Rattle.pcm_desk.specs.Here.{IsHere};
 
 use pcm_desk::{Device, Here, PlayBook, PlayState};
@@ -37,7 +37,7 @@ pub struct PlayChannelOf<B> {
 
 impl<B: Feeder> PlayChannelOf<B> {
     ghost use Rattle.pcm_feeder.specs.Filters.{Filters};
-    ghost use Rattle.pcm_play.specs.Channels.{AddsTo, ClosesBook, IsPlayHere, IsPlayPlanned, IsPlayReady, MayEnd, PlayMoves, PlayStands, SettlesBook};
+    ghost use Rattle.pcm_play.specs.Channels.{AddsTo, ClosesBook, IsPlayHere, IsPlayPlanned, IsPlayReady, IsPlayUnopened, MayEnd, PlayMoves, SettlesBook};
 
     /// A channel of a device that nobody has opened.
     pub fn new(
@@ -48,11 +48,7 @@ impl<B: Feeder> PlayChannelOf<B> {
     ) -> Result<PlayChannelOf<B>, AllocError>
         requires device { HasRates device }
         requires kinds { IsRack B.kind rack }
-        ensures book { IfOk result (λ made. made.book ≡ play_unopened (seen tables.now device)) }
-        ensures device { IfOk result (λ made. made.path.device ≡ device) }
-        ensures kinds { IfOk result (λ made. HasBoxes B.kind made.path) }
-        ensures planned { IfOk result (λ made. IsPlayPlanned tables.now made) }
-        ensures stands { IfOk result (λ made. PlayStands B.kept tables.now made made.book []) }
+        ensures unopened { IfOk result (IsPlayUnopened B.kind B.kept tables.now device) }
     {
         let mut path = PathOf::new(alloc, device, rack)?;
         let book = PlayBook {

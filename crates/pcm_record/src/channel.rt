@@ -14,7 +14,7 @@ ghost use Rattle.pcm_desk.specs.RecordSafe.{RecordIsSafe};
 ghost use Rattle.pcm_desk.proofs.Props.{record_props};
 ghost use Rattle.pcm_path.specs.Paths.{path_rate, HasBoxes, Serves};
 ghost use Rattle.std.proofs.Props.{props};
-ghost use Rattle.pcm_desk.specs.Desk.{capturing, record_unopened};
+ghost use Rattle.pcm_desk.specs.Desk.{capturing};
 
 use pcm_desk::{Device, RecordBook, RecordState};
 use pcm_feeder::{Feeder, RackOf, Tables};
@@ -36,7 +36,7 @@ pub struct RecordChannelOf<B> {
 
 impl<B: Feeder> RecordChannelOf<B> {
     ghost use Rattle.pcm_feeder.specs.Filters.{Filters};
-    ghost use Rattle.pcm_record.specs.Channels.{CaptureMoves, GivesUnread, IsRecordPlanned, RecordMoves, RecordStands, RecordStandsForSome};
+    ghost use Rattle.pcm_record.specs.Channels.{CaptureMoves, GivesUnread, IsRecordPlanned, IsRecordUnopened, RecordMoves, RecordStandsForSome};
 
     /// A channel of a device that nobody has opened.
     pub fn new(
@@ -47,11 +47,7 @@ impl<B: Feeder> RecordChannelOf<B> {
     ) -> Result<RecordChannelOf<B>, AllocError>
         requires device { HasRates device }
         requires kinds { IsRack B.kind rack }
-        ensures book { IfOk result (λ made. made.book ≡ record_unopened (seen tables.now device)) }
-        ensures device { IfOk result (λ made. made.path.device ≡ device) }
-        ensures kinds { IfOk result (λ made. HasBoxes B.kind made.path) }
-        ensures planned { IfOk result (λ made. IsRecordPlanned tables.now made) }
-        ensures stands { IfOk result (λ made. RecordStands B.kept tables.now made made.book [] []) }
+        ensures unopened { IfOk result (IsRecordUnopened B.kind B.kept tables.now device) }
     {
         let mut path = PathOf::new(alloc, device, rack)?;
         let book = RecordBook {

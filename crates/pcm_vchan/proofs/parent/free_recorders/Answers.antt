@@ -27,13 +27,7 @@ loop-rack-preserved g c =
     let P = IsRecordUnopened g.B.Feeder.kind g.B.Feeder.kept c.args.tables.now c.args.device in
     let steps = c.in-Some.ensures.steps.0 in
     let before = c.loop-rack.channels.items in
-    let made : P channel = record {
-      device_is = c.in_ok-new.ensures.device;
-      book = c.in_ok-new.ensures.book;
-      kinds = c.in_ok-new.ensures.kinds;
-      planned = c.in_ok-new.ensures.planned;
-      stands = c.in_ok-new.ensures.stands;
-    } in
+    let made : P channel = c.in_ok-new.ensures.unopened in
     let items = c.in_ok-push.ensures.items in
     let longer : length c.push.new.self.items ≡ length before + 1 = ap (λ (list : List (RecordChannelOf _)). length list) items ∙ length_push before channel in
     let shorter : length c.loop-rack.rack-iterator.rest.items ≡ length (c.in-Some.rack ∷ c.next.new.self.rest.items) = ap (λ (list : List (RackOf _)). length list) steps in

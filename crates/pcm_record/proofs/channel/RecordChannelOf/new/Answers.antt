@@ -1,11 +1,20 @@
-use Rattle.std.proofs.Common.{ap}
+use Rattle.std.proofs.Common.{ap, ◌∙◌}
 use Rattle.pcm_desk.specs.declared.record_book.RecordBook.{RecordBook}
+use Rattle.pcm_desk.specs.declared.record_book.RecordState.TheVariants.{Free}
 use Rattle.pcm_record.proofs.Stands.{stands-empty}
 use Rattle.pcm_record.proofs.channel.RecordChannelOf.new.Goals as goal
 
-pub returns-clause-stands : goal.returns-clause-stands
-returns-clause-stands g c =
+pub returns : goal.returns
+returns g c =
     let begun = c.begun.ensures in
-    stands-empty g.B.Feeder.kept c.args.tables.now _
-    (record { captured_none = ap (λ (b : RecordBook). b.captured) begun; kept_none = ap (λ (b : RecordBook). b.kept) begun; read_none = ap (λ (b : RecordBook). b.read) begun })
-    c.begin.ensures.empty
+    record {
+      unopened = record {
+        device_is = c.begin.ensures.device ∙ c.in_ok-path.ensures.device;
+        book = ap (λ (b : RecordBook). record b { state = Free }) begun;
+        kinds = c.begin.ensures.kinds;
+        planned = c.begin.ensures.planned;
+        stands = stands-empty g.B.Feeder.kept c.args.tables.now _
+          (record { captured_none = ap (λ (b : RecordBook). b.captured) begun; kept_none = ap (λ (b : RecordBook). b.kept) begun; read_none = ap (λ (b : RecordBook). b.read) begun })
+          c.begin.ensures.empty;
+      };
+    }
