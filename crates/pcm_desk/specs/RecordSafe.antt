@@ -32,12 +32,16 @@ pub record RecordIsSafe (rate : Rate) (book : RecordBook) : Type 0 where
   -- no position was told that wasn't reached
   pub told : book.opening.told ≤ book.kept
 
--- what is needed so that n more captured frames can be counted: the counts have room, and no more waits than the ring holds
-pub record CanCapture (rate : Rate) (n : ℕ) (book : RecordBook) : Type 0 where
+-- what is needed so that of n more captured frames those can be kept that have room
+pub record CanKeep (rate : Rate) (n : ℕ) (book : RecordBook) : Type 0 where
   pub ratio : IsRatio rate
   pub captured : book.captured + n < 2 ^ 64
-  pub given : book.given + coming rate n book < 2 ^ 64
-  pub kept : book.kept + keeping rate n book * frame_bytes book.opening.settings < 2 ^ 64
   pub read : book.read ≤ book.kept
   pub fill : record_fill_of book ≤ ring_bytes book.opening
   pub fragments : AreFragments book.opening.fragments
+
+-- and so that they can be counted
+pub record CanCapture (rate : Rate) (n : ℕ) (book : RecordBook) : Type 0 where
+  pub keeps : CanKeep rate n book
+  pub given : book.given + coming rate n book < 2 ^ 64
+  pub kept : book.kept + keeping rate n book * frame_bytes book.opening.settings < 2 ^ 64

@@ -5,7 +5,7 @@ ghost use Rattle.pcm_rate.specs.Rates.{IsRatio};
 ghost use Rattle.pcm_oss.specs.Fragments.{AreFragments};
 ghost use Rattle.pcm_desk.specs.Openings.{ring_bytes};
 ghost use Rattle.pcm_desk.specs.RecordBooks.{captured, captures, closed, coming, is_record_free, is_record_setup, is_running, keeping, overruns_after, read_turn, record_begun, record_dropped, record_emptied, record_fill_of, record_free_of};
-ghost use Rattle.pcm_desk.specs.RecordSafe.{CanCapture};
+ghost use Rattle.pcm_desk.specs.RecordSafe.{CanCapture, CanKeep};
 
 use crate::{Opening, RecordBook, RecordState, Turn};
 use pcm_format::Settings;
@@ -131,11 +131,7 @@ impl RecordBook {
 
     // How many of them the ring keeps: whole frames, and the first ones.
     fn keeping(&self, rate: Rate, n: u64) -> u64
-        requires rate { IsRatio rate }
-        requires captured { self.now.captured + n < 2 ^ 64 }
-        requires read { self.now.read ≤ self.now.kept }
-        requires fill { record_fill_of self.now ≤ ring_bytes self.now.opening }
-        requires fragments { AreFragments self.now.opening.fragments }
+        requires { CanKeep rate n self.now }
         ensures { result ≡ keeping rate n self.now }
     {
         let room = u128::from(self.free()) / self.opening.settings.frame_bytes() as u128;
@@ -170,11 +166,7 @@ impl RecordBook {
 
     // More frames than are kept are an overrun. The count stands still at its end.
     fn overruns_after(&self, rate: Rate, n: u64) -> u32
-        requires rate { IsRatio rate }
-        requires captured { self.now.captured + n < 2 ^ 64 }
-        requires read { self.now.read ≤ self.now.kept }
-        requires fill { record_fill_of self.now ≤ ring_bytes self.now.opening }
-        requires fragments { AreFragments self.now.opening.fragments }
+        requires { CanKeep rate n self.now }
         ensures { result ≡ overruns_after rate n self.now }
     {
         if u128::from(self.keeping(rate, n)) < self.coming(rate, n) {
