@@ -57,7 +57,7 @@ abbrev pub IsPlayHere : {B : Type 0} → Filters → Here → PlayChannelOf B �
 IsPlayHere filters here channel = PlayIsHere (play_rate_at (seen filters channel.path.device) channel.book) here channel.book
 
 -- a channel has the boxes of a rack, and its counts have room for the bytes of a run that ends
-pub record MayEnd {B : Type 0} (kind : B → Kind) (channel : PlayChannelOf B) : Type 0 where
+pub record MayEndRun {B : Type 0} (kind : B → Kind) (channel : PlayChannelOf B) : Type 0 where
   pub kinds : HasBoxes kind channel.path
   pub counted : channel.book.done + channel.book.written < 2 ^ 64
 

@@ -37,7 +37,7 @@ pub struct PlayChannelOf<B> {
 
 impl<B: Feeder> PlayChannelOf<B> {
     ghost use Rattle.pcm_feeder.specs.Filters.{Filters};
-    ghost use Rattle.pcm_play.specs.Channels.{AddsTo, ClosesBook, IsPlayHere, IsPlayPlanned, IsPlayReady, IsPlayUnopened, MayEnd, PlayMoves, SettlesBook};
+    ghost use Rattle.pcm_play.specs.Channels.{AddsTo, ClosesBook, IsPlayHere, IsPlayPlanned, IsPlayReady, IsPlayUnopened, MayEndRun, PlayMoves, SettlesBook};
 
     /// A channel of a device that nobody has opened.
     pub fn new(
@@ -139,7 +139,7 @@ impl<B: Feeder> PlayChannelOf<B> {
 
     /// No descriptor has the channel any more: what was written plays to its end.
     pub fn close(&mut self, here: Here)
-        requires { MayEnd B.kind self.old }
+        requires { MayEndRun B.kind self.old }
         ensures book { ClosesBook here self.old self.new }
         ensures device { self.new.path.device ≡ self.old.path.device }
         ensures moves { (filters : Filters) → PlayMoves B.kind B.kept filters [] 0 self.old self.new }
@@ -153,7 +153,7 @@ impl<B: Feeder> PlayChannelOf<B> {
 
     /// Frames were handed over: a draining run of which nothing is left to pass ends.
     pub fn settle(&mut self, here: Here)
-        requires { MayEnd B.kind self.old }
+        requires { MayEndRun B.kind self.old }
         ensures book { SettlesBook here self.old self.new }
         ensures device { self.new.path.device ≡ self.old.path.device }
         ensures moves { (filters : Filters) → PlayMoves B.kind B.kept filters [] 0 self.old self.new }

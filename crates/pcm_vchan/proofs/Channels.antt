@@ -39,7 +39,7 @@ use Rattle.pcm_map.proofs.Moving.{moves-nothing}
 use Rattle.pcm_sound.specs.Areas.{is_recut, silences, silent_area}
 use Rattle.pcm_bus.specs.Slots.{AreMixed, Each, IsPlayDue, Mixes, PlayAreOf, map_books_of, play_books_of}
 use Rattle.pcm_vchan.specs.Slots.{MapKeeps, Passes, Settles, record_books_of}
-use Rattle.pcm_play.specs.Channels.{IsPlayReady, MayEnd, PlayMoves, PlayStands}
+use Rattle.pcm_play.specs.Channels.{IsPlayReady, MayEndRun, PlayMoves, PlayStands}
 
 prefix_len-map : {X Y : Type 0} (p : Y → Bool) (f : X → Y) (xs : List X) → prefix_len p (map f xs) ≡ prefix_len (λ x. p (f x)) xs
 prefix_len-map p f [] = refl
@@ -317,7 +317,7 @@ all-passed {B = B} kind kept filters device handed n frames mixed here old betwe
 
 -- each of them may end a run once it was refilled
 pub may-settle : {B : Type 0} (kind : B → Kind) (kept : B → Kept) (filters : Filters) (device : Device) (frames mixed : ℕ) (old between : List (PlayChannelOf B))
-    → length between ≡ length old → All (IsPlayDue kind kept filters device frames) old → AreMixed kind kept filters device mixed frames old between → All (MayEnd kind) between
+    → length between ≡ length old → All (IsPlayDue kind kept filters device frames) old → AreMixed kind kept filters device mixed frames old between → All (MayEndRun kind) between
 may-settle kind kept filters device frames mixed old between same due m = λ slot other within.
     let there : slot < length old = omega arith in
     let d = due slot other there in

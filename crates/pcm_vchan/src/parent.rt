@@ -20,7 +20,7 @@ ghost use Rattle.pcm_desk.specs.MapBooks.{is_map_free};
 ghost use Rattle.pcm_map.specs.Channels.{IsMapReady, IsMapUnopened};
 ghost use Rattle.pcm_bus.specs.Slots.{Each, MapAreOf, PlayAreOf};
 ghost use Rattle.pcm_vchan.specs.Slots.{RecordAreOf, Settles};
-ghost use Rattle.pcm_play.specs.Channels.{IsPlayHere, IsPlayReady, IsPlayUnopened, MayEnd};
+ghost use Rattle.pcm_play.specs.Channels.{IsPlayHere, IsPlayReady, IsPlayUnopened, MayEndRun};
 ghost use Rattle.pcm_record.specs.Channels.{IsRecordReady, IsRecordUnopened};
 ghost use Rattle.pcm_vchan.specs.Starts.{EachAt, MayRecord, MayStart, Records, Starts, is_in};
 ghost use Rattle.pcm_bus.specs.Blocks.{silent_ring};
@@ -331,7 +331,7 @@ impl<B: Feeder> ParentOf<B> {
     fn pass(&mut self, n: usize, mixed: usize)
         requires handed { self.old.handed + n < 2 ^ 56 }
         requires mixed { self.old.mixed + mixed < 2 ^ 64 }
-        requires due { All (MayEnd B.kind) (play_channels self.old) }
+        requires due { All (MayEndRun B.kind) (play_channels self.old) }
         ensures device { self.new.device ≡ self.old.device }
         ensures slots { length (play_channels self.new) ≡ length (play_channels self.old) }
         ensures settled { Each (Settles B.kind B.kept (here_of self.new)) (play_channels self.old) (play_channels self.new) }

@@ -1,13 +1,13 @@
 use Rattle.std.proofs.Common.{◌≡◌, ℕ, get_or, refl, sym, ◌∙◌, subst, inl, inr, arith}
 use Rattle.std.proofs.lemmas.Bool.{cases_lt}
 use Rattle.pcm_play.specs.declared.channel.PlayChannelOf.{PlayChannelOf}
-use Rattle.pcm_play.specs.Channels.{MayEnd}
+use Rattle.pcm_play.specs.Channels.{MayEndRun}
 use Rattle.pcm_vchan.specs.Slots.{Settles}
 use Rattle.pcm_vchan.proofs.settler.settle_all.Goals as goal
 
 pub settle_slot-requires-clause-due : goal.settle_slot-requires-clause-due
 settle_slot-requires-clause-due g c = λ other.
-    subst (MayEnd g.B.Feeder.kind) (sym (c.loop-slot.invariant.rest c.loop-slot.slot other (omega arith))) (c.requires.due c.loop-slot.slot other (omega arith))
+    subst (MayEndRun g.B.Feeder.kind) (sym (c.loop-slot.invariant.rest c.loop-slot.slot other (omega arith))) (c.requires.due c.loop-slot.slot other (omega arith))
 
 pub loop-slot-init : goal.loop-slot-init
 loop-slot-init g c = record {

@@ -5,13 +5,13 @@ use Rattle.pcm_desk.specs.declared.here.Here.{Here}
 use Rattle.pcm_desk.specs.Device.{passed_for, unfiltered}
 use Rattle.pcm_play.specs.declared.channel.PlayChannelOf.{PlayChannelOf}
 use Rattle.pcm_bus.specs.Slots.{Each}
-use Rattle.pcm_play.specs.Channels.{MayEnd}
+use Rattle.pcm_play.specs.Channels.{MayEndRun}
 use Rattle.pcm_vchan.specs.Slots.{Settles}
 use Rattle.pcm_vchan.specs.Parents.{play_channels}
 use Rattle.pcm_vchan.proofs.parent.ParentOf.pass.Goals as goal
 
 pub settle_all-requires : goal.settle_all-requires
-settle_all-requires g c = record { due = subst (All (MayEnd g.B.Feeder.kind)) (sym c.deref_mut.ensures.value) c.requires.due }
+settle_all-requires g c = record { due = subst (All (MayEndRun g.B.Feeder.kind)) (sym c.deref_mut.ensures.value) c.requires.due }
 
 pub returns-clause-slots : goal.returns-clause-slots
 returns-clause-slots g c =
