@@ -4,9 +4,9 @@ use Rattle.std.specs.Bool.{OnTrue, OnFalse}
 use Rattle.pcm_oss.specs.declared.event.Event.{Event}
 use Rattle.pcm_oss.specs.declared.event.Event.TheVariants.{Intr}
 use Rattle.pcm_oss.specs.declared.reply.Answer.{Answer}
-use Rattle.pcm_oss.specs.declared.reply.Answer.TheVariants.{Number, Got}
+use Rattle.pcm_oss.specs.declared.reply.Answer.TheVariants.{Number}
 use Rattle.pcm_oss.specs.declared.reply.Errno.{Errno}
-use Rattle.pcm_oss.specs.Replies.{Reply}
+use Rattle.pcm_oss.specs.Replies.{Reply, bytes_due}
 use Rattle.pcm_feeder.specs.Kept.{Kept}
 use Rattle.pcm_numbers.specs.Answers.{answer_numbers, fault_number, refusal_number}
 use Rattle.pcm_numbers.specs.declared.answers.AnswerNumbers.{AnswerNumbers}
@@ -26,11 +26,10 @@ most = 2147483647
 abbrev pub call_count : ℕ → ℤ
 call_count count = pos (min count most)
 
--- the number of a result: what it counts
+-- the number of a result: what it counts, or how many bytes come with it
 abbrev pub count_number : Result Answer Errno → ℤ
 count_number (Ok (Number count)) = call_count count
-count_number (Ok (Got count)) = call_count count
-count_number (Ok answer) = pos 0
+count_number (Ok answer) = call_count (bytes_due (Ok answer))
 count_number (Err errno) = refusal_number errno
 
 -- or 0, where what it counts stands elsewhere

@@ -14,13 +14,13 @@ pub fn is_allowed(device: &Device, event: &Event) -> bool
 {
     match *event {
         Event::Open { fd, settings, .. } => is_descriptor(fd) && is_rate(settings.rate),
-        Event::Write { fd, .. } => is_descriptor(fd),
-        Event::Poke { fd, .. } => is_descriptor(fd),
         Event::Read { fd, len } => is_descriptor(fd) && len <= READ_BYTES,
-        Event::Ioctl { fd, .. } => is_descriptor(fd),
-        Event::Join { fd, .. } => is_descriptor(fd),
-        Event::StartGroup { fd, .. } => is_descriptor(fd),
-        Event::Close { fd } => is_descriptor(fd),
+        Event::Write { fd, .. }
+        | Event::Poke { fd, .. }
+        | Event::Ioctl { fd, .. }
+        | Event::Join { fd, .. }
+        | Event::StartGroup { fd, .. }
+        | Event::Close { fd } => is_descriptor(fd),
         Event::Mixer { .. } => true,
         Event::Intr { frames } => 0 < frames && frames <= device.ring_frames,
     }
