@@ -1,9 +1,9 @@
 -- What an event brings: bytes of a write or of a poke, and samples that an interrupt captures. A script names where they stand; a call has them with it.
-use Rattle.std.specs.Prelude.{◌≡◌, ℕ, ◌-◌, ◌*◌, ◌<◌, ◌≤◌, ℤ, pos, List, [], ◌++◌, length, replicate}
+use Rattle.std.specs.Prelude.{◌≡◌, ℕ, ◌-◌, ◌*◌, ◌<◌, ◌≤◌, ℤ, pos, List, [], ◌++◌, length, replicate, Option, None, Some}
 use Rattle.pcm_format.specs.declared.layout.Layout.{Layout}
 use Rattle.pcm_format.specs.Layouts.{channels_of}
 use Rattle.pcm_oss.specs.declared.event.Event.{Event}
-use Rattle.pcm_oss.specs.declared.event.Event.TheVariants.{Open, Write, Poke, Read, Ioctl, Join, StartGroup, Close, Mixer, Intr}
+use Rattle.pcm_oss.specs.declared.event.Event.TheVariants.{Open, Write, Poke, Read, StartGroup, Intr}
 use Rattle.pcm_wave.specs.declared.pool.Pool.{Pool}
 use Rattle.pcm_wave.specs.declared.pool.Source.TheVariants.{Inline}
 use Rattle.pcm_wave.specs.Pools.{HasBytes, IsCaptureIn, bytes_at, captured_frames}
@@ -12,6 +12,7 @@ use Rattle.pcm_feeder.specs.Streams.{interleaved}
 use Rattle.pcm_desk.specs.declared.limits.TheConstants.{DESCRIPTORS, READ_BYTES}
 use Rattle.pcm_desk.specs.Device.{DeviceSeen, device_settings, ring_frames}
 use Rattle.pcm_desk.specs.Events.{Fits}
+use Rattle.pcm_desk.specs.Own.{descriptor_of}
 
 -- an event, wherever its bytes stand
 abbrev pub placeless : Event → Event
@@ -29,18 +30,18 @@ abbrev pub samples_asked : Layout → Event → ℕ
 samples_asked layout (Intr frames) = frames * channels_of layout
 samples_asked layout event = 0
 
+-- the descriptor whose channel an event is of, if any, is one that there can be
+abbrev pub IsDescriptor : Option ℕ → Type 0
+IsDescriptor None = Unit {0}
+IsDescriptor (Some fd) = fd < DESCRIPTORS
+
 -- The event keeps the limits of a device. It may bring any bytes.
 abbrev pub IsAllowed : DeviceSeen → Event → Type 0
 IsAllowed device (Open fd way settings) = (fd < DESCRIPTORS) × IsRate settings.rate
-IsAllowed device (Write fd source at count) = fd < DESCRIPTORS
-IsAllowed device (Poke fd offset at count) = fd < DESCRIPTORS
 IsAllowed device (Read fd count) = (fd < DESCRIPTORS) × (count ≤ READ_BYTES)
-IsAllowed device (Ioctl fd request) = fd < DESCRIPTORS
-IsAllowed device (Join fd group) = fd < DESCRIPTORS
 IsAllowed device (StartGroup fd group) = fd < DESCRIPTORS
-IsAllowed device (Close fd) = fd < DESCRIPTORS
-IsAllowed device (Mixer request) = Unit {0}
 IsAllowed device (Intr frames) = (0 < frames) × (frames ≤ ring_frames device)
+IsAllowed device event = IsDescriptor (descriptor_of event)
 
 -- ---- what stands in a pool
 
