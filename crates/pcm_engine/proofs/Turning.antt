@@ -34,7 +34,7 @@ use Rattle.pcm_vchan.specs.Lending.{with_channel, with_map_channel, with_recorde
 use Rattle.pcm_bus.proofs.Channels.{map_at-channel, play_at-channel}
 use Rattle.pcm_vchan.proofs.Channels.{map_books_of-set, play_books_of-set, record_at-channel, record_books_of-set}
 use Rattle.pcm_engine.specs.declared.descriptors.Descriptors.{Descriptors}
-use Rattle.pcm_engine.specs.Descriptors.{holding, mapped_slot, playing_slot, recording_slot, shut}
+use Rattle.pcm_engine.specs.Descriptors.{holding, is_way, shut, slot_of}
 use Rattle.pcm_engine.specs.Desks.{desk_with}
 use Rattle.pcm_engine.specs.Steps.{bytes_read, channel_read}
 
@@ -71,63 +71,20 @@ abbrev slot_in : Result ℕ Errno → ℕ
 slot_in (Ok slot) = slot
 slot_in (Err errno) = 0
 
-abbrev why_of : Result ℕ Errno → Errno
-why_of (Ok slot) = BadF
-why_of (Err errno) = errno
+slot_way : (way other : Way) (at slot : ℕ) → cond (is_way way other) (Ok at) (Err Inval) ≡ Ok slot → channel_of other at ≡ channel_of way slot
+slot_way Play Play at slot e = ap (channel_of Play) (ap slot_in e)
+slot_way Play Record at slot e = cc
+slot_way Play Map at slot e = cc
+slot_way Record Play at slot e = cc
+slot_way Record Record at slot e = ap (channel_of Record) (ap slot_in e)
+slot_way Record Map at slot e = cc
+slot_way Map Play at slot e = cc
+slot_way Map Record at slot e = cc
+slot_way Map Map at slot e = ap (channel_of Map) (ap slot_in e)
 
-playing_way : (way : Way) (at slot : ℕ) → by_way {X = Result ℕ Errno} way (Ok at) (Err Inval) (Err Inval) ≡ Ok slot → channel_of way at ≡ channel_of Play slot
-playing_way Play at slot e = ap (channel_of Play) (ap slot_in e)
-playing_way Record at slot e = cc
-playing_way Map at slot e = cc
-
-pub playing-is : (found : Option Held) (slot : ℕ) → playing_slot found ≡ Ok slot → found ≡ Some (channel_of Play slot)
-playing-is None slot e = cc
-playing-is (Some held) slot e = ap (λ (h : Held). Some h) (playing_way held.way held.slot slot e)
-
-playing_not_way : (way : Way) (at : ℕ) (play : ℕ → DeskTurn) (desk : Desk) (errno : Errno) → by_way {X = Result ℕ Errno} way (Ok at) (Err Inval) (Err Inval) ≡ Err errno → by_way way (play at) (refusing desk Inval) (refusing desk Inval) ≡ refusing desk errno
-playing_not_way Play at play desk errno e = cc
-playing_not_way Record at play desk errno e = ap (λ (r : Result ℕ Errno). refusing desk (why_of r)) e
-playing_not_way Map at play desk errno e = ap (λ (r : Result ℕ Errno). refusing desk (why_of r)) e
-
-pub playing-not : (play : ℕ → DeskTurn) (found : Option Held) (desk : Desk) (errno : Errno) → playing_slot found ≡ Err errno → turning play (λ slot. refusing desk Inval) (λ slot. refusing desk Inval) found desk ≡ refusing desk errno
-playing-not play None desk errno e = ap (λ (r : Result ℕ Errno). refusing desk (why_of r)) e
-playing-not play (Some held) desk errno e = playing_not_way held.way held.slot play desk errno e
-
-recording_way : (way : Way) (at slot : ℕ) → by_way {X = Result ℕ Errno} way (Err Inval) (Ok at) (Err Inval) ≡ Ok slot → channel_of way at ≡ channel_of Record slot
-recording_way Play at slot e = cc
-recording_way Map at slot e = cc
-recording_way Record at slot e = ap (channel_of Record) (ap slot_in e)
-
-pub recording-is : (found : Option Held) (slot : ℕ) → recording_slot found ≡ Ok slot → found ≡ Some (channel_of Record slot)
-recording-is None slot e = cc
-recording-is (Some held) slot e = ap (λ (h : Held). Some h) (recording_way held.way held.slot slot e)
-
-recording_not_way : (way : Way) (at : ℕ) (recording : ℕ → DeskTurn) (desk : Desk) (errno : Errno) → by_way {X = Result ℕ Errno} way (Err Inval) (Ok at) (Err Inval) ≡ Err errno → by_way way (refusing desk Inval) (recording at) (refusing desk Inval) ≡ refusing desk errno
-recording_not_way Play at recording desk errno e = ap (λ (r : Result ℕ Errno). refusing desk (why_of r)) e
-recording_not_way Record at recording desk errno e = cc
-recording_not_way Map at recording desk errno e = ap (λ (r : Result ℕ Errno). refusing desk (why_of r)) e
-
-pub recording-not : (recording : ℕ → DeskTurn) (found : Option Held) (desk : Desk) (errno : Errno) → recording_slot found ≡ Err errno → turning (λ slot. refusing desk Inval) recording (λ slot. refusing desk Inval) found desk ≡ refusing desk errno
-recording-not recording None desk errno e = ap (λ (r : Result ℕ Errno). refusing desk (why_of r)) e
-recording-not recording (Some held) desk errno e = recording_not_way held.way held.slot recording desk errno e
-
-mapped_way : (way : Way) (at slot : ℕ) → by_way {X = Result ℕ Errno} way (Err Inval) (Err Inval) (Ok at) ≡ Ok slot → channel_of way at ≡ channel_of Map slot
-mapped_way Play at slot e = cc
-mapped_way Record at slot e = cc
-mapped_way Map at slot e = ap (channel_of Map) (ap slot_in e)
-
-pub mapped-is : (found : Option Held) (slot : ℕ) → mapped_slot found ≡ Ok slot → found ≡ Some (channel_of Map slot)
-mapped-is None slot e = cc
-mapped-is (Some held) slot e = ap (λ (h : Held). Some h) (mapped_way held.way held.slot slot e)
-
-mapped_not_way : (way : Way) (at : ℕ) (mapped : ℕ → DeskTurn) (desk : Desk) (errno : Errno) → by_way {X = Result ℕ Errno} way (Err Inval) (Err Inval) (Ok at) ≡ Err errno → by_way way (refusing desk Inval) (refusing desk Inval) (mapped at) ≡ refusing desk errno
-mapped_not_way Play at mapped desk errno e = ap (λ (r : Result ℕ Errno). refusing desk (why_of r)) e
-mapped_not_way Record at mapped desk errno e = ap (λ (r : Result ℕ Errno). refusing desk (why_of r)) e
-mapped_not_way Map at mapped desk errno e = cc
-
-pub mapped-not : (mapped : ℕ → DeskTurn) (found : Option Held) (desk : Desk) (errno : Errno) → mapped_slot found ≡ Err errno → turning (λ slot. refusing desk Inval) (λ slot. refusing desk Inval) mapped found desk ≡ refusing desk errno
-mapped-not mapped None desk errno e = ap (λ (r : Result ℕ Errno). refusing desk (why_of r)) e
-mapped-not mapped (Some held) desk errno e = mapped_not_way held.way held.slot mapped desk errno e
+pub slot-is : (way : Way) (found : Option Held) (slot : ℕ) → slot_of way found ≡ Ok slot → found ≡ Some (channel_of way slot)
+slot-is way None slot e = cc
+slot-is way (Some held) slot e = ap (λ (h : Held). Some h) (slot_way way held.way held.slot slot e)
 
 slot_there : {B : Type 0} (way : Way) (parent : ParentOf B) (descriptors : Descriptors) (fd : ℕ) (held : Held) → HoldApart (desk_with parent descriptors) → held_by (desk_with parent descriptors) fd ≡ Some held → held.way ≡ way
     → held.slot < slots_of (desk_with parent descriptors) way
@@ -230,12 +187,12 @@ map-unfree parent descriptors fd held lent h e is there lent_is =
     ap (λ (b : MapBook). is_map_free b.state) (map_at-channel (map_channels parent) held.slot lent lent.book there lent_is) ∙ taken lent.book
 
 -- a descriptor that is refused as it holds none
-unmapped_way : (way : Way) (at slot : ℕ) (errno : Errno) → by_way {X = Result ℕ Errno} way (Err Inval) (Err Inval) (Ok at) ≡ Err errno → by_way way false false (eqb at slot) ≡ false
+unmapped_way : (way : Way) (at slot : ℕ) (errno : Errno) → cond (is_way Map way) (Ok at) (Err Inval) ≡ Err errno → by_way way false false (eqb at slot) ≡ false
 unmapped_way Play at slot errno e = refl
 unmapped_way Record at slot errno e = refl
 unmapped_way Map at slot errno e = cc
 
-pub unmapped : (found : Option Held) (errno : Errno) → mapped_slot found ≡ Err errno → (slot : ℕ) → holds_map found slot ≡ false
+pub unmapped : (found : Option Held) (errno : Errno) → slot_of Map found ≡ Err errno → (slot : ℕ) → holds_map found slot ≡ false
 unmapped None errno e slot = refl
 unmapped (Some held) errno e slot = unmapped_way held.way held.slot slot errno e
 

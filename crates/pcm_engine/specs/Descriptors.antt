@@ -1,5 +1,6 @@
 -- What a descriptor holds, or what it is refused for.
-use Rattle.std.specs.Prelude.{ℕ, Bool, nat_lt, Option, Some, None, Result, Ok, Err}
+use Rattle.std.specs.Prelude.{ℕ, Bool, true, false, if◌then◌else◌, nat_lt, Option, Some, None, Result, Ok, Err}
+use Rattle.pcm_oss.specs.declared.event.Way.{Way}
 use Rattle.pcm_oss.specs.declared.reply.Errno.{Errno}
 use Rattle.pcm_oss.specs.declared.reply.Errno.TheVariants.{BadF, Exist, Inval}
 use Rattle.pcm_group.specs.declared.sync_groups.Groups.{Groups}
@@ -21,17 +22,11 @@ holding (Some held) = Ok held
 abbrev pub is_member_in : Groups → Held → Bool
 is_member_in groups held = nat_lt 0 (group_at groups held.way held.slot)
 
--- one that plays, in this slot
-abbrev pub playing_slot : Option Held → Result ℕ Errno
-playing_slot None = Err BadF
-playing_slot (Some held) = by_way held.way (Ok held.slot) (Err Inval) (Err Inval)
+-- two ways are one
+abbrev pub is_way : Way → Way → Bool
+is_way way other = by_way way (by_way other true false false) (by_way other false true false) (by_way other false false true)
 
--- one that records
-abbrev pub recording_slot : Option Held → Result ℕ Errno
-recording_slot None = Err BadF
-recording_slot (Some held) = by_way held.way (Err Inval) (Ok held.slot) (Err Inval)
-
--- a mapped one
-abbrev pub mapped_slot : Option Held → Result ℕ Errno
-mapped_slot None = Err BadF
-mapped_slot (Some held) = by_way held.way (Err Inval) (Err Inval) (Ok held.slot)
+-- the channel that it holds is of this way, and in this slot
+abbrev pub slot_of : Way → Option Held → Result ℕ Errno
+slot_of way None = Err BadF
+slot_of way (Some held) = if is_way way held.way then Ok held.slot else Err Inval

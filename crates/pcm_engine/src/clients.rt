@@ -90,7 +90,7 @@ pub fn write<B: Feeder>(
     ensures turn { TakesTurnAt here (write_call fd (length bytes.now)) parent.old parent.new descriptors.now result }
     ensures channels { (filters : Filters) → EachPlayMoves B.kind B.kept filters bytes.now 0 parent.old parent.new }
 {
-    let slot = descriptors.playing(fd)?;
+    let slot = descriptors.slot_of(fd, Way::Play)?;
     parent.play(slot).write(bytes, here)
 }
 
@@ -115,7 +115,7 @@ pub fn poke<B: Feeder>(
     ensures maps { (filters : Filters) → EachMapKeeps B.kind B.kept filters
         (poked_by fd offset bytes.now (desk_with parent.old descriptors.now)) parent.old parent.new }
 {
-    let slot = descriptors.mapped(fd)?;
+    let slot = descriptors.slot_of(fd, Way::Map)?;
     parent.mapped(slot).poke(offset, bytes)
 }
 
@@ -140,7 +140,7 @@ fn read<B: Feeder>(
     ensures bytes { ReadsKept B.kept parent.old descriptors.now fd (length out.old) (front_due result out.new) }
     ensures recorders { (filters : Filters) → EachRecordMoves B.kind B.kept filters [] 0 parent.old parent.new }
 {
-    let slot = descriptors.recording(fd)?;
+    let slot = descriptors.slot_of(fd, Way::Record)?;
     parent.recorder(slot).read(out)
 }
 

@@ -4,7 +4,7 @@ ghost use Rattle.std.specs.Prelude.{◌≡◌, ◌<◌, None, Some, replicate, s
 ghost use Rattle.pcm_oss.specs.declared.event.TheConstants.{SLOTS};
 ghost use Rattle.pcm_group.specs.Groups.{no_groups};
 ghost use Rattle.pcm_desk.specs.Desk.{leaving, left_by, member_refusal};
-ghost use Rattle.pcm_engine.specs.Descriptors.{holding, is_member_in, mapped_slot, playing_slot, recording_slot, shut};
+ghost use Rattle.pcm_engine.specs.Descriptors.{holding, is_member_in, shut, slot_of};
 
 use pcm_desk::{DESCRIPTORS, Held};
 use pcm_group::Groups;
@@ -53,39 +53,16 @@ impl Descriptors {
         }
     }
 
-    /// The slot of the channel that a descriptor holds, which plays.
-    pub fn playing(&self, fd: u8) -> Result<usize, Errno>
+    /// The slot of the channel that a descriptor holds, which is of this way.
+    pub fn slot_of(&self, fd: u8, way: Way) -> Result<usize, Errno>
         requires { fd < DESCRIPTORS }
-        ensures { result ≡ playing_slot (slice_index_or self.now.held fd None) }
+        ensures { result ≡ slot_of way (slice_index_or self.now.held fd None) }
     {
         let held = self.holding(fd)?;
-        match held.way {
-            Way::Play => Ok(held.slot),
-            Way::Record | Way::Map => Err(Errno::Inval),
-        }
-    }
-
-    /// The slot of the channel that a descriptor holds, which records.
-    pub fn recording(&self, fd: u8) -> Result<usize, Errno>
-        requires { fd < DESCRIPTORS }
-        ensures { result ≡ recording_slot (slice_index_or self.now.held fd None) }
-    {
-        let held = self.holding(fd)?;
-        match held.way {
-            Way::Record => Ok(held.slot),
-            Way::Play | Way::Map => Err(Errno::Inval),
-        }
-    }
-
-    /// The slot of the channel that a descriptor holds, whose area is mapped.
-    pub fn mapped(&self, fd: u8) -> Result<usize, Errno>
-        requires { fd < DESCRIPTORS }
-        ensures { result ≡ mapped_slot (slice_index_or self.now.held fd None) }
-    {
-        let held = self.holding(fd)?;
-        match held.way {
-            Way::Map => Ok(held.slot),
-            Way::Play | Way::Record => Err(Errno::Inval),
+        if held.way == way {
+            Ok(held.slot)
+        } else {
+            Err(Errno::Inval)
         }
     }
 

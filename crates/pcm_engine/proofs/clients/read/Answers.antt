@@ -13,7 +13,7 @@ use Rattle.pcm_record.proofs.Moving as recorders
 use Rattle.pcm_vchan.proofs.Channels.{each_set, own_set, parent_same}
 use Rattle.pcm_oss.specs.Replies.{bytes_due}
 use Rattle.pcm_engine.specs.Desks.{desk_with}
-use Rattle.pcm_engine.proofs.Turning.{bytes_read-held, desk-recorded, record-there, reply-recorded, turning-held, channel_of, recording-is}
+use Rattle.pcm_engine.proofs.Turning.{bytes_read-held, desk-recorded, record-there, reply-recorded, turning-held, channel_of, slot-is}
 use Rattle.pcm_desk.specs.Desk.{record_unopened}
 use Rattle.pcm_vchan.proofs.Channels.{record_at-channel}
 use Rattle.pcm_vchan.specs.Parents.{record_channels}
@@ -23,7 +23,7 @@ pub recorder-requires : goal.recorder-requires
 recorder-requires g c =
     let parent = c.args.parent.now in
     let held = channel_of Record c.in_ok-slot.slot in
-    let e = recording-is (held_by (desk_with parent c.args.descriptors.now) c.args.fd) c.in_ok-slot.slot (sym c.recording.ensures ∙ c.in_ok-slot.was) in
+    let e = slot-is Record (held_by (desk_with parent c.args.descriptors.now) c.args.fd) c.in_ok-slot.slot (sym c.slot_of.ensures ∙ c.in_ok-slot.was) in
     let there = record-there parent c.args.descriptors.now c.args.fd held c.requires.apart e refl in
     omega (arith, there, items-count parent.recorders)
 
@@ -31,7 +31,7 @@ pub returns-clause-recorders_own : goal.returns-clause-recorders_own
 returns-clause-recorders_own g c =
     let parent = c.args.parent.now in
     let held = channel_of Record c.in_ok-slot.slot in
-    let e = recording-is (held_by (desk_with parent c.args.descriptors.now) c.args.fd) c.in_ok-slot.slot (sym c.recording.ensures ∙ c.in_ok-slot.was) in
+    let e = slot-is Record (held_by (desk_with parent c.args.descriptors.now) c.args.fd) c.in_ok-slot.slot (sym c.slot_of.ensures ∙ c.in_ok-slot.was) in
     let there = record-there parent c.args.descriptors.now c.args.fd held c.requires.apart e refl in
     own_set (λ (channel : RecordChannelOf _). channel.path.device) parent.device (record_channels parent) held.slot c.recorder.result.now c.read.new.self there c.recorder.ensures.value c.read.ensures.device c.requires.recorders_own
 
@@ -39,7 +39,7 @@ pub returns-clause-refused : goal.returns-clause-refused
 returns-clause-refused g c =
     let parent = c.args.parent.now in
     let held = channel_of Record c.in_ok-slot.slot in
-    let e = recording-is (held_by (desk_with parent c.args.descriptors.now) c.args.fd) c.in_ok-slot.slot (sym c.recording.ensures ∙ c.in_ok-slot.was) in
+    let e = slot-is Record (held_by (desk_with parent c.args.descriptors.now) c.args.fd) c.in_ok-slot.slot (sym c.slot_of.ensures ∙ c.in_ok-slot.was) in
     on_err_weaker c.read.result
     (λ same. parent_same _ parent refl refl (item-kept parent.recorders held.slot c.read.new.self c.recorder.result.now (same ∙ c.recorder.ensures.value)) refl refl refl refl refl refl refl)
     c.read.ensures.refused
@@ -48,7 +48,7 @@ pub returns-clause-turn : goal.returns-clause-turn
 returns-clause-turn g c =
     let parent = c.args.parent.now in
     let held = channel_of Record c.in_ok-slot.slot in
-    let e = recording-is (held_by (desk_with parent c.args.descriptors.now) c.args.fd) c.in_ok-slot.slot (sym c.recording.ensures ∙ c.in_ok-slot.was) in
+    let e = slot-is Record (held_by (desk_with parent c.args.descriptors.now) c.args.fd) c.in_ok-slot.slot (sym c.slot_of.ensures ∙ c.in_ok-slot.was) in
     let there = record-there parent c.args.descriptors.now c.args.fd held c.requires.apart e refl in
     record {
       desk = λ filters.
@@ -63,7 +63,7 @@ pub returns-clause-recorders : goal.returns-clause-recorders
 returns-clause-recorders g c = λ filters.
     let parent = c.args.parent.now in
     let held = channel_of Record c.in_ok-slot.slot in
-    let e = recording-is (held_by (desk_with parent c.args.descriptors.now) c.args.fd) c.in_ok-slot.slot (sym c.recording.ensures ∙ c.in_ok-slot.was) in
+    let e = slot-is Record (held_by (desk_with parent c.args.descriptors.now) c.args.fd) c.in_ok-slot.slot (sym c.slot_of.ensures ∙ c.in_ok-slot.was) in
     let there = record-there parent c.args.descriptors.now c.args.fd held c.requires.apart e refl in
     each_set (RecordMoves g.B.Feeder.kind g.B.Feeder.kept filters [] 0) (record_channels parent) held.slot c.recorder.result.now c.read.new.self there c.recorder.ensures.value (c.read.ensures.moves filters)
     (recorders.moves-nothing g.B.Feeder.kind g.B.Feeder.kept filters [] 0)
@@ -72,7 +72,7 @@ pub returns-clause-bytes : goal.returns-clause-bytes
 returns-clause-bytes g c = λ filters bytes frames stand.
     let parent = c.args.parent.now in
     let held = channel_of Record c.in_ok-slot.slot in
-    let e = recording-is (held_by (desk_with parent c.args.descriptors.now) c.args.fd) c.in_ok-slot.slot (sym c.recording.ensures ∙ c.in_ok-slot.was) in
+    let e = slot-is Record (held_by (desk_with parent c.args.descriptors.now) c.args.fd) c.in_ok-slot.slot (sym c.slot_of.ensures ∙ c.in_ok-slot.was) in
     let there = record-there parent c.args.descriptors.now c.args.fd held c.requires.apart e refl in
     let lent = c.recorder.result.now in
     let book = record_at-channel (record_channels parent) held.slot lent (record_unopened (seen filters parent.device)) there c.recorder.ensures.value in

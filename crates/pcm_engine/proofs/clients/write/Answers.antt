@@ -15,7 +15,7 @@ use Rattle.pcm_vchan.proofs.Channels.{each_set, own_set, parent_same}
 use Rattle.pcm_vchan.specs.Parents.{play_channels}
 use Rattle.pcm_oss.specs.Replies.{bytes_due}
 use Rattle.pcm_engine.specs.Desks.{desk_with}
-use Rattle.pcm_engine.proofs.Turning.{desk-played, play-there, reply-played, turning-held, channel_of, playing-is}
+use Rattle.pcm_engine.proofs.Turning.{desk-played, play-there, reply-played, turning-held, channel_of, slot-is}
 use Rattle.pcm_engine.proofs.clients.write.Goals as goal
 
 pub returns-in_err-slot-clause-channels : goal.returns-in_err-slot-clause-channels
@@ -25,7 +25,7 @@ pub play-requires : goal.play-requires
 play-requires g c =
     let parent = c.args.parent.now in
     let held = channel_of Play c.in_ok-slot.slot in
-    let e = playing-is (held_by (desk_with parent c.args.descriptors.now) c.args.fd) c.in_ok-slot.slot (sym c.playing.ensures ∙ c.in_ok-slot.was) in
+    let e = slot-is Play (held_by (desk_with parent c.args.descriptors.now) c.args.fd) c.in_ok-slot.slot (sym c.slot_of.ensures ∙ c.in_ok-slot.was) in
     let there = play-there parent c.args.descriptors.now c.args.fd held c.requires.apart e refl in
     omega (arith, there, items-count parent.channels)
 
@@ -33,7 +33,7 @@ pub write-requires : goal.write-requires
 write-requires g c =
     let parent = c.args.parent.now in
     let held = channel_of Play c.in_ok-slot.slot in
-    let e = playing-is (held_by (desk_with parent c.args.descriptors.now) c.args.fd) c.in_ok-slot.slot (sym c.playing.ensures ∙ c.in_ok-slot.was) in
+    let e = slot-is Play (held_by (desk_with parent c.args.descriptors.now) c.args.fd) c.in_ok-slot.slot (sym c.slot_of.ensures ∙ c.in_ok-slot.was) in
     let there = play-there parent c.args.descriptors.now c.args.fd held c.requires.apart e refl in
     record { count = subst (λ (channel : PlayChannelOf _). channel.book.written + length c.args.bytes.now < 18446744073709551616) (sym c.play.ensures.value) (c.requires.count held.slot c.play.result.now there) }
 
@@ -45,7 +45,7 @@ pub returns-clause-own : goal.returns-clause-own
 returns-clause-own g c =
     let parent = c.args.parent.now in
     let held = channel_of Play c.in_ok-slot.slot in
-    let e = playing-is (held_by (desk_with parent c.args.descriptors.now) c.args.fd) c.in_ok-slot.slot (sym c.playing.ensures ∙ c.in_ok-slot.was) in
+    let e = slot-is Play (held_by (desk_with parent c.args.descriptors.now) c.args.fd) c.in_ok-slot.slot (sym c.slot_of.ensures ∙ c.in_ok-slot.was) in
     let there = play-there parent c.args.descriptors.now c.args.fd held c.requires.apart e refl in
     own_set (λ (channel : PlayChannelOf _). channel.path.device) parent.device (play_channels parent) held.slot c.play.result.now c.write.new.self there c.play.ensures.value c.write.ensures.device c.requires.own
 
@@ -53,7 +53,7 @@ pub returns-clause-refused : goal.returns-clause-refused
 returns-clause-refused g c =
     let parent = c.args.parent.now in
     let held = channel_of Play c.in_ok-slot.slot in
-    let e = playing-is (held_by (desk_with parent c.args.descriptors.now) c.args.fd) c.in_ok-slot.slot (sym c.playing.ensures ∙ c.in_ok-slot.was) in
+    let e = slot-is Play (held_by (desk_with parent c.args.descriptors.now) c.args.fd) c.in_ok-slot.slot (sym c.slot_of.ensures ∙ c.in_ok-slot.was) in
     on_err_weaker c.write.result
     (λ same. parent_same _ parent refl (item-kept parent.channels held.slot c.write.new.self c.play.result.now (same ∙ c.play.ensures.value)) refl refl refl refl refl refl refl refl)
     c.write.ensures.refused
@@ -64,7 +64,7 @@ returns-clause-turn g c =
     let desk = desk_with parent c.args.descriptors.now in
     let count = length c.args.bytes.now in
     let held = channel_of Play c.in_ok-slot.slot in
-    let e = playing-is (held_by desk c.args.fd) c.in_ok-slot.slot (sym c.playing.ensures ∙ c.in_ok-slot.was) in
+    let e = slot-is Play (held_by desk c.args.fd) c.in_ok-slot.slot (sym c.slot_of.ensures ∙ c.in_ok-slot.was) in
     let there = play-there parent c.args.descriptors.now c.args.fd held c.requires.apart e refl in
     let turned : (device : DeviceSeen) → DeskTurn = λ device. write_on device (held_by desk c.args.fd) desk count in
     let held_there : (device : DeviceSeen) → turned device ≡ play_turn device (write_turn (desk_here device desk) count) desk held.slot =
@@ -86,7 +86,7 @@ pub returns-clause-channels : goal.returns-clause-channels
 returns-clause-channels g c = λ filters.
     let parent = c.args.parent.now in
     let held = channel_of Play c.in_ok-slot.slot in
-    let e = playing-is (held_by (desk_with parent c.args.descriptors.now) c.args.fd) c.in_ok-slot.slot (sym c.playing.ensures ∙ c.in_ok-slot.was) in
+    let e = slot-is Play (held_by (desk_with parent c.args.descriptors.now) c.args.fd) c.in_ok-slot.slot (sym c.slot_of.ensures ∙ c.in_ok-slot.was) in
     let there = play-there parent c.args.descriptors.now c.args.fd held c.requires.apart e refl in
     each_set (PlayMoves g.B.Feeder.kind g.B.Feeder.kept filters c.args.bytes.now 0) (play_channels parent) held.slot c.play.result.now c.write.new.self there c.play.ensures.value (c.write.ensures.moves filters)
     (moves-nothing g.B.Feeder.kind g.B.Feeder.kept filters c.args.bytes.now 0)
