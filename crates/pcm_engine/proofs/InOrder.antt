@@ -1,5 +1,5 @@
 -- The books of a ready engine are in order, and no ring passes its size: its channels and its parent carry it.
-use Rattle.std.proofs.Common.{◌≡◌, ℕ, ◌<◌, List, length, get_or, inl, inr, refl, sym, ap, subst, arith}
+use Rattle.std.proofs.Common.{◌≡◌, ℕ, ◌<◌, List, length, get_or, inl, inr, refl, sym, ap, ◌∙◌, subst, arith}
 use Rattle.std.specs.Prelude.{All}
 use Rattle.std.proofs.lemmas.Bool.{cases_lt}
 use Rattle.std.proofs.lemmas.List.{get_or-map, get_or_past, length-map}
@@ -38,6 +38,7 @@ use Rattle.pcm_bus.proofs.Channels.{some_channel}
 use Rattle.pcm_vchan.specs.Parents.{AreClosable, AreServed, HasBus, here_of, map_channels, play_channels, record_channels}
 use Rattle.pcm_engine.specs.declared.engine.EngineOf.{EngineOf}
 use Rattle.pcm_engine.specs.declared.limits.TheConstants.{STEPS}
+use Rattle.pcm_engine.specs.Answered.{CanBeAsked}
 use Rattle.pcm_desk.specs.Own.{MembersWait}
 use Rattle.pcm_engine.specs.Engines.{AreReady, BooksAreHere, MapBooksAreSafe, RecordsAreSafe, RingsHold, desk_of, device_of}
 
@@ -205,4 +206,15 @@ closable kind kept engine ready = record {
   kinds = λ slot other there. (ready.playing slot other there).kinds;
   recorders_kinds = λ slot other there. (ready.recording slot other there).kinds;
   maps_kinds = λ slot other there. (ready.mapped slot other there).kinds;
+}
+
+-- and may be asked where the mix and the device are, since few steps were taken
+pub can-be-asked : {B : Type 0} (kind : B → Kind) (kept : B → Kept) (engine : EngineOf B) (here : Here) → AreReady kind kept engine → engine.steps < STEPS → here ≡ here_of engine.parent → CanBeAsked kind kept engine.tables here engine.parent
+can-be-asked kind kept engine here ready few is = record {
+  served = served kind kept engine ready;
+  here = subst IsHere (sym is) (here-within kept engine ready.limits ready.bus few);
+  at = is ∙ here-seen kept engine ready.bus;
+  places = subst (λ (place : Here). All (IsPlayHere engine.tables place) (play_channels engine.parent)) (sym is) (channels-here kept engine ready.bus ready.places);
+  count = λ slot other there. (let counted = engine.counted slot other there in omega (arith, counted, few));
+  given = λ slot other there. (let given = engine.maps_given slot other there in omega (arith, given, few));
 }

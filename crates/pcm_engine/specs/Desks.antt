@@ -1,9 +1,11 @@
 -- What a parent and descriptors are to the rules: a desk. And what a call of a client makes of it.
 use Rattle.std.specs.Prelude.{◌≡◌, ℕ, List, All, Result, take}
+use Rattle.pcm_format.specs.declared.settings.Settings.{Settings}
 use Rattle.pcm_format.specs.Frames.{Frame}
 use Rattle.pcm_feeder.specs.declared.kind.Kind.{Kind}
 use Rattle.pcm_feeder.specs.Filters.{Filters}
 use Rattle.pcm_feeder.specs.Kept.{Kept}
+use Rattle.pcm_oss.specs.declared.event.Way.{Way}
 use Rattle.pcm_oss.specs.declared.reply.Answer.{Answer}
 use Rattle.pcm_oss.specs.declared.reply.Errno.{Errno}
 use Rattle.pcm_oss.specs.declared.request.Request.{Request}
@@ -11,7 +13,7 @@ use Rattle.pcm_oss.specs.Replies.{bytes_due}
 use Rattle.pcm_desk.specs.declared.device.Held.{Held}
 use Rattle.pcm_desk.specs.declared.here.Here.{Here}
 use Rattle.pcm_desk.specs.Device.{DeviceSeen, here_at, seen}
-use Rattle.pcm_desk.specs.Desk.{Desk, DeskTurn, by_way, close_on, closing, desk_here, held_by, ioctl_on, join_on, left, map_at, play_at, poke_on, read_on, record_at, request_on, start_on, with_map, with_play, with_record, write_on}
+use Rattle.pcm_desk.specs.Desk.{Desk, DeskTurn, by_way, close_on, closing, desk_here, held_by, ioctl_on, join_on, left, map_at, open_turn, play_at, poke_on, read_on, record_at, request_on, start_on, with_map, with_play, with_record, write_on}
 use Rattle.pcm_desk.specs.RecordBooks.{closed}
 use Rattle.pcm_desk.specs.MapBooks.{map_closed}
 use Rattle.pcm_play.specs.Channels.{IsPlayReady}
@@ -35,6 +37,10 @@ desk_with parent descriptors = record {
 }
 
 -- ---- turns of the channel that a descriptor holds
+
+-- an open of a way with settings
+abbrev pub open_call : ℕ → Way → Settings → DeviceSeen → Desk → DeskTurn
+open_call fd way settings device desk = open_turn desk fd way settings
 
 -- a write of so many bytes
 abbrev pub write_call : ℕ → ℕ → DeviceSeen → Desk → DeskTurn

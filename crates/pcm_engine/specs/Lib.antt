@@ -1,5 +1,6 @@
 pub mod Descriptors
 pub mod Desks
+pub mod Answered
 pub mod Brought
 pub mod Steps
 pub mod Stands

@@ -9,14 +9,13 @@ ghost use Rattle.pcm_oss.specs.Replies.{bytes_due};
 ghost use Rattle.pcm_oss.specs.declared.event.TheConstants.{SLOTS};
 ghost use Rattle.pcm_oss.specs.declared.reply.TheConstants.{REPLY_BYTES};
 ghost use Rattle.pcm_desk.specs.declared.limits.TheConstants.{DESCRIPTORS, READ_BYTES};
-ghost use Rattle.pcm_desk.specs.Desk.{open_turn, slot_number};
+ghost use Rattle.pcm_desk.specs.Desk.{slot_number};
 ghost use Rattle.pcm_desk.specs.Own.{HoldApart};
-ghost use Rattle.pcm_desk.specs.Here.{IsHere};
-ghost use Rattle.pcm_play.specs.Channels.{IsPlayHere};
 ghost use Rattle.pcm_bus.specs.Slots.{MapAreOf, PlayAreOf};
 ghost use Rattle.pcm_vchan.specs.Slots.{RecordAreOf};
-ghost use Rattle.pcm_vchan.specs.Parents.{map_channels, play_channels, record_channels, untouched, AreClosable, AreServed, EachMapKeeps, EachPlayMoves, EachRecordMoves, GivenFit, KeepsOutput, TotalsFit};
-ghost use Rattle.pcm_engine.specs.Desks.{front_due, close_call, desk_with, ioctl_call, poke_call, read_call, write_call, Closes, ClosesHeld, IsAt, ReadsKept, Replies, RepliesBy, TakesTurn, TakesTurnAt, TurnsBy};
+ghost use Rattle.pcm_vchan.specs.Parents.{map_channels, play_channels, record_channels, AreClosable, AreServed, EachMapKeeps, EachPlayMoves, EachRecordMoves, KeepsOutput, TotalsFit};
+ghost use Rattle.pcm_engine.specs.Answered.{AnswersBy, CanBeAsked, LeavesClosed};
+ghost use Rattle.pcm_engine.specs.Desks.{front_due, close_call, desk_with, ioctl_call, open_call, poke_call, read_call, write_call, Closes, ClosesHeld, ReadsKept, Replies, TakesTurn, TakesTurnAt};
 ghost use Rattle.pcm_engine.specs.Steps.{poked_by};
 
 use crate::descriptors::Descriptors;
@@ -38,19 +37,8 @@ pub fn open<B: Feeder>(
     requires fd { fd < DESCRIPTORS }
     requires rate { IsRate settings.rate }
     requires served { AreServed B.kind B.kept tables.now parent.old }
-    ensures silent { bytes_due result ≡ 0 }
-    ensures own { PlayAreOf parent.new.device (play_channels parent.new) }
-    ensures recorders_own { RecordAreOf parent.new.device (record_channels parent.new) }
-    ensures maps_own { MapAreOf parent.new.device (map_channels parent.new) }
-    ensures output { KeepsOutput parent.old parent.new }
-    ensures refused { OnErr result ((parent.new ≡ parent.old) × (descriptors.new ≡ descriptors.old)) }
-    ensures desk { desk_with parent.new descriptors.new
-        ≡ (open_turn (desk_with parent.old descriptors.old) fd way settings).desk }
-    ensures reply { result
-        ≡ (open_turn (desk_with parent.old descriptors.old) fd way settings).reply }
-    ensures channels { EachPlayMoves B.kind B.kept tables.now [] 0 parent.old parent.new }
-    ensures recorders { EachRecordMoves B.kind B.kept tables.now [] 0 parent.old parent.new }
-    ensures maps { EachMapKeeps B.kind B.kept tables.now untouched parent.old parent.new }
+    ensures { AnswersBy B.kind B.kept tables.now (open_call fd way settings)
+        parent.old descriptors.old parent.new descriptors.new result }
 {
     descriptors.shut(fd)?;
     let slot = parent.open_slot(tables, way, settings)?;
@@ -183,23 +171,9 @@ pub fn ask<B: Feeder>(
 ) -> Result<Answer, Errno>
     requires fd { fd < DESCRIPTORS }
     requires apart { HoldApart (desk_with parent.old descriptors.now) }
-    requires served { AreServed B.kind B.kept tables.now parent.old }
-    requires here { IsHere here }
-    requires at { IsAt tables.now here parent.old }
-    requires places { All (IsPlayHere tables.now here) (play_channels parent.old) }
-    requires count { TotalsFit parent.old }
-    requires given { GivenFit parent.old }
-    ensures silent { bytes_due result ≡ 0 }
-    ensures own { PlayAreOf parent.new.device (play_channels parent.new) }
-    ensures recorders_own { RecordAreOf parent.new.device (record_channels parent.new) }
-    ensures maps_own { MapAreOf parent.new.device (map_channels parent.new) }
-    ensures output { KeepsOutput parent.old parent.new }
-    ensures refused { OnErr result (parent.new ≡ parent.old) }
-    ensures desk { TurnsBy tables.now (ioctl_call fd request) parent.old parent.new descriptors.now }
-    ensures reply { RepliesBy tables.now (ioctl_call fd request) parent.old descriptors.now result }
-    ensures channels { EachPlayMoves B.kind B.kept tables.now [] 0 parent.old parent.new }
-    ensures recorders { EachRecordMoves B.kind B.kept tables.now [] 0 parent.old parent.new }
-    ensures maps { EachMapKeeps B.kind B.kept tables.now untouched parent.old parent.new }
+    requires able { CanBeAsked B.kind B.kept tables.now here parent.old }
+    ensures { AnswersBy B.kind B.kept tables.now (ioctl_call fd request)
+        parent.old descriptors.now parent.new descriptors.now result }
 {
     let held = descriptors.holding(fd)?;
     match held.way {
@@ -221,16 +195,10 @@ pub fn close<B: Feeder>(
     requires closable { AreClosable B.kind parent.old }
     requires count { TotalsFit parent.old }
     ensures silent { bytes_due result ≡ 0 }
-    ensures own { PlayAreOf parent.new.device (play_channels parent.new) }
-    ensures recorders_own { RecordAreOf parent.new.device (record_channels parent.new) }
-    ensures maps_own { MapAreOf parent.new.device (map_channels parent.new) }
-    ensures output { KeepsOutput parent.old parent.new }
+    ensures closed { LeavesClosed B.kind B.kept parent.old parent.new }
     ensures refused { OnErr result ((parent.new ≡ parent.old) × (descriptors.new ≡ descriptors.old)) }
     ensures desk { Closes B.kind B.kept here fd parent.old descriptors.old parent.new descriptors.new }
     ensures reply { Replies (close_call fd) parent.old descriptors.old result }
-    ensures channels { (filters : Filters) → EachPlayMoves B.kind B.kept filters [] 0 parent.old parent.new }
-    ensures recorders { (filters : Filters) → EachRecordMoves B.kind B.kept filters [] 0 parent.old parent.new }
-    ensures maps { (filters : Filters) → EachMapKeeps B.kind B.kept filters untouched parent.old parent.new }
 {
     let held = descriptors.holding(fd)?;
     let answer = close_channel(parent, held, here);
@@ -247,14 +215,8 @@ fn close_channel<B: Feeder>(parent: &mut ParentOf<B>, held: Held, here: Here) ->
     requires closable { AreClosable B.kind parent.old }
     requires count { TotalsFit parent.old }
     ensures answer { result ≡ Answer.Done }
-    ensures own { PlayAreOf parent.new.device (play_channels parent.new) }
-    ensures recorders_own { RecordAreOf parent.new.device (record_channels parent.new) }
-    ensures maps_own { MapAreOf parent.new.device (map_channels parent.new) }
-    ensures output { KeepsOutput parent.old parent.new }
+    ensures closed { LeavesClosed B.kind B.kept parent.old parent.new }
     ensures desk { ClosesHeld B.kind B.kept here held parent.old parent.new }
-    ensures channels { (filters : Filters) → EachPlayMoves B.kind B.kept filters [] 0 parent.old parent.new }
-    ensures recorders { (filters : Filters) → EachRecordMoves B.kind B.kept filters [] 0 parent.old parent.new }
-    ensures maps { (filters : Filters) → EachMapKeeps B.kind B.kept filters untouched parent.old parent.new }
 {
     match held.way {
         Way::Play => {

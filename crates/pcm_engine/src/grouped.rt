@@ -1,20 +1,15 @@
 //! What clients ask that groups have a part in.
 
-ghost use Rattle.std.specs.Prelude.{◌≡◌, ◌<◌, [], All, OnErr};
+ghost use Rattle.std.specs.Prelude.{◌≡◌, ◌<◌};
 ghost use Rattle.pcm_fixed.specs.Fixed.{fixed_len};
 ghost use Rattle.pcm_oss.specs.declared.event.Way.TheVariants.{Play, Record, Map};
-ghost use Rattle.pcm_oss.specs.Replies.{bytes_due};
 ghost use Rattle.pcm_desk.specs.declared.limits.TheConstants.{DESCRIPTORS};
 ghost use Rattle.pcm_desk.specs.Desk.{rests};
 ghost use Rattle.pcm_desk.specs.Device.{DeviceSeen};
-ghost use Rattle.pcm_desk.specs.Here.{IsHere};
 ghost use Rattle.pcm_desk.specs.Own.{HoldApart};
-ghost use Rattle.pcm_play.specs.Channels.{IsPlayHere};
-ghost use Rattle.pcm_bus.specs.Slots.{MapAreOf, PlayAreOf};
-ghost use Rattle.pcm_vchan.specs.Slots.{RecordAreOf};
-ghost use Rattle.pcm_vchan.specs.Parents.{map_channels, play_channels, record_channels, untouched, AreServed, EachMapKeeps, EachPlayMoves, EachRecordMoves, GivenFit, KeepsOutput, TotalsFit};
 ghost use Rattle.pcm_engine.specs.declared.descriptors.Descriptors.{Descriptors};
-ghost use Rattle.pcm_engine.specs.Desks.{desk_with, join_call, request_call, start_call, ChangesBy, IsAt, RepliesBy};
+ghost use Rattle.pcm_engine.specs.Answered.{AnswersBy, CanBeAsked};
+ghost use Rattle.pcm_engine.specs.Desks.{desk_with, join_call, request_call, start_call};
 
 use crate::clients::ask;
 use crate::descriptors::Descriptors;
@@ -35,23 +30,9 @@ pub fn ioctl<B: Feeder>(
 ) -> Result<Answer, Errno>
     requires fd { fd < DESCRIPTORS }
     requires apart { HoldApart (desk_with parent.old descriptors.old) }
-    requires served { AreServed B.kind B.kept tables.now parent.old }
-    requires here { IsHere here }
-    requires at { IsAt tables.now here parent.old }
-    requires places { All (IsPlayHere tables.now here) (play_channels parent.old) }
-    requires count { TotalsFit parent.old }
-    requires given { GivenFit parent.old }
-    ensures silent { bytes_due result ≡ 0 }
-    ensures own { PlayAreOf parent.new.device (play_channels parent.new) }
-    ensures recorders_own { RecordAreOf parent.new.device (record_channels parent.new) }
-    ensures maps_own { MapAreOf parent.new.device (map_channels parent.new) }
-    ensures output { KeepsOutput parent.old parent.new }
-    ensures refused { OnErr result ((parent.new ≡ parent.old) × (descriptors.new ≡ descriptors.old)) }
-    ensures desk { ChangesBy tables.now (request_call fd request) parent.old descriptors.old parent.new descriptors.new }
-    ensures reply { RepliesBy tables.now (request_call fd request) parent.old descriptors.old result }
-    ensures channels { EachPlayMoves B.kind B.kept tables.now [] 0 parent.old parent.new }
-    ensures recorders { EachRecordMoves B.kind B.kept tables.now [] 0 parent.old parent.new }
-    ensures maps { EachMapKeeps B.kind B.kept tables.now untouched parent.old parent.new }
+    requires able { CanBeAsked B.kind B.kept tables.now here parent.old }
+    ensures { AnswersBy B.kind B.kept tables.now (request_call fd request)
+        parent.old descriptors.old parent.new descriptors.new result }
 {
     let held = descriptors.holding(fd)?;
     if let Some(errno) = descriptors.refusal(held, request) {
@@ -72,23 +53,9 @@ pub fn join<B: Feeder>(
 ) -> Result<Answer, Errno>
     requires fd { fd < DESCRIPTORS }
     requires apart { HoldApart (desk_with parent.old descriptors.old) }
-    requires served { AreServed B.kind B.kept tables.now parent.old }
-    requires here { IsHere here }
-    requires at { IsAt tables.now here parent.old }
-    requires places { All (IsPlayHere tables.now here) (play_channels parent.old) }
-    requires count { TotalsFit parent.old }
-    requires given { GivenFit parent.old }
-    ensures silent { bytes_due result ≡ 0 }
-    ensures own { PlayAreOf parent.new.device (play_channels parent.new) }
-    ensures recorders_own { RecordAreOf parent.new.device (record_channels parent.new) }
-    ensures maps_own { MapAreOf parent.new.device (map_channels parent.new) }
-    ensures output { KeepsOutput parent.old parent.new }
-    ensures refused { OnErr result ((parent.new ≡ parent.old) × (descriptors.new ≡ descriptors.old)) }
-    ensures desk { ChangesBy tables.now (join_call fd group) parent.old descriptors.old parent.new descriptors.new }
-    ensures reply { RepliesBy tables.now (join_call fd group) parent.old descriptors.old result }
-    ensures channels { EachPlayMoves B.kind B.kept tables.now [] 0 parent.old parent.new }
-    ensures recorders { EachRecordMoves B.kind B.kept tables.now [] 0 parent.old parent.new }
-    ensures maps { EachMapKeeps B.kind B.kept tables.now untouched parent.old parent.new }
+    requires able { CanBeAsked B.kind B.kept tables.now here parent.old }
+    ensures { AnswersBy B.kind B.kept tables.now (join_call fd group)
+        parent.old descriptors.old parent.new descriptors.new result }
 {
     let held = descriptors.holding(fd)?;
     let mut groups = descriptors.groups();
@@ -119,23 +86,9 @@ pub fn start_group<B: Feeder>(
     here: Here,
 ) -> Result<Answer, Errno>
     requires fd { fd < DESCRIPTORS }
-    requires served { AreServed B.kind B.kept tables.now parent.old }
-    requires here { IsHere here }
-    requires at { IsAt tables.now here parent.old }
-    requires places { All (IsPlayHere tables.now here) (play_channels parent.old) }
-    requires count { TotalsFit parent.old }
-    requires given { GivenFit parent.old }
-    ensures silent { bytes_due result ≡ 0 }
-    ensures own { PlayAreOf parent.new.device (play_channels parent.new) }
-    ensures recorders_own { RecordAreOf parent.new.device (record_channels parent.new) }
-    ensures maps_own { MapAreOf parent.new.device (map_channels parent.new) }
-    ensures output { KeepsOutput parent.old parent.new }
-    ensures refused { OnErr result ((parent.new ≡ parent.old) × (descriptors.new ≡ descriptors.old)) }
-    ensures desk { ChangesBy tables.now (start_call fd group) parent.old descriptors.old parent.new descriptors.new }
-    ensures reply { RepliesBy tables.now (start_call fd group) parent.old descriptors.old result }
-    ensures channels { EachPlayMoves B.kind B.kept tables.now [] 0 parent.old parent.new }
-    ensures recorders { EachRecordMoves B.kind B.kept tables.now [] 0 parent.old parent.new }
-    ensures maps { EachMapKeeps B.kind B.kept tables.now untouched parent.old parent.new }
+    requires able { CanBeAsked B.kind B.kept tables.now here parent.old }
+    ensures { AnswersBy B.kind B.kept tables.now (start_call fd group)
+        parent.old descriptors.old parent.new descriptors.new result }
 {
     let held = descriptors.holding(fd)?;
     let mut groups = descriptors.groups();

@@ -1,4 +1,4 @@
-use Rattle.std.proofs.Common.{◌+◌, ◌<◌, [], get_or, refl, sym, ap, ◌∙◌, subst, arith}
+use Rattle.std.proofs.Common.{rules, ◌+◌, ◌<◌, [], get_or, refl, sym, ap, ◌∙◌, subst, arith}
 use Rattle.std.proofs.lemmas.Result.{on_err_weaker}
 use Rattle.pcm_fixed.proofs.Items.{item-kept, items-count}
 use Rattle.pcm_feeder.specs.Racks.{HaveKinds}
@@ -23,17 +23,16 @@ use Rattle.pcm_vchan.specs.Slots.{MapKeeps}
 use Rattle.pcm_vchan.proofs.Channels.{each_set, own_set, parent_same}
 use Rattle.pcm_vchan.specs.Parents.{map_channels, play_channels, record_channels, untouched}
 use Rattle.pcm_oss.specs.Replies.{bytes_due}
-use Rattle.pcm_engine.specs.Desks.{desk_with}
+use Rattle.pcm_engine.specs.Desks.{desk_with, ioctl_call}
 use Rattle.pcm_vchan.proofs.Channels.{map-keeps-nothing}
 use Rattle.pcm_engine.proofs.Mapped.{keeps-asked}
+use Rattle.pcm_engine.proofs.Answering.{answers-nothing}
 use Rattle.pcm_engine.proofs.Turning.{desk-mapped, desk-played, desk-recorded, map-there, map-unfree, own-lent, play-there, record-there, reply-mapped, reply-played, reply-recorded, turning-held, holding-is}
 use Rattle.pcm_engine.proofs.clients.ask.Goals as goal
 
-pub returns-in_err-held-clause-channels : goal.returns-in_err-held-clause-channels
-returns-in_err-held-clause-channels g c = λ slot other there. moves-nothing g.B.Feeder.kind g.B.Feeder.kept c.args.tables.now [] 0 (get_or (play_channels c.args.parent.now) slot other)
-
-pub returns-in_err-held-clause-recorders : goal.returns-in_err-held-clause-recorders
-returns-in_err-held-clause-recorders g c = λ slot other there. recorders.moves-nothing g.B.Feeder.kind g.B.Feeder.kept c.args.tables.now [] 0 (get_or (record_channels c.args.parent.now) slot other)
+pub returns-in_err-held : goal.returns-in_err-held
+returns-in_err-held g c =
+    answers-nothing g.B.Feeder.kind g.B.Feeder.kept c.args.tables.now (ioctl_call c.args.fd c.args.request) c.args.parent.now c.args.descriptors.now _ c.requires.able.served (search rules) (search rules) (search rules)
 
 pub play-requires : goal.play-requires
 play-requires g c =
@@ -49,7 +48,7 @@ ioctl-requires-clause-kinds g c =
     let held = c.in_ok-held.held in
     let e = holding-is (held_by (desk_with parent c.args.descriptors.now) c.args.fd) c.in_ok-held.held (sym c.holding.ensures ∙ c.in_ok-held.was) in
     let there = play-there parent c.args.descriptors.now c.args.fd held c.requires.apart e c.in-Play.is in
-    subst (λ (channel : PlayChannelOf _). HaveKinds g.B.Feeder.kind (boxes_in channel.path.chain)) (sym c.play.ensures.value) (c.requires.served.ready held.slot c.play.result.now there).kinds
+    subst (λ (channel : PlayChannelOf _). HaveKinds g.B.Feeder.kind (boxes_in channel.path.chain)) (sym c.play.ensures.value) (c.requires.able.served.ready held.slot c.play.result.now there).kinds
 
 pub ioctl-requires-clause-planned : goal.ioctl-requires-clause-planned
 ioctl-requires-clause-planned g c =
@@ -57,7 +56,7 @@ ioctl-requires-clause-planned g c =
     let held = c.in_ok-held.held in
     let e = holding-is (held_by (desk_with parent c.args.descriptors.now) c.args.fd) c.in_ok-held.held (sym c.holding.ensures ∙ c.in_ok-held.was) in
     let there = play-there parent c.args.descriptors.now c.args.fd held c.requires.apart e c.in-Play.is in
-    subst (IsPlayPlanned c.args.tables.now) (sym c.play.ensures.value) (c.requires.served.ready held.slot c.play.result.now there).planned
+    subst (IsPlayPlanned c.args.tables.now) (sym c.play.ensures.value) (c.requires.able.served.ready held.slot c.play.result.now there).planned
 
 pub ioctl-requires-clause-count : goal.ioctl-requires-clause-count
 ioctl-requires-clause-count g c =
@@ -65,7 +64,7 @@ ioctl-requires-clause-count g c =
     let held = c.in_ok-held.held in
     let e = holding-is (held_by (desk_with parent c.args.descriptors.now) c.args.fd) c.in_ok-held.held (sym c.holding.ensures ∙ c.in_ok-held.was) in
     let there = play-there parent c.args.descriptors.now c.args.fd held c.requires.apart e c.in-Play.is in
-    subst (λ (channel : PlayChannelOf _). channel.book.done + channel.book.written < 18446744073709551616) (sym c.play.ensures.value) (c.requires.count held.slot c.play.result.now there)
+    subst (λ (channel : PlayChannelOf _). channel.book.done + channel.book.written < 18446744073709551616) (sym c.play.ensures.value) (c.requires.able.count held.slot c.play.result.now there)
 
 pub ioctl-requires-clause-at : goal.ioctl-requires-clause-at
 ioctl-requires-clause-at g c =
@@ -73,7 +72,7 @@ ioctl-requires-clause-at g c =
     let held = c.in_ok-held.held in
     let e = holding-is (held_by (desk_with parent c.args.descriptors.now) c.args.fd) c.in_ok-held.held (sym c.holding.ensures ∙ c.in_ok-held.was) in
     let there = play-there parent c.args.descriptors.now c.args.fd held c.requires.apart e c.in-Play.is in
-    subst (IsPlayHere c.args.tables.now c.args.here) (sym c.play.ensures.value) (c.requires.places held.slot c.play.result.now there)
+    subst (IsPlayHere c.args.tables.now c.args.here) (sym c.play.ensures.value) (c.requires.able.places held.slot c.play.result.now there)
 
 pub recorder-requires : goal.recorder-requires
 recorder-requires g c =
@@ -89,7 +88,7 @@ ioctl-requires-in-Record-clause-kinds g c =
     let held = c.in_ok-held.held in
     let e = holding-is (held_by (desk_with parent c.args.descriptors.now) c.args.fd) c.in_ok-held.held (sym c.holding.ensures ∙ c.in_ok-held.was) in
     let there = record-there parent c.args.descriptors.now c.args.fd held c.requires.apart e c.in-Record.is in
-    subst (λ (channel : RecordChannelOf _). HaveKinds g.B.Feeder.kind (boxes_in channel.path.chain)) (sym c.recorder.ensures.value) (c.requires.served.recorders_ready held.slot c.recorder.result.now there).kinds
+    subst (λ (channel : RecordChannelOf _). HaveKinds g.B.Feeder.kind (boxes_in channel.path.chain)) (sym c.recorder.ensures.value) (c.requires.able.served.recorders_ready held.slot c.recorder.result.now there).kinds
 
 pub ioctl-requires-in-Record-clause-planned : goal.ioctl-requires-in-Record-clause-planned
 ioctl-requires-in-Record-clause-planned g c =
@@ -97,124 +96,69 @@ ioctl-requires-in-Record-clause-planned g c =
     let held = c.in_ok-held.held in
     let e = holding-is (held_by (desk_with parent c.args.descriptors.now) c.args.fd) c.in_ok-held.held (sym c.holding.ensures ∙ c.in_ok-held.was) in
     let there = record-there parent c.args.descriptors.now c.args.fd held c.requires.apart e c.in-Record.is in
-    subst (IsRecordPlanned c.args.tables.now) (sym c.recorder.ensures.value) (c.requires.served.recorders_ready held.slot c.recorder.result.now there).planned
+    subst (IsRecordPlanned c.args.tables.now) (sym c.recorder.ensures.value) (c.requires.able.served.recorders_ready held.slot c.recorder.result.now there).planned
 
-pub returns-in-Play-clause-silent : goal.returns-in-Play-clause-silent
-returns-in-Play-clause-silent g c =
-    ap bytes_due c.ioctl.ensures.reply ∙ ask-silent (play_rate_at (seen c.args.tables.now c.play.result.now.path.device) c.play.result.now.book) c.play.result.now.path.device.mix.rate c.args.here c.args.request c.play.result.now.book
-
-pub returns-in-Play-clause-own : goal.returns-in-Play-clause-own
-returns-in-Play-clause-own g c =
-    let parent = c.args.parent.now in
-    let held = c.in_ok-held.held in
-    let e = holding-is (held_by (desk_with parent c.args.descriptors.now) c.args.fd) c.in_ok-held.held (sym c.holding.ensures ∙ c.in_ok-held.was) in
-    let there = play-there parent c.args.descriptors.now c.args.fd held c.requires.apart e c.in-Play.is in
-    own_set (λ (channel : PlayChannelOf _). channel.path.device) parent.device (play_channels parent) held.slot c.play.result.now c.ioctl.new.self there c.play.ensures.value c.ioctl.ensures.device c.requires.served.own
-
-pub returns-in-Play-clause-refused : goal.returns-in-Play-clause-refused
-returns-in-Play-clause-refused g c =
-    let parent = c.args.parent.now in
-    let held = c.in_ok-held.held in
-    let e = holding-is (held_by (desk_with parent c.args.descriptors.now) c.args.fd) c.in_ok-held.held (sym c.holding.ensures ∙ c.in_ok-held.was) in
-    on_err_weaker c.ioctl.result
-    (λ same. parent_same _ parent refl (item-kept parent.channels held.slot c.ioctl.new.self c.play.result.now (same ∙ c.play.ensures.value)) refl refl refl refl refl refl refl refl)
-    c.ioctl.ensures.refused
-
-pub returns-in-Play-clause-desk : goal.returns-in-Play-clause-desk
-returns-in-Play-clause-desk g c =
+pub returns-in-Play : goal.returns-in-Play
+returns-in-Play g c =
     let parent = c.args.parent.now in
     let held = c.in_ok-held.held in
     let e = holding-is (held_by (desk_with parent c.args.descriptors.now) c.args.fd) c.in_ok-held.held (sym c.holding.ensures ∙ c.in_ok-held.was) in
     let there = play-there parent c.args.descriptors.now c.args.fd held c.requires.apart e c.in-Play.is in
     let lent = c.play.result.now in
-    let own = own-lent parent.device (play_channels parent) held.slot lent there c.play.ensures.value c.requires.served.own in
-    desk-played (seen c.args.tables.now parent.device) (asking (seen c.args.tables.now parent.device) (desk_here (seen c.args.tables.now parent.device) (desk_with parent c.args.descriptors.now)) c.args.request) parent c.args.descriptors.now held.slot lent c.ioctl.new.self there c.play.ensures.value
-    (c.ioctl.ensures.book ∙ ap (λ (d : Device). (asking (seen c.args.tables.now d) c.args.here c.args.request lent.book).book) own ∙ ap (λ (here : Here). (asking (seen c.args.tables.now parent.device) here c.args.request lent.book).book) c.requires.at)
-    ∙ sym (ap (λ (t : DeskTurn). t.desk) (turning-held Play (play_turn (seen c.args.tables.now parent.device) (asking (seen c.args.tables.now parent.device) (desk_here (seen c.args.tables.now parent.device) (desk_with parent c.args.descriptors.now)) c.args.request) (desk_with parent c.args.descriptors.now)) (record_turn (seen c.args.tables.now parent.device) (record_ask c.args.request) (desk_with parent c.args.descriptors.now)) (map_turn (seen c.args.tables.now parent.device) (map_ask c.args.request) (desk_with parent c.args.descriptors.now)) (held_by (desk_with parent c.args.descriptors.now) c.args.fd) held (desk_with parent c.args.descriptors.now) e c.in-Play.is))
+    let own = own-lent parent.device (play_channels parent) held.slot lent there c.play.ensures.value c.requires.able.served.own in
+    record {
+      silent = ap bytes_due c.ioctl.ensures.reply ∙ ask-silent (play_rate_at (seen c.args.tables.now c.play.result.now.path.device) c.play.result.now.book) c.play.result.now.path.device.mix.rate c.args.here c.args.request c.play.result.now.book;
+      own = own_set (λ (channel : PlayChannelOf _). channel.path.device) parent.device (play_channels parent) held.slot c.play.result.now c.ioctl.new.self there c.play.ensures.value c.ioctl.ensures.device c.requires.able.served.own;
+      recorders_own = search rules;
+      maps_own = search rules;
+      output = search rules;
+      refused =
+          on_err_weaker c.ioctl.result
+          (λ same. (parent_same _ parent refl (item-kept parent.channels held.slot c.ioctl.new.self c.play.result.now (same ∙ c.play.ensures.value)) refl refl refl refl refl refl refl refl, refl))
+          c.ioctl.ensures.refused;
+      desk =
+          desk-played (seen c.args.tables.now parent.device) (asking (seen c.args.tables.now parent.device) (desk_here (seen c.args.tables.now parent.device) (desk_with parent c.args.descriptors.now)) c.args.request) parent c.args.descriptors.now held.slot lent c.ioctl.new.self there c.play.ensures.value
+          (c.ioctl.ensures.book ∙ ap (λ (d : Device). (asking (seen c.args.tables.now d) c.args.here c.args.request lent.book).book) own ∙ ap (λ (here : Here). (asking (seen c.args.tables.now parent.device) here c.args.request lent.book).book) c.requires.able.at)
+          ∙ sym (ap (λ (t : DeskTurn). t.desk) (turning-held Play (play_turn (seen c.args.tables.now parent.device) (asking (seen c.args.tables.now parent.device) (desk_here (seen c.args.tables.now parent.device) (desk_with parent c.args.descriptors.now)) c.args.request) (desk_with parent c.args.descriptors.now)) (record_turn (seen c.args.tables.now parent.device) (record_ask c.args.request) (desk_with parent c.args.descriptors.now)) (map_turn (seen c.args.tables.now parent.device) (map_ask c.args.request) (desk_with parent c.args.descriptors.now)) (held_by (desk_with parent c.args.descriptors.now) c.args.fd) held (desk_with parent c.args.descriptors.now) e c.in-Play.is));
+      reply =
+          reply-played (seen c.args.tables.now parent.device) (asking (seen c.args.tables.now parent.device) (desk_here (seen c.args.tables.now parent.device) (desk_with parent c.args.descriptors.now)) c.args.request) parent c.args.descriptors.now held.slot lent c.ioctl.result there c.play.ensures.value
+          (c.ioctl.ensures.reply ∙ ap (λ (d : Device). (asking (seen c.args.tables.now d) c.args.here c.args.request lent.book).reply) own ∙ ap (λ (here : Here). (asking (seen c.args.tables.now parent.device) here c.args.request lent.book).reply) c.requires.able.at)
+          ∙ sym (ap (λ (t : DeskTurn). t.reply) (turning-held Play (play_turn (seen c.args.tables.now parent.device) (asking (seen c.args.tables.now parent.device) (desk_here (seen c.args.tables.now parent.device) (desk_with parent c.args.descriptors.now)) c.args.request) (desk_with parent c.args.descriptors.now)) (record_turn (seen c.args.tables.now parent.device) (record_ask c.args.request) (desk_with parent c.args.descriptors.now)) (map_turn (seen c.args.tables.now parent.device) (map_ask c.args.request) (desk_with parent c.args.descriptors.now)) (held_by (desk_with parent c.args.descriptors.now) c.args.fd) held (desk_with parent c.args.descriptors.now) e c.in-Play.is));
+      channels =
+          each_set (PlayMoves g.B.Feeder.kind g.B.Feeder.kept c.args.tables.now [] 0) (play_channels parent) held.slot c.play.result.now c.ioctl.new.self there c.play.ensures.value c.ioctl.ensures.moves
+          (moves-nothing g.B.Feeder.kind g.B.Feeder.kept c.args.tables.now [] 0);
+      recorders = λ slot other there. recorders.moves-nothing g.B.Feeder.kind g.B.Feeder.kept c.args.tables.now [] 0 (get_or (record_channels c.args.parent.now) slot other);
+      maps = λ slot other there. map-keeps-nothing g.B.Feeder.kind g.B.Feeder.kept c.args.tables.now (get_or (map_channels c.args.parent.now) slot other);
+    }
 
-pub returns-in-Play-clause-reply : goal.returns-in-Play-clause-reply
-returns-in-Play-clause-reply g c =
-    let parent = c.args.parent.now in
-    let held = c.in_ok-held.held in
-    let e = holding-is (held_by (desk_with parent c.args.descriptors.now) c.args.fd) c.in_ok-held.held (sym c.holding.ensures ∙ c.in_ok-held.was) in
-    let there = play-there parent c.args.descriptors.now c.args.fd held c.requires.apart e c.in-Play.is in
-    let lent = c.play.result.now in
-    let own = own-lent parent.device (play_channels parent) held.slot lent there c.play.ensures.value c.requires.served.own in
-    reply-played (seen c.args.tables.now parent.device) (asking (seen c.args.tables.now parent.device) (desk_here (seen c.args.tables.now parent.device) (desk_with parent c.args.descriptors.now)) c.args.request) parent c.args.descriptors.now held.slot lent c.ioctl.result there c.play.ensures.value
-    (c.ioctl.ensures.reply ∙ ap (λ (d : Device). (asking (seen c.args.tables.now d) c.args.here c.args.request lent.book).reply) own ∙ ap (λ (here : Here). (asking (seen c.args.tables.now parent.device) here c.args.request lent.book).reply) c.requires.at)
-    ∙ sym (ap (λ (t : DeskTurn). t.reply) (turning-held Play (play_turn (seen c.args.tables.now parent.device) (asking (seen c.args.tables.now parent.device) (desk_here (seen c.args.tables.now parent.device) (desk_with parent c.args.descriptors.now)) c.args.request) (desk_with parent c.args.descriptors.now)) (record_turn (seen c.args.tables.now parent.device) (record_ask c.args.request) (desk_with parent c.args.descriptors.now)) (map_turn (seen c.args.tables.now parent.device) (map_ask c.args.request) (desk_with parent c.args.descriptors.now)) (held_by (desk_with parent c.args.descriptors.now) c.args.fd) held (desk_with parent c.args.descriptors.now) e c.in-Play.is))
-
-pub returns-in-Play-clause-channels : goal.returns-in-Play-clause-channels
-returns-in-Play-clause-channels g c =
-    let parent = c.args.parent.now in
-    let held = c.in_ok-held.held in
-    let e = holding-is (held_by (desk_with parent c.args.descriptors.now) c.args.fd) c.in_ok-held.held (sym c.holding.ensures ∙ c.in_ok-held.was) in
-    let there = play-there parent c.args.descriptors.now c.args.fd held c.requires.apart e c.in-Play.is in
-    each_set (PlayMoves g.B.Feeder.kind g.B.Feeder.kept c.args.tables.now [] 0) (play_channels parent) held.slot c.play.result.now c.ioctl.new.self there c.play.ensures.value c.ioctl.ensures.moves
-    (moves-nothing g.B.Feeder.kind g.B.Feeder.kept c.args.tables.now [] 0)
-
-pub returns-in-Play-clause-recorders : goal.returns-in-Play-clause-recorders
-returns-in-Play-clause-recorders g c = λ slot other there. recorders.moves-nothing g.B.Feeder.kind g.B.Feeder.kept c.args.tables.now [] 0 (get_or (record_channels c.args.parent.now) slot other)
-
-pub returns-in-Record-clause-silent : goal.returns-in-Record-clause-silent
-returns-in-Record-clause-silent g c =
-    ap bytes_due c.ioctl-in-Record.ensures.reply ∙ record-ask-silent c.args.request c.recorder.result.now.book
-
-pub returns-in-Record-clause-recorders_own : goal.returns-in-Record-clause-recorders_own
-returns-in-Record-clause-recorders_own g c =
+pub returns-in-Record : goal.returns-in-Record
+returns-in-Record g c =
     let parent = c.args.parent.now in
     let held = c.in_ok-held.held in
     let e = holding-is (held_by (desk_with parent c.args.descriptors.now) c.args.fd) c.in_ok-held.held (sym c.holding.ensures ∙ c.in_ok-held.was) in
     let there = record-there parent c.args.descriptors.now c.args.fd held c.requires.apart e c.in-Record.is in
-    own_set (λ (channel : RecordChannelOf _). channel.path.device) parent.device (record_channels parent) held.slot c.recorder.result.now c.ioctl-in-Record.new.self there c.recorder.ensures.value c.ioctl-in-Record.ensures.device c.requires.served.recorders_own
-
-pub returns-in-Record-clause-refused : goal.returns-in-Record-clause-refused
-returns-in-Record-clause-refused g c =
-    let parent = c.args.parent.now in
-    let held = c.in_ok-held.held in
-    let e = holding-is (held_by (desk_with parent c.args.descriptors.now) c.args.fd) c.in_ok-held.held (sym c.holding.ensures ∙ c.in_ok-held.was) in
-    on_err_weaker c.ioctl-in-Record.result
-    (λ same. parent_same _ parent refl refl (item-kept parent.recorders held.slot c.ioctl-in-Record.new.self c.recorder.result.now (same ∙ c.recorder.ensures.value)) refl refl refl refl refl refl refl)
-    c.ioctl-in-Record.ensures.refused
-
-pub returns-in-Record-clause-desk : goal.returns-in-Record-clause-desk
-returns-in-Record-clause-desk g c =
-    let parent = c.args.parent.now in
-    let held = c.in_ok-held.held in
-    let e = holding-is (held_by (desk_with parent c.args.descriptors.now) c.args.fd) c.in_ok-held.held (sym c.holding.ensures ∙ c.in_ok-held.was) in
-    let there = record-there parent c.args.descriptors.now c.args.fd held c.requires.apart e c.in-Record.is in
-    desk-recorded (seen c.args.tables.now parent.device) (record_ask c.args.request) parent c.args.descriptors.now held.slot c.recorder.result.now c.ioctl-in-Record.new.self there c.recorder.ensures.value c.ioctl-in-Record.ensures.book
-    ∙ sym (ap (λ (t : DeskTurn). t.desk) (turning-held Record (play_turn (seen c.args.tables.now parent.device) (asking (seen c.args.tables.now parent.device) (desk_here (seen c.args.tables.now parent.device) (desk_with parent c.args.descriptors.now)) c.args.request) (desk_with parent c.args.descriptors.now)) (record_turn (seen c.args.tables.now parent.device) (record_ask c.args.request) (desk_with parent c.args.descriptors.now)) (map_turn (seen c.args.tables.now parent.device) (map_ask c.args.request) (desk_with parent c.args.descriptors.now)) (held_by (desk_with parent c.args.descriptors.now) c.args.fd) held (desk_with parent c.args.descriptors.now) e c.in-Record.is))
-
-pub returns-in-Record-clause-reply : goal.returns-in-Record-clause-reply
-returns-in-Record-clause-reply g c =
-    let parent = c.args.parent.now in
-    let held = c.in_ok-held.held in
-    let e = holding-is (held_by (desk_with parent c.args.descriptors.now) c.args.fd) c.in_ok-held.held (sym c.holding.ensures ∙ c.in_ok-held.was) in
-    let there = record-there parent c.args.descriptors.now c.args.fd held c.requires.apart e c.in-Record.is in
-    reply-recorded (seen c.args.tables.now parent.device) (record_ask c.args.request) parent c.args.descriptors.now held.slot c.recorder.result.now c.ioctl-in-Record.result there c.recorder.ensures.value c.ioctl-in-Record.ensures.reply
-    ∙ sym (ap (λ (t : DeskTurn). t.reply) (turning-held Record (play_turn (seen c.args.tables.now parent.device) (asking (seen c.args.tables.now parent.device) (desk_here (seen c.args.tables.now parent.device) (desk_with parent c.args.descriptors.now)) c.args.request) (desk_with parent c.args.descriptors.now)) (record_turn (seen c.args.tables.now parent.device) (record_ask c.args.request) (desk_with parent c.args.descriptors.now)) (map_turn (seen c.args.tables.now parent.device) (map_ask c.args.request) (desk_with parent c.args.descriptors.now)) (held_by (desk_with parent c.args.descriptors.now) c.args.fd) held (desk_with parent c.args.descriptors.now) e c.in-Record.is))
-
-pub returns-in-Record-clause-channels : goal.returns-in-Record-clause-channels
-returns-in-Record-clause-channels g c = λ slot other there. moves-nothing g.B.Feeder.kind g.B.Feeder.kept c.args.tables.now [] 0 (get_or (play_channels c.args.parent.now) slot other)
-
-pub returns-in-Record-clause-recorders : goal.returns-in-Record-clause-recorders
-returns-in-Record-clause-recorders g c =
-    let parent = c.args.parent.now in
-    let held = c.in_ok-held.held in
-    let e = holding-is (held_by (desk_with parent c.args.descriptors.now) c.args.fd) c.in_ok-held.held (sym c.holding.ensures ∙ c.in_ok-held.was) in
-    let there = record-there parent c.args.descriptors.now c.args.fd held c.requires.apart e c.in-Record.is in
-    each_set (RecordMoves g.B.Feeder.kind g.B.Feeder.kept c.args.tables.now [] 0) (record_channels parent) held.slot c.recorder.result.now c.ioctl-in-Record.new.self there c.recorder.ensures.value c.ioctl-in-Record.ensures.moves
-    (recorders.moves-nothing g.B.Feeder.kind g.B.Feeder.kept c.args.tables.now [] 0)
-
-pub returns-in_err-held-clause-maps : goal.returns-in_err-held-clause-maps
-returns-in_err-held-clause-maps g c = λ slot other there. map-keeps-nothing g.B.Feeder.kind g.B.Feeder.kept c.args.tables.now (get_or (map_channels c.args.parent.now) slot other)
-
-pub returns-in-Play-clause-maps : goal.returns-in-Play-clause-maps
-returns-in-Play-clause-maps g c = λ slot other there. map-keeps-nothing g.B.Feeder.kind g.B.Feeder.kept c.args.tables.now (get_or (map_channels c.args.parent.now) slot other)
-
-pub returns-in-Record-clause-maps : goal.returns-in-Record-clause-maps
-returns-in-Record-clause-maps g c = λ slot other there. map-keeps-nothing g.B.Feeder.kind g.B.Feeder.kept c.args.tables.now (get_or (map_channels c.args.parent.now) slot other)
+    record {
+      silent = ap bytes_due c.ioctl-in-Record.ensures.reply ∙ record-ask-silent c.args.request c.recorder.result.now.book;
+      own = search rules;
+      recorders_own = own_set (λ (channel : RecordChannelOf _). channel.path.device) parent.device (record_channels parent) held.slot c.recorder.result.now c.ioctl-in-Record.new.self there c.recorder.ensures.value c.ioctl-in-Record.ensures.device c.requires.able.served.recorders_own;
+      maps_own = search rules;
+      output = search rules;
+      refused =
+          on_err_weaker c.ioctl-in-Record.result
+          (λ same. (parent_same _ parent refl refl (item-kept parent.recorders held.slot c.ioctl-in-Record.new.self c.recorder.result.now (same ∙ c.recorder.ensures.value)) refl refl refl refl refl refl refl, refl))
+          c.ioctl-in-Record.ensures.refused;
+      desk =
+          desk-recorded (seen c.args.tables.now parent.device) (record_ask c.args.request) parent c.args.descriptors.now held.slot c.recorder.result.now c.ioctl-in-Record.new.self there c.recorder.ensures.value c.ioctl-in-Record.ensures.book
+          ∙ sym (ap (λ (t : DeskTurn). t.desk) (turning-held Record (play_turn (seen c.args.tables.now parent.device) (asking (seen c.args.tables.now parent.device) (desk_here (seen c.args.tables.now parent.device) (desk_with parent c.args.descriptors.now)) c.args.request) (desk_with parent c.args.descriptors.now)) (record_turn (seen c.args.tables.now parent.device) (record_ask c.args.request) (desk_with parent c.args.descriptors.now)) (map_turn (seen c.args.tables.now parent.device) (map_ask c.args.request) (desk_with parent c.args.descriptors.now)) (held_by (desk_with parent c.args.descriptors.now) c.args.fd) held (desk_with parent c.args.descriptors.now) e c.in-Record.is));
+      reply =
+          reply-recorded (seen c.args.tables.now parent.device) (record_ask c.args.request) parent c.args.descriptors.now held.slot c.recorder.result.now c.ioctl-in-Record.result there c.recorder.ensures.value c.ioctl-in-Record.ensures.reply
+          ∙ sym (ap (λ (t : DeskTurn). t.reply) (turning-held Record (play_turn (seen c.args.tables.now parent.device) (asking (seen c.args.tables.now parent.device) (desk_here (seen c.args.tables.now parent.device) (desk_with parent c.args.descriptors.now)) c.args.request) (desk_with parent c.args.descriptors.now)) (record_turn (seen c.args.tables.now parent.device) (record_ask c.args.request) (desk_with parent c.args.descriptors.now)) (map_turn (seen c.args.tables.now parent.device) (map_ask c.args.request) (desk_with parent c.args.descriptors.now)) (held_by (desk_with parent c.args.descriptors.now) c.args.fd) held (desk_with parent c.args.descriptors.now) e c.in-Record.is));
+      channels = λ slot other there. moves-nothing g.B.Feeder.kind g.B.Feeder.kept c.args.tables.now [] 0 (get_or (play_channels c.args.parent.now) slot other);
+      recorders =
+          each_set (RecordMoves g.B.Feeder.kind g.B.Feeder.kept c.args.tables.now [] 0) (record_channels parent) held.slot c.recorder.result.now c.ioctl-in-Record.new.self there c.recorder.ensures.value c.ioctl-in-Record.ensures.moves
+          (recorders.moves-nothing g.B.Feeder.kind g.B.Feeder.kept c.args.tables.now [] 0);
+      maps = λ slot other there. map-keeps-nothing g.B.Feeder.kind g.B.Feeder.kept c.args.tables.now (get_or (map_channels c.args.parent.now) slot other);
+    }
 
 pub mapped-requires : goal.mapped-requires
 mapped-requires g c =
@@ -230,7 +174,7 @@ ioctl-requires-in-Map-clause-kinds g c =
     let held = c.in_ok-held.held in
     let e = holding-is (held_by (desk_with parent c.args.descriptors.now) c.args.fd) c.in_ok-held.held (sym c.holding.ensures ∙ c.in_ok-held.was) in
     let there = map-there parent c.args.descriptors.now c.args.fd held c.requires.apart e c.in-Map.is in
-    subst (λ (channel : MapChannelOf _). HaveKinds g.B.Feeder.kind (boxes_in channel.path.chain)) (sym c.mapped.ensures.value) (c.requires.served.maps_ready held.slot c.mapped.result.now there).kinds
+    subst (λ (channel : MapChannelOf _). HaveKinds g.B.Feeder.kind (boxes_in channel.path.chain)) (sym c.mapped.ensures.value) (c.requires.able.served.maps_ready held.slot c.mapped.result.now there).kinds
 
 pub ioctl-requires-in-Map-clause-planned : goal.ioctl-requires-in-Map-clause-planned
 ioctl-requires-in-Map-clause-planned g c =
@@ -238,7 +182,7 @@ ioctl-requires-in-Map-clause-planned g c =
     let held = c.in_ok-held.held in
     let e = holding-is (held_by (desk_with parent c.args.descriptors.now) c.args.fd) c.in_ok-held.held (sym c.holding.ensures ∙ c.in_ok-held.was) in
     let there = map-there parent c.args.descriptors.now c.args.fd held c.requires.apart e c.in-Map.is in
-    subst (IsMapPlanned c.args.tables.now) (sym c.mapped.ensures.value) (c.requires.served.maps_ready held.slot c.mapped.result.now there).planned
+    subst (IsMapPlanned c.args.tables.now) (sym c.mapped.ensures.value) (c.requires.able.served.maps_ready held.slot c.mapped.result.now there).planned
 
 pub ioctl-requires-in-Map-clause-count : goal.ioctl-requires-in-Map-clause-count
 ioctl-requires-in-Map-clause-count g c =
@@ -246,59 +190,35 @@ ioctl-requires-in-Map-clause-count g c =
     let held = c.in_ok-held.held in
     let e = holding-is (held_by (desk_with parent c.args.descriptors.now) c.args.fd) c.in_ok-held.held (sym c.holding.ensures ∙ c.in_ok-held.was) in
     let there = map-there parent c.args.descriptors.now c.args.fd held c.requires.apart e c.in-Map.is in
-    subst (λ (channel : MapChannelOf _). channel.book.given < 1125899906842624) (sym c.mapped.ensures.value) (c.requires.given held.slot c.mapped.result.now there)
+    subst (λ (channel : MapChannelOf _). channel.book.given < 1125899906842624) (sym c.mapped.ensures.value) (c.requires.able.given held.slot c.mapped.result.now there)
 
-pub returns-in-Map-clause-silent : goal.returns-in-Map-clause-silent
-returns-in-Map-clause-silent g c =
-    ap bytes_due c.ioctl-in-Map.ensures.reply ∙ map-asked-silent c.args.request c.mapped.result.now.book
-
-pub returns-in-Map-clause-maps_own : goal.returns-in-Map-clause-maps_own
-returns-in-Map-clause-maps_own g c =
-    let parent = c.args.parent.now in
-    let held = c.in_ok-held.held in
-    let e = holding-is (held_by (desk_with parent c.args.descriptors.now) c.args.fd) c.in_ok-held.held (sym c.holding.ensures ∙ c.in_ok-held.was) in
-    let there = map-there parent c.args.descriptors.now c.args.fd held c.requires.apart e c.in-Map.is in
-    own_set (λ (channel : MapChannelOf _). channel.path.device) parent.device (map_channels parent) held.slot c.mapped.result.now c.ioctl-in-Map.new.self there c.mapped.ensures.value c.ioctl-in-Map.ensures.device c.requires.served.maps_own
-
-pub returns-in-Map-clause-refused : goal.returns-in-Map-clause-refused
-returns-in-Map-clause-refused g c =
-    let parent = c.args.parent.now in
-    let held = c.in_ok-held.held in
-    on_err_weaker c.ioctl-in-Map.result
-    (λ same. parent_same _ parent refl refl refl (item-kept parent.maps held.slot c.ioctl-in-Map.new.self c.mapped.result.now (same ∙ c.mapped.ensures.value)) refl refl refl refl refl refl)
-    c.ioctl-in-Map.ensures.refused
-
-pub returns-in-Map-clause-desk : goal.returns-in-Map-clause-desk
-returns-in-Map-clause-desk g c =
-    let parent = c.args.parent.now in
-    let held = c.in_ok-held.held in
-    let e = holding-is (held_by (desk_with parent c.args.descriptors.now) c.args.fd) c.in_ok-held.held (sym c.holding.ensures ∙ c.in_ok-held.was) in
-    let there = map-there parent c.args.descriptors.now c.args.fd held c.requires.apart e c.in-Map.is in
-    desk-mapped (seen c.args.tables.now parent.device) (map_ask c.args.request) parent c.args.descriptors.now held.slot c.mapped.result.now c.ioctl-in-Map.new.self there c.mapped.ensures.value c.ioctl-in-Map.ensures.book
-    ∙ sym (ap (λ (t : DeskTurn). t.desk) (turning-held Map (play_turn (seen c.args.tables.now parent.device) (asking (seen c.args.tables.now parent.device) (desk_here (seen c.args.tables.now parent.device) (desk_with parent c.args.descriptors.now)) c.args.request) (desk_with parent c.args.descriptors.now)) (record_turn (seen c.args.tables.now parent.device) (record_ask c.args.request) (desk_with parent c.args.descriptors.now)) (map_turn (seen c.args.tables.now parent.device) (map_ask c.args.request) (desk_with parent c.args.descriptors.now)) (held_by (desk_with parent c.args.descriptors.now) c.args.fd) held (desk_with parent c.args.descriptors.now) e c.in-Map.is))
-
-pub returns-in-Map-clause-reply : goal.returns-in-Map-clause-reply
-returns-in-Map-clause-reply g c =
-    let parent = c.args.parent.now in
-    let held = c.in_ok-held.held in
-    let e = holding-is (held_by (desk_with parent c.args.descriptors.now) c.args.fd) c.in_ok-held.held (sym c.holding.ensures ∙ c.in_ok-held.was) in
-    let there = map-there parent c.args.descriptors.now c.args.fd held c.requires.apart e c.in-Map.is in
-    reply-mapped (seen c.args.tables.now parent.device) (map_ask c.args.request) parent c.args.descriptors.now held.slot c.mapped.result.now c.ioctl-in-Map.result there c.mapped.ensures.value c.ioctl-in-Map.ensures.reply
-    ∙ sym (ap (λ (t : DeskTurn). t.reply) (turning-held Map (play_turn (seen c.args.tables.now parent.device) (asking (seen c.args.tables.now parent.device) (desk_here (seen c.args.tables.now parent.device) (desk_with parent c.args.descriptors.now)) c.args.request) (desk_with parent c.args.descriptors.now)) (record_turn (seen c.args.tables.now parent.device) (record_ask c.args.request) (desk_with parent c.args.descriptors.now)) (map_turn (seen c.args.tables.now parent.device) (map_ask c.args.request) (desk_with parent c.args.descriptors.now)) (held_by (desk_with parent c.args.descriptors.now) c.args.fd) held (desk_with parent c.args.descriptors.now) e c.in-Map.is))
-
-pub returns-in-Map-clause-channels : goal.returns-in-Map-clause-channels
-returns-in-Map-clause-channels g c = λ slot other there. moves-nothing g.B.Feeder.kind g.B.Feeder.kept c.args.tables.now [] 0 (get_or (play_channels c.args.parent.now) slot other)
-
-pub returns-in-Map-clause-recorders : goal.returns-in-Map-clause-recorders
-returns-in-Map-clause-recorders g c = λ slot other there. recorders.moves-nothing g.B.Feeder.kind g.B.Feeder.kept c.args.tables.now [] 0 (get_or (record_channels c.args.parent.now) slot other)
-
-pub returns-in-Map-clause-maps : goal.returns-in-Map-clause-maps
-returns-in-Map-clause-maps g c =
+pub returns-in-Map : goal.returns-in-Map
+returns-in-Map g c =
     let parent = c.args.parent.now in
     let held = c.in_ok-held.held in
     let e = holding-is (held_by (desk_with parent c.args.descriptors.now) c.args.fd) c.in_ok-held.held (sym c.holding.ensures ∙ c.in_ok-held.was) in
     let there = map-there parent c.args.descriptors.now c.args.fd held c.requires.apart e c.in-Map.is in
     let unfree = map-unfree parent c.args.descriptors.now c.args.fd held c.mapped.result.now c.requires.apart e c.in-Map.is there c.mapped.ensures.value in
-    each_set (MapKeeps g.B.Feeder.kind g.B.Feeder.kept c.args.tables.now (untouched 0)) (map_channels parent) held.slot c.mapped.result.now c.ioctl-in-Map.new.self there c.mapped.ensures.value
-    (keeps-asked g.B.Feeder.kind g.B.Feeder.kept c.args.tables.now 0 c.mapped.result.now c.ioctl-in-Map.new.self unfree c.ioctl-in-Map.ensures.area c.ioctl-in-Map.ensures.moves)
-    (map-keeps-nothing g.B.Feeder.kind g.B.Feeder.kept c.args.tables.now)
+    record {
+      silent = ap bytes_due c.ioctl-in-Map.ensures.reply ∙ map-asked-silent c.args.request c.mapped.result.now.book;
+      own = search rules;
+      recorders_own = search rules;
+      maps_own = own_set (λ (channel : MapChannelOf _). channel.path.device) parent.device (map_channels parent) held.slot c.mapped.result.now c.ioctl-in-Map.new.self there c.mapped.ensures.value c.ioctl-in-Map.ensures.device c.requires.able.served.maps_own;
+      output = search rules;
+      refused =
+          on_err_weaker c.ioctl-in-Map.result
+          (λ same. (parent_same _ parent refl refl refl (item-kept parent.maps held.slot c.ioctl-in-Map.new.self c.mapped.result.now (same ∙ c.mapped.ensures.value)) refl refl refl refl refl refl, refl))
+          c.ioctl-in-Map.ensures.refused;
+      desk =
+          desk-mapped (seen c.args.tables.now parent.device) (map_ask c.args.request) parent c.args.descriptors.now held.slot c.mapped.result.now c.ioctl-in-Map.new.self there c.mapped.ensures.value c.ioctl-in-Map.ensures.book
+          ∙ sym (ap (λ (t : DeskTurn). t.desk) (turning-held Map (play_turn (seen c.args.tables.now parent.device) (asking (seen c.args.tables.now parent.device) (desk_here (seen c.args.tables.now parent.device) (desk_with parent c.args.descriptors.now)) c.args.request) (desk_with parent c.args.descriptors.now)) (record_turn (seen c.args.tables.now parent.device) (record_ask c.args.request) (desk_with parent c.args.descriptors.now)) (map_turn (seen c.args.tables.now parent.device) (map_ask c.args.request) (desk_with parent c.args.descriptors.now)) (held_by (desk_with parent c.args.descriptors.now) c.args.fd) held (desk_with parent c.args.descriptors.now) e c.in-Map.is));
+      reply =
+          reply-mapped (seen c.args.tables.now parent.device) (map_ask c.args.request) parent c.args.descriptors.now held.slot c.mapped.result.now c.ioctl-in-Map.result there c.mapped.ensures.value c.ioctl-in-Map.ensures.reply
+          ∙ sym (ap (λ (t : DeskTurn). t.reply) (turning-held Map (play_turn (seen c.args.tables.now parent.device) (asking (seen c.args.tables.now parent.device) (desk_here (seen c.args.tables.now parent.device) (desk_with parent c.args.descriptors.now)) c.args.request) (desk_with parent c.args.descriptors.now)) (record_turn (seen c.args.tables.now parent.device) (record_ask c.args.request) (desk_with parent c.args.descriptors.now)) (map_turn (seen c.args.tables.now parent.device) (map_ask c.args.request) (desk_with parent c.args.descriptors.now)) (held_by (desk_with parent c.args.descriptors.now) c.args.fd) held (desk_with parent c.args.descriptors.now) e c.in-Map.is));
+      channels = λ slot other there. moves-nothing g.B.Feeder.kind g.B.Feeder.kept c.args.tables.now [] 0 (get_or (play_channels c.args.parent.now) slot other);
+      recorders = λ slot other there. recorders.moves-nothing g.B.Feeder.kind g.B.Feeder.kept c.args.tables.now [] 0 (get_or (record_channels c.args.parent.now) slot other);
+      maps =
+          each_set (MapKeeps g.B.Feeder.kind g.B.Feeder.kept c.args.tables.now (untouched 0)) (map_channels parent) held.slot c.mapped.result.now c.ioctl-in-Map.new.self there c.mapped.ensures.value
+          (keeps-asked g.B.Feeder.kind g.B.Feeder.kept c.args.tables.now 0 c.mapped.result.now c.ioctl-in-Map.new.self unfree c.ioctl-in-Map.ensures.area c.ioctl-in-Map.ensures.moves)
+          (map-keeps-nothing g.B.Feeder.kind g.B.Feeder.kept c.args.tables.now);
+    }

@@ -1,5 +1,5 @@
 use Rattle.pcm_desk.specs.declared.device.Held.{Held}
-use Rattle.std.proofs.Common.{[], Option, Some, None, set, get_or, sym, ap, ◌∙◌, arith}
+use Rattle.std.proofs.Common.{rules, [], Option, Some, None, set, get_or, sym, ap, ◌∙◌, arith}
 use Rattle.pcm_fixed.proofs.Items.{items-count}
 use Rattle.pcm_desk.specs.Device.{seen}
 use Rattle.pcm_desk.specs.Desk.{Desk, close_on, leaving, left, with_descriptor, held_by}
@@ -43,14 +43,17 @@ leave-requires g c =
     let held = c.in_ok-held.held in
     held-few parent c.args.descriptors.now c.args.fd held c.requires.apart (holding-is (held_by (desk_with parent c.args.descriptors.now) c.args.fd) held (sym c.holding.ensures ∙ c.in_ok-held.was))
 
-pub returns-in_err-held-clause-channels : goal.returns-in_err-held-clause-channels
-returns-in_err-held-clause-channels g c = λ filters slot other there. moves-nothing g.B.Feeder.kind g.B.Feeder.kept filters [] 0 (get_or (play_channels c.args.parent.now) slot other)
-
-pub returns-in_err-held-clause-recorders : goal.returns-in_err-held-clause-recorders
-returns-in_err-held-clause-recorders g c = λ filters slot other there. recorders.moves-nothing g.B.Feeder.kind g.B.Feeder.kept filters [] 0 (get_or (record_channels c.args.parent.now) slot other)
-
-pub returns-in_err-held-clause-maps : goal.returns-in_err-held-clause-maps
-returns-in_err-held-clause-maps g c = λ filters slot other there. map-keeps-nothing g.B.Feeder.kind g.B.Feeder.kept filters (get_or (map_channels c.args.parent.now) slot other)
+pub returns-in_err-held-clause-closed : goal.returns-in_err-held-clause-closed
+returns-in_err-held-clause-closed g c =
+    record {
+      own = search rules;
+      recorders_own = search rules;
+      maps_own = search rules;
+      output = search rules;
+      channels = λ filters slot other there. moves-nothing g.B.Feeder.kind g.B.Feeder.kept filters [] 0 (get_or (play_channels c.args.parent.now) slot other);
+      recorders = λ filters slot other there. recorders.moves-nothing g.B.Feeder.kind g.B.Feeder.kept filters [] 0 (get_or (record_channels c.args.parent.now) slot other);
+      maps = λ filters slot other there. map-keeps-nothing g.B.Feeder.kind g.B.Feeder.kept filters (get_or (map_channels c.args.parent.now) slot other);
+    }
 
 pub close_channel-answer-requires-clause-mapped : goal.close_channel-answer-requires-clause-mapped
 close_channel-answer-requires-clause-mapped g c =

@@ -1,4 +1,4 @@
-use Rattle.std.proofs.Common.{◌<◌, [], length, get_or, Ok, sym, ap, ◌∙◌, subst, arith}
+use Rattle.std.proofs.Common.{rules, ◌<◌, [], length, get_or, Ok, sym, ap, ◌∙◌, subst, arith}
 use Rattle.pcm_fixed.proofs.Items.{items-count}
 use Rattle.pcm_feeder.specs.Racks.{HaveKinds}
 use Rattle.pcm_chain.specs.Chains.{boxes_in}
@@ -37,13 +37,27 @@ close-requires-in-Record g c =
     let there : held.slot < length (record_channels parent) = omega (arith, below, items-count parent.recorders) in
     record { kinds = subst (λ (channel : RecordChannelOf _). HaveKinds g.B.Feeder.kind (boxes_in channel.path.chain)) (sym c.recorder.ensures.value) (c.requires.closable.recorders_kinds held.slot c.recorder.result.now there) }
 
-pub returns-in-Play-clause-own : goal.returns-in-Play-clause-own
-returns-in-Play-clause-own g c =
+pub returns-in-Play-clause-closed : goal.returns-in-Play-clause-closed
+returns-in-Play-clause-closed g c =
     let parent = c.args.parent.now in
     let held = c.args.held in
     let below = c.requires.play c.in-Play.is in
     let there : held.slot < length (play_channels parent) = omega (arith, below, items-count parent.channels) in
-    own_set (λ (channel : PlayChannelOf _). channel.path.device) parent.device (play_channels parent) held.slot c.play.result.now c.close.new.self there c.play.ensures.value c.close.ensures.device c.requires.closable.own
+    record {
+      own = own_set (λ (channel : PlayChannelOf _). channel.path.device) parent.device (play_channels parent) held.slot c.play.result.now c.close.new.self there c.play.ensures.value c.close.ensures.device c.requires.closable.own;
+      recorders_own = search rules;
+      maps_own = search rules;
+      output = search rules;
+      channels = λ filters.
+          let parent = c.args.parent.now in
+          let held = c.args.held in
+          let below = c.requires.play c.in-Play.is in
+          let there : held.slot < length (play_channels parent) = omega (arith, below, items-count parent.channels) in
+          each_set (PlayMoves g.B.Feeder.kind g.B.Feeder.kept filters [] 0) (play_channels parent) held.slot c.play.result.now c.close.new.self there c.play.ensures.value (c.close.ensures.moves filters)
+          (moves-nothing g.B.Feeder.kind g.B.Feeder.kept filters [] 0);
+      recorders = λ filters slot other there. recorders.moves-nothing g.B.Feeder.kind g.B.Feeder.kept filters [] 0 (get_or (record_channels c.args.parent.now) slot other);
+      maps = λ filters slot other there. map-keeps-nothing g.B.Feeder.kind g.B.Feeder.kept filters (get_or (map_channels c.args.parent.now) slot other);
+    }
 
 pub returns-in-Play-clause-desk : goal.returns-in-Play-clause-desk
 returns-in-Play-clause-desk g c =
@@ -60,25 +74,27 @@ returns-in-Play-clause-desk g c =
     (c.close.ensures.book filters (subst (IsPlayPlanned filters) (sym c.play.ensures.value) (ready held.slot lent there).planned) ∙ ap (λ (d : Device). closing (seen filters d) c.args.here lent.book) own ∙ ap (λ (here : Here). closing device here lent.book) at)
     ∙ sym (ap (λ (w : Way). by_way w (with_play desk held.slot (closing device (desk_here device desk) (play_at device desk held.slot))) (with_record desk held.slot (closed (record_at device desk held.slot))) (with_map desk held.slot (map_closed (map_at device desk held.slot)))) c.in-Play.is)
 
-pub returns-in-Play-clause-channels : goal.returns-in-Play-clause-channels
-returns-in-Play-clause-channels g c = λ filters.
-    let parent = c.args.parent.now in
-    let held = c.args.held in
-    let below = c.requires.play c.in-Play.is in
-    let there : held.slot < length (play_channels parent) = omega (arith, below, items-count parent.channels) in
-    each_set (PlayMoves g.B.Feeder.kind g.B.Feeder.kept filters [] 0) (play_channels parent) held.slot c.play.result.now c.close.new.self there c.play.ensures.value (c.close.ensures.moves filters)
-    (moves-nothing g.B.Feeder.kind g.B.Feeder.kept filters [] 0)
-
-pub returns-in-Play-clause-recorders : goal.returns-in-Play-clause-recorders
-returns-in-Play-clause-recorders g c = λ filters slot other there. recorders.moves-nothing g.B.Feeder.kind g.B.Feeder.kept filters [] 0 (get_or (record_channels c.args.parent.now) slot other)
-
-pub returns-in-Record-clause-recorders_own : goal.returns-in-Record-clause-recorders_own
-returns-in-Record-clause-recorders_own g c =
+pub returns-in-Record-clause-closed : goal.returns-in-Record-clause-closed
+returns-in-Record-clause-closed g c =
     let parent = c.args.parent.now in
     let held = c.args.held in
     let below = c.requires.recording c.in-Record.is in
     let there : held.slot < length (record_channels parent) = omega (arith, below, items-count parent.recorders) in
-    own_set (λ (channel : RecordChannelOf _). channel.path.device) parent.device (record_channels parent) held.slot c.recorder.result.now c.close-in-Record.new.self there c.recorder.ensures.value c.close-in-Record.ensures.device c.requires.closable.recorders_own
+    record {
+      own = search rules;
+      recorders_own = own_set (λ (channel : RecordChannelOf _). channel.path.device) parent.device (record_channels parent) held.slot c.recorder.result.now c.close-in-Record.new.self there c.recorder.ensures.value c.close-in-Record.ensures.device c.requires.closable.recorders_own;
+      maps_own = search rules;
+      output = search rules;
+      channels = λ filters slot other there. moves-nothing g.B.Feeder.kind g.B.Feeder.kept filters [] 0 (get_or (play_channels c.args.parent.now) slot other);
+      recorders = λ filters.
+          let parent = c.args.parent.now in
+          let held = c.args.held in
+          let below = c.requires.recording c.in-Record.is in
+          let there : held.slot < length (record_channels parent) = omega (arith, below, items-count parent.recorders) in
+          each_set (RecordMoves g.B.Feeder.kind g.B.Feeder.kept filters [] 0) (record_channels parent) held.slot c.recorder.result.now c.close-in-Record.new.self there c.recorder.ensures.value (c.close-in-Record.ensures.moves filters)
+          (recorders.moves-nothing g.B.Feeder.kind g.B.Feeder.kept filters [] 0);
+      maps = λ filters slot other there. map-keeps-nothing g.B.Feeder.kind g.B.Feeder.kept filters (get_or (map_channels c.args.parent.now) slot other);
+    }
 
 pub returns-in-Record-clause-desk : goal.returns-in-Record-clause-desk
 returns-in-Record-clause-desk g c =
@@ -92,24 +108,6 @@ returns-in-Record-clause-desk g c =
     desk-recorded device (λ (book : RecordBook). record { book = closed book; reply = Ok Done }) parent descriptors held.slot c.recorder.result.now c.close-in-Record.new.self there c.recorder.ensures.value c.close-in-Record.ensures.book
     ∙ sym (ap (λ (w : Way). by_way w (with_play desk held.slot (closing device (desk_here device desk) (play_at device desk held.slot))) (with_record desk held.slot (closed (record_at device desk held.slot))) (with_map desk held.slot (map_closed (map_at device desk held.slot)))) c.in-Record.is)
 
-pub returns-in-Record-clause-channels : goal.returns-in-Record-clause-channels
-returns-in-Record-clause-channels g c = λ filters slot other there. moves-nothing g.B.Feeder.kind g.B.Feeder.kept filters [] 0 (get_or (play_channels c.args.parent.now) slot other)
-
-pub returns-in-Record-clause-recorders : goal.returns-in-Record-clause-recorders
-returns-in-Record-clause-recorders g c = λ filters.
-    let parent = c.args.parent.now in
-    let held = c.args.held in
-    let below = c.requires.recording c.in-Record.is in
-    let there : held.slot < length (record_channels parent) = omega (arith, below, items-count parent.recorders) in
-    each_set (RecordMoves g.B.Feeder.kind g.B.Feeder.kept filters [] 0) (record_channels parent) held.slot c.recorder.result.now c.close-in-Record.new.self there c.recorder.ensures.value (c.close-in-Record.ensures.moves filters)
-    (recorders.moves-nothing g.B.Feeder.kind g.B.Feeder.kept filters [] 0)
-
-pub returns-in-Play-clause-maps : goal.returns-in-Play-clause-maps
-returns-in-Play-clause-maps g c = λ filters slot other there. map-keeps-nothing g.B.Feeder.kind g.B.Feeder.kept filters (get_or (map_channels c.args.parent.now) slot other)
-
-pub returns-in-Record-clause-maps : goal.returns-in-Record-clause-maps
-returns-in-Record-clause-maps g c = λ filters slot other there. map-keeps-nothing g.B.Feeder.kind g.B.Feeder.kept filters (get_or (map_channels c.args.parent.now) slot other)
-
 pub close-requires-in-Map : goal.close-requires-in-Map
 close-requires-in-Map g c =
     let parent = c.args.parent.now in
@@ -118,13 +116,28 @@ close-requires-in-Map g c =
     let there : held.slot < length (map_channels parent) = omega (arith, below, items-count parent.maps) in
     record { kinds = subst (λ (channel : MapChannelOf _). HaveKinds g.B.Feeder.kind (boxes_in channel.path.chain)) (sym c.mapped.ensures.value) (c.requires.closable.maps_kinds held.slot c.mapped.result.now there) }
 
-pub returns-in-Map-clause-maps_own : goal.returns-in-Map-clause-maps_own
-returns-in-Map-clause-maps_own g c =
+pub returns-in-Map-clause-closed : goal.returns-in-Map-clause-closed
+returns-in-Map-clause-closed g c =
     let parent = c.args.parent.now in
     let held = c.args.held in
     let below = c.requires.mapped c.in-Map.is in
     let there : held.slot < length (map_channels parent) = omega (arith, below, items-count parent.maps) in
-    own_set (λ (channel : MapChannelOf _). channel.path.device) parent.device (map_channels parent) held.slot c.mapped.result.now c.close-in-Map.new.self there c.mapped.ensures.value c.close-in-Map.ensures.device c.requires.closable.maps_own
+    record {
+      own = search rules;
+      recorders_own = search rules;
+      maps_own = own_set (λ (channel : MapChannelOf _). channel.path.device) parent.device (map_channels parent) held.slot c.mapped.result.now c.close-in-Map.new.self there c.mapped.ensures.value c.close-in-Map.ensures.device c.requires.closable.maps_own;
+      output = search rules;
+      channels = λ filters slot other there. moves-nothing g.B.Feeder.kind g.B.Feeder.kept filters [] 0 (get_or (play_channels c.args.parent.now) slot other);
+      recorders = λ filters slot other there. recorders.moves-nothing g.B.Feeder.kind g.B.Feeder.kept filters [] 0 (get_or (record_channels c.args.parent.now) slot other);
+      maps = λ filters.
+          let parent = c.args.parent.now in
+          let held = c.args.held in
+          let below = c.requires.mapped c.in-Map.is in
+          let there : held.slot < length (map_channels parent) = omega (arith, below, items-count parent.maps) in
+          each_set (MapKeeps g.B.Feeder.kind g.B.Feeder.kept filters (untouched 0)) (map_channels parent) held.slot c.mapped.result.now c.close-in-Map.new.self there c.mapped.ensures.value
+          (keeps-closed g.B.Feeder.kind g.B.Feeder.kept filters 0 c.mapped.result.now c.close-in-Map.new.self c.close-in-Map.ensures.book c.close-in-Map.ensures.area (c.close-in-Map.ensures.moves filters))
+          (map-keeps-nothing g.B.Feeder.kind g.B.Feeder.kept filters);
+    }
 
 pub returns-in-Map-clause-desk : goal.returns-in-Map-clause-desk
 returns-in-Map-clause-desk g c =
@@ -137,19 +150,3 @@ returns-in-Map-clause-desk g c =
     let desk : Desk = desk_with parent descriptors in
     desk-mapped device (λ (book : MapBook). record { book = map_closed book; reply = Ok Done }) parent descriptors held.slot c.mapped.result.now c.close-in-Map.new.self there c.mapped.ensures.value c.close-in-Map.ensures.book
     ∙ sym (ap (λ (w : Way). by_way w (with_play desk held.slot (closing device (desk_here device desk) (play_at device desk held.slot))) (with_record desk held.slot (closed (record_at device desk held.slot))) (with_map desk held.slot (map_closed (map_at device desk held.slot)))) c.in-Map.is)
-
-pub returns-in-Map-clause-channels : goal.returns-in-Map-clause-channels
-returns-in-Map-clause-channels g c = λ filters slot other there. moves-nothing g.B.Feeder.kind g.B.Feeder.kept filters [] 0 (get_or (play_channels c.args.parent.now) slot other)
-
-pub returns-in-Map-clause-recorders : goal.returns-in-Map-clause-recorders
-returns-in-Map-clause-recorders g c = λ filters slot other there. recorders.moves-nothing g.B.Feeder.kind g.B.Feeder.kept filters [] 0 (get_or (record_channels c.args.parent.now) slot other)
-
-pub returns-in-Map-clause-maps : goal.returns-in-Map-clause-maps
-returns-in-Map-clause-maps g c = λ filters.
-    let parent = c.args.parent.now in
-    let held = c.args.held in
-    let below = c.requires.mapped c.in-Map.is in
-    let there : held.slot < length (map_channels parent) = omega (arith, below, items-count parent.maps) in
-    each_set (MapKeeps g.B.Feeder.kind g.B.Feeder.kept filters (untouched 0)) (map_channels parent) held.slot c.mapped.result.now c.close-in-Map.new.self there c.mapped.ensures.value
-    (keeps-closed g.B.Feeder.kind g.B.Feeder.kept filters 0 c.mapped.result.now c.close-in-Map.new.self c.close-in-Map.ensures.book c.close-in-Map.ensures.area (c.close-in-Map.ensures.moves filters))
-    (map-keeps-nothing g.B.Feeder.kind g.B.Feeder.kept filters)

@@ -1,12 +1,10 @@
-use Rattle.std.proofs.Common.{[], get_or, sym, ap, ◌∙◌, subst}
+use Rattle.std.proofs.Common.{rules, get_or, sym, ap, ◌∙◌, subst}
 use Rattle.pcm_group.specs.declared.sync_groups.Groups.{Groups}
 use Rattle.pcm_group.specs.Groups.{all_in, change_in, dissolved, is_used}
 use Rattle.pcm_desk.specs.declared.here.Here.{Here}
 use Rattle.pcm_desk.specs.Device.{seen}
 use Rattle.pcm_desk.specs.Desk.{DeskTurn, held_by, play_starting, record_starting}
 use Rattle.pcm_desk.specs.PlayBooks.{play_is_ready}
-use Rattle.pcm_play.proofs.Moving.{moves-nothing}
-use Rattle.pcm_record.proofs.Moving as recorders
 use Rattle.pcm_fixed.specs.declared.fixed.Fixed.{Fixed}
 use Rattle.pcm_fixed.specs.Fixed.{fixed_items}
 use Rattle.pcm_map.specs.declared.channel.MapChannelOf.{MapChannelOf}
@@ -14,83 +12,62 @@ use Rattle.pcm_desk.specs.declared.device.Device.{Device}
 use Rattle.pcm_bus.specs.Slots.{map_books_of, MapAreOf}
 use Rattle.pcm_vchan.specs.Slots.{MapKeeps}
 use Rattle.pcm_vchan.specs.Starts.{EachAt}
-use Rattle.pcm_vchan.specs.Parents.{map_channels, play_books, play_channels, record_books, record_channels, untouched}
+use Rattle.pcm_vchan.specs.Parents.{map_channels, play_books, record_books, untouched}
 use Rattle.pcm_engine.specs.declared.descriptors.Descriptors.{Descriptors}
-use Rattle.pcm_engine.specs.Desks.{desk_with}
+use Rattle.pcm_engine.specs.Desks.{desk_with, start_call}
+use Rattle.pcm_engine.proofs.Answering.{answers-nothing}
 use Rattle.pcm_engine.proofs.Grouping.{start-done}
 use Rattle.pcm_vchan.proofs.Channels.{map-keeps-nothing}
 use Rattle.pcm_engine.proofs.Turning.{holding-is}
 use Rattle.pcm_engine.proofs.grouped.start_group.Goals as goal
 
-pub returns-in_err-held-clause-channels : goal.returns-in_err-held-clause-channels
-returns-in_err-held-clause-channels g c = λ slot other there. moves-nothing g.B.Feeder.kind g.B.Feeder.kept c.args.tables.now [] 0 (get_or (play_channels c.args.parent.now) slot other)
+pub returns-in_err-held : goal.returns-in_err-held
+returns-in_err-held g c =
+    answers-nothing g.B.Feeder.kind g.B.Feeder.kept c.args.tables.now (start_call c.args.fd c.args.group) c.args.parent.now c.args.descriptors.now _ c.requires.able.served (search rules) (search rules) (search rules)
 
-pub returns-in_err-held-clause-recorders : goal.returns-in_err-held-clause-recorders
-returns-in_err-held-clause-recorders g c = λ slot other there. recorders.moves-nothing g.B.Feeder.kind g.B.Feeder.kept c.args.tables.now [] 0 (get_or (record_channels c.args.parent.now) slot other)
+pub returns-then-not-is_group_ready : goal.returns-then-not-is_group_ready
+returns-then-not-is_group_ready g c =
+    answers-nothing g.B.Feeder.kind g.B.Feeder.kept c.args.tables.now (start_call c.args.fd c.args.group) c.args.parent.now c.args.descriptors.now _ c.requires.able.served (search rules) (search rules) (search rules)
 
-pub returns-then-not-is_group_ready-clause-channels : goal.returns-then-not-is_group_ready-clause-channels
-returns-then-not-is_group_ready-clause-channels g c = λ slot other there. moves-nothing g.B.Feeder.kind g.B.Feeder.kept c.args.tables.now [] 0 (get_or (play_channels c.args.parent.now) slot other)
-
-pub returns-then-not-is_group_ready-clause-recorders : goal.returns-then-not-is_group_ready-clause-recorders
-returns-then-not-is_group_ready-clause-recorders g c = λ slot other there. recorders.moves-nothing g.B.Feeder.kind g.B.Feeder.kept c.args.tables.now [] 0 (get_or (record_channels c.args.parent.now) slot other)
-
-pub returns-clause-desk : goal.returns-clause-desk
-returns-clause-desk g c =
-    let parent = c.args.parent.now in
-    let group = c.args.group in
-    let device = seen c.args.tables.now parent.device in
-    let desk = desk_with parent c.args.descriptors.now in
-    let e = holding-is (held_by desk c.args.fd) c.in_ok-held.held (sym c.holding.ensures ∙ c.in_ok-held.was) in
-    let joins = sym c.may_join.ensures ∙ c.if-not-may_join.false in
-    let used = ap (λ (groups : Groups). is_used groups group) (sym c.groups-groups.ensures) ∙ sym c.is_used.ensures ∙ c.if-not-is_used.false in
-    let ready = ap (λ (groups : Groups). all_in group play_is_ready groups.play desk.play) (sym c.groups-groups.ensures) ∙ sym c.is_group_ready.ensures ∙ c.if-not-is_group_ready.false in
-    let play = c.start_group.ensures.books
-    ∙ ap (λ (groups : Groups). change_in group (play_starting device c.args.here) groups.play (play_books parent)) c.groups-groups.ensures
-    ∙ ap (λ (here : Here). change_in group (play_starting device here) desk.groups.play (play_books parent)) c.requires.at in
-    let recording = c.start_group.ensures.records
-    ∙ ap (λ (groups : Groups). change_in group record_starting groups.recording (record_books parent)) c.groups-groups.ensures in
-    let mapped = ap (λ (v : Fixed (MapChannelOf _)). map_books_of (fixed_items v)) c.start_group.ensures.maps in
-    let groups = c.dissolve.ensures ∙ ap (dissolved group) c.groups-groups.ensures in
-    ap (λ (descriptors : Descriptors). desk_with c.start_group.new.self descriptors) c.regroup.ensures
-    ∙ (λ i. record desk { play = play i; recording = recording i; mapped = mapped i; groups = groups i; mixer = c.start_group.ensures.output.mixer_same i; handed = c.start_group.ensures.output.handed_same i; mixed = c.start_group.ensures.output.mixed_same i })
-    ∙ sym (ap (λ (t : DeskTurn). t.desk) (start-done device desk (held_by desk c.args.fd) c.in_ok-held.held group e joins used ready))
-
-pub returns-clause-reply : goal.returns-clause-reply
-returns-clause-reply g c =
-    let parent = c.args.parent.now in
-    let group = c.args.group in
-    let device = seen c.args.tables.now parent.device in
-    let desk = desk_with parent c.args.descriptors.now in
-    let e = holding-is (held_by desk c.args.fd) c.in_ok-held.held (sym c.holding.ensures ∙ c.in_ok-held.was) in
-    let joins = sym c.may_join.ensures ∙ c.if-not-may_join.false in
-    let used = ap (λ (groups : Groups). is_used groups group) (sym c.groups-groups.ensures) ∙ sym c.is_used.ensures ∙ c.if-not-is_used.false in
-    let ready = ap (λ (groups : Groups). all_in group play_is_ready groups.play desk.play) (sym c.groups-groups.ensures) ∙ sym c.is_group_ready.ensures ∙ c.if-not-is_group_ready.false in
-    sym (ap (λ (t : DeskTurn). t.reply) (start-done device desk (held_by desk c.args.fd) c.in_ok-held.held group e joins used ready))
-
-pub returns-in_err-held-clause-maps : goal.returns-in_err-held-clause-maps
-returns-in_err-held-clause-maps g c = λ slot other there. map-keeps-nothing g.B.Feeder.kind g.B.Feeder.kept c.args.tables.now (get_or (map_channels c.args.parent.now) slot other)
-
-pub returns-then-not-may_join-clause-channels : goal.returns-then-not-may_join-clause-channels
-returns-then-not-may_join-clause-channels g c = λ slot other there. moves-nothing g.B.Feeder.kind g.B.Feeder.kept c.args.tables.now [] 0 (get_or (play_channels c.args.parent.now) slot other)
-
-pub returns-then-not-may_join-clause-recorders : goal.returns-then-not-may_join-clause-recorders
-returns-then-not-may_join-clause-recorders g c = λ slot other there. recorders.moves-nothing g.B.Feeder.kind g.B.Feeder.kept c.args.tables.now [] 0 (get_or (record_channels c.args.parent.now) slot other)
-
-pub returns-then-not-may_join-clause-maps : goal.returns-then-not-may_join-clause-maps
-returns-then-not-may_join-clause-maps g c = λ slot other there. map-keeps-nothing g.B.Feeder.kind g.B.Feeder.kept c.args.tables.now (get_or (map_channels c.args.parent.now) slot other)
-
-pub returns-then-not-is_group_ready-clause-maps : goal.returns-then-not-is_group_ready-clause-maps
-returns-then-not-is_group_ready-clause-maps g c = λ slot other there. map-keeps-nothing g.B.Feeder.kind g.B.Feeder.kept c.args.tables.now (get_or (map_channels c.args.parent.now) slot other)
-
-pub returns-clause-maps_own : goal.returns-clause-maps_own
-returns-clause-maps_own g c =
+pub returns : goal.returns
+returns g c =
     let parent = c.args.parent.now in
     let new = c.start_group.new.self in
-    subst (λ (v : Fixed (MapChannelOf _)). MapAreOf new.device (fixed_items v)) (sym c.start_group.ensures.maps)
-    (subst (λ (d : Device). MapAreOf d (map_channels parent)) (sym c.start_group.ensures.output.device_same) c.requires.served.maps_own)
+    let group = c.args.group in
+    let device = seen c.args.tables.now parent.device in
+    let desk = desk_with parent c.args.descriptors.now in
+    let e = holding-is (held_by desk c.args.fd) c.in_ok-held.held (sym c.holding.ensures ∙ c.in_ok-held.was) in
+    let joins = sym c.may_join.ensures ∙ c.if-not-may_join.false in
+    let used = ap (λ (groups : Groups). is_used groups group) (sym c.groups-groups.ensures) ∙ sym c.is_used.ensures ∙ c.if-not-is_used.false in
+    let ready = ap (λ (groups : Groups). all_in group play_is_ready groups.play desk.play) (sym c.groups-groups.ensures) ∙ sym c.is_group_ready.ensures ∙ c.if-not-is_group_ready.false in
+    record {
+      silent = search rules;
+      own = search rules;
+      recorders_own = search rules;
+      maps_own =
+          subst (λ (v : Fixed (MapChannelOf _)). MapAreOf new.device (fixed_items v)) (sym c.start_group.ensures.maps)
+          (subst (λ (d : Device). MapAreOf d (map_channels parent)) (sym c.start_group.ensures.output.device_same) c.requires.able.served.maps_own);
+      output = search rules;
+      refused = search rules;
+      desk =
+          let play = c.start_group.ensures.books
+          ∙ ap (λ (groups : Groups). change_in group (play_starting device c.args.here) groups.play (play_books parent)) c.groups-groups.ensures
+          ∙ ap (λ (here : Here). change_in group (play_starting device here) desk.groups.play (play_books parent)) c.requires.able.at in
+          let recording = c.start_group.ensures.records
+          ∙ ap (λ (groups : Groups). change_in group record_starting groups.recording (record_books parent)) c.groups-groups.ensures in
+          let mapped = ap (λ (v : Fixed (MapChannelOf _)). map_books_of (fixed_items v)) c.start_group.ensures.maps in
+          let groups = c.dissolve.ensures ∙ ap (dissolved group) c.groups-groups.ensures in
+          ap (λ (descriptors : Descriptors). desk_with c.start_group.new.self descriptors) c.regroup.ensures
+          ∙ (λ i. record desk { play = play i; recording = recording i; mapped = mapped i; groups = groups i; mixer = c.start_group.ensures.output.mixer_same i; handed = c.start_group.ensures.output.handed_same i; mixed = c.start_group.ensures.output.mixed_same i })
+          ∙ sym (ap (λ (t : DeskTurn). t.desk) (start-done device desk (held_by desk c.args.fd) c.in_ok-held.held group e joins used ready));
+      reply = sym (ap (λ (t : DeskTurn). t.reply) (start-done device desk (held_by desk c.args.fd) c.in_ok-held.held group e joins used ready));
+      channels = search rules;
+      recorders = search rules;
+      maps =
+          subst (λ (v : Fixed (MapChannelOf _)). EachAt (λ slot. MapKeeps g.B.Feeder.kind g.B.Feeder.kept c.args.tables.now (untouched slot)) (map_channels parent) (fixed_items v)) (sym c.start_group.ensures.maps)
+          (λ slot other there. map-keeps-nothing g.B.Feeder.kind g.B.Feeder.kept c.args.tables.now (get_or (map_channels parent) slot other));
+    }
 
-pub returns-clause-maps : goal.returns-clause-maps
-returns-clause-maps g c =
-    let parent = c.args.parent.now in
-    subst (λ (v : Fixed (MapChannelOf _)). EachAt (λ slot. MapKeeps g.B.Feeder.kind g.B.Feeder.kept c.args.tables.now (untouched slot)) (map_channels parent) (fixed_items v)) (sym c.start_group.ensures.maps)
-    (λ slot other there. map-keeps-nothing g.B.Feeder.kind g.B.Feeder.kept c.args.tables.now (get_or (map_channels parent) slot other))
+pub returns-then-not-may_join : goal.returns-then-not-may_join
+returns-then-not-may_join g c =
+    answers-nothing g.B.Feeder.kind g.B.Feeder.kept c.args.tables.now (start_call c.args.fd c.args.group) c.args.parent.now c.args.descriptors.now _ c.requires.able.served (search rules) (search rules) (search rules)

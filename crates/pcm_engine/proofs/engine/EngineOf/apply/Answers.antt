@@ -1,4 +1,4 @@
-use Rattle.std.proofs.Common.{rules, All, ℕ, ℤ, ◌+◌, ◌*◌, List, [], get_or, length, length-take, take, sym, ap, ◌∙◌, subst, arith}
+use Rattle.std.proofs.Common.{rules, ℕ, ℤ, ◌+◌, ◌*◌, List, [], get_or, length, length-take, take, sym, ap, ◌∙◌, subst, arith}
 use Rattle.pcm_fixed.specs.declared.fixed.Fixed.{Fixed}
 use Rattle.pcm_fixed.specs.Fixed.{fixed_items}
 use Rattle.pcm_oss.specs.declared.event.Event.{Event}
@@ -14,9 +14,7 @@ use Rattle.pcm_oss.specs.Replies.{Reply}
 use Rattle.pcm_desk.specs.Desk.{after, held_by, poke_on, write_on}
 use Rattle.pcm_desk.specs.Own.{HoldApart}
 use Rattle.pcm_desk.proofs.Apart.{apart-after}
-use Rattle.pcm_desk.specs.declared.here.Here.{Here}
-use Rattle.pcm_desk.specs.Here.{IsHere}
-use Rattle.pcm_play.specs.Channels.{IsPlayHere, PlayMoves}
+use Rattle.pcm_play.specs.Channels.{PlayMoves}
 use Rattle.pcm_play.proofs.Moving.{moves-nothing}
 use Rattle.pcm_record.specs.Channels.{RecordMoves}
 use Rattle.pcm_record.proofs.Moving as recorders
@@ -32,7 +30,7 @@ use Rattle.pcm_vchan.specs.Parents.{HasBus, map_channels, play_channels, record_
 use Rattle.pcm_engine.proofs.Desks.{count-stays, count-within, desk_with-mixed}
 use Rattle.pcm_vchan.proofs.Channels.{map-keeps-nothing}
 use Rattle.pcm_engine.proofs.Buses.{bus-same, bus-stays, mixes-few}
-use Rattle.pcm_engine.proofs.InOrder.{channels-here, closable, here-seen, here-within, served}
+use Rattle.pcm_engine.proofs.InOrder.{can-be-asked, closable, here-seen, served}
 use Rattle.pcm_engine.proofs.Recording.{length-captured}
 use Rattle.pcm_engine.proofs.engine.EngineOf.apply.Goals as goal
 
@@ -177,53 +175,14 @@ interrupt-requires-clause-due g c =
 pub open-requires-clause-served : goal.open-requires-clause-served
 open-requires-clause-served g c = served g.B.Feeder.kind g.B.Feeder.kept c.args.self.now c.requires.ready
 
-pub ioctl-requires-clause-served : goal.ioctl-requires-clause-served
-ioctl-requires-clause-served g c = served g.B.Feeder.kind g.B.Feeder.kept c.args.self.now c.requires.ready
+pub ioctl-requires-clause-able : goal.ioctl-requires-clause-able
+ioctl-requires-clause-able g c = can-be-asked g.B.Feeder.kind g.B.Feeder.kept c.args.self.now c.here-here.result c.requires.ready c.requires.count c.here-here.ensures
 
-pub join-requires-clause-served : goal.join-requires-clause-served
-join-requires-clause-served g c = served g.B.Feeder.kind g.B.Feeder.kept c.args.self.now c.requires.ready
+pub join-requires-clause-able : goal.join-requires-clause-able
+join-requires-clause-able g c = can-be-asked g.B.Feeder.kind g.B.Feeder.kept c.args.self.now c.here-here.result c.requires.ready c.requires.count c.here-here.ensures
 
-pub start_group-requires-clause-served : goal.start_group-requires-clause-served
-start_group-requires-clause-served g c = served g.B.Feeder.kind g.B.Feeder.kept c.args.self.now c.requires.ready
-
-pub ioctl-requires-clause-here : goal.ioctl-requires-clause-here
-ioctl-requires-clause-here g c =
-    let old = c.args.self.now in
-    subst IsHere (sym c.here-here.ensures) (here-within g.B.Feeder.kept old c.requires.ready.limits c.requires.ready.bus c.requires.count)
-
-pub join-requires-clause-here : goal.join-requires-clause-here
-join-requires-clause-here g c =
-    let old = c.args.self.now in
-    subst IsHere (sym c.here-here.ensures) (here-within g.B.Feeder.kept old c.requires.ready.limits c.requires.ready.bus c.requires.count)
-
-pub start_group-requires-clause-here : goal.start_group-requires-clause-here
-start_group-requires-clause-here g c =
-    let old = c.args.self.now in
-    subst IsHere (sym c.here-here.ensures) (here-within g.B.Feeder.kept old c.requires.ready.limits c.requires.ready.bus c.requires.count)
-
-pub ioctl-requires-clause-at : goal.ioctl-requires-clause-at
-ioctl-requires-clause-at g c = c.here-here.ensures ∙ here-seen g.B.Feeder.kept c.args.self.now c.requires.ready.bus
-
-pub join-requires-clause-at : goal.join-requires-clause-at
-join-requires-clause-at g c = c.here-here.ensures ∙ here-seen g.B.Feeder.kept c.args.self.now c.requires.ready.bus
-
-pub start_group-requires-clause-at : goal.start_group-requires-clause-at
-start_group-requires-clause-at g c = c.here-here.ensures ∙ here-seen g.B.Feeder.kept c.args.self.now c.requires.ready.bus
-
-pub ioctl-requires-clause-places : goal.ioctl-requires-clause-places
-ioctl-requires-clause-places g c =
-    let old = c.args.self.now in
-    subst (λ (here : Here). All (IsPlayHere old.tables here) (play_channels old.parent)) (sym c.here-here.ensures) (channels-here g.B.Feeder.kept old c.requires.ready.bus c.requires.ready.places)
-
-pub join-requires-clause-places : goal.join-requires-clause-places
-join-requires-clause-places g c =
-    let old = c.args.self.now in
-    subst (λ (here : Here). All (IsPlayHere old.tables here) (play_channels old.parent)) (sym c.here-here.ensures) (channels-here g.B.Feeder.kept old c.requires.ready.bus c.requires.ready.places)
-
-pub start_group-requires-clause-places : goal.start_group-requires-clause-places
-start_group-requires-clause-places g c =
-    let old = c.args.self.now in
-    subst (λ (here : Here). All (IsPlayHere old.tables here) (play_channels old.parent)) (sym c.here-here.ensures) (channels-here g.B.Feeder.kept old c.requires.ready.bus c.requires.ready.places)
+pub start_group-requires-clause-able : goal.start_group-requires-clause-able
+start_group-requires-clause-able g c = can-be-asked g.B.Feeder.kind g.B.Feeder.kept c.args.self.now c.here-here.result c.requires.ready c.requires.count c.here-here.ensures
 
 pub close-requires-clause-closable : goal.close-requires-clause-closable
 close-requires-clause-closable g c = closable g.B.Feeder.kind g.B.Feeder.kept c.args.self.now c.requires.ready
@@ -352,13 +311,13 @@ pub returns-in-Close-clause-channels : goal.returns-in-Close-clause-channels
 returns-in-Close-clause-channels g c =
     let old = c.args.self.now in
     subst (λ (event : Event). ChannelsMove g.B.Feeder.kind g.B.Feeder.kept (device_of old) c.args.bytes.now old.parent.handed event (play_channels old.parent) (play_channels c.close.new.parent)) (sym c.in-Close.is)
-    (c.close.ensures.channels old.tables)
+    (c.close.ensures.closed.channels old.tables)
 
 pub returns-in-Close-clause-recorders : goal.returns-in-Close-clause-recorders
 returns-in-Close-clause-recorders g c =
     let old = c.args.self.now in
     subst (λ (event : Event). RecordersMove g.B.Feeder.kind g.B.Feeder.kept (device_of old) (samples_at_hand old event) event (record_channels old.parent) (record_channels c.close.new.parent)) (sym c.in-Close.is)
-    (c.close.ensures.recorders old.tables)
+    (c.close.ensures.closed.recorders old.tables)
 
 pub returns-in-Write-clause-channels : goal.returns-in-Write-clause-channels
 returns-in-Write-clause-channels g c =
@@ -403,23 +362,23 @@ pub invariant_of-self-in-Close : goal.invariant_of-self-in-Close
 invariant_of-self-in-Close g c =
     let old = c.args.self.now in
     let new = c.close.new.parent in
-    let same = c.close.ensures.output.slots_same in
-    let output = c.close.ensures.output in
+    let same = c.close.ensures.closed.output.slots_same in
+    let output = c.close.ensures.closed.output in
     record {
-      own = c.close.ensures.own;
+      own = c.close.ensures.closed.own;
       apart = subst HoldApart (sym (c.close.ensures.desk old.tables c.requires.ready.playing (c.here-here.ensures ∙ here-seen g.B.Feeder.kept old c.requires.ready.bus))) (apart-after (device_of old) (desk_of old) (Close c.in-Close.fd) old.apart);
       counted = count-within (λ (c : PlayChannelOf _). c.book.done + c.book.written) RING_BYTES old.steps (play_channels old.parent) (play_channels new) same
-          (λ slot other there. let more = (c.close.ensures.channels old.tables slot other there).grown in omega (arith, more)) old.counted;
+          (λ slot other there. let more = (c.close.ensures.closed.channels old.tables slot other there).grown in omega (arith, more)) old.counted;
       given = count-within (λ (c : PlayChannelOf _). c.book.given) MIX_FRAMES old.steps (play_channels old.parent) (play_channels new) same
-          (λ slot other there. let more = (c.close.ensures.channels old.tables slot other there).given in omega (arith, more)) old.given;
-      recorders_own = c.close.ensures.recorders_own;
-      maps_own = c.close.ensures.maps_own;
+          (λ slot other there. let more = (c.close.ensures.closed.channels old.tables slot other there).given in omega (arith, more)) old.given;
+      recorders_own = c.close.ensures.closed.recorders_own;
+      maps_own = c.close.ensures.closed.maps_own;
       maps_given = count-within (λ (c : MapChannelOf _). c.book.given) MIX_FRAMES old.steps (map_channels old.parent) (map_channels new) output.maps_same
-          (λ slot other there. let more = (c.close.ensures.maps old.tables slot other there).moves.given in omega (arith, more)) old.maps_given;
+          (λ slot other there. let more = (c.close.ensures.closed.maps old.tables slot other there).moves.given in omega (arith, more)) old.maps_given;
       kept = count-within (λ (c : RecordChannelOf _). c.book.kept) RING_BYTES old.steps (record_channels old.parent) (record_channels new) output.recorders_same
-          (λ slot other there. (c.close.ensures.recorders old.tables slot other there).kept) old.kept;
+          (λ slot other there. (c.close.ensures.closed.recorders old.tables slot other there).kept) old.kept;
       captured_within = count-within (λ (c : RecordChannelOf _). c.book.captured) RING_FRAMES old.steps (record_channels old.parent) (record_channels new) output.recorders_same
-          (λ slot other there. let more = (c.close.ensures.recorders old.tables slot other there).captured in omega (arith, more)) old.captured_within;
+          (λ slot other there. let more = (c.close.ensures.closed.recorders old.tables slot other there).captured in omega (arith, more)) old.captured_within;
       captured_size = old.captured_size ∙ ap (λ (d : Device). d.ring_frames * channels_of d.settings.layout) (sym output.device_same);
       answered_size = old.answered_size;
       mixed_within = omega (arith, output.mixed_same, old.mixed_within);
@@ -525,14 +484,14 @@ returns-in-StartGroup-clause-turns g c =
 pub returns-in-Close-clause-bus : goal.returns-in-Close-clause-bus
 returns-in-Close-clause-bus g c =
     let old = c.args.self.now in
-    bus-stays g.B.Feeder.kept (device_of old) old.parent c.close.new.parent c.close.ensures.output c.requires.ready.bus
+    bus-stays g.B.Feeder.kept (device_of old) old.parent c.close.new.parent c.close.ensures.closed.output c.requires.ready.bus
 
 pub returns-in-Close-clause-turns : goal.returns-in-Close-clause-turns
 returns-in-Close-clause-turns g c =
     let old = c.args.self.now in
     let new = c.close.new.parent in
     subst (λ (event : Event). BusMoves g.B.Feeder.kept (device_of old) old.parent.handed old.parent.mixer event (play_channels old.parent) (map_channels old.parent) old.parent.bus.chain new.bus.chain old.parent.ring.bytes new.ring.bytes) (sym c.in-Close.is)
-    (bus-same old.parent new c.close.ensures.output)
+    (bus-same old.parent new c.close.ensures.closed.output)
 
 pub returns-in-Intr-clause-turns : goal.returns-in-Intr-clause-turns
 returns-in-Intr-clause-turns g c =
@@ -556,15 +515,6 @@ returns-in-Open-clause-channels g c =
 
 pub returns-in-Open-clause-refused : goal.returns-in-Open-clause-refused
 returns-in-Open-clause-refused g c = λ err. record { parent_same = search rules; descriptors_same = search rules }
-
-pub ioctl-requires-clause-given : goal.ioctl-requires-clause-given
-ioctl-requires-clause-given g c = λ slot other there. (let given = c.args.self.now.maps_given slot other there in omega (arith, given, c.requires.count))
-
-pub join-requires-clause-given : goal.join-requires-clause-given
-join-requires-clause-given g c = λ slot other there. (let given = c.args.self.now.maps_given slot other there in omega (arith, given, c.requires.count))
-
-pub start_group-requires-clause-given : goal.start_group-requires-clause-given
-start_group-requires-clause-given g c = λ slot other there. (let given = c.args.self.now.maps_given slot other there in omega (arith, given, c.requires.count))
 
 pub returns-in-Open-clause-maps : goal.returns-in-Open-clause-maps
 returns-in-Open-clause-maps g c =
@@ -594,7 +544,7 @@ pub returns-in-Close-clause-maps : goal.returns-in-Close-clause-maps
 returns-in-Close-clause-maps g c =
     let old = c.args.self.now in
     subst (λ (event : Event). MapsMove g.B.Feeder.kind g.B.Feeder.kept old.tables old.parent.device c.args.bytes.now (desk_of old) event (map_channels old.parent) (map_channels c.close.new.parent)) (sym c.in-Close.is)
-    (c.close.ensures.maps old.tables)
+    (c.close.ensures.closed.maps old.tables)
 
 pub returns-in-Intr-clause-maps : goal.returns-in-Intr-clause-maps
 returns-in-Intr-clause-maps g c =
