@@ -1,5 +1,5 @@
 -- What an event brings: bytes of a write or of a poke, and samples that an interrupt captures. A script names where they stand; a call has them with it.
-use Rattle.std.specs.Prelude.{◌≡◌, ℕ, ◌-◌, ◌*◌, ◌<◌, ◌≤◌, ℤ, pos, List, [], ◌++◌, length, replicate, Option, None, Some}
+use Rattle.std.specs.Prelude.{◌≡◌, ℕ, ◌-◌, ◌*◌, ◌<◌, ◌≤◌, ℤ, pos, List, [], ◌++◌, length, replicate}
 use Rattle.pcm_format.specs.declared.layout.Layout.{Layout}
 use Rattle.pcm_format.specs.Layouts.{channels_of}
 use Rattle.pcm_oss.specs.declared.event.Event.{Event}
@@ -11,7 +11,7 @@ use Rattle.pcm_feeder.specs.Limits.{IsRate}
 use Rattle.pcm_feeder.specs.Streams.{interleaved}
 use Rattle.pcm_desk.specs.declared.limits.TheConstants.{DESCRIPTORS, READ_BYTES}
 use Rattle.pcm_desk.specs.Device.{DeviceSeen, device_settings, ring_frames}
-use Rattle.pcm_desk.specs.Events.{Fits}
+use Rattle.pcm_desk.specs.Events.{Fits, IsDescriptor}
 use Rattle.pcm_desk.specs.Own.{descriptor_of}
 
 -- an event, wherever its bytes stand
@@ -29,11 +29,6 @@ bytes_asked event = 0
 abbrev pub samples_asked : Layout → Event → ℕ
 samples_asked layout (Intr frames) = frames * channels_of layout
 samples_asked layout event = 0
-
--- the descriptor whose channel an event is of, if any, is one that there can be
-abbrev pub IsDescriptor : Option ℕ → Type 0
-IsDescriptor None = Unit {0}
-IsDescriptor (Some fd) = fd < DESCRIPTORS
 
 -- The event keeps the limits of a device. It may bring any bytes.
 abbrev pub IsAllowed : DeviceSeen → Event → Type 0
