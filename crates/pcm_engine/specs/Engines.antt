@@ -1,5 +1,5 @@
 -- What an engine stands for, and what holds of every one.
-use Rattle.std.specs.Prelude.{◌≡◌, ◌≤◌, ◌*◌, ℕ, ℤ, List, [], ◌∷◌, ◌++◌, All, IsOk, Result, length, map, take}
+use Rattle.std.specs.Prelude.{◌≡◌, ◌≤◌, ◌+◌, ◌*◌, ℕ, ℤ, List, [], ◌∷◌, ◌++◌, All, IsErr, IsOk, Result, drop, length, map, take}
 use Rattle.pcm_oss.specs.declared.event.Event.{Event}
 use Rattle.pcm_oss.specs.declared.event.Event.TheVariants.{Read, StartGroup}
 use Rattle.pcm_oss.specs.declared.reply.Answer.{Answer}
@@ -15,15 +15,15 @@ use Rattle.pcm_desk.specs.Openings.{ring_bytes}
 use Rattle.pcm_desk.specs.PlaySafe.{PlayIsHere, PlayIsSafe}
 use Rattle.pcm_desk.specs.RecordSafe.{RecordIsSafe}
 use Rattle.pcm_desk.specs.MapSafe.{MapIsSafe}
-use Rattle.pcm_desk.specs.Desk.{Desk, desk_here, held_by, map_at, map_rate_at, play_at, play_rate_at, record_at, record_rate_at}
-use Rattle.pcm_desk.specs.Events.{Fits}
+use Rattle.pcm_desk.specs.Desk.{Desk, after, desk_here, held_by, map_at, map_rate_at, play_at, play_rate_at, record_at, record_rate_at}
+use Rattle.pcm_desk.specs.Events.{Fits, bytes_handed}
 use Rattle.pcm_sound.specs.DeviceList.{device_text}
 use Rattle.pcm_sound.specs.Plain.{HasNoShortage, IsInPlace, IsUnbroken, plain_text}
 use Rattle.pcm_sound.specs.Pools.{AreAlike, IsLonger}
 use Rattle.pcm_sound.specs.Story.{story_of}
 use Rattle.pcm_sound.specs.StoryReplies.{reply_to}
 use Rattle.pcm_sound.specs.Together.{StartAsOne}
-use Rattle.pcm_desk.specs.Own.{MembersWait}
+use Rattle.pcm_desk.specs.Own.{HoldApart, IsIsolated, MembersWait}
 use Rattle.pcm_engine.specs.declared.engine.EngineOf.{EngineOf}
 use Rattle.pcm_play.specs.Channels.{IsPlayReady}
 use Rattle.pcm_engine.specs.Brought.{IsCalled, samples_asked}
@@ -191,3 +191,30 @@ pub record AreReady {B : Type 0} (kind : B → Kind) (kept : B → Kept) (engine
 pub record IsUnchanged {B : Type 0} (old new : EngineOf B) : Type 0 where
   pub parent_same : new.parent ≡ old.parent
   pub descriptors_same : new.descriptors ≡ old.descriptors
+
+-- ---- a step, whatever pools the engine was stepped with
+
+-- What a step on an event makes of an engine that is ready: what it told, and that it handed so many bytes over at the front of a room.
+pub record HasStepped {B : Type 0} (kind : B → Kind) (kept : B → Kept) (event : Event) (old new : EngineOf B) (told : Reply) (size : ℕ) (room filled : List ℕ) : Type 0 where
+  pub device : device_of new ≡ device_of old
+  pub steps : new.steps ≡ old.steps + 1
+  pub ready : AreReady kind kept new
+  -- The desk and the answer are those of the rules, the counts of every book are in order, no run gave a frame past what is mixed
+  -- or is over and goes on, and no ring passes its size.
+  pub desk : desk_of new ≡ (after (device_of old) (desk_of old) event).desk
+  pub result : told.result ≡ (after (device_of old) (desk_of old) event).reply
+  pub safe : BooksAreSafe (device_of new) (desk_of new)
+  pub records_safe : RecordsAreSafe (device_of new) (desk_of new)
+  pub maps_safe : MapBooksAreSafe (device_of new) (desk_of new)
+  pub places : BooksAreHere (device_of new) (desk_of new)
+  pub rings : RingsHold new
+  pub refused : IsErr told.result → IsUnchanged old new
+  -- No client sees what others do, but that a slot is taken: no two descriptors hold one, no book looks at another, and a
+  -- read gets what was kept in its own slot, by its own book.
+  pub apart : HoldApart (desk_of new)
+  pub members : MembersWait (device_of new) (desk_of new)
+  pub isolated : IsIsolated (device_of old) event (desk_of old) (desk_of new) told.result
+  pub read : AnswersKept kept event old told.bytes
+  pub taken : TakesFront event old told.bytes
+  pub count : size ≡ bytes_handed (device_of old) event
+  pub rest : drop size filled ≡ drop size room

@@ -64,7 +64,7 @@ impl<B: Feeder> EngineOf<B> {
     ghost use Rattle.pcm_desk.specs.Own.{IsIsolated, MembersWait};
     ghost use Rattle.pcm_engine.specs.Brought.{bytes_asked, padded, IsAllowed};
     ghost use Rattle.pcm_feeder.specs.Racks.{AreRacks, list_of};
-    ghost use Rattle.pcm_engine.specs.Engines.{device_of, desk_of, AnswersKept, AreReady, BeginsAsOne, BooksAreHere, BooksAreSafe, HandsOver, HandsOverPlain, IsUnchanged, MapBooksAreSafe, MappedStandInPlace, RecordsAreSafe, RepliesAsTold, RingsHold, Stands, StandsForNext, StepCaptures, StepMaps, StepMoves, StepsAsCalled, StepTurns, TakesFront, samples_at_hand, samples_most};
+    ghost use Rattle.pcm_engine.specs.Engines.{device_of, desk_of, AnswersKept, AreReady, BeginsAsOne, BooksAreHere, BooksAreSafe, HandsOver, HandsOverPlain, HasStepped, IsUnchanged, MapBooksAreSafe, MappedStandInPlace, RecordsAreSafe, RepliesAsTold, RingsHold, Stands, StandsForNext, StepCaptures, StepMaps, StepMoves, StepsAsCalled, StepTurns, TakesFront, samples_at_hand, samples_most};
 
     /// The engine of a device with its filters, before its first event. Its channels pick their stages from the racks, one rack a slot; after
     /// a refusal the racks are dropped. All memory of the engine is taken here.
@@ -174,27 +174,8 @@ impl<B: Feeder> EngineOf<B> {
         requires count { self.old.steps < STEPS }
         requires ready { AreReady B.kind B.kept self.old }
 
-        ensures device { device_of self.new ≡ device_of self.old }
-        ensures steps { self.new.steps ≡ self.old.steps + 1 }
-        ensures ready { AreReady B.kind B.kept self.new }
-        ensures desk { desk_of self.new
-            ≡ (after (device_of self.old) (desk_of self.old) event.now).desk }
-        ensures result { reply.new.result
-            ≡ (after (device_of self.old) (desk_of self.old) event.now).reply }
-        ensures safe { BooksAreSafe (device_of self.new) (desk_of self.new) }
-        ensures records_safe { RecordsAreSafe (device_of self.new) (desk_of self.new) }
-        ensures maps_safe { MapBooksAreSafe (device_of self.new) (desk_of self.new) }
-        ensures places { BooksAreHere (device_of self.new) (desk_of self.new) }
-        ensures rings { RingsHold self.new }
-        ensures refused { IsErr reply.new.result → IsUnchanged self.old self.new }
-        ensures apart { HoldApart (desk_of self.new) }
-        ensures members { MembersWait (device_of self.new) (desk_of self.new) }
-        ensures isolated { IsIsolated (device_of self.old) event.now
-            (desk_of self.old) (desk_of self.new) reply.new.result }
-        ensures read { AnswersKept B.kept event.now self.old reply.new.bytes }
-        ensures taken { TakesFront event.now self.old reply.new.bytes }
-        ensures count { result ≡ bytes_handed (device_of self.old) event.now }
-        ensures rest { drop result out.new ≡ drop result out.old }
+        ensures stepped { HasStepped B.kind B.kept event.now self.old self.new
+            reply.new result out.old out.new }
         ensures called { StepsAsCalled B.kept event.now bytes.now (padded (samples_most self.old event.now) samples.now)
             self.old self.new reply.new (take result out.new) }
     {
@@ -225,27 +206,8 @@ impl<B: Feeder> EngineOf<B> {
         requires room { bytes_handed (device_of self.old) event.now ≤ length out.old }
         requires count { self.old.steps < STEPS }
         requires ready { AreReady B.kind B.kept self.old }
-        ensures device { device_of self.new ≡ device_of self.old }
-        ensures steps { self.new.steps ≡ self.old.steps + 1 }
-        ensures ready { AreReady B.kind B.kept self.new }
-        ensures desk { desk_of self.new
-            ≡ (after (device_of self.old) (desk_of self.old) event.now).desk }
-        ensures result { reply.new.result
-            ≡ (after (device_of self.old) (desk_of self.old) event.now).reply }
-        ensures safe { BooksAreSafe (device_of self.new) (desk_of self.new) }
-        ensures records_safe { RecordsAreSafe (device_of self.new) (desk_of self.new) }
-        ensures maps_safe { MapBooksAreSafe (device_of self.new) (desk_of self.new) }
-        ensures places { BooksAreHere (device_of self.new) (desk_of self.new) }
-        ensures rings { RingsHold self.new }
-        ensures refused { IsErr reply.new.result → IsUnchanged self.old self.new }
-        ensures apart { HoldApart (desk_of self.new) }
-        ensures members { MembersWait (device_of self.new) (desk_of self.new) }
-        ensures isolated { IsIsolated (device_of self.old) event.now
-            (desk_of self.old) (desk_of self.new) reply.new.result }
-        ensures read { AnswersKept B.kept event.now self.old reply.new.bytes }
-        ensures taken { TakesFront event.now self.old reply.new.bytes }
-        ensures count { result ≡ bytes_handed (device_of self.old) event.now }
-        ensures rest { drop result out.new ≡ drop result out.old }
+        ensures stepped { HasStepped B.kind B.kept event.now self.old self.new
+            reply.new result out.old out.new }
         ensures called { StepsAsCalled B.kept event.now bytes.now (samples_at_hand self.old event.now)
             self.old self.new reply.new (take result out.new) }
     {

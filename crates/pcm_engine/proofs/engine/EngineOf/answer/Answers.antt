@@ -15,18 +15,18 @@ use Rattle.pcm_desk.proofs.Isolation.{isolated}
 use Rattle.pcm_sound.proofs.Stories.{order-after}
 use Rattle.pcm_vchan.proofs.Channels.{ready-after}
 use Rattle.pcm_vchan.specs.Parents.{HasBus, map_channels, play_channels, record_channels}
-use Rattle.pcm_engine.specs.Engines.{BooksAreHere, samples_at_hand, device_of, desk_of}
+use Rattle.pcm_engine.specs.Engines.{AreReady, BooksAreHere, samples_at_hand, device_of, desk_of}
 use Rattle.pcm_engine.specs.Steps.{bytes_answered, bytes_moved, frames_mixed}
 use Rattle.pcm_engine.proofs.Bringing.{opens-allowed}
 use Rattle.pcm_engine.proofs.Called.{steps-as-called}
-use Rattle.pcm_engine.proofs.InOrder.{books-rates, ready-all, rings-hold}
+use Rattle.pcm_engine.proofs.InOrder.{books-rates, ready-all}
 use Rattle.pcm_engine.proofs.Recording.{recorders-ready}
 use Rattle.pcm_engine.proofs.Mapped.{maps-ready}
 use Rattle.pcm_engine.proofs.Waiting.{read-waiting}
 use Rattle.pcm_engine.proofs.engine.EngineOf.answer.Goals as goal
 
-pub returns-clause-ready : goal.returns-clause-ready
-returns-clause-ready g c =
+pub returns-clause-stepped : goal.returns-clause-stepped
+returns-clause-stepped g c =
     let old = c.args.self.now in
     let new = c.apply.new.self in
     let playing = subst (λ (t : Filters). All (IsPlayReady g.B.Feeder.kind g.B.Feeder.kept t) (play_channels new.parent)) (sym c.apply.ensures.tables)
@@ -46,7 +46,35 @@ returns-clause-ready g c =
     (subst (MembersWait (device_of old)) (sym c.apply.ensures.desk) (waits-after (device_of old) (desk_of old) c.args.event.now old.apart c.requires.ready.members)) in
     let mapped = subst (λ (t : Filters). All (IsMapReady g.B.Feeder.kind g.B.Feeder.kept t) (map_channels new.parent)) (sym c.apply.ensures.tables)
     (maps-ready g.B.Feeder.kind g.B.Feeder.kept old.parent.device old.tables c.args.bytes.now (desk_of old) c.args.event.now (map_channels old.parent) (map_channels new.parent) c.apply.ensures.maps_slots c.apply.ensures.maps c.requires.ready.mapped) in
-    ready-all g.B.Feeder.kind g.B.Feeder.kept new playing recording mapped bus limits places members
+    let ready : AreReady g.B.Feeder.kind g.B.Feeder.kept new = ready-all g.B.Feeder.kind g.B.Feeder.kept new playing recording mapped bus limits places members in
+    let device = device_of old in
+    let desk = desk_of old in
+    let alone = isolated device c.args.event.now desk old.apart in
+    record {
+      device = same;
+      steps = c.apply.ensures.steps;
+      ready = ready;
+      desk = c.apply.ensures.desk;
+      result = c.apply.ensures.reply;
+      safe = ready.books;
+      records_safe = ready.records;
+      maps_safe = ready.maps;
+      places = ready.places;
+      rings = ready.rings;
+      refused = c.apply.ensures.refused;
+      apart = new.apart;
+      members = ready.members;
+      isolated =
+          subst (λ (left : Desk). IsIsolated device c.args.event.now desk left c.apply.new.reply.result) (sym c.apply.ensures.desk)
+          (subst (λ (told : Result Answer Errno). IsIsolated device c.args.event.now desk (after device desk c.args.event.now).desk told) (sym c.apply.ensures.reply) alone);
+      read = c.apply.ensures.bytes;
+      taken = λ fd count is.
+          read-waiting g.B.Feeder.kind g.B.Feeder.kept old.tables device desk (record_channels old.parent) count (held_by desk fd) c.apply.new.reply.bytes refl c.requires.ready.recording
+          (λ held e. old.apart.within fd held e)
+          (λ bytes frames stand. c.apply.ensures.bytes bytes frames stand ∙ ap (λ (event : Event). bytes_answered device desk bytes event) is);
+      count = c.apply.ensures.count;
+      rest = c.apply.ensures.rest;
+    }
 
 pub returns-clause-called : goal.returns-clause-called
 returns-clause-called g c =
@@ -67,37 +95,3 @@ returns-clause-called g c =
       out = c.apply.ensures.out ∙ ap (λ (n : ℕ). take n old.parent.ring.bytes) c.apply.ensures.count;
       members = c.requires.ready.members;
     })
-
-pub returns-clause-safe : goal.returns-clause-safe
-returns-clause-safe g c = (returns-clause-ready g c).books
-
-pub returns-clause-places : goal.returns-clause-places
-returns-clause-places g c = (returns-clause-ready g c).places
-
-pub returns-clause-records_safe : goal.returns-clause-records_safe
-returns-clause-records_safe g c = (returns-clause-ready g c).records
-
-pub returns-clause-maps_safe : goal.returns-clause-maps_safe
-returns-clause-maps_safe g c = (returns-clause-ready g c).maps
-
-pub returns-clause-rings : goal.returns-clause-rings
-returns-clause-rings g c = rings-hold c.apply.new.self
-
-pub returns-clause-members : goal.returns-clause-members
-returns-clause-members g c = (returns-clause-ready g c).members
-
-pub returns-clause-isolated : goal.returns-clause-isolated
-returns-clause-isolated g c =
-    let old = c.args.self.now in
-    let device = device_of old in
-    let desk = desk_of old in
-    let alone = isolated device c.args.event.now desk old.apart in
-    subst (λ (new : Desk). IsIsolated device c.args.event.now desk new c.apply.new.reply.result) (sym c.apply.ensures.desk)
-    (subst (λ (told : Result Answer Errno). IsIsolated device c.args.event.now desk (after device desk c.args.event.now).desk told) (sym c.apply.ensures.reply) alone)
-
-pub returns-clause-taken : goal.returns-clause-taken
-returns-clause-taken g c = λ fd count is.
-    let old = c.args.self.now in
-    read-waiting g.B.Feeder.kind g.B.Feeder.kept old.tables (device_of old) (desk_of old) (record_channels old.parent) count (held_by (desk_of old) fd) c.apply.new.reply.bytes refl c.requires.ready.recording
-    (λ held e. old.apart.within fd held e)
-    (λ bytes frames stand. c.apply.ensures.bytes bytes frames stand ∙ ap (λ (event : Event). bytes_answered (device_of old) (desk_of old) bytes event) is)

@@ -14,3 +14,28 @@ returns-clause-called g c = λ pool named called.
       mapped = λ events slot s. step.mapped events slot (record { playing = s.playing; recording = s.recording });
       together = λ events fd group s is ok. step.together events fd group (record { playing = s.playing; recording = s.recording }) is ok;
     }
+
+-- the samples at hand are no matter to it
+pub returns-clause-stepped : goal.returns-clause-stepped
+returns-clause-stepped g c =
+    let stepped = c.answer.ensures.stepped in
+    record {
+      device = stepped.device;
+      steps = stepped.steps;
+      ready = stepped.ready;
+      desk = stepped.desk;
+      result = stepped.result;
+      safe = stepped.safe;
+      records_safe = stepped.records_safe;
+      maps_safe = stepped.maps_safe;
+      places = stepped.places;
+      rings = stepped.rings;
+      refused = λ err. (let same = stepped.refused err in record { parent_same = same.parent_same; descriptors_same = same.descriptors_same });
+      apart = stepped.apart;
+      members = stepped.members;
+      isolated = stepped.isolated;
+      read = stepped.read;
+      taken = stepped.taken;
+      count = stepped.count;
+      rest = stepped.rest;
+    }
