@@ -45,10 +45,7 @@ impl Entry for pcm_feeder::Table {
 
 // The filter of a table.
 #[tactic(auto, unfolding(crate::specs::Tables::filter_in))]
-fn filter_in(
-    alloc: Global,
-    table: Option<&Table>,
-) -> Result<pcm_feeder::Table, ConfigFault>
+fn filter_in(alloc: Global, table: Option<&Table>) -> Result<pcm_feeder::Table, ConfigFault>
     ensures { Reads result (filter_in (members_seen table.entry)) }
 {
     let src = member_of(table, "src");

@@ -10,15 +10,8 @@ use pcm_wave::Source;
 /// An event whose bytes its line spells, which have no place yet, or one without bytes of its line.
 #[derive(Debug, Drop)]
 pub enum LineEvent {
-    Write {
-        fd: u8,
-        bytes: Bytes,
-    },
-    Poke {
-        fd: u8,
-        offset: u32,
-        bytes: Bytes,
-    },
+    Write { fd: u8, bytes: Bytes },
+    Poke { fd: u8, offset: u32, bytes: Bytes },
     /// An event that is whole by itself.
     Whole(Event),
 }
