@@ -3,18 +3,16 @@ use Rattle.std.specs.Prelude.{◌≡◌, ◌<◌, ◌≤◌, ◌+◌, ◌*◌, �
 use Rattle.pcm_format.specs.Frames.{Frame}
 use Rattle.pcm_feeder.specs.Stages.{blended}
 use Rattle.pcm_feeder.specs.Streams.{frame_behind}
-use Rattle.feed_rate.specs.declared.point.Point.{Point}
 
--- two frames are kept, those around the point are there, and the output has room for just a frame
-pub record CanBlend (channels : ℕ) (kept input : List ℤ) (point : Point) (output : List ℤ) : Type 0 where
+-- two frames are kept, those up to a place are there, and the output has room for just a frame
+pub record CanBlend (channels : ℕ) (kept input : List ℤ) (place : ℕ) (output : List ℤ) : Type 0 where
   pub some : 0 < channels
   pub two : length kept ≡ 2 * channels
-  pub there : point.needed * channels ≤ length input
+  pub there : place * channels ≤ length input
   pub room : length output ≡ channels
 
--- the point on the line from the frame under it to the next
-abbrev pub point_on_line : ℕ → List ℤ → List ℤ → Point → Frame
-point_on_line channels kept input point =
-    blended point.whole.divisor point.parts
-    (frame_behind channels kept input point.needed)
-    (frame_behind channels kept input (point.needed + 1))
+-- the point on the line from the frame at a place to the next, so many parts of a whole past it
+abbrev pub point_on_line : ℕ → List ℤ → List ℤ → ℕ → ℕ → ℕ → Frame
+point_on_line channels kept input place whole parts =
+    blended whole parts (frame_behind channels kept input place)
+    (frame_behind channels kept input (place + 1))

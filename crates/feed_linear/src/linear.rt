@@ -1,12 +1,13 @@
 //! The linear stage.
 
-ghost use Rattle.std.specs.Prelude.{◌≡◌};
+ghost use Rattle.std.specs.Prelude.{◌≡◌, ◌<◌};
 ghost use Rattle.feed_linear.specs.Places.{point_on_line, CanBlend};
 
 use crate::blend::Blend;
 use crate::pairs::pair_among;
 use feed_rate::{Interpolator, Point, RateFeeder};
 use pcm_feeder::{Kind, LastFrames, Spec, Tables};
+use pcm_num::Reciprocal;
 use std::alloc::{AllocError, Global};
 
 /// Gives the point of each output on the line from the frame under it to the next.
@@ -59,7 +60,12 @@ impl Interpolator for Line {
         if point.needed >= 2 {
             put_among(channels, kept, input, point, output);
         } else {
-            put_early(channels, kept, input, point, output);
+            let Point {
+                needed,
+                whole,
+                parts,
+            } = point;
+            put_early(channels, kept, input, needed, whole, parts, output);
         }
     }
 
@@ -72,20 +78,32 @@ impl Interpolator for Line {
 // next.
 #[inline(always)]
 fn put_among(channels: usize, kept: &[i32], input: &[i32], point: Point, output: &mut [i32])
-    requires { CanBlend channels kept.now input.now point output.old }
-    ensures { output.new ≡ point_on_line channels kept.now input.now point }
+    requires { CanBlend channels kept.now input.now point.needed output.old }
+    ensures { output.new ≡ point_on_line channels kept.now input.now
+        point.needed point.whole.divisor point.parts }
 {
     let (frame, next) = pair_among(channels, kept, input, point.needed);
     Blend::at(point.whole, point.parts).put_frame(frame, next, output);
 }
 
 // Puts it for the first outputs of a feed, which rest on a frame kept. By itself, so that the walk
-// over all others chooses no address.
+// over all others chooses no address, and by its parts, so that none of them is put into memory
+// for it.
 #[cold]
 #[inline(never)]
-fn put_early(channels: usize, kept: &[i32], input: &[i32], point: Point, output: &mut [i32])
-    requires { CanBlend channels kept.now input.now point output.old }
-    ensures { output.new ≡ point_on_line channels kept.now input.now point }
+fn put_early(
+    channels: usize,
+    kept: &[i32],
+    input: &[i32],
+    needed: usize,
+    whole: Reciprocal,
+    parts: u32,
+    output: &mut [i32],
+)
+    requires inside { parts < whole.divisor }
+    requires can { CanBlend channels kept.now input.now needed output.old }
+    ensures { output.new ≡ point_on_line channels kept.now input.now needed whole.divisor parts }
 {
+    let point = Point::at(needed, whole, parts);
     put_among(channels, kept, input, point, output);
 }
