@@ -22,6 +22,8 @@ impl<M: Feeder, H: Feeder, L: Feeder, P: Feeder, V: Feeder, D: Feeder, E: Feeder
 
     ghost kept = { by_stage M.kept H.kept L.kept P.kept V.kept D.kept E.kept };
 
+    ghost mark = { by_stage M.mark H.mark L.mark P.mark V.mark D.mark E.mark };
+
     fn kind(&self) -> Kind {
         match self {
             AnyOf::Matrix(stage) => stage.kind(),

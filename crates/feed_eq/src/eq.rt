@@ -31,6 +31,9 @@ impl Feeder for EqFeeder {
 
     ghost kept = { kept_by_eq };
 
+    // One is as good as another.
+    ghost mark = { λ _. 0 };
+
     fn kind(&self) -> Kind {
         Kind::Eq
     }

@@ -46,6 +46,9 @@ impl<I: Interpolator> Feeder for RateFeeder<I> {
 
     ghost kept = { kept_of };
 
+    // One is as good as another.
+    ghost mark = { λ _. 0 };
+
     fn kind(&self) -> Kind {
         self.interpolator.kind()
     }

@@ -1,5 +1,5 @@
 -- The boxes of a rack, and whether each is of its place's kind.
-use Rattle.std.specs.Prelude.{◌≡◌, ◌≢◌, ◌⊎◌, ℕ, List, [], ◌∷◌, ◌++◌, length, All}
+use Rattle.std.specs.Prelude.{◌≡◌, ◌≢◌, ◌⊎◌, ℕ, List, [], ◌∷◌, ◌++◌, length, map, All}
 use Rattle.pcm_feeder.specs.declared.kind.Kind.{Kind}
 use Rattle.pcm_feeder.specs.declared.kind.Kind.TheVariants as kinds
 use Rattle.pcm_feeder.specs.declared.rack.SevenOf.{SevenOf}
@@ -58,6 +58,22 @@ IsRack kind rack = HaveKinds kind (boxes_of rack)
 -- and so in each of these racks
 abbrev pub AreRacks : {B : Type 0} → (B → Kind) → List (RackOf B) → Type 0
 AreRacks kind racks = All (IsRack kind) racks
+
+-- what tells boxes from others, place by place
+abbrev pub marks_of : {B : Type 0} → (B → ℕ) → SevenOf B → SevenOf ℕ
+marks_of mark seven = record {
+  matrix = mark seven.matrix;
+  hold = mark seven.hold;
+  linear = mark seven.linear;
+  poly = mark seven.poly;
+  volume = mark seven.volume;
+  depth = mark seven.depth;
+  eq = mark seven.eq;
+}
+
+-- and those of racks
+abbrev pub rack_marks : {B : Type 0} → (B → ℕ) → List (RackOf B) → List (SevenOf ℕ)
+rack_marks mark racks = map (λ rack. marks_of mark (boxes_of rack)) racks
 
 -- the racks of a run, in their order
 abbrev pub list_of : {B : Type 0} → RacksOf B → List (RackOf B)

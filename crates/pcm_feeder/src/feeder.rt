@@ -4,7 +4,7 @@ use crate::{Kind, Moved, Pull, Spec, Tables};
 
 /// A stage of a chain. What it gives follows from what it keeps and from the arguments alone.
 pub trait Feeder: Drop {
-    ghost use Rattle.std.specs.Prelude.{◌≡◌, ◌≤◌};
+    ghost use Rattle.std.specs.Prelude.{◌≡◌, ◌≤◌, ℕ};
     ghost use Rattle.pcm_feeder.specs.declared.kind.Kind.{Kind};
     ghost use Rattle.pcm_feeder.specs.Kept.{Kept, fresh};
     ghost use Rattle.pcm_feeder.specs.Limits.{IsSpec};
@@ -16,6 +16,9 @@ pub trait Feeder: Drop {
 
     ghost kept: { Self → Kept };
 
+    // What tells it from other stages, in a proof that follows it. No call changes it.
+    ghost mark: { Self → ℕ };
+
     /// What the stage does, which never changes.
     fn kind(&self) -> Kind
         ensures { result ≡ kind self.now };
@@ -25,7 +28,8 @@ pub trait Feeder: Drop {
         requires kind { kind_of spec ≡ kind self.old }
         requires limits { IsSpec spec }
         ensures kept { kept self.new ≡ fresh spec }
-        ensures kind { kind self.new ≡ kind self.old };
+        ensures kind { kind self.new ≡ kind self.old }
+        ensures mark { mark self.new ≡ mark self.old };
 
     /// Eats frames of `input`, no more than the frames wanted use, and gives at most so many at the
     /// front of `output`. Both hold interleaved samples. Takes no memory.
@@ -41,13 +45,16 @@ pub trait Feeder: Drop {
         ensures kept { kept self.new
             ≡ (fed (kept self.old) tables.now pull.gain input.now pull.want).kept }
         ensures spec { (kept self.new).spec ≡ (kept self.old).spec }
-        ensures kind { kind self.new ≡ kind self.old };
+        ensures kind { kind self.new ≡ kind self.old }
+        ensures mark { mark self.new ≡ mark self.old };
 }
 
 impl Feeder for Box<dyn Feeder> {
     ghost kind = { λ b. (Feeder-box b).kind b.value };
 
     ghost kept = { λ b. (Feeder-box b).kept b.value };
+
+    ghost mark = { λ b. (Feeder-box b).mark b.value };
 
     fn kind(&self) -> Kind {
         (**self).kind()

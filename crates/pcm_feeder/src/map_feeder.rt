@@ -78,6 +78,9 @@ impl<M: FrameMap> Feeder for MapFeeder<M> {
 
     ghost kept = { kept_by_map M.stage };
 
+    // One is as good as another.
+    ghost mark = { λ _. 0 };
+
     fn kind(&self) -> Kind {
         M::kind()
     }

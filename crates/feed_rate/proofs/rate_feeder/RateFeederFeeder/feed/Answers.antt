@@ -75,4 +75,5 @@ returns g c =
       kept = kept ∙ sym (ap kept_in does);
       spec = ap (λ k. k.spec) kept ∙ sym (ap (λ k. k.spec) before);
       kind = refl;
+      mark = refl;
     }

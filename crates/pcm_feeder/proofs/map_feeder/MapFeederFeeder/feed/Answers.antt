@@ -34,4 +34,5 @@ returns g c =
       kept = before ∙ sym does.kept;
       spec = refl;
       kind = refl;
+      mark = refl;
     }
