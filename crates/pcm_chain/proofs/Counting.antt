@@ -242,9 +242,23 @@ stands-less rate s d counts eaten given more_eaten more_given j left_eaten left_
   begun = λ some. some-left j begun g some;
 }
   where
-    some-left : (j : ℕ) → (0 < j → 0 < left_given) → counts.given + more_given ≡ left_given + j * d → 0 < h.given_before + j * d → 0 < left_given
-    some-left zero begun g some = let start : 0 < counts.given = h.begun (omega arith) in omega arith
-    some-left (suc i) begun g some = begun (omega arith)
+    some-left : (j : ℕ) → (0 < j → 0 < left_given) → counts.given + more_given ≡ left_given + j * d → 0 < h.given_before + j * d → (0 < left_given) ⊎ (rate ≡ unchanged)
+    some-left zero begun g some = elim (h.begun (omega arith)) [ inl start ↦ inl (omega arith) | inr level ↦ inr level ]
+    some-left (suc i) begun g some = inl (begun (omega arith))
+
+-- without a change of rate frames may be left out at any time, as many on both sides
+pub stands-level : (rate : Rate) (counts : Counts) (eaten given more : ℕ) → rate ≡ unchanged → StandFor rate counts eaten given → StandFor rate counts (eaten + more) (given + more)
+stands-level rate counts eaten given more level h = record {
+  eaten_before = h.eaten_before + more;
+  given_before = h.given_before + more;
+  period = record { src_above = h.period.src_above; dst_above = h.period.dst_above; same = longer };
+  eaten_is = omega (arith, h.eaten_is);
+  given_is = omega (arith, h.given_is);
+  begun = λ some. inr level;
+}
+  where
+    longer : (h.eaten_before + more) * rate.dst ≡ (h.given_before + more) * rate.src
+    longer = omega (arith, h.period.same, ap (λ (r : Rate). more * r.dst) level, ap (λ (r : Rate). more * r.src) level)
 
 -- ---- counts of the whole stream
 
@@ -257,37 +271,41 @@ none-left rate (suc s) d period none =
     let grown = mul-le-mul_right {m = 1} {n = suc s} rate.dst (omega arith) in
     absurd (omega (arith, period.same, product, grown))
 
--- nothing was left out before the first output
-pub nothing-left : (rate : Rate) (counts : Counts) (eaten given : ℕ) (h : StandFor rate counts eaten given) → counts.given ≡ 0 → (eaten ≡ counts.eaten) × (given ≡ 0)
-nothing-left rate counts eaten given h none = at h.given_before refl
-  where
-    at : (before : ℕ) → before ≡ h.given_before → (eaten ≡ counts.eaten) × (given ≡ 0)
-    at zero e = let left = none-left rate h.eaten_before h.given_before h.period (sym e) in (omega (arith, h.eaten_is, left), omega (arith, h.given_is, e, none))
-    at (suc before) e = absurd (let some : 0 < counts.given = h.begun (omega arith) in omega arith)
-
 -- the need of outputs, by the counts
-pub need-real : (rate : Rate) (counts : Counts) (eaten given more : ℕ) (h : StandFor rate counts eaten given) → 0 < counts.given + more
-    → need rate (given + more) ≡ need rate (counts.given + more) + h.eaten_before
-need-real rate counts eaten given more h above =
-    let laws = counts-periodic rate h.eaten_before h.given_before h.period in
-    let place : given + more ≡ counts.given + more + 1 * h.given_before = omega (arith, h.given_is) in
-    ap (need rate) place ∙ laws.need (counts.given + more) 1 above ∙ omega arith
+pub need-real : (rate : Rate) (counts : Counts) (eaten given more : ℕ) (h : StandFor rate counts eaten given) → need rate (given + more) ≡ need rate (counts.given + more) + h.eaten_before
+need-real rate counts eaten given more h = at h.given_before refl
+  where
+    periods : 0 < counts.given → need rate (given + more) ≡ need rate (counts.given + more) + h.eaten_before
+    periods some =
+        let laws = counts-periodic rate h.eaten_before h.given_before h.period in
+        let place : given + more ≡ counts.given + more + 1 * h.given_before = omega (arith, h.given_is) in
+        ap (need rate) place ∙ laws.need (counts.given + more) 1 (omega arith) ∙ omega arith
 
--- and the frames that went into the stages
+    each : rate ≡ unchanged → need rate (given + more) ≡ need rate (counts.given + more) + h.eaten_before
+    each level =
+        let all = ap (λ r. need r (given + more)) level ∙ need-unchanged (given + more) in
+        let counted = ap (λ r. need r (counts.given + more)) level ∙ need-unchanged (counts.given + more) in
+        let same : h.eaten_before ≡ h.given_before = omega (arith, h.period.same, ap (λ (r : Rate). h.eaten_before * r.dst) level, ap (λ (r : Rate). h.given_before * r.src) level) in
+        omega (arith, all, counted, same, h.given_is)
+
+    at : (before : ℕ) → before ≡ h.given_before → need rate (given + more) ≡ need rate (counts.given + more) + h.eaten_before
+    at zero e =
+        let left = none-left rate h.eaten_before h.given_before h.period (sym e) in
+        let place : given + more ≡ counts.given + more = omega (arith, h.given_is, e) in
+        omega (arith, ap (need rate) place, left)
+    at (suc before) e = elim (h.begun (omega arith)) [ inl some ↦ periods some | inr level ↦ each level ]
+
+-- the outputs given need as much more than those counted
+need-given : (rate : Rate) (counts : Counts) (eaten given : ℕ) (h : StandFor rate counts eaten given) → need rate given ≡ need rate counts.given + h.eaten_before
+need-given rate counts eaten given h =
+    let more : given + 0 ≡ given = omega arith in
+    let same : counts.given + 0 ≡ counts.given = omega arith in
+    omega (arith, need-real rate counts eaten given 0 h, ap (need rate) more, ap (need rate) same)
+
+-- and so do the frames that went into the stages
 pub fed-real : (rate : Rate) (counts : Counts) (eaten given : ℕ) (h : StandFor rate counts eaten given)
     → fed_in_all rate (record { eaten = eaten; given = given }) ≡ fed_in_all rate counts + h.eaten_before
-fed-real rate counts eaten given h = at counts.given refl
-  where
-    at : (n : ℕ) → n ≡ counts.given → fed_in_all rate (record { eaten = eaten; given = given }) ≡ fed_in_all rate counts + h.eaten_before
-    at zero e =
-        let none = nothing-left rate counts eaten given h (sym e) in
-        let eaten_is = h.eaten_is in
-        let first = none.0 in
-        omega (arith, ap (need rate) none.1, ap (need rate) (sym e))
-    at (suc n) e =
-        let more : given + 0 ≡ given = omega arith in
-        let same : counts.given + 0 ≡ counts.given = omega arith in
-        omega (arith, h.eaten_is, need-real rate counts eaten given 0 h (omega arith), ap (need rate) more, ap (need rate) same)
+fed-real rate counts eaten given h = omega (arith, h.eaten_is, need-given rate counts eaten given h)
 
 -- nothing lasts for no output
 pub len-none : (rate : Rate) → 0 < rate.src → len rate 0 ≡ 0
@@ -333,15 +351,15 @@ allowed-real false rate s d n given period = at (can rate n) refl
         omega (arith, ap (can rate) place, laws.can n 1 (omega arith))
 
 -- so a block moves the same by the counts of the whole stream
-pub goes-real : (rate : Rate) (ended : Bool) (counts : Counts) (eaten given waiting want : ℕ) (advance : Advance) → StandFor rate counts eaten given → 0 < want
+pub goes-real : (rate : Rate) (ended : Bool) (counts : Counts) (eaten given waiting want : ℕ) (advance : Advance) → StandFor rate counts eaten given
     → Goes rate ended counts waiting want advance → Goes rate ended (record { eaten = eaten; given = given }) waiting want advance
-goes-real rate ended counts eaten given waiting want advance h some goes = record { eaten = eats; given = gives; silent = silent (counts.given + advance.given) refl }
+goes-real rate ended counts eaten given waiting want advance h goes = record { eaten = eats; given = gives; silent = silent }
   where
     fed : fed_in_all rate (record { eaten = eaten; given = given }) ≡ fed_in_all rate counts + h.eaten_before
     fed = fed-real rate counts eaten given h
 
     eats : advance.eaten ≡ min waiting (need rate (given + want) - fed_in_all rate (record { eaten = eaten; given = given }))
-    eats = omega (arith, goes.eaten, fed, need-real rate counts eaten given want h (omega arith))
+    eats = omega (arith, goes.eaten, fed, need-real rate counts eaten given want h)
 
     gives : advance.given ≡ min want (allowed_in_all ended rate (eaten + advance.eaten) - given)
     gives =
@@ -349,34 +367,18 @@ goes-real rate ended counts eaten given waiting want advance h some goes = recor
         let same = allowed-real ended rate h.eaten_before h.given_before (counts.eaten + advance.eaten) counts.given h.period in
         goes.given ∙ ap (min want) (sym same ∙ ap (λ n. allowed_in_all ended rate n - (counts.given + h.given_before)) (sym place) ∙ ap (λ n. allowed_in_all ended rate (eaten + advance.eaten) - n) (sym h.given_is))
 
-    silent : (n : ℕ) → n ≡ counts.given + advance.given → advance.silent ≡ need rate (given + advance.given) - (fed_in_all rate (record { eaten = eaten; given = given }) + advance.eaten)
-    silent zero e =
-        let none = nothing-left rate counts eaten given h (omega arith) in
-        let start : given + advance.given ≡ 0 = omega (arith, none.1) in
-        let first : counts.given + advance.given ≡ 0 = omega arith in
-        omega (arith, goes.silent, ap (need rate) start, ap (need rate) first)
-    silent (suc n) e = omega (arith, goes.silent, fed, need-real rate counts eaten given advance.given h (omega arith))
+    silent : advance.silent ≡ need rate (given + advance.given) - (fed_in_all rate (record { eaten = eaten; given = given }) + advance.eaten)
+    silent = omega (arith, goes.silent, fed, need-real rate counts eaten given advance.given h)
 
 -- and the counts of the whole stream are in time
 pub in_time-real : (rate : Rate) (counts : Counts) (eaten given : ℕ) → StandFor rate counts eaten given → InTime rate counts → InTime rate (record { eaten = eaten; given = given })
-in_time-real rate counts eaten given h t = at counts.given refl
-  where
-    at : (n : ℕ) → n ≡ counts.given → InTime rate (record { eaten = eaten; given = given })
-    at zero e =
-        let none = nothing-left rate counts eaten given h (sym e) in
-        let same : given ≡ counts.given = none.1 ∙ e in
-        rw (none.0, same) t
-    at (suc n) e =
-        let laws = counts-periodic rate h.eaten_before h.given_before h.period in
-        let more : given + 0 ≡ given = omega arith in
-        let here : counts.given + 0 ≡ counts.given = omega arith in
-        let place : eaten ≡ counts.eaten + 1 * h.eaten_before = omega (arith, h.eaten_is) in
-        let now = need-real rate counts eaten given 0 h (omega arith) in
-        let next = need-real rate counts eaten given 1 h (omega arith) in
-        record {
-          early = omega (arith, t.early, h.eaten_is, now, next, ap (need rate) more, ap (need rate) here);
-          late = omega (arith, t.late, h.given_is, ap (len rate) place, laws.len counts.eaten 1);
-        }
+in_time-real rate counts eaten given h t =
+    let laws = counts-periodic rate h.eaten_before h.given_before h.period in
+    let place : eaten ≡ counts.eaten + 1 * h.eaten_before = omega (arith, h.eaten_is) in
+    record {
+      early = omega (arith, t.early, h.eaten_is, need-given rate counts eaten given h, need-real rate counts eaten given 1 h);
+      late = omega (arith, t.late, h.given_is, ap (len rate) place, laws.len counts.eaten 1);
+    }
 
 -- ---- what stages are offered
 

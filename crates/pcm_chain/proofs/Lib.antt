@@ -1,6 +1,7 @@
 pub mod Counting
 pub mod Feeding
 pub mod Fitting
+pub mod Level
 pub mod Pulling
 pub mod Standing
 pub mod Streaming

@@ -81,7 +81,6 @@ heard-in-all plan tables gain c quiet x waiting taken k same is enough =
 -- what is known of a block
 pub record IsBlock {B : Type 0} (kept : B → Kept) (tables : Filters) (gain : Gain) (ended : Bool) (want : ℕ) (waiting : List Frame) (old new : ChainOf B) (advance : Advance) (before after : List ℤ) : Type 0 where
   pub plan : plan_in new ≡ plan_in old
-  pub some : 0 < want
   pub bounded : AreBounded (rate_in_plan (plan_in old)) (counts_in old)
   pub goes : Goes (rate_in_plan (plan_in old)) ended (counts_in old) (length waiting) want advance
   pub within : advance.eaten ≤ length waiting
@@ -126,7 +125,7 @@ block-pulls {B = B} kept tables gain ended want waiting old new advance out_old 
       in_time = in_time-real rate (counts_in old) n before stands.counts h.bounded.in_time;
       silent = stands.silent;
       past = λ some. ((past some).0, ap length (past some).1);
-      goes = goes-real rate ended (counts_in old) n before (length waiting) want advance stands.counts h.some h.goes;
+      goes = goes-real rate ended (counts_in old) n before (length waiting) want advance stands.counts h.goes;
     }
 
     eaten-all : length all ≡ n + quiet

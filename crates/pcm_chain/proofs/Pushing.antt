@@ -141,7 +141,6 @@ block-records {B = B} kept tables input old new x start out h stands = record { 
     pulls : Pulls kept tables unity false (m + 1) input old new x before (record { given = m; eaten = n }) start out
     pulls = block-pulls kept tables unity false (m + 1) input old new (eats_all rate (counts_in old) n) start out x 0 before (record {
       plan = h.plan;
-      some = omega arith;
       bounded = h.bounded;
       goes = whole-goes rate (counts_in old) n ratio clear;
       within = omega arith;

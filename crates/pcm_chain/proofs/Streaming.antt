@@ -44,7 +44,7 @@ level-asks : (eaten offered want m : ℕ) → Asks unchanged eaten eaten offered
 level-asks eaten offered want m asks = omega (arith, asks.all, asks.gives, need-unchanged (eaten + want), can-unchanged (eaten + offered))
 
 -- stages that keep the rate have that of no change
-rate-unrated : (specs : List Spec) → All IsUnrated specs → rate_among specs ≡ unchanged
+pub rate-unrated : (specs : List Spec) → All IsUnrated specs → rate_among specs ≡ unchanged
 rate-unrated [] level = refl
 rate-unrated (Matrix from to ∷ specs) level = rate-unrated specs (All-tail IsUnrated (Matrix from to) specs level)
 rate-unrated (Hold src dst channels ∷ specs) level = All-head IsUnrated (Hold src dst channels) specs level

@@ -3,12 +3,13 @@ use Rattle.std.specs.Prelude.{◌≡◌, ◌<◌, ℕ, ◌-◌, List, [], ◌∷
 use Rattle.pcm_format.specs.Frames.{Frame}
 use Rattle.pcm_format.specs.Layouts.{channels_of}
 use Rattle.pcm_feeder.specs.declared.kind.Kind.{Kind}
+use Rattle.pcm_feeder.specs.declared.rack.RackOf.{RackOf}
 use Rattle.pcm_feeder.specs.declared.rack.SevenOf.{SevenOf}
 use Rattle.pcm_feeder.specs.declared.stage.Gain.{Gain}
 use Rattle.pcm_feeder.specs.declared.stage.Spec.{Spec}
 use Rattle.pcm_feeder.specs.Filters.{Filters}
 use Rattle.pcm_feeder.specs.Kept.{Kept, StandsFor}
-use Rattle.pcm_feeder.specs.Racks.{HaveKinds}
+use Rattle.pcm_feeder.specs.Racks.{HaveKinds, boxes_of, marks_of}
 use Rattle.pcm_feeder.specs.Stages.{channels_in, channels_out, conv}
 use Rattle.pcm_feeder.specs.Streams.{Stream, silence, stream_of, HaveChannels}
 use Rattle.pcm_rate.specs.Rates.{need}
@@ -26,6 +27,14 @@ boxes_in chain = chain.boxes
 -- each box of a chain is of its place's kind
 abbrev pub IsOfKinds : {B : Type 0} → (B → Kind) → ChainOf B → Type 0
 IsOfKinds kind chain = HaveKinds kind (boxes_in chain)
+
+-- what tells its boxes from others
+abbrev pub marks_in : {B : Type 0} → (B → ℕ) → ChainOf B → SevenOf ℕ
+marks_in mark chain = marks_of mark (boxes_in chain)
+
+-- each of its boxes is that of a rack, in its place
+abbrev pub HasRack : {B : Type 0} → (B → ℕ) → RackOf B → ChainOf B → Type 0
+HasRack mark rack chain = marks_in mark chain ≡ marks_of mark (boxes_of rack)
 
 -- the plan of a chain
 abbrev pub plan_in : {B : Type 0} → ChainOf B → PlanSeen

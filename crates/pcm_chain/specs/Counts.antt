@@ -1,8 +1,8 @@
 -- The counts of a chain: how many frames it has eaten and given, without whole periods, and what a block moves them by.
-use Rattle.std.specs.Prelude.{◌≡◌, ◌<◌, ◌≤◌, ℕ, ◌+◌, ◌-◌, ◌*◌, min, max, Bool, if◌then◌else◌}
+use Rattle.std.specs.Prelude.{◌≡◌, ◌⊎◌, ◌<◌, ◌≤◌, ℕ, ◌+◌, ◌-◌, ◌*◌, min, max, Bool, if◌then◌else◌}
 use Rattle.pcm_format.specs.declared.settings.TheConstants.{RATE_LEAST, RATE_MOST}
 use Rattle.pcm_rate.specs.declared.rate.Rate.{Rate}
-use Rattle.pcm_rate.specs.Rates.{IsRatio, IsPeriod, need, can, len}
+use Rattle.pcm_rate.specs.Rates.{unchanged, IsRatio, IsPeriod, need, can, len}
 use Rattle.pcm_chain.specs.declared.staging.TheConstants.{BLOCK_FRAMES}
 use Rattle.pcm_chain.specs.declared.counts.Counts.{Counts}
 use Rattle.pcm_chain.specs.declared.counts.Advance.{Advance}
@@ -50,13 +50,14 @@ pub record Goes (rate : Rate) (ended : Bool) (counts : Counts) (waiting want : �
   pub silent : advance.silent ≡ need rate (counts.given + advance.given) - (fed_in_all rate counts + advance.eaten)
 
 -- All frames eaten and given, and the counts that stand for them: on both sides as much was left out as lasts equally long.
+-- Where the rate is changed it is left out behind the first output alone.
 pub record StandFor (rate : Rate) (counts : Counts) (eaten given : ℕ) : Type 0 where
   pub eaten_before : ℕ
   pub given_before : ℕ
   pub period : IsPeriod rate eaten_before given_before
   pub eaten_is : eaten ≡ counts.eaten + eaten_before
   pub given_is : given ≡ counts.given + given_before
-  pub begun : 0 < given_before → 0 < counts.given
+  pub begun : 0 < given_before → (0 < counts.given) ⊎ (rate ≡ unchanged)
 
 -- counts, moved on by a block
 abbrev pub moved_on_by : Counts → Advance → Counts

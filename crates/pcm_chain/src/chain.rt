@@ -55,7 +55,7 @@ impl<B: Feeder> ChainOf<B> {
     ghost use Rattle.pcm_feeder.specs.Limits.{IsGain};
     ghost use Rattle.pcm_feeder.specs.Racks.{IsRack, boxes_of};
     ghost use Rattle.pcm_plan.specs.Fits.{HaveBits, HaveTables};
-    ghost use Rattle.pcm_chain.specs.Chains.{boxes_in, counts_in, plan_in, AreFitted, IsOfKinds, ChainStands};
+    ghost use Rattle.pcm_chain.specs.Chains.{boxes_in, counts_in, marks_in, plan_in, AreFitted, IsOfKinds, ChainStands};
     ghost use Rattle.pcm_chain.specs.Counts.{NeedABlock, AllowABlock};
     ghost use Rattle.pcm_chain.specs.Gives.{filling_frames, CanGive, GivesABlock, GivesExactly, GivesOn};
     ghost use Rattle.pcm_chain.specs.Pulls.{waiting_frames, PullsOn};
@@ -93,6 +93,7 @@ impl<B: Feeder> ChainOf<B> {
         requires kinds { IsOfKinds B.kind self.old }
         ensures plan { plan_in self.new ≡ plan.now }
         ensures kinds { IsOfKinds B.kind self.new }
+        ensures marks { marks_in B.mark self.new ≡ marks_in B.mark self.old }
         ensures fitted { AreFitted B.kept self.new }
         ensures begins { (tables : Filters) → ChainStands B.kept tables self.new [] 0 0 }
         ensures records { (tables : Filters) → HasRecorded B.kept tables self.new [] }
@@ -109,6 +110,7 @@ impl<B: Feeder> ChainOf<B> {
         requires { IsOfKinds B.kind self.old }
         ensures plan { plan_in self.new ≡ plan_in self.old }
         ensures kinds { IsOfKinds B.kind self.new }
+        ensures marks { marks_in B.mark self.new ≡ marks_in B.mark self.old }
         ensures fitted { AreFitted B.kept self.new }
         ensures begins { (tables : Filters) → ChainStands B.kept tables self.new [] 0 0 }
         ensures records { (tables : Filters) → HasRecorded B.kept tables self.new [] }

@@ -5,7 +5,7 @@ ghost use Rattle.pcm_rate.specs.Rates.{unchanged};
 ghost use Rattle.pcm_feeder.specs.declared.stage.Spec.{Spec};
 ghost use Rattle.pcm_feeder.specs.Kept.{fresh, IsFitted};
 ghost use Rattle.pcm_feeder.specs.Limits.{AreChannels, IsSpec, IsGain, HasTable};
-ghost use Rattle.pcm_feeder.specs.Racks.{HaveKinds};
+ghost use Rattle.pcm_feeder.specs.Racks.{marks_of, HaveKinds};
 ghost use Rattle.pcm_feeder.specs.Stages.{channels_in, channels_out};
 ghost use Rattle.pcm_feeder.specs.Streams.{written};
 ghost use Rattle.pcm_plan.specs.Plans.{rate_among};
@@ -17,13 +17,14 @@ ghost use Rattle.pcm_chain.specs.declared.staging.TheConstants.{BLOCK_FRAMES};
 use crate::staging::Staging;
 use pcm_feeder::{Feeder, Gain, Pull, SevenOf, Spec, Tables};
 
-/// Fits the box of each stage to it.
+/// Fits the box of each stage to it. Each box stays in its place.
 pub fn fit_stages<B: Feeder>(boxes: &mut SevenOf<B>, stages: &[Spec])
     requires kinds { HaveKinds B.kind boxes.old }
     requires limits { All IsSpec stages.now }
     requires distinct { AreDistinct stages.now }
     ensures kinds { HaveKinds B.kind boxes.new }
     ensures fresh { All (λ spec. kept_in B.kept boxes.new spec ≡ fresh spec) stages.now }
+    ensures marks { marks_of B.mark boxes.new ≡ marks_of B.mark boxes.old }
 {
     for spec in stages {
         fit_stage(boxes, *spec);
@@ -37,6 +38,7 @@ fn fit_stage<B: Feeder>(boxes: &mut SevenOf<B>, spec: Spec)
     ensures kinds { HaveKinds B.kind boxes.new }
     ensures fresh { kept_in B.kept boxes.new spec ≡ fresh spec }
     ensures others { KeepOthers B.kept spec boxes.old boxes.new }
+    ensures marks { marks_of B.mark boxes.new ≡ marks_of B.mark boxes.old }
 {
     match spec {
         Spec::Matrix { .. } => boxes.matrix.fit(spec),

@@ -6,7 +6,7 @@ ghost use Rattle.pcm_rate.specs.Rates.{IsRatio};
 ghost use Rattle.pcm_feeder.specs.Limits.{AreFilters, IsRate};
 ghost use Rattle.pcm_feeder.specs.Racks.{IsRack};
 ghost use Rattle.pcm_plan.specs.Plans.{rate_in_plan};
-ghost use Rattle.pcm_chain.specs.Chains.{plan_in};
+ghost use Rattle.pcm_chain.specs.Chains.{marks_in, plan_in, HasRack};
 ghost use Rattle.pcm_desk.specs.Device.{HasRates, seen};
 ghost use Rattle.pcm_path.specs.Ways.{plan_between};
 
@@ -36,6 +36,7 @@ impl<B: Feeder> PathOf<B> {
         ensures device { IfOk result (λ made. made.device ≡ device) }
         ensures room { IfOk result (λ made. made.ring.max ≡ RING_BYTES) }
         ensures kinds { IfOk result (λ made. HasBoxes B.kind made) }
+        ensures boxes { IfOk result (λ made. HasRack B.mark rack made.chain) }
     {
         let ring = ByteRing::new(alloc, RING_BYTES as usize)?;
         let chain = ChainOf::new(alloc, rack)?;
@@ -54,6 +55,7 @@ impl<B: Feeder> PathOf<B> {
         ensures serves { Serves opening.now self.new }
         ensures planned { IsPlanned way tables.now opening.now.settings self.new }
         ensures kinds { HasBoxes B.kind self.new }
+        ensures marks { marks_in B.mark self.new.chain ≡ marks_in B.mark self.old.chain }
         ensures empty { IsEmpty B.kept self.new }
     {
         let plan = plan_of(way, tables, &self.device, &opening.settings);

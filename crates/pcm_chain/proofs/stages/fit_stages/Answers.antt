@@ -1,4 +1,4 @@
-use Rattle.std.proofs.Common.{◌≡◌, take, sym}
+use Rattle.std.proofs.Common.{◌≡◌, take, sym, ◌∙◌}
 use Rattle.std.proofs.lemmas.List.{take_all}
 use Rattle.std.proofs.lemmas.List.Elements.{All-same}
 use Rattle.pcm_feeder.specs.declared.stage.Spec.{Spec}
@@ -12,6 +12,7 @@ loop-spec-preserved g c = record {
   kinds = c.fit_stage.ensures.kinds;
   fresh = fresh-more g.B.Feeder.kept c.loop-spec.boxes c.fit_stage.new.boxes c.args.stages.now c.loop-spec.spec-index _ c.requires.distinct
       c.loop-spec-test.true c.loop-spec.invariant.fresh c.fit_stage.ensures.fresh c.fit_stage.ensures.others;
+  marks = c.fit_stage.ensures.marks ∙ c.loop-spec.invariant.marks;
 }
 
 pub returns-clause-fresh : goal.returns-clause-fresh

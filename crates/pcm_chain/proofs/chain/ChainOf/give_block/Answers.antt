@@ -79,7 +79,6 @@ returns-clause-gives g c x given stands enough =
     let Fed : List Frame → Type 0 = λ list. AreFed (kept_in kept old.boxes) (kept_in kept c.feed_stages.new.boxes) c.args.tables.now unity c.args.want plan.stages list in
     block-gives kept c.args.tables.now c.args.want waiting old _ advance c.args.out.now c.feed_stages.new.out x given (record {
       plan = refl;
-      some = c.requires.some;
       bounded = old.bounded;
       goes = rw c.rate-rate.ensures.value at goes;
       within = within;

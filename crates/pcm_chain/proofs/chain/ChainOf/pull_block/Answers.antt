@@ -76,7 +76,6 @@ returns-clause-pulls g c x quiet before stands past =
     let Fed : List Frame → Type 0 = λ list. AreFed (kept_in kept c.args.self.now.boxes) (kept_in kept c.feed_stages.new.boxes) c.args.tables.now c.args.gain c.args.want plan.stages list in
     block-pulls kept c.args.tables.now c.args.gain c.args.ended c.args.want waiting c.args.self.now _ advance c.args.out.now c.feed_stages.new.out x quiet before (record {
       plan = refl;
-      some = c.requires.some;
       bounded = c.args.self.now.bounded;
       goes = rw (c.requires.waiting, c.rate-rate.ensures.value) at c.advance-advance.ensures.goes;
       within = within;
