@@ -35,7 +35,7 @@ use Rattle.pcm_desk.specs.declared.play_requests.TheConstants.{PLAY_BIT}
 use Rattle.pcm_desk.specs.declared.record_requests.TheConstants.{RECORD_BIT}
 use Rattle.pcm_desk.specs.Device.{DeviceSeen, here_at, mix_settings, mixed_for, passed_for}
 use Rattle.pcm_desk.specs.Openings as openings
-use Rattle.pcm_desk.specs.PlayBooks.{accepting, is_draining, is_play_free, is_play_setup, may_start, play_begun, play_fill_of, play_free_of, play_settled_in, primed_in, refilled_in, started_at, started_in, write_turn}
+use Rattle.pcm_desk.specs.PlayBooks.{accepting, is_play_free, is_play_setup, may_start, play_begun, play_fill_of, play_free_of, play_settled_in, primed_in, refilled_in, started_at, started_in, takes_none, write_turn}
 use Rattle.pcm_desk.specs.PlayRequests.{play_ask, play_roused_in}
 use Rattle.pcm_desk.specs.RecordBooks.{captured_in, is_record_free, is_record_setup, record_begun, record_fill_of}
 use Rattle.pcm_desk.specs.RecordRequests.{record_ask, record_roused_in}
@@ -103,7 +103,7 @@ write_waits here length book w =
     let accepted : ℕ = min length (play_free_of book) in
     let taken : Turn PlayBook = record { book = accepting here.mixed accepted book; reply = Ok (Number accepted) } in
     let Done_so : Turn PlayBook → Type 0 = λ turn. PlayWaits turn.book in
-    either Done_so (is_draining book.state) (record { book = book; reply = Err Busy }) (cond (nat_lt 0 length && eqb (play_free_of book) 0) (record { book = book; reply = Err Again }) taken) w
+    either Done_so (takes_none book.state) (record { book = book; reply = Err Busy }) (cond (nat_lt 0 length && eqb (play_free_of book) 0) (record { book = book; reply = Err Again }) taken) w
     (either Done_so (nat_lt 0 length && eqb (play_free_of book) 0) (record { book = book; reply = Err Again }) taken w (accepting_waits here.mixed accepted book w))
 
 -- ---- requests

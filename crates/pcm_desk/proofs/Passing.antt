@@ -4,7 +4,7 @@ use mir.Syntax.{w128}
 use Rattle.std.specs.Prelude.{◌==◌, ◌≤ℤ◌, ◌+ℤ◌, ◌-ℤ◌, ◌*ℤ◌}
 use Rattle.std.proofs.lemmas.Int.{ints}
 use Rattle.std.specs.Int.{int_div_euclid}
-use Rattle.std.proofs.Math.Nat.{div-lt_iff_lt-mul, div-mul-le_self, le-div_iff_mul-le, mul-le-mul_left, mul-le-mul_right, mul-div_cancel}
+use Rattle.std.proofs.Math.Nat.{div-lt_iff_lt-mul, div-mul-le_self, le-div_iff_mul-le, lt-div-mul-add, mul-le-mul_left, mul-le-mul_right, mul-div_cancel, zero-div, zero-mul}
 use Rattle.std.proofs.lemmas.Bool.{cases_eq, cases_lt, cond_both, eqb-true}
 use Rattle.pcm_num.specs.Floor.{floor_div}
 use Rattle.pcm_rate.specs.declared.rate.Rate.{Rate}
@@ -71,7 +71,7 @@ fits-below (pos n) k few is = record { sfits = elim is [ inl up ↦ omega (arith
 fits-below (negsuc n) k few is = record { sfits = elim is [ inl up ↦ omega (arith, ints, up, few) | inr down ↦ omega (arith, ints, down, few) ] }
 
 -- what is handed over past the ring fits, or what is short of it
-pub fits-gap : (a b : ℕ) → a < 2 ^ 56 → b < 2 ^ 32 → FitsSigned w128 (pos a -ℤ pos b)
+pub fits-gap : (a b : ℕ) → a < 2 ^ 64 → b < 2 ^ 32 → FitsSigned w128 (pos a -ℤ pos b)
 fits-gap a b few small =
     elim (cases_lt a b) [
       | inl below ↦ fits-below (pos a -ℤ pos b) (b - a) (omega (arith, small)) (inr (omega (arith, ints, below)))
@@ -79,7 +79,7 @@ fits-gap a b few small =
     ]
 
 -- and so does its product with a rate
-pub fits-product : (a b m : ℕ) → a < 2 ^ 56 → b < 2 ^ 32 → m ≤ 192000 → FitsSigned w128 ((pos a -ℤ pos b) *ℤ pos m)
+pub fits-product : (a b m : ℕ) → a < 2 ^ 64 → b < 2 ^ 32 → m ≤ 192000 → FitsSigned w128 ((pos a -ℤ pos b) *ℤ pos m)
 fits-product a b m few small rate =
     elim (cases_lt a b) [
       | inl below ↦ (
@@ -100,16 +100,17 @@ fits-product a b m few small rate =
         let gap : (pos 0 -ℤ pos (suc j)) ≡ negsuc j = omega (arith, ints) in
         ap (λ z. z *ℤ pos m) gap ∙ omega (arith, ints)
 
--- the quotient has room in 64 bits
-pub fits-passed : (device : DeviceSeen) (handed : ℕ) → handed < 2 ^ 56 → ring_frames device < 2 ^ 32 → IsRate (mix_settings device).rate → IsRate (device_settings device).rate → FitsSigned w64 (passed_for device handed)
+-- the quotient has room in 64 bits, since it is no more than was mixed
+pub fits-passed : (device : DeviceSeen) (handed : ℕ) → passed_for device handed ≤ℤ pos (2 ^ 62) → ring_frames device < 2 ^ 32 → IsRate (mix_settings device).rate → IsRate (device_settings device).rate → FitsSigned w64 (passed_for device handed)
 fits-passed device handed few small mix rate =
     elim (cases_lt handed (ring_frames device)) [
       | inl before ↦ (
           let above = mix.least in
           subst (FitsSigned w64) (sym (passed-before device handed before (omega (arith, above))))
           (record { sfits = (let k = ring_frames device - handed in let most = at-most k in let fewer = div_grows (k * m - 1) (k * m) d (omega (arith, slow)) (omega arith) in omega (arith, ints, most, fewer, small)) }))
-      | inr past ↦ subst (FitsSigned w64) (sym (passed-past device handed past))
-          (record { sfits = (let most = at-most (handed - ring_frames device) in omega (arith, ints, most, few)) })
+      | inr past ↦ (
+          let is = passed-past device handed past in
+          subst (FitsSigned w64) (sym is) (record { sfits = omega (arith, ints, is, few) }))
     ]
   where
     m : ℕ
@@ -155,6 +156,19 @@ needs-ahead device count d =
           })
     ]
 
+-- so much was mixed that no more than 48 times as many were handed over
+pub handed-most : (device : DeviceSeen) (handed : ℕ) → IsDevice device → handed ≤ 48 * mixed_for device handed
+handed-most device zero d = omega arith
+handed-most device (suc c) d =
+    let mix = (mix_settings device).rate in
+    let rate = (device_settings device).rate in
+    let above = d.rate.least in
+    let needs = needs-ahead device c d in
+    let slow : c * 4000 ≤ c * mix = mul-le-mul_left c d.mix_rate.least in
+    let next = lt-div-mul-add {a = c * mix} {b = rate} (omega (arith, above)) in
+    let fast : (lasting device c + 1) * rate ≤ (lasting device c + 1) * 192000 = mul-le-mul_left (lasting device c + 1) d.rate.most in
+    omega (arith, needs.is, slow, next, fast)
+
 -- the frames that a ring holds last for no more than an interrupt mixes at most
 ring-lasts : (device : DeviceSeen) → IsDevice device → lasting device (ring_frames device) ≤ mix_frames device
 ring-lasts device d =
@@ -169,7 +183,7 @@ ring-lasts device d =
 -- ---- both
 
 -- what was handed over was mixed
-past-is : (device : DeviceSeen) (handed : ℕ) → IsDevice device → 0 < ring_frames device → passed_for device handed ≤ℤ pos (mixed_for device handed)
+pub past-is : (device : DeviceSeen) (handed : ℕ) → IsDevice device → 0 < ring_frames device → passed_for device handed ≤ℤ pos (mixed_for device handed)
 past-is device handed d some =
     elim (cases_lt handed (ring_frames device)) [
       | inl before ↦ (
@@ -186,6 +200,22 @@ past-is device handed d some =
           (mul-le-mul_right {m = handed - ring_frames device} {n = c} (mix_settings device).rate (omega arith)) in
           let is = passed-past device handed past in
           omega (arith, ints, is, mixed, fewer))
+    ]
+
+-- where nothing was handed over, nothing has passed
+pub passed-none : (device : DeviceSeen) → IsRate (mix_settings device).rate → passed_for device 0 ≤ℤ pos 0
+passed-none device mix =
+    elim (cases_lt 0 (ring_frames device)) [
+      | inl before ↦ (
+          let above = mix.least in
+          let is = passed-before device 0 before (omega (arith, above)) in
+          omega (arith, ints, is))
+      | inr past ↦ (
+          let none : ring_frames device ≡ 0 = omega arith in
+          let is = passed-past device 0 past in
+          let bare : (0 - ring_frames device) * (mix_settings device).rate ≡ 0 = ap (λ (n : ℕ). (0 - n) * (mix_settings device).rate) none ∙ zero-mul (mix_settings device).rate in
+          let zero : (0 - ring_frames device) * (mix_settings device).rate / (device_settings device).rate ≡ 0 = ap (λ (n : ℕ). n / (device_settings device).rate) bare ∙ zero-div (device_settings device).rate in
+          omega (arith, ints, is, zero))
     ]
 
 -- and no more is held than a ring and a filter hold

@@ -15,7 +15,7 @@ use Rattle.pcm_desk.specs.declared.play_book.PlayState.{PlayState}
 use Rattle.pcm_desk.specs.declared.play_book.PlayState.TheVariants.{Free, Setup, Primed, Running, Draining}
 use Rattle.pcm_desk.specs.declared.turn.Turn.{Turn}
 use Rattle.pcm_desk.specs.BookTurns.{refused, telling}
-use Rattle.pcm_desk.specs.PlayBooks.{accepting, close_turn, closed_in, drained_in, finished, frames_written, giving, is_draining, is_over, is_play_setup, is_started, may_start, play_begun, play_dropped, play_emptied, play_free_of, play_settled, refilled, started_at, started_in, write_turn}
+use Rattle.pcm_desk.specs.PlayBooks.{accepting, close_turn, closed_in, drained_in, finished, frames_written, giving, is_draining, is_over, is_play_setup, is_started, may_start, play_begun, play_dropped, play_emptied, play_free_of, play_settled, refilled, started_at, started_in, takes_none, write_turn}
 use Rattle.pcm_desk.specs.PlayRequests.{play_ask, play_roused_in, play_stopped_in, play_with_trigger}
 use Rattle.pcm_desk.specs.PlaySafe.{IsPlayInOrder, PlayIsHere, PlayIsSafe}
 use Rattle.pcm_desk.proofs.PlayAsking.{Dropping, Ending, Noting, SettingUp, Starting, Stopping, ask-does, noting}
@@ -52,25 +52,25 @@ primed_here : (b : Bool) (rate : Rate) (here : Here) (more : PlayBook)
 primed_here true rate here more = started_here (may_start more) rate here more
 primed_here false rate here more = idle rate here (record more { state = Setup }) refl refl
 
-accepting_at : (state : PlayState) (rate : Rate) (here : Here) (accepted : ℕ) (book : PlayBook) → is_draining state ≡ false → PlayIsHere rate here (record book { state = state })
+accepting_at : (state : PlayState) (rate : Rate) (here : Here) (accepted : ℕ) (book : PlayBook) → takes_none state ≡ false → PlayIsHere rate here (record book { state = state })
     → PlayIsHere rate here (accepting here.mixed accepted (record book { state = state }))
-accepting_at Free rate here accepted book more h = idle rate here (record book { state = Free; written = book.written + accepted }) refl refl
+accepting_at Free rate here accepted book more h = cc
 accepting_at Setup rate here accepted book more h = primed_here (nat_lt 0 (book.written + accepted)) rate here (record book { written = book.written + accepted })
 accepting_at Primed rate here accepted book more h = let grown : PlayBook = record book { written = book.written + accepted } in started_here (may_start grown) rate here grown
 accepting_at Running rate here accepted book more h = record { last = h.last; left = λ e. cc }
 accepting_at (Draining closed) rate here accepted book more h = cc
 
 pub here-write : (rate : Rate) (here : Here) (length : ℕ) (book : PlayBook) → PlayIsHere rate here book → PlayIsHere rate here (write_turn here length book).book
-here-write rate here length book h = at (is_draining book.state) refl
+here-write rate here length book h = at (takes_none book.state) refl
   where
     fitting : Bool → Turn PlayBook
     fitting b = cond b (refused Again book) (telling (Number (min length (play_free_of book))) (accepting here.mixed (min length (play_free_of book)) book))
 
-    fits : (b : Bool) → is_draining book.state ≡ false → PlayIsHere rate here (fitting b).book
+    fits : (b : Bool) → takes_none book.state ≡ false → PlayIsHere rate here (fitting b).book
     fits true more = h
     fits false more = accepting_at book.state rate here (min length (play_free_of book)) book more h
 
-    at : (b : Bool) → is_draining book.state ≡ b → PlayIsHere rate here (cond {A = Turn PlayBook} b (refused Busy book) (fitting (nat_lt 0 length && eqb (play_free_of book) 0))).book
+    at : (b : Bool) → takes_none book.state ≡ b → PlayIsHere rate here (cond {A = Turn PlayBook} b (refused Busy book) (fitting (nat_lt 0 length && eqb (play_free_of book) 0))).book
     at true busy = h
     at false more = fits (nat_lt 0 length && eqb (play_free_of book) 0) more
 

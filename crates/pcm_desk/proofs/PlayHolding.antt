@@ -12,7 +12,7 @@ use Rattle.pcm_desk.specs.declared.play_book.PlayState.TheVariants.{Free, Setup,
 use Rattle.pcm_desk.specs.Device.{DeviceSeen, mixed_for, passed_for}
 use Rattle.pcm_desk.specs.declared.turn.Turn.{Turn}
 use Rattle.pcm_desk.specs.BookTurns.{refused}
-use Rattle.pcm_desk.specs.PlayBooks.{accepting, drained_in, finished, frames_written, is_draining, is_over, may_start, play_emptied, play_free_of, play_settled, refilled, started_at, started_in, write_turn}
+use Rattle.pcm_desk.specs.PlayBooks.{accepting, drained_in, finished, frames_written, is_over, may_start, play_emptied, play_free_of, play_settled, refilled, started_at, started_in, takes_none, write_turn}
 use Rattle.pcm_desk.specs.PlayRequests.{play_ask, play_roused_in, play_stopped_in}
 use Rattle.pcm_desk.specs.Desk.{mixed_by, mixing, play_passing, play_rate_at}
 use Rattle.pcm_desk.specs.Own.{is_held}
@@ -41,7 +41,7 @@ held_write here false false count book e = held_accepting here.mixed book.state 
 
 -- a write
 pub held-write : (here : Here) (count : ℕ) (book : PlayBook) → is_held book.state ≡ true → is_held (write_turn here count book).book.state ≡ true
-held-write here count book e = held_write here (is_draining book.state) (nat_lt 0 count && eqb (play_free_of book) 0) count book e
+held-write here count book e = held_write here (takes_none book.state) (nat_lt 0 count && eqb (play_free_of book) 0) count book e
 
 held_roused : (mixed : ℕ) (state : PlayState) (book : PlayBook) → is_held state ≡ true → is_held (play_roused_in mixed state (record book { state = state })).state ≡ true
 held_roused mixed Free book e = cc

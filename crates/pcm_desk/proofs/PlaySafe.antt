@@ -20,7 +20,7 @@ use Rattle.pcm_desk.specs.declared.play_book.PlayState.TheVariants.{Free, Setup,
 use Rattle.pcm_desk.specs.declared.turn.Turn.{Turn}
 use Rattle.pcm_desk.specs.Openings.{fragment_bytes, ring_bytes}
 use Rattle.pcm_desk.specs.BookTurns.{refused, telling}
-use Rattle.pcm_desk.specs.PlayBooks.{accepting, allowed_in, close_turn, closed_in, drained_in, finished, frames_written, gives, is_draining, is_over, is_started, play_begun, play_emptied, play_fill_of, play_free_of, play_settled, played_of, refilled, started_at, started_in, write_turn}
+use Rattle.pcm_desk.specs.PlayBooks.{accepting, allowed_in, close_turn, closed_in, drained_in, finished, frames_written, gives, is_draining, is_over, is_started, play_begun, play_emptied, play_fill_of, play_free_of, play_settled, played_of, refilled, started_at, started_in, takes_none, write_turn}
 use Rattle.pcm_desk.specs.PlaySafe.{EatsInTime, IsDraining, IsPlayInOrder, IsPlayUnstarted, IsRunning, PlayIsSafe}
 
 -- ---- counts alone
@@ -183,9 +183,9 @@ safe_setup : (b : Bool) (rate : Rate) (mixed accepted : ℕ) (old : PlayBook) �
 safe_setup true rate mixed accepted old e u s room = safe_primed (full_at accepted old) rate mixed accepted old u (grind (arith, nat_tests)) s room
 safe_setup false rate mixed accepted old e u s room = grown_safe rate accepted Setup old s room (grind (arith, nat_tests), u)
 
-safe_accepting_at : (state : PlayState) (rate : Rate) (mixed accepted : ℕ) (book : PlayBook) → IsRatio rate → is_draining state ≡ false → accepted ≤ play_free_of (record book { state = state })
+safe_accepting_at : (state : PlayState) (rate : Rate) (mixed accepted : ℕ) (book : PlayBook) → IsRatio rate → takes_none state ≡ false → accepted ≤ play_free_of (record book { state = state })
     → PlayIsSafe rate (record book { state = state }) → PlayIsSafe rate (accepting mixed accepted (record book { state = state }))
-safe_accepting_at Free rate mixed accepted book r more room s = grown_safe rate accepted Free (record book { state = Free }) s room s.order
+safe_accepting_at Free rate mixed accepted book r more room s = cc
 safe_accepting_at Setup rate mixed accepted book r more room s = let o = s.order in safe_setup (nat_lt 0 (book.written + accepted)) rate mixed accepted (record book { state = Setup }) refl o.1 s room
 safe_accepting_at Primed rate mixed accepted book r more room s =
     let o = s.order in
@@ -196,13 +196,21 @@ safe_accepting_at Running rate mixed accepted book r more room s =
     grown_safe rate accepted Running old s room (running-more rate (frames_written old) (frames_written (grown accepted Running old)) book.eaten book.given r (grown_frames accepted Running old) s.order)
 safe_accepting_at (Draining closed) rate mixed accepted book r more room s = cc
 
+-- a book that takes bytes doesn't drain
+pub undrained : (state : PlayState) → takes_none state ≡ false → is_draining state ≡ false
+undrained Free more = cc
+undrained Setup more = refl
+undrained Primed more = refl
+undrained Running more = refl
+undrained (Draining closed) more = more
+
 -- bytes that fit, while more may come
-pub safe-accepting : (rate : Rate) (mixed accepted : ℕ) (book : PlayBook) → IsRatio rate → is_draining book.state ≡ false → accepted ≤ play_free_of book → PlayIsSafe rate book → PlayIsSafe rate (accepting mixed accepted book)
+pub safe-accepting : (rate : Rate) (mixed accepted : ℕ) (book : PlayBook) → IsRatio rate → takes_none book.state ≡ false → accepted ≤ play_free_of book → PlayIsSafe rate book → PlayIsSafe rate (accepting mixed accepted book)
 safe-accepting rate mixed accepted book r more room s = safe_accepting_at book.state rate mixed accepted book r more room s
 
 -- a write
 pub safe-write : (rate : Rate) (here : Here) (length : ℕ) (book : PlayBook) → IsRatio rate → PlayIsSafe rate book → PlayIsSafe rate (write_turn here length book).book
-safe-write rate here length book r s = at (is_draining book.state) refl
+safe-write rate here length book r s = at (takes_none book.state) refl
   where
     full : Bool
     full = nat_lt 0 length && eqb (play_free_of book) 0
@@ -210,11 +218,11 @@ safe-write rate here length book r s = at (is_draining book.state) refl
     fitting : Bool → Turn PlayBook
     fitting b = cond b (refused Again book) (telling (Number (min length (play_free_of book))) (accepting here.mixed (min length (play_free_of book)) book))
 
-    fits : (b : Bool) → is_draining book.state ≡ false → PlayIsSafe rate (fitting b).book
+    fits : (b : Bool) → takes_none book.state ≡ false → PlayIsSafe rate (fitting b).book
     fits true more = s
     fits false more = safe-accepting rate here.mixed (min length (play_free_of book)) book r more (omega arith) s
 
-    at : (b : Bool) → is_draining book.state ≡ b → PlayIsSafe rate (cond {A = Turn PlayBook} b (refused Busy book) (fitting full)).book
+    at : (b : Bool) → takes_none book.state ≡ b → PlayIsSafe rate (cond {A = Turn PlayBook} b (refused Busy book) (fitting full)).book
     at true busy = s
     at false more = fits full more
 
@@ -261,7 +269,7 @@ safe-drained rate here book r s = safe_drained_at book.state rate here book r s
 
 safe_closed_at : (state : PlayState) (rate : Rate) (book : PlayBook) → PlayIsSafe rate (record book { state = state }) → PlayIsSafe rate (closed_in state (record book { state = state }))
 safe_closed_at Free rate book s = s
-safe_closed_at Setup rate book s = let o = s.order in safe-state rate Free (record book { state = Setup }) s o.1
+safe_closed_at Setup rate book s = safe-state rate Free (record book { state = Setup }) s s.order
 safe_closed_at Primed rate book s = s
 safe_closed_at Running rate book s = s
 safe_closed_at (Draining closed) rate book s = safe-state rate (Draining true) (record book { state = Draining closed }) s s.order
@@ -300,7 +308,7 @@ safe-refilled rate mixed n book r s = safe_refilled_at book.state rate mixed n b
 
 safe_over : (b closed : Bool) (rate : Rate) (book : PlayBook) → PlayIsSafe rate (record book { state = Draining closed })
     → PlayIsSafe rate (cond b (finished (cond closed Free Setup) (record book { state = Draining closed })) (record book { state = Draining closed }))
-safe_over true true rate book s = let o = s.order in safe_finished rate Free (record book { state = Draining true }) s o.eats.written unstarted
+safe_over true true rate book s = let o = s.order in safe_finished rate Free (record book { state = Draining true }) s o.eats.written (refl, unstarted)
 safe_over true false rate book s = let o = s.order in safe_finished rate Setup (record book { state = Draining false }) s o.eats.written (refl, unstarted)
 safe_over false closed rate book s = s
 
@@ -350,7 +358,7 @@ none-written rate book r none s = at book.state s.order
         ]
 
     at : (state : PlayState) → IsPlayInOrder rate state book → IsPlayUnstarted book.eaten book.given
-    at Free o = o
+    at Free o = o.1
     at Setup o = o.1
     at Primed o = o.1
     at Running o =

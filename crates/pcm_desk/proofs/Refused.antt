@@ -21,7 +21,7 @@ use Rattle.pcm_desk.specs.declared.map_book.MapBook.{MapBook}
 use Rattle.pcm_desk.specs.declared.record_requests.TheConstants.{RECORD_BIT}
 use Rattle.pcm_desk.specs.declared.play_requests.TheConstants.{PLAY_BIT}
 use Rattle.pcm_desk.specs.declared.turn.Turn.{Turn}
-use Rattle.pcm_desk.specs.PlayBooks.{accepting, is_draining, is_play_setup, play_free_of, write_turn}
+use Rattle.pcm_desk.specs.PlayBooks.{accepting, is_draining, is_play_setup, play_free_of, takes_none, write_turn}
 use Rattle.pcm_desk.specs.Openings as openings
 use Rattle.pcm_desk.specs.Openings.{at_format, at_layout, at_rate, ring_bytes, set_fragments, reset_to, telling_of}
 use Rattle.pcm_desk.specs.PlayRequests.{has_play_bit, play_ask, play_triggered}
@@ -108,11 +108,11 @@ written_in mixed false false accepted book errno e = cc
 
 -- a write
 pub write-refused : (here : Here) (length : ℕ) (book : PlayBook) → LeavesRefused book (write_turn here length book)
-write-refused here length book = written_in here.mixed (is_draining book.state) (nat_lt 0 length && eqb (play_free_of book) 0) (min length (play_free_of book)) book
+write-refused here length book = written_in here.mixed (takes_none book.state) (nat_lt 0 length && eqb (play_free_of book) 0) (min length (play_free_of book)) book
 
--- a write that isn't refused, of a book that doesn't drain, accepts what fits
+-- a write that isn't refused, of a book that takes bytes, accepts what fits
 pub record IsWritten (here : Here) (length : ℕ) (old new : PlayBook) : Type 0 where
-  pub more : is_draining old.state ≡ false
+  pub more : takes_none old.state ≡ false
   pub is : new ≡ accepting here.mixed (min length (play_free_of old)) old
 
 done_in : (mixed : ℕ) (busy full : Bool) (accepted : ℕ) (book : PlayBook) (answer : Answer)
@@ -124,7 +124,7 @@ done_in mixed false false accepted book answer e = (refl, refl)
 
 pub write-done : (here : Here) (length : ℕ) (book : PlayBook) (answer : Answer) → (write_turn here length book).reply ≡ Ok answer → IsWritten here length book (write_turn here length book).book
 write-done here length book answer e =
-    let done = done_in here.mixed (is_draining book.state) (nat_lt 0 length && eqb (play_free_of book) 0) (min length (play_free_of book)) book answer e in
+    let done = done_in here.mixed (takes_none book.state) (nat_lt 0 length && eqb (play_free_of book) 0) (min length (play_free_of book)) book answer e in
     record { more = done.0; is = done.1 }
 
 -- ---- channels that record

@@ -16,7 +16,7 @@ use Rattle.pcm_desk.specs.declared.map_book.MapBook.{MapBook}
 use Rattle.pcm_desk.specs.declared.record_requests.TheConstants.{RECORD_BIT}
 use Rattle.pcm_desk.specs.declared.play_requests.TheConstants.{PLAY_BIT}
 use Rattle.pcm_desk.specs.declared.turn.Turn.{Turn}
-use Rattle.pcm_desk.specs.PlayBooks.{accepting, is_draining, is_play_setup, play_free_of, write_turn}
+use Rattle.pcm_desk.specs.PlayBooks.{accepting, is_draining, is_play_setup, play_free_of, takes_none, write_turn}
 use Rattle.pcm_desk.specs.PlayRequests.{has_play_bit, play_ask, play_triggered, set_volume}
 use Rattle.pcm_desk.specs.RecordBooks as records
 use Rattle.pcm_desk.specs.RecordBooks.{is_record_setup, record_fill_of}
@@ -38,7 +38,7 @@ written mixed false false count book = refl
 
 -- no bytes come with the reply to a write
 pub write-silent : (here : Here) (length : ℕ) (book : PlayBook) → bytes_due (write_turn here length book).reply ≡ 0
-write-silent here length book = written here.mixed (is_draining book.state) (nat_lt 0 length && eqb (play_free_of book) 0) (min length (play_free_of book)) book
+write-silent here length book = written here.mixed (takes_none book.state) (nat_lt 0 length && eqb (play_free_of book) 0) (min length (play_free_of book)) book
 
 volume_in : (b : Bool) (volume : ℕ) (book : PlayBook) → is_volume volume ≡ b → bytes_due (set_volume volume book).reply ≡ 0
 volume_in true volume book e = rw e refl

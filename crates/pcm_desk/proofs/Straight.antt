@@ -1,9 +1,10 @@
 -- A device that gets what is mixed as it is: as many frames are mixed as are handed over, and these are they.
-use Rattle.std.proofs.Common.{◌≡◌, ◌==◌, ◌&&◌, ◌<◌, ◌≤◌, ◌+◌, ◌-◌, ℕ, ℤ, pos, negsuc, true, nat_le, List, [], ◌∷◌, ◌++◌, length, map, take, drop, get_or, refl, sym, ap, ◌∙◌, arith}
+use Rattle.std.proofs.Common.{◌≡◌, ◌==◌, ◌&&◌, ◌<◌, ◌≤◌, ◌+◌, ◌-◌, ℕ, ℤ, pos, negsuc, true, nat_le, List, [], ◌∷◌, ◌++◌, length, map, take, drop, get_or, All, refl, sym, ap, ◌∙◌, arith}
 use Rattle.std.specs.List.{range_with_len}
 use Rattle.std.proofs.lemmas.Bool.{and_parts, cond-true, cond_both, eqb-true}
 use Rattle.std.proofs.lemmas.Int.{ints}
 use Rattle.std.proofs.lemmas.List.{get_or-append-add, get_or-drop, get_or-map, get_or-take, length-drop, length-take}
+use Rattle.std.proofs.lemmas.List.Elements.{All-same}
 use Rattle.std.proofs.lemmas.List.FromFn.{fill_by_all, length-map-range_with_len}
 use Rattle.pcm_num.proofs.Floors.{floor_div-mul_pow}
 use Rattle.pcm_format.specs.declared.settings.Settings.{Settings}
@@ -23,7 +24,8 @@ use Rattle.pcm_feeder.specs.Stages.{at_bits, conv}
 use Rattle.pcm_feeder.specs.Streams.{Stream, silence, stream_of}
 use Rattle.pcm_plan.specs.Plans.{converter_of, converting, depth_stages, matrix_stages, rate_stages}
 use Rattle.pcm_plan.specs.Through.{rec, recs, through}
-use Rattle.pcm_plan.proofs.Fits.{record-level}
+use Rattle.pcm_plan.specs.Fits.{TurnsEach}
+use Rattle.pcm_plan.proofs.Fits.{each-depth, record-level}
 use Rattle.pcm_desk.specs.Device.{DeviceSeen, device_settings, filters_of, full_frame, is_straight, mix_settings, mixed_for, parent_plan, quality_of}
 use Rattle.pcm_desk.specs.Desk.{mixed_by}
 
@@ -118,6 +120,14 @@ straight-stages device straight =
         cond_both (nat_le target source) (moved ++ rated target) (rated source ++ moved) (λ way. way ≡ [])
         (λ fewer. ap (λ first. first ++ rated target) matrix ∙ level target)
         (λ more. ap (λ first. first ++ moved) (level source) ∙ matrix)
+
+-- and that turns each frame by itself
+pub straight-each : (device : DeviceSeen) → is_straight device ≡ true → All TurnsEach (parent_plan device).stages
+straight-each device straight =
+    let bits = bits_of (device_settings device).format in
+    let channels = channels_of (device_settings device).layout in
+    All-same TurnsEach (parent_plan device).stages (depth_stages bits channels) (straight-stages device straight)
+    (each-depth TurnsEach bits channels (record { unrated = refl; nothing = refl }))
 
 -- samples of so many bits, brought to 32 and back
 there-and-back : (bits : ℕ) (frame : Frame) → at_bits bits (map (at_full bits) frame) ≡ frame

@@ -32,6 +32,11 @@ abbrev pub is_draining : PlayState → Bool
 is_draining (Draining _) = true
 is_draining state = false
 
+-- a book that nobody has takes no bytes, nor does one that drains
+abbrev pub takes_none : PlayState → Bool
+takes_none Free = true
+takes_none state = is_draining state
+
 abbrev pub is_started : PlayState → Bool
 is_started Running = true
 is_started state = is_draining state
@@ -119,10 +124,10 @@ accepting mixed accepted book =
     let primed : PlayBook = primed_in more.state more in
     started_in mixed primed.state primed
 
--- A write of `length` bytes. A draining book is busy; then a full ring has no room; else what fits is accepted.
+-- A write of `length` bytes. A book that takes none is busy; then a full ring has no room; else what fits is accepted.
 abbrev pub write_turn : Here → ℕ → PlayBook → Turn PlayBook
 write_turn here length book =
-    if is_draining book.state then refused Busy book
+    if takes_none book.state then refused Busy book
     else if nat_lt 0 length && play_free_of book == 0 then refused Again book
     else telling (Number (min length (play_free_of book))) (accepting here.mixed (min length (play_free_of book)) book)
 

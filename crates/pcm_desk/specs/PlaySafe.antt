@@ -39,7 +39,7 @@ pub record IsPlayUnstarted (eaten given : ℕ) : Type 0 where
 
 -- the counts of a book in each state
 abbrev pub IsPlayInOrder : Rate → PlayState → PlayBook → Type 0
-IsPlayInOrder rate Free book = IsPlayUnstarted book.eaten book.given
+IsPlayInOrder rate Free book = (book.written ≡ 0) × IsPlayUnstarted book.eaten book.given
 IsPlayInOrder rate Setup book = (book.written ≡ 0) × IsPlayUnstarted book.eaten book.given
 IsPlayInOrder rate Primed book = (0 < book.written) × IsPlayUnstarted book.eaten book.given
 IsPlayInOrder rate Running book = IsRunning rate (frames_written book) book.eaten book.given

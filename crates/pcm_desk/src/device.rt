@@ -1,6 +1,6 @@
 //! The device that all channels share, and who holds which channel.
 
-ghost use Rattle.std.specs.Prelude.{◌≡◌, ◌<◌, ◌^◌};
+ghost use Rattle.std.specs.Prelude.{◌≡◌, ◌^◌, ◌≤ℤ◌, pos};
 
 use pcm_format::{Format, Layout, Settings};
 use pcm_oss::Way;
@@ -92,7 +92,7 @@ impl Device {
     /// the ring began with has left it.
     pub fn passed(&self, handed: u64) -> i64
         requires rates { HasRates self.now }
-        requires count { handed < 2 ^ 56 }
+        requires count { passed_for (unfiltered self.now) handed ≤ℤ pos (2 ^ 62) }
         ensures { result ≡ passed_for (unfiltered self.now) handed }
     {
         let frames = i128::from(handed) - i128::from(self.ring_frames);

@@ -5,7 +5,7 @@ ghost use Rattle.pcm_format.specs.Frames.{frame_bytes};
 ghost use Rattle.pcm_oss.specs.Fragments.{AreFragments};
 ghost use Rattle.pcm_rate.specs.Rates.{IsRatio};
 ghost use Rattle.pcm_desk.specs.Openings.{ring_bytes};
-ghost use Rattle.pcm_desk.specs.PlayBooks.{accepting, close_turn, drained_in, finished, frames_written, gives, giving, has_given_all, is_draining, is_over, is_play_free, is_play_setup, is_started, last_after, may_start, play_begun, play_is_ready, play_dropped, play_emptied, play_fill_of, play_free_of, play_settled, primed_in, refilled, started_at, started_in, underruns_after, write_turn};
+ghost use Rattle.pcm_desk.specs.PlayBooks.{accepting, close_turn, drained_in, finished, frames_written, gives, giving, has_given_all, is_draining, is_over, is_play_free, is_play_setup, is_started, last_after, may_start, play_begun, play_is_ready, play_dropped, play_emptied, play_fill_of, play_free_of, play_settled, primed_in, refilled, started_at, started_in, takes_none, underruns_after, write_turn};
 
 use crate::{Here, Opening, PlayBook, PlayState, Turn};
 use pcm_format::Settings;
@@ -98,7 +98,7 @@ impl PlayBook {
         requires fragments { AreFragments self.opening.fragments }
         ensures { result ≡ write_turn here length self }
     {
-        if self.is_draining() {
+        if self.takes_none() {
             return Turn::refused(self, Errno::Busy);
         }
         let free = self.free();
@@ -109,6 +109,16 @@ impl PlayBook {
         Turn::telling(
             self.accepting(here.mixed, accepted),
             Answer::Number(accepted as u32),
+        )
+    }
+
+    // Whether the book takes no bytes: nobody has it, or it drains.
+    fn takes_none(&self) -> bool
+        ensures { result ≡ takes_none self.now.state }
+    {
+        matches!(
+            self.state,
+            PlayState::Free | PlayState::Draining { .. }
         )
     }
 

@@ -204,7 +204,7 @@ pub record Moves (device : DeviceSeen) (event : Event) (old new : PlayBook) (cou
 
 -- a book that hasn't started gave nothing
 idle_given : (state : PlayState) (rate : Rate) (book : PlayBook) → is_started state ≡ false → IsPlayInOrder rate state book → book.given ≡ 0
-idle_given Free rate book e o = o.given_none
+idle_given Free rate book e o = o.1.given_none
 idle_given Setup rate book e o = o.1.given_none
 idle_given Primed rate book e o = o.1.given_none
 idle_given Running rate book e o = cc

@@ -23,10 +23,10 @@ use Rattle.pcm_desk.specs.declared.here.Here.{Here}
 use Rattle.pcm_desk.specs.BookTurns.{refused, telling}
 use Rattle.pcm_desk.specs.Device.{DeviceSeen, IsDevice, passed_for, play_rate_between}
 use Rattle.pcm_desk.specs.Openings.{fragment_bytes}
-use Rattle.pcm_desk.specs.PlayBooks.{accepting, allowed_in, frames_written, giving, is_draining, is_started, play_fill_of, play_free_of, started_at, started_in, write_turn}
+use Rattle.pcm_desk.specs.PlayBooks.{accepting, allowed_in, frames_written, giving, is_draining, is_started, play_fill_of, play_free_of, started_at, started_in, takes_none, write_turn}
 use Rattle.pcm_desk.specs.PlaySafe.{PlayIsSafe}
 use Rattle.pcm_desk.specs.Desk.{mixing, play_rate_at, settling}
-use Rattle.pcm_desk.proofs.PlaySafe.{full_at, grown, given-allowed, settings-refilled, settings-settled, state-refilled, written-refilled}
+use Rattle.pcm_desk.proofs.PlaySafe.{full_at, grown, given-allowed, settings-refilled, settings-settled, state-refilled, undrained, written-refilled}
 use Rattle.pcm_desk.proofs.PlayLeaves.{Leaves, Stays, settle-leaves, stays-same}
 use Rattle.pcm_desk.proofs.Ratios.{ratio-between}
 use Rattle.pcm_sound.specs.Runs.{Piece, Run, begun_run, piece_of, taking, playing, drops, ends, marked, marking, newest_bytes}
@@ -133,13 +133,13 @@ write_undrained true mixed length book more = writes-nothing length book
 write_undrained false mixed length book more =
     record { accepted = min length (play_free_of book); within = omega arith; undrained = λ h. more; accepts = accepts mixed (min length (play_free_of book)) book }
 
-write_turn-writes_at : (busy : Bool) (mixed length : ℕ) (book : PlayBook) → is_draining book.state ≡ busy
+write_turn-writes_at : (busy : Bool) (mixed length : ℕ) (book : PlayBook) → takes_none book.state ≡ busy
     → WritesSome length book (cond {A = Turn PlayBook} busy (refused Busy book) (cond {A = Turn PlayBook} (nat_lt 0 length && eqb (play_free_of book) 0) (refused Again book) (telling (Number (min length (play_free_of book))) (accepting mixed (min length (play_free_of book)) book)))).book
 write_turn-writes_at true mixed length book e = writes-nothing length book
-write_turn-writes_at false mixed length book e = write_undrained (nat_lt 0 length && eqb (play_free_of book) 0) mixed length book e
+write_turn-writes_at false mixed length book e = write_undrained (nat_lt 0 length && eqb (play_free_of book) 0) mixed length book (undrained book.state e)
 
 pub write_turn-writes : (here : Here) (length : ℕ) (book : PlayBook) → WritesSome length book (write_turn here length book).book
-write_turn-writes here length book = write_turn-writes_at (is_draining book.state) here.mixed length book refl
+write_turn-writes here length book = write_turn-writes_at (takes_none book.state) here.mixed length book refl
 
 -- ---- how many frames a run gives
 

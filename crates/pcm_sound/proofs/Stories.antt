@@ -824,7 +824,7 @@ valid-start device d = record {
     own = All-nil HasRate;
   });
   here = λ slot. subst (IsHereAt device (here_at device 0)) (sym (get_or-same (play_slots device) slot (play_unopened device))) (record { last = λ e. cc; left = λ e. cc });
-  safe = λ slot. subst (IsSafeAt device) (sym (get_or-same (play_slots device) slot (play_unopened device))) (record { order = unstarted; fill = omega arith; fragments = usual-fragments; volume = refl; told = omega arith });
+  safe = λ slot. subst (IsSafeAt device) (sym (get_or-same (play_slots device) slot (play_unopened device))) (record { order = (refl, unstarted); fill = omega arith; fragments = usual-fragments; volume = refl; told = omega arith });
   placed = λ slot. tt;
   gains = λ slot position l. ap book_gain (sym (get_or-same (play_slots device) slot (play_unopened device)));
   maps = λ slot. subst (λ (b : MapBook). MapIsValid device 0 b []) (sym (get_or-same (map_slots device) slot (map_unopened device))) (map-valid-start device d);
