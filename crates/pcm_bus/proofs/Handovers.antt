@@ -1,8 +1,7 @@
 -- What a device gets of mixed samples: themselves, or what its chain makes of them.
-use Rattle.std.proofs.Common.{◌≡◌, ◌+◌, ◌*◌, ◌/◌, ◌%◌, ℕ, ℤ, true, false, List, [], ◌++◌, length, map, take, drop, All, refl, sym, ap, subst, ◌∙◌, arith}
+use Rattle.std.proofs.Common.{◌≡◌, ◌+◌, ◌*◌, ◌/◌, ◌%◌, ℕ, ℤ, true, List, [], ◌++◌, length, map, take, drop, All, refl, sym, ap, subst, ◌∙◌, arith}
 use Rattle.std.specs.List.{range_with_len}
 use Rattle.std.proofs.Math.Nat.{mul-div_cancel, mul-mod_left}
-use Rattle.std.proofs.lemmas.Bool.{true≢false}
 use Rattle.std.proofs.lemmas.List.{drop-map, length-append, length-map, take-map}
 use Rattle.std.proofs.lemmas.List.Elements.{All-append, All-map, All-nil, All-weaker}
 use Rattle.std.proofs.lemmas.Simd.{map-map}
@@ -18,18 +17,19 @@ use Rattle.pcm_format.proofs.Streams.{channels_of-above}
 use Rattle.pcm_feeder.specs.Kept.{Kept}
 use Rattle.pcm_feeder.specs.Streams.{HaveChannels, frames_of, interleaved}
 use Rattle.pcm_feeder.proofs.Frames.{frame_in, frames_of-channels, interleaved-frames_of}
-use Rattle.pcm_plan.specs.Fits.{HaveBits}
+use Rattle.pcm_plan.specs.Fits.{HaveBits, TurnsEach}
 use Rattle.pcm_plan.specs.Plans.{PlanSeen}
 use Rattle.pcm_plan.specs.Through.{recs}
 use Rattle.pcm_chain.specs.declared.chain.ChainOf.{ChainOf}
 use Rattle.pcm_chain.specs.Chains.{plan_in}
 use Rattle.pcm_chain.specs.Gives.{AreJustEnough, CanGive, GivesExactly, GivesOn, filling_frames}
 use Rattle.pcm_chain.specs.Pushes.{pushed_frames}
+use Rattle.pcm_chain.proofs.Level.{passed-by}
 use Rattle.pcm_chain.proofs.Pushing.{count-frames, frames_of-bits, interleaved-bits}
 use Rattle.pcm_desk.specs.Desk.{mixed_by}
 use Rattle.pcm_desk.specs.Device.{DeviceSeen, IsDevice, device_settings, filters_of, is_straight, mix_settings, parent_plan}
 use Rattle.pcm_desk.proofs.Ratios.{mixed-behind, parent-bits}
-use Rattle.pcm_desk.proofs.Straight.{straight-behind, straight-by, straight-channels, straight-count}
+use Rattle.pcm_desk.proofs.Straight.{straight-behind, straight-by, straight-channels, straight-count, straight-each}
 use Rattle.pcm_bus.specs.Handovers.{AreMixedFor, CanMake, HasMade, IsPlannedBy, MakesOn, raised_frames}
 
 -- ---- mixed samples at 32 bits
@@ -96,15 +96,14 @@ made-nothing kept device chain begins = record {
   bits = All-nil (λ (frame : Frame). All (FitsBits 32) frame);
   channels = All-nil (λ (frame : Frame). length frame ≡ channels_of (mix_settings device).layout);
   count = refl;
-  exactly = λ other. begins;
+  exactly = begins;
 }
 
 -- it has made so many frames more, where it stands so
 made-more : {B : Type 0} (kept : B → Kept) (device : DeviceSeen) (old new : ChainOf B) (samples : List ℤ) (n : ℕ)
     (x : List Frame) (handed : ℕ) → IsDevice device → All (FitsBits (bits_of (mix_settings device).format)) samples
     → HasMade kept device old x handed → AreMixedFor device samples handed n
-    → (is_straight device ≡ false
-    → GivesExactly kept (filters_of device) new (x ++ raised_frames device samples) (handed + n))
+    → GivesExactly kept (filters_of device) new (x ++ raised_frames device samples) (handed + n)
     → HasMade kept device new (x ++ raised_frames device samples) (handed + n)
 made-more kept device old new samples n x handed is fits made mixed exactly =
     let c = channels_of (mix_settings device).layout in
@@ -123,19 +122,24 @@ made-more kept device old new samples n x handed is fits made mixed exactly =
 
 -- it gets the mixed samples
 pub straight-makes : {B : Type 0} (kept : B → Kept) (device : DeviceSeen) (chain : ChainOf B) (samples : List ℤ) (n : ℕ)
-    → IsDevice device → is_straight device ≡ true → All (FitsBits (bits_of (mix_settings device).format)) samples
+    → IsPlannedBy device chain → is_straight device ≡ true → All (FitsBits (bits_of (mix_settings device).format)) samples
     → MakesOn kept device samples n chain chain samples
-straight-makes kept device chain samples n is straight fits x handed made mixed =
+straight-makes kept device chain samples n planned straight fits x handed made mixed =
     let c = channels_of (mix_settings device).layout in
     let frames = frames_of c samples in
     let all = x ++ raised_frames device samples in
     let given : ℕ → ℕ → List Frame = recs (parent_plan device) (filters_of device) all in
     let from : length x ≡ handed = made.count ∙ straight-count device handed straight in
     let count : length frames ≡ n = mixed-frames device samples handed n mixed ∙ straight-by device handed n straight in
+    let more = raised_frames device samples in
+    let each : All TurnsEach (plan_in chain).stages = subst (λ (plan : PlanSeen). All TurnsEach plan.stages) (sym planned.plan_is) (straight-each device straight) in
+    let have : HaveChannels (channels_of (plan_in chain).source) more = subst (λ (plan : PlanSeen). HaveChannels (channels_of plan.source) more) (sym planned.plan_is) (raised-channels device samples) in
+    let long : length more ≡ n = raised-count device samples handed n mixed ∙ straight-by device handed n straight in
+    let passed = passed-by kept (filters_of device) chain x more handed each have made.exactly in
     let whole : length samples % c ≡ 0 = ap (λ k. k % c) mixed ∙ mul-mod_left (mixed_by device handed n) c in
     record {
-      made = made-more kept device chain chain samples n x handed is fits made mixed
-          (λ no. absurd (true≢false (sym straight ∙ no)));
+      made = made-more kept device chain chain samples n x handed planned.limits fits made mixed
+          (subst (λ k. GivesExactly kept (filters_of device) chain all (handed + k)) long passed);
       frames = sym (ap interleaved (ap (λ k. given k n) (sym from) ∙ ap (given (length x)) (sym count)
           ∙ straight-behind device x frames straight) ∙ interleaved-frames_of c samples whole);
     }
@@ -173,13 +177,12 @@ just-enough device plan samples handed n is mixed =
 
 -- so the chain may be handed it
 pub can-give : {B : Type 0} (kept : B → Kept) (device : DeviceSeen) (chain : ChainOf B) (samples out : List ℤ) (n : ℕ)
-    → IsPlannedBy device chain → is_straight device ≡ false
-    → length out ≡ n * channels_of (device_settings device).layout → CanMake kept device chain samples n
+    → IsPlannedBy device chain → length out ≡ n * channels_of (device_settings device).layout → CanMake kept device chain samples n
     → CanGive kept (filters_of device) chain (raised device samples) (filling_frames (plan_in chain) out)
-can-give kept device chain samples out n planned other long can = record {
+can-give kept device chain samples out n planned long can = record {
   frames = can.frames;
   given = can.handed;
-  gives = can.made.exactly other;
+  gives = can.made.exactly;
   enough = subst (AreJustEnough (plan_in chain) (raised device samples) can.handed)
       (sym (fills device (plan_in chain) out n planned.plan_is long))
       (just-enough device (plan_in chain) samples can.handed n planned.plan_is can.enough);
@@ -187,12 +190,12 @@ can-give kept device chain samples out n planned other long can = record {
 
 -- and what it gives is what the device gets
 pub chain-makes : {B : Type 0} (kept : B → Kept) (device : DeviceSeen) (old new : ChainOf B)
-    (samples out given : List ℤ) (n : ℕ) → IsPlannedBy device old → is_straight device ≡ false
+    (samples out given : List ℤ) (n : ℕ) → IsPlannedBy device old
     → All (FitsBits (bits_of (mix_settings device).format)) samples
     → length out ≡ n * channels_of (device_settings device).layout
     → GivesOn kept (filters_of device) (raised device samples) (filling_frames (plan_in old) out) old new given
     → MakesOn kept device samples n old new given
-chain-makes {B = B} kept device old new samples out given n planned other fits long gives x handed made mixed =
+chain-makes {B = B} kept device old new samples out given n planned fits long gives x handed made mixed =
     let tables = filters_of device in
     let plan = plan_in old in
     let pushed = pushed_frames plan (raised device samples) in
@@ -200,11 +203,11 @@ chain-makes {B = B} kept device old new samples out given n planned other fits l
     let count = fills device plan out n planned.plan_is long in
     let same = fed device plan samples planned.plan_is in
     let enough = just-enough device plan samples handed n planned.plan_is mixed in
-    let g = gives x handed (made.exactly other)
+    let g = gives x handed made.exactly
     (subst (AreJustEnough plan (raised device samples) handed) (sym count) enough) in
     record {
       made = made-more kept device old new samples n x handed planned.limits fits made mixed
-          (λ no. subst (λ (m : List Frame). GivesExactly kept tables new (x ++ m) (handed + n)) same
+          (subst (λ (m : List Frame). GivesExactly kept tables new (x ++ m) (handed + n)) same
           (subst (λ k. GivesExactly kept tables new (x ++ pushed) (handed + k)) count g.exactly));
       frames = g.frames
           ∙ ap (λ k. interleaved (recs plan tables (x ++ pushed) handed k)) count

@@ -1,5 +1,5 @@
 -- What a device gets of mixed samples, and what its chain has made before.
-use Rattle.std.specs.Prelude.{◌≡◌, ℕ, ◌+◌, ◌*◌, ℤ, false, List, ◌++◌, length, map}
+use Rattle.std.specs.Prelude.{◌≡◌, ℕ, ◌+◌, ◌*◌, ℤ, List, ◌++◌, length, map}
 use Rattle.pcm_format.specs.Frames.{Frame}
 use Rattle.pcm_format.specs.Layouts.{channels_of}
 use Rattle.pcm_feeder.specs.Kept.{Kept}
@@ -10,7 +10,7 @@ use Rattle.pcm_chain.specs.declared.chain.ChainOf.{ChainOf}
 use Rattle.pcm_chain.specs.Chains.{plan_in}
 use Rattle.pcm_chain.specs.Gives.{GivesExactly}
 use Rattle.pcm_desk.specs.Desk.{mixed_by}
-use Rattle.pcm_desk.specs.Device.{DeviceSeen, IsDevice, filters_of, full_frame, is_straight, mix_settings, mixed_for, parent_plan}
+use Rattle.pcm_desk.specs.Device.{DeviceSeen, IsDevice, filters_of, full_frame, mix_settings, mixed_for, parent_plan}
 
 -- the device is within its limits, and a chain goes by the plan from its mix to it
 pub record IsPlannedBy {B : Type 0} (device : DeviceSeen) (chain : ChainOf B) : Type 0 where
@@ -28,13 +28,13 @@ AreMixedFor device samples handed n =
     length samples ≡ mixed_by device handed n * channels_of (mix_settings device).layout
 
 -- The frames x were mixed, at 32 bits, and the chain has made as many frames of the device of them as
--- were handed over. A chain that is passed over has nothing to keep.
+-- were handed over, by feeds or, where they are the same frames, as they passed it by.
 pub record HasMade {B : Type 0} (kept : B → Kept) (device : DeviceSeen) (chain : ChainOf B)
     (x : List Frame) (handed : ℕ) : Type 0 where
   pub bits : HaveBits 32 x
   pub channels : HaveChannels (channels_of (mix_settings device).layout) x
   pub count : length x ≡ mixed_for device handed
-  pub exactly : is_straight device ≡ false → GivesExactly kept (filters_of device) chain x handed
+  pub exactly : GivesExactly kept (filters_of device) chain x handed
 
 -- the chain has made what was handed over of some frames, and the samples are those that are mixed for n more
 pub record CanMake {B : Type 0} (kept : B → Kept) (device : DeviceSeen) (chain : ChainOf B)

@@ -11,7 +11,7 @@ use Rattle.pcm_desk.specs.Device.{DeviceSeen, seen}
 use Rattle.pcm_play.specs.declared.channel.PlayChannelOf.{PlayChannelOf}
 use Rattle.pcm_play.specs.Channels.{IsPlayReady, PlayMoves, PlayStands}
 use Rattle.pcm_map.specs.declared.channel.MapChannelOf.{MapChannelOf}
-use Rattle.pcm_map.specs.Channels.{IsMapReady, MapStands, MapTakes, area_of}
+use Rattle.pcm_map.specs.Channels.{CountsFit, IsMapReady, MapStands, MapTakes, area_of}
 
 -- the books of channels, by slot
 abbrev pub play_books_of : {B : Type 0} → List (PlayChannelOf B) → List PlayBook
@@ -81,7 +81,7 @@ AllMapStand kept filters channels taken areas = (slot : ℕ) (other : MapChannel
 pub record IsMapDue {B : Type 0} (kind : B → Kind) (keeps : B → Kept) (filters : Filters) (device : Device) (frames : ℕ) (channel : MapChannelOf B) : Type 0 where
   pub own : channel.path.device ≡ device
   pub ready : IsMapReady kind keeps filters channel
-  pub given : channel.book.given + frames < 2 ^ 50
+  pub counted : CountsFit filters frames channel
 
 -- what an interrupt that mixes so many frames leaves of a channel: it takes what stands in the area, which stays
 pub record MapPlays {B : Type 0} (kind : B → Kind) (kept : B → Kept) (filters : Filters) (device : Device) (frames : ℕ) (old new : MapChannelOf B) : Type 0 where

@@ -5,6 +5,7 @@ ghost use Rattle.pcm_fixed.specs.Fixed.{fixed_len};
 ghost use Rattle.pcm_format.specs.Frames.{frame_bytes};
 ghost use Rattle.pcm_format.specs.Layouts.{channels_of};
 ghost use Rattle.pcm_feeder.specs.Racks.{IsRack};
+ghost use Rattle.pcm_chain.specs.Chains.{HasRack};
 ghost use Rattle.pcm_oss.specs.declared.event.TheConstants.{SLOTS};
 ghost use Rattle.pcm_desk.specs.declared.limits.TheConstants.{MIX_FRAMES, RING_FRAMES};
 ghost use Rattle.pcm_desk.specs.Desk.{mixed_by};
@@ -59,6 +60,7 @@ impl<B: Feeder> BusOf<B> {
         ensures device { IfOk result (λ made. made.device ≡ device) }
         ensures planned { IfOk result (λ made. IsPlannedBy (seen tables.now device) made.chain) }
         ensures made { IfOk result (λ made. HasMade B.kept (seen tables.now device) made.chain [] 0) }
+        ensures boxes { IfOk result (λ made. HasRack B.mark rack made.chain) }
     {
         let mut chain = ChainOf::new(alloc, rack)?;
         chain.reset(&plan_record(&device.settings, &device.mix, device.quality, tables));

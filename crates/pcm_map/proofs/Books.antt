@@ -29,7 +29,7 @@ use Rattle.pcm_desk.specs.MapSafe.{MapIsSafe}
 use Rattle.pcm_desk.specs.Desk.{map_mixing, map_rate_at}
 use Rattle.pcm_desk.proofs.Ratios.{device-is, plan-between-fits}
 use Rattle.pcm_map.specs.declared.channel.MapChannelOf.{MapChannelOf}
-use Rattle.pcm_map.specs.Channels.{IsMapPlanned}
+use Rattle.pcm_map.specs.Channels.{CountsFit, IsMapPlanned}
 use Rattle.pcm_map.specs.Pieces.{book_giving}
 use Rattle.pcm_desk.proofs.MapSafe.{map-safe-refilled}
 
@@ -123,12 +123,30 @@ planned-near filters channel p = rate-near (play_plan_between (seen filters chan
 pub planned-safe : {B : Type 0} (filters : Filters) (channel : MapChannelOf B) → IsMapPlanned filters channel → MapIsSafe (map_rate_at (seen filters channel.path.device) channel.book) channel.book
 planned-safe filters channel p = subst (λ (rate : Rate). MapIsSafe rate channel.book) (planned-rate filters channel p) channel.safe
 
--- the bytes that it has taken fit 64 bits
-pub taken-fits : {B : Type 0} (filters : Filters) (channel : MapChannelOf B) → IsMapPlanned filters channel → channel.book.given < 2 ^ 50 → taken_of channel.book < 2 ^ 62
-taken-fits filters channel p few =
-    let fits = need-fits (map_rate_at (seen filters channel.path.device) channel.book) channel.book.opening.settings channel.book.given (planned-near filters channel p) few in
+-- counts that stay below a bound fit
+pub counts-fit : {B : Type 0} (filters : Filters) (n : ℕ) (channel : MapChannelOf B) → IsMapPlanned filters channel → channel.book.given + n < 2 ^ 50 → CountsFit filters n channel
+counts-fit filters n channel p few =
+    let fits = need-fits (map_rate_at (seen filters channel.path.device) channel.book) channel.book.opening.settings (channel.book.given + n) (planned-near filters channel p) few in
+    record { given = omega (arith, few); taken = omega (arith, fits) }
+
+-- so do those of an interrupt that mixes fewer
+pub counts-fewer : {B : Type 0} (filters : Filters) (few n : ℕ) (channel : MapChannelOf B) → IsMapPlanned filters channel → few ≤ n → CountsFit filters n channel → CountsFit filters few channel
+counts-fewer filters few n channel p within fits =
+    let rate = map_rate_at (seen filters channel.path.device) channel.book in
+    let z = frame_bytes channel.book.opening.settings in
+    let grows = mul-le-mul_right {m = need rate (channel.book.given + few)} {n = need rate (channel.book.given + n)} z
+            (need_grows rate (channel.book.given + few) (channel.book.given + n) (planned-near filters channel p).ratio.dst (omega arith)) in
+    record { given = omega (arith, fits.given); taken = omega (arith, fits.taken, grows) }
+
+-- then the bytes taken so far fit
+pub taken-fits : {B : Type 0} (filters : Filters) (n : ℕ) (channel : MapChannelOf B) → IsMapPlanned filters channel → CountsFit filters n channel → taken_of channel.book < 2 ^ 64
+taken-fits filters n channel p fits =
+    let rate = map_rate_at (seen filters channel.path.device) channel.book in
+    let z = frame_bytes channel.book.opening.settings in
+    let none : channel.book.given + 0 ≡ channel.book.given = omega arith in
+    let now = counts-fewer filters 0 n channel p (omega arith) fits in
     let taken = (planned-safe filters channel p).taken in
-    omega (arith, fits, ap (λ (k : ℕ). k * frame_bytes channel.book.opening.settings) taken)
+    omega (arith, now.taken, ap (λ (k : ℕ). need rate k * z) none, ap (λ (k : ℕ). k * z) taken)
 
 -- the book of a piece, by the rate of the chain's plan
 pub book-given : {B : Type 0} (filters : Filters) (n : ℕ) (old : MapChannelOf B) (new : MapBook) (between : Rate) (plan : PlanSeen) → IsMapPlanned filters old → is_map_running old.book.state ≡ true
@@ -158,12 +176,13 @@ poke-fits offset count book answer turn is r =
 -- ---- a piece
 
 -- what its frames need fits 64 bits
-pub next-fits : {B : Type 0} (filters : Filters) (n : ℕ) (channel : MapChannelOf B) (between : Rate) → IsMapPlanned filters channel → between ≡ map_rate_at (seen filters channel.path.device) channel.book → channel.book.given + n < 2 ^ 50
-    → need between (channel.book.given + n) < 2 ^ 62
-next-fits filters n channel between p is few =
+pub next-fits : {B : Type 0} (filters : Filters) (n : ℕ) (channel : MapChannelOf B) (between : Rate) → between ≡ map_rate_at (seen filters channel.path.device) channel.book → CountsFit filters n channel
+    → need between (channel.book.given + n) < 2 ^ 64
+next-fits filters n channel between is fits =
+    let settings = channel.book.opening.settings in
     let rate = map_rate_at (seen filters channel.path.device) channel.book in
-    let most = need-near rate (channel.book.given + n) (planned-near filters channel p) in
-    omega (arith, most, few, ap (λ (r : Rate). need r (channel.book.given + n)) is)
+    let wide = mul-le-mul_right {m = 1} {n = frame_bytes settings} (need rate (channel.book.given + n)) (frame_bytes-above settings) in
+    omega (arith, wide, fits.taken, ap (λ (r : Rate). need r (channel.book.given + n)) is)
 
 -- no fewer frames are eaten
 pub eaten-grows : {B : Type 0} (filters : Filters) (n : ℕ) (old : MapChannelOf B) (new : MapBook) → IsMapPlanned filters old → new ≡ book_giving filters n old → old.book.eaten ≤ new.eaten

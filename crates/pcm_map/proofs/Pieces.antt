@@ -42,12 +42,12 @@ use Rattle.pcm_sound.specs.Areas.{area_bytes}
 use Rattle.pcm_sound.specs.Gains.{map_gain}
 use Rattle.pcm_sound.specs.Given.{given_samples}
 use Rattle.pcm_map.specs.declared.channel.MapChannelOf.{MapChannelOf}
-use Rattle.pcm_map.specs.Channels.{area_of, IsMapPlanned, IsMapReady, MapStands}
+use Rattle.pcm_map.specs.Channels.{area_of, CountsFit, IsMapPlanned, IsMapReady, MapStands}
 use Rattle.pcm_map.specs.Pieces.{book_giving, taken_for, MapGives}
 use Rattle.pcm_oss.specs.declared.event.Way.TheVariants.{Map}
 use Rattle.pcm_path.proofs.Paths.{planned-as}
 use Rattle.pcm_map.proofs.Areas.{area-add, length-area_bytes}
-use Rattle.pcm_map.proofs.Books.{given-allowed, gives-add, gives-none, planned-fits, planned-near, planned-rate, planned-safe, taken-grows}
+use Rattle.pcm_map.proofs.Books.{counts-fewer, given-allowed, gives-add, gives-none, planned-fits, planned-near, planned-rate, planned-safe, taken-grows}
 use Rattle.pcm_sound.proofs.DeviceLists.{frames-channels}
 use Rattle.pcm_sound.proofs.Sounding.{frames-append, frames-front}
 use Rattle.pcm_path.proofs.Paths.{front-written}
@@ -322,3 +322,18 @@ ready-given kind kept filters n old new samples ready g = record {
   planned = planned-as Map filters _ _ old.path new.path g.device g.plan (ap (λ (book : MapBook). book.opening.settings) g.book) ready.planned;
   stands = record { bytes = ready.stands.bytes ++ taken_for filters n old; stands = g.stands ready.stands.bytes ready.stands.stands };
 }
+
+-- and its counts have room for the rest
+pub counts-left : {B : Type 0} (kind : B → Kind) (kept : B → Kept) (filters : Filters) (done rest n : ℕ) (old mid : MapChannelOf B) (samples : List ℤ) → IsMapPlanned filters old → done + rest ≤ n
+    → MapGives kind kept filters done old mid samples → CountsFit filters n old → CountsFit filters rest mid
+counts-left kind kept filters done rest n old mid samples planned within g fits =
+    let d : DeviceSeen = seen filters old.path.device in
+    let rate : Rate = map_rate_at d old.book in
+    let few = counts-fewer filters (done + rest) n old planned within fits in
+    let same_rate : map_rate_at (seen filters mid.path.device) mid.book ≡ rate =
+    ap (λ (device : Device). map_rate_at (seen filters device) mid.book) g.device ∙ ap (λ (book : MapBook). map_rate_at d book) g.book in
+    let place : mid.book.given + rest ≡ old.book.given + (done + rest) = omega (arith, ap (λ (book : MapBook). book.given) g.book) in
+    let same = ap (λ (r : Rate). need r (mid.book.given + rest) * frame_bytes mid.book.opening.settings) same_rate
+            ∙ ap (λ (k : ℕ). need rate k * frame_bytes mid.book.opening.settings) place
+            ∙ ap (λ (book : MapBook). need rate (old.book.given + (done + rest)) * frame_bytes book.opening.settings) g.book in
+    record { given = omega (arith, few.given, place); taken = omega (arith, few.taken, same) }

@@ -1,7 +1,8 @@
 -- A mapped channel: what it stands for, what stands in its area, and what an event changes of it.
-use Rattle.std.specs.Prelude.{◌≡◌, ℕ, ◌+◌, ◌≤◌, ℤ, if◌then◌else◌, List, [], ◌++◌, length, take}
+use Rattle.std.specs.Prelude.{◌≡◌, ℕ, ◌+◌, ◌*◌, ◌^◌, ◌<◌, ◌≤◌, ℤ, if◌then◌else◌, List, [], ◌++◌, length, take}
 use Rattle.pcm_fixed.specs.Fixed.{fixed_items}
-use Rattle.pcm_format.specs.Frames.{frames}
+use Rattle.pcm_format.specs.Frames.{frame_bytes, frames}
+use Rattle.pcm_rate.specs.Rates.{need}
 use Rattle.pcm_feeder.specs.declared.kind.Kind.{Kind}
 use Rattle.pcm_feeder.specs.declared.stage.Gain.{Gain}
 use Rattle.pcm_feeder.specs.Filters.{Filters}
@@ -13,7 +14,7 @@ use Rattle.pcm_desk.specs.declared.device.Device.{Device}
 use Rattle.pcm_desk.specs.Device.{seen}
 use Rattle.pcm_desk.specs.MapBooks.{taken_of}
 use Rattle.pcm_desk.specs.Openings.{ring_bytes}
-use Rattle.pcm_desk.specs.Desk.{map_unopened}
+use Rattle.pcm_desk.specs.Desk.{map_rate_at, map_unopened}
 use Rattle.pcm_sound.specs.Added.{map_turned}
 use Rattle.pcm_sound.specs.Areas.{is_recut, silent_area}
 use Rattle.pcm_sound.specs.MapRuns.{area_taken}
@@ -44,6 +45,12 @@ pub record IsMapReady {B : Type 0} (kind : B → Kind) (kept : B → Kept) (filt
   pub kinds : HasBoxes kind channel.path
   pub planned : IsMapPlanned filters channel
   pub stands : MapStandsForSome kept filters channel
+
+-- the frames that a channel gives by an interrupt that mixes so many, and the bytes that it takes for them, fit their counts
+pub record CountsFit {B : Type 0} (filters : Filters) (frames : ℕ) (channel : MapChannelOf B) : Type 0 where
+  pub given : channel.book.given + frames < 2 ^ 64
+  pub taken : need (map_rate_at (seen filters channel.path.device) channel.book) (channel.book.given + frames)
+      * frame_bytes channel.book.opening.settings < 2 ^ 64
 
 -- whatever bytes were taken before, a channel adds to a block of so many frames what the rules say of them and of its area, at a gain
 abbrev pub MapAddsTo : {B : Type 0} → (B → Kept) → Filters → Device → ℕ → Gain → List ℤ → List ℤ → MapChannelOf B → Type 0

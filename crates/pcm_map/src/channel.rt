@@ -12,11 +12,12 @@ ghost use Rattle.pcm_oss.specs.declared.fragments.TheConstants.{RING_BYTES};
 ghost use Rattle.pcm_rate.specs.Rates.{IsRatio};
 ghost use Rattle.pcm_ring.specs.Ring.{empty_ring};
 ghost use Rattle.pcm_desk.specs.Device.{HasRates, seen};
-ghost use Rattle.pcm_desk.specs.MapBooks.{is_map_free, is_map_running, is_map_setup, map_begun, map_closed, poke_turn};
+ghost use Rattle.pcm_desk.specs.MapBooks.{is_map_free, is_map_running, is_map_setup, map_begun, map_closed, poke_turn, taken_of};
 ghost use Rattle.pcm_desk.specs.MapRequests.{map_ask};
 ghost use Rattle.pcm_desk.specs.MapSafe.{MapIsSafe};
 ghost use Rattle.pcm_desk.specs.Desk.{map_mixing};
 ghost use Rattle.pcm_desk.proofs.Props.{map_props};
+ghost use Rattle.pcm_chain.specs.Chains.{marks_in, HasRack};
 ghost use Rattle.pcm_path.specs.Paths.{path_rate, CanBegin, HasBoxes, HoldBlock, IsEmpty, IsPlanned};
 ghost use Rattle.std.proofs.Props.{props};
 ghost use Rattle.pcm_sound.specs.Areas.{poked, silent_area};
@@ -55,7 +56,7 @@ impl<B: Feeder> MapChannelOf<B> {
     ghost use Rattle.pcm_feeder.specs.Filters.{Filters};
     ghost use Rattle.pcm_map.specs.declared.channel.TheConstants.{PIECE_FRAMES};
     ghost use Rattle.pcm_map.specs.Pieces.{MapGives};
-    ghost use Rattle.pcm_map.specs.Channels.{area_of, IsMapPlanned, IsMapReady, IsMapUnopened, MapAddsTo, MapMoves, MapTakes, RecutsArea};
+    ghost use Rattle.pcm_map.specs.Channels.{area_of, CountsFit, IsMapPlanned, IsMapReady, IsMapUnopened, MapAddsTo, MapMoves, MapTakes, RecutsArea};
 
     /// A channel of a device that nobody has opened. All its memory is taken here.
     pub fn new(
@@ -67,6 +68,7 @@ impl<B: Feeder> MapChannelOf<B> {
         requires device { HasRates device }
         requires kinds { IsRack B.kind rack }
         ensures unopened { IfOk result (IsMapUnopened B.kind B.kept tables.now device) }
+        ensures boxes { IfOk result (λ made. HasRack B.mark rack made.path.chain) }
     {
         let mut path = PathOf::new(alloc, device, rack)?;
         let mut area = Fixed::new(vec![in alloc; 0u8; RING_BYTES as usize]?);
@@ -128,7 +130,7 @@ impl<B: Feeder> MapChannelOf<B> {
     pub fn ioctl(&mut self, tables: &Tables, request: Request) -> Result<Answer, Errno>
         requires kinds { HasBoxes B.kind self.old.path }
         requires planned { IsMapPlanned tables.now self.old }
-        requires count { self.old.book.given < 2 ^ 50 }
+        requires count { taken_of self.old.book < 2 ^ 64 }
         ensures book { self.new.book ≡ (map_ask request self.old.book).book }
         ensures reply { result ≡ (map_ask request self.old.book).reply }
         ensures device { self.new.path.device ≡ self.old.path.device }
@@ -172,7 +174,7 @@ impl<B: Feeder> MapChannelOf<B> {
         requires gain { IsGain slot_gain }
         requires ready { IsMapReady B.kind B.kept tables.now self.old }
         requires block { HoldBlock self.old.path.device n frames.old sum.old }
-        requires count { self.old.book.given + n < 2 ^ 50 }
+        requires count { CountsFit tables.now n self.old }
         ensures book { self.new.book ≡ map_mixing (seen tables.now self.old.path.device) n self.old.book }
         ensures device { self.new.path.device ≡ self.old.path.device }
         ensures area { area_of self.new ≡ area_of self.old }
@@ -194,7 +196,7 @@ impl<B: Feeder> MapChannelOf<B> {
         requires running { IsTrue (is_map_running self.old.book.state) }
         requires ready { IsMapReady B.kind B.kept tables.now self.old }
         requires room { n * channels_of self.old.path.device.mix.layout ≤ length frames.old }
-        requires count { self.old.book.given + n < 2 ^ 50 }
+        requires count { CountsFit tables.now n self.old }
         ensures gives { MapGives B.kind B.kept tables.now n self.old self.new frames.new }
     {
         let channels = self.path.device.mix.layout.channels();
@@ -212,7 +214,7 @@ impl<B: Feeder> MapChannelOf<B> {
         requires few { n ≤ PIECE_FRAMES }
         requires ready { IsMapReady B.kind B.kept tables.now self.old }
         requires room { n * channels_of self.old.path.device.mix.layout ≤ length frames.old }
-        requires count { self.old.book.given + n < 2 ^ 50 }
+        requires count { CountsFit tables.now n self.old }
         ensures gives { MapGives B.kind B.kept tables.now n self.old self.new frames.new }
     {
         let Opening {
@@ -239,6 +241,7 @@ fn begin_run<B: Feeder>(path: &mut PathOf<B>, tables: &Tables, opening: &Opening
     ensures ring { path.new.ring ≡ empty_ring RING_BYTES }
     ensures planned { IsPlanned Map tables.now opening.now.settings path.new }
     ensures kinds { HasBoxes B.kind path.new }
+    ensures marks { marks_in B.mark path.new.chain ≡ marks_in B.mark path.old.chain }
     ensures empty { IsEmpty B.kept path.new }
 {
     path.begin(Way::Map, tables, opening);

@@ -23,7 +23,7 @@ use Rattle.pcm_desk.specs.Device.{DeviceSeen, IsDevice, seen}
 use Rattle.pcm_desk.specs.Desk.{asking, play_rate_at}
 use Rattle.pcm_desk.proofs.Ratios.{ratio-between}
 use Rattle.pcm_desk.specs.Openings.{ring_bytes}
-use Rattle.pcm_desk.specs.PlayBooks.{accepting, close_turn, is_draining, play_fill_of, play_free_of, play_settled, write_turn}
+use Rattle.pcm_desk.specs.PlayBooks.{accepting, close_turn, is_draining, play_fill_of, play_free_of, play_settled, takes_none, write_turn}
 use Rattle.pcm_desk.proofs.Refused.{write-done}
 use Rattle.pcm_ring.specs.Ring.{free_bytes}
 use Rattle.pcm_oss.specs.declared.reply.Answer.{Answer}
@@ -188,7 +188,7 @@ within-accepting mixed accepted book h =
 
 -- a write that isn't refused: the book accepts as many bytes as the ring takes
 pub record IsTaken (mixed accepted : ℕ) (old new : PlayBook) : Type 0 where
-  pub more : is_draining old.state ≡ false
+  pub more : takes_none old.state ≡ false
   pub is : new ≡ accepting mixed accepted old
 
 pub takes-written : {B : Type 0} (old : PlayChannelOf B) (here : Here) (count accepted : ℕ) (turn : Turn PlayBook) (answer : Answer) → turn ≡ write_turn here count old.book → turn.reply ≡ Ok answer → accepted ≡ min count (free_bytes old.path.ring)

@@ -50,7 +50,7 @@ pub eaten-written : (rate : Rate) (book : PlayBook) → PlayIsSafe rate book →
 eaten-written rate book safe = at book.state safe.order
   where
     at : (state : PlayState) → IsPlayInOrder rate state book → book.eaten ≤ frames_written book
-    at Free o = let none = o.eaten_none in omega arith
+    at Free o = let u = o.1 in let none = u.eaten_none in omega arith
     at Setup o = let u = o.1 in let none = u.eaten_none in omega arith
     at Primed o = let u = o.1 in let none = u.eaten_none in omega arith
     at Running o = o.eats.written

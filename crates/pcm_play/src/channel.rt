@@ -6,6 +6,7 @@ ghost use Rattle.pcm_format.specs.Frames.{frame_bytes};
 ghost use Rattle.pcm_num.specs.Limit.{FitsBits};
 ghost use Rattle.pcm_feeder.specs.Limits.{IsGain, IsRate};
 ghost use Rattle.pcm_feeder.specs.Racks.{IsRack};
+ghost use Rattle.pcm_chain.specs.Chains.{HasRack};
 ghost use Rattle.pcm_desk.specs.Device.{HasRates, seen};
 ghost use Rattle.pcm_desk.specs.PlayBooks.{is_play_free, is_play_setup, play_begun, play_fill_of, play_is_ready, write_turn};
 ghost use Rattle.pcm_desk.specs.PlaySafe.{PlayIsSafe};
@@ -49,6 +50,7 @@ impl<B: Feeder> PlayChannelOf<B> {
         requires device { HasRates device }
         requires kinds { IsRack B.kind rack }
         ensures unopened { IfOk result (IsPlayUnopened B.kind B.kept tables.now device) }
+        ensures boxes { IfOk result (λ made. HasRack B.mark rack made.path.chain) }
     {
         let mut path = PathOf::new(alloc, device, rack)?;
         let book = PlayBook {

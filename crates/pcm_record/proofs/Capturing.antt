@@ -1,5 +1,5 @@
 -- What a capture leaves of a channel, from what a push of its chain means.
-use Rattle.std.proofs.Common.{◌≡◌, ℕ, ◌+◌, ◌-◌, ◌*◌, ◌/◌, ◌^◌, ◌<◌, ◌≤◌, ℤ, true, min, List, ◌++◌, length, take, refl, sym, ap, ◌∙◌, subst, arith, length-append}
+use Rattle.std.proofs.Common.{◌≡◌, ℕ, ◌+◌, ◌-◌, ◌*◌, ◌/◌, ◌^◌, ◌<◌, ◌≤◌, ℤ, true, false, min, List, ◌++◌, length, take, refl, sym, ap, ◌∙◌, subst, arith, length-append}
 use Rattle.std.proofs.lemmas.List.{take_all}
 use Rattle.pcm_format.specs.declared.settings.Settings.{Settings}
 use Rattle.pcm_format.specs.Frames.{Frame, frame_bytes, spelled_frames}
@@ -22,6 +22,7 @@ use Rattle.pcm_chain.specs.declared.chain.ChainOf.{ChainOf}
 use Rattle.pcm_chain.specs.declared.chain.Pushed.{Pushed}
 use Rattle.pcm_chain.specs.Chains.{boxes_in, plan_in}
 use Rattle.pcm_chain.specs.Pushes.{pushed_frames, room_for, HasRecorded, Pushes}
+use Rattle.pcm_chain.proofs.Counting.{allowed-grows}
 use Rattle.pcm_chain.proofs.Pushing.{count-frames}
 use Rattle.pcm_desk.specs.declared.record_book.RecordBook.{RecordBook}
 use Rattle.pcm_desk.specs.declared.record_book.RecordState.{RecordState}
@@ -31,12 +32,12 @@ use Rattle.pcm_desk.specs.Desk.{capturing, record_rate_at}
 use Rattle.pcm_desk.specs.Openings.{ring_bytes}
 use Rattle.pcm_desk.specs.RecordBooks.{captured, captured_in, captures, coming, is_running, keeping, record_fill_of, record_free_of}
 use Rattle.pcm_desk.specs.RecordSafe.{RecordIsSafe}
-use Rattle.pcm_desk.proofs.Ratios.{record-few}
+use Rattle.pcm_desk.proofs.Ratios.{record-few, record-ratio-between}
 use Rattle.pcm_desk.proofs.RecordSafe.{record-safe-captured}
 use Rattle.pcm_sound.specs.Given.{recorded_bytes}
 use Rattle.pcm_sound.proofs.Recordings.{length-recorded}
 use Rattle.pcm_record.specs.declared.channel.RecordChannelOf.{RecordChannelOf}
-use Rattle.pcm_record.specs.Channels.{IsRecordPlanned, RecordMoves, RecordStands}
+use Rattle.pcm_record.specs.Channels.{CaptureFits, IsRecordPlanned, RecordMoves, RecordStands}
 use Rattle.pcm_oss.specs.declared.event.Way.TheVariants.{Record}
 use Rattle.pcm_path.proofs.Paths.{planned-as}
 use Rattle.pcm_record.proofs.Moving.{device-is}
@@ -90,12 +91,18 @@ pub kept-most : (device : DeviceSeen) (n : ℕ) (book : RecordBook) → is_runni
 kept-most device n book runs safe = (book-captured device n book (captures (record_rate_at device book) n book) runs safe (captures-running (record_rate_at device book) n book runs)).most
 
 -- and so have the frames that come
-pub given-most : (device : DeviceSeen) (n : ℕ) (book : RecordBook) → IsDevice device → IsRate book.opening.settings.rate → RecordIsSafe (record_rate_at device book) book → book.captured + n < 2 ^ 56 → book.given + coming (record_rate_at device book) n book < 2 ^ 64
-given-most device n book d rate safe few =
+pub given-most : (device : DeviceSeen) (n : ℕ) (book : RecordBook) → IsDevice device → IsRate book.opening.settings.rate → RecordIsSafe (record_rate_at device book) book → can (record_rate_at device book) (book.captured + n) < 2 ^ 64
+    → book.given + coming (record_rate_at device book) n book < 2 ^ 64
+given-most device n book d rate safe fits =
     let given = safe.given in
-    let before = record-few device book.opening.settings book.captured d rate in
-    let after = record-few device book.opening.settings (book.captured + n) d rate in
+    let grows = allowed-grows false (record_rate_at device book) book.captured (book.captured + n) (record-ratio-between device book.opening.settings d rate) (omega arith) in
     omega arith
+
+-- counts that stay below a bound have room
+pub capture-fits : {B : Type 0} (filters : Filters) (n : ℕ) (channel : RecordChannelOf B) → IsRecordPlanned filters channel → channel.book.captured + n < 2 ^ 56 → CaptureFits filters n channel
+capture-fits filters n channel p few =
+    let most = record-few (seen filters channel.path.device) channel.book.opening.settings (channel.book.captured + n) (device-is filters channel p) channel.serves.rate in
+    record { captured = omega (arith, few); given = omega (arith, few, most) }
 
 -- ---- pushes
 

@@ -1,7 +1,8 @@
 -- A channel that records: what it stands for, and what an event changes of it.
-use Rattle.std.specs.Prelude.{◌≡◌, ℕ, ◌+◌, ◌≤◌, List, [], ◌++◌, length, take, drop, ℤ, Result}
+use Rattle.std.specs.Prelude.{◌≡◌, ℕ, ◌+◌, ◌^◌, ◌<◌, ◌≤◌, List, [], ◌++◌, length, take, drop, ℤ, Result}
 use Rattle.pcm_format.specs.Frames.{Frame}
 use Rattle.pcm_format.specs.Layouts.{channels_of}
+use Rattle.pcm_rate.specs.Rates.{can}
 use Rattle.pcm_feeder.specs.declared.kind.Kind.{Kind}
 use Rattle.pcm_feeder.specs.Filters.{Filters}
 use Rattle.pcm_feeder.specs.Kept.{Kept}
@@ -51,6 +52,11 @@ pub record IsRecordReady {B : Type 0} (kind : B → Kind) (kept : B → Kept) (f
   pub kinds : HasBoxes kind channel.path
   pub planned : IsRecordPlanned filters channel
   pub stands : RecordStandsForSome kept filters channel
+
+-- the frames that a channel captures of so many more, and those that come of them, fit their counts
+pub record CaptureFits {B : Type 0} (filters : Filters) (frames : ℕ) (channel : RecordChannelOf B) : Type 0 where
+  pub captured : channel.book.captured + frames < 2 ^ 64
+  pub given : can (record_rate_at (seen filters channel.path.device) channel.book) (channel.book.captured + frames) < 2 ^ 64
 
 -- whatever bytes a channel stands for, a read gives those that were kept first and not yet read, as many as its answer says
 abbrev pub GivesUnread : {B : Type 0} → (B → Kept) → RecordChannelOf B → Result Answer Errno → List ℕ → Type 0

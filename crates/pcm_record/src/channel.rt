@@ -6,6 +6,7 @@ ghost use Rattle.pcm_oss.specs.declared.fragments.TheConstants.{RING_BYTES};
 ghost use Rattle.pcm_oss.specs.Replies.{bytes_due};
 ghost use Rattle.pcm_feeder.specs.Limits.{IsRate};
 ghost use Rattle.pcm_feeder.specs.Racks.{IsRack};
+ghost use Rattle.pcm_chain.specs.Chains.{HasRack};
 ghost use Rattle.pcm_desk.specs.declared.limits.TheConstants.{RING_FRAMES};
 ghost use Rattle.pcm_desk.specs.Device.{HasRates, seen};
 ghost use Rattle.pcm_desk.specs.RecordBooks.{closed, is_record_free, is_record_setup, read_turn, record_begun, record_fill_of};
@@ -36,7 +37,7 @@ pub struct RecordChannelOf<B> {
 
 impl<B: Feeder> RecordChannelOf<B> {
     ghost use Rattle.pcm_feeder.specs.Filters.{Filters};
-    ghost use Rattle.pcm_record.specs.Channels.{CaptureMoves, GivesUnread, IsRecordPlanned, IsRecordUnopened, RecordMoves, RecordStandsForSome};
+    ghost use Rattle.pcm_record.specs.Channels.{CaptureFits, CaptureMoves, GivesUnread, IsRecordPlanned, IsRecordUnopened, RecordMoves, RecordStandsForSome};
 
     /// A channel of a device that nobody has opened.
     pub fn new(
@@ -48,6 +49,7 @@ impl<B: Feeder> RecordChannelOf<B> {
         requires device { HasRates device }
         requires kinds { IsRack B.kind rack }
         ensures unopened { IfOk result (IsRecordUnopened B.kind B.kept tables.now device) }
+        ensures boxes { IfOk result (λ made. HasRack B.mark rack made.path.chain) }
     {
         let mut path = PathOf::new(alloc, device, rack)?;
         let book = RecordBook {
@@ -141,7 +143,7 @@ impl<B: Feeder> RecordChannelOf<B> {
         requires whole { length input.now ≡ frames * channels_of self.old.path.device.settings.layout }
         requires planned { IsRecordPlanned tables.now self.old }
         requires stands { RecordStandsForSome B.kept tables.now self.old }
-        requires count { self.old.book.captured + frames < 2 ^ 56 }
+        requires count { CaptureFits tables.now frames self.old }
         requires kept { self.old.book.kept + RING_BYTES < 2 ^ 64 }
         ensures book { self.new.book ≡ capturing (seen tables.now self.old.path.device) frames self.old.book }
         ensures device { self.new.path.device ≡ self.old.path.device }

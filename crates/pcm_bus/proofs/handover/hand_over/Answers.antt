@@ -20,7 +20,7 @@ returns-then-is_straight-clause-count g c =
 pub returns-then-is_straight-clause-makes : goal.returns-then-is_straight-clause-makes
 returns-then-is_straight-clause-makes g c =
     straight-makes g.B.Feeder.kept (seen c.args.tables.now c.args.device) c.args.chain.now c.args.mixed.now c.args.n
-    c.requires.planned.limits (sym c.is_straight.ensures ∙ c.if-is_straight.true) c.requires.fits
+    c.requires.planned (sym c.is_straight.ensures ∙ c.if-is_straight.true) c.requires.fits
 
 pub returns-then-is_straight-clause-fits : goal.returns-then-is_straight-clause-fits
 returns-then-is_straight-clause-fits g c =
@@ -55,8 +55,7 @@ give-requires-clause-can g c =
     let long = taken n channels (channels_of c.args.device.settings.layout) frames c.channels.ensures c.requires.room in
     subst (λ (input : List ℤ). CanGive kept tables chain input (filling_frames (plan_in chain) out))
     (sym c.bring_to_full.ensures)
-    (can-give kept (seen tables c.args.device) chain c.args.mixed.now out n c.requires.planned
-    (sym c.is_straight.ensures ∙ c.if-is_straight.false) long c.requires.can)
+    (can-give kept (seen tables c.args.device) chain c.args.mixed.now out n c.requires.planned long c.requires.can)
 
 pub returns-clause-planned : goal.returns-clause-planned
 returns-clause-planned g c = record {
@@ -76,8 +75,7 @@ returns-clause-makes g c =
     let channels = c.channels.result in
     let out = take (n * channels) frames in
     let long = taken n channels (channels_of c.args.device.settings.layout) frames c.channels.ensures c.requires.room in
-    chain-makes kept (seen tables c.args.device) old new c.args.mixed.now out given n c.requires.planned
-    (sym c.is_straight.ensures ∙ c.if-is_straight.false) c.requires.fits long
+    chain-makes kept (seen tables c.args.device) old new c.args.mixed.now out given n c.requires.planned c.requires.fits long
     (subst (λ (input : List ℤ). GivesOn kept tables input (filling_frames (plan_in old) out) old new given)
     c.bring_to_full.ensures c.give.ensures.gives)
 

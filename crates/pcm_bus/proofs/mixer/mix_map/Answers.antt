@@ -19,7 +19,7 @@ pub refill-requires-clause-block : goal.refill-requires-clause-block
 refill-requires-clause-block g c = subst (λ (d : Device). HoldBlock d c.args.n c.args.frames.now c.args.sum.now) (sym ((c.requires.due c.index-maps-slot.result).own)) c.requires.block
 
 pub refill-requires-clause-count : goal.refill-requires-clause-count
-refill-requires-clause-count g c = (c.requires.due c.index-maps-slot.result).given
+refill-requires-clause-count g c = (c.requires.due c.index-maps-slot.result).counted
 
 pub returns-clause-own : goal.returns-clause-own
 returns-clause-own g c = λ other.

@@ -2,7 +2,7 @@ use Rattle.std.proofs.Common.{◌≡◌, ◌≤◌, ◌+◌, ◌-◌, ◌*◌, �
 use Rattle.std.proofs.Math.Nat.{mul-le-mul_right}
 use Rattle.pcm_format.specs.Layouts.{channels_of}
 use Rattle.pcm_map.specs.Pieces.{MapGives}
-use Rattle.pcm_map.proofs.Pieces.{gives-more, gives-nothing, put-behind, ready-given}
+use Rattle.pcm_map.proofs.Pieces.{counts-left, gives-more, gives-nothing, put-behind, ready-given}
 use Rattle.pcm_map.proofs.channel.MapChannelOf.give.Goals as goal
 
 pub loop-done-init : goal.loop-done-init
@@ -14,6 +14,11 @@ loop-done-init g c = record {
 pub give_piece-requires-clause-ready : goal.give_piece-requires-clause-ready
 give_piece-requires-clause-ready g c =
     ready-given g.B.Feeder.kind g.B.Feeder.kept c.args.tables.now c.loop-done.done c.args.self.now c.loop-done.self c.loop-done.frames c.requires.ready c.loop-done.invariant.gives
+
+pub give_piece-requires-clause-count : goal.give_piece-requires-clause-count
+give_piece-requires-clause-count g c =
+    counts-left g.B.Feeder.kind g.B.Feeder.kept c.args.tables.now c.loop-done.done c.min-piece.result c.args.n c.args.self.now c.loop-done.self c.loop-done.frames
+    c.requires.ready.planned (omega (arith, c.min-piece.ensures, c.loop-done.invariant.within)) c.loop-done.invariant.gives c.requires.count
 
 pub loop-done-preserved : goal.loop-done-preserved
 loop-done-preserved g c =

@@ -1,4 +1,5 @@
-use Rattle.std.proofs.Common.{length, refl, sym, ap, ◌∙◌, subst, arith}
+use Rattle.std.proofs.Common.{length, length-take, refl, sym, ap, ◌∙◌, subst, arith}
+use Rattle.pcm_oss.proofs.Limits.{least-ring}
 use Rattle.pcm_feeder.specs.Limits.{IsRate}
 use Rattle.pcm_rate.specs.Rates.{IsRatio}
 use Rattle.pcm_plan.specs.Fits.{HaveTables}
@@ -18,7 +19,7 @@ pub refilled-book-requires-clause-eaten : goal.refilled-book-requires-clause-eat
 refilled-book-requires-clause-eaten g c =
     let old = c.args.self.now in
     let planned = c.requires.ready.planned in
-    let fits = next-fits c.args.tables.now c.args.n old c.rate.result planned (c.rate.ensures.value ∙ ap (λ (p : PlanSeen). rate_in_plan p) c.plan.ensures ∙ planned-rate c.args.tables.now old planned) c.requires.count in
+    let fits = next-fits c.args.tables.now c.args.n old c.rate.result (c.rate.ensures.value ∙ ap (λ (p : PlanSeen). rate_in_plan p) c.plan.ensures ∙ planned-rate c.args.tables.now old planned) c.requires.count in
     omega (arith, fits)
 
 pub overflow_sub-count : goal.overflow_sub-count
@@ -38,8 +39,13 @@ overflow_mul-count g c =
 
 pub taken-requires : goal.taken-requires
 taken-requires g c =
-    let fits = taken-fits c.args.tables.now c.args.self.now c.requires.ready.planned (omega (arith, c.requires.count)) in
-    omega (arith, fits)
+    taken-fits c.args.tables.now c.args.n c.args.self.now c.requires.ready.planned c.requires.count
+
+pub put_round-requires-clause-some : goal.put_round-requires-clause-some
+put_round-requires-clause-some g c =
+    let old = c.args.self.now in
+    let least = least-ring old.book.opening.fragments old.safe.fragments in
+    omega (arith, least, c.size.ensures, length-take c.size.result c.deref.result.now, c.deref.ensures.len, old.size)
 
 pub put_round-requires-clause-room : goal.put_round-requires-clause-room
 put_round-requires-clause-room g c =

@@ -8,15 +8,9 @@ use Rattle.pcm_desk.specs.Device.{HasRates, play_plan_between, seen}
 use Rattle.pcm_desk.specs.MapSafe.{MapIsSafe}
 use Rattle.pcm_desk.specs.Openings.{ring_bytes}
 use Rattle.pcm_sound.specs.Areas.{is_recut, silent_area}
-use Rattle.pcm_map.proofs.Books.{taken-fits}
 use Rattle.pcm_desk.proofs.Refused.{map-ask-refused}
 use Rattle.pcm_map.proofs.Moving.{book-asked, moves-ended, moves-kept}
 use Rattle.pcm_map.proofs.channel.MapChannelOf.ioctl.Goals as goal
-
-pub asked-turn-requires-clause-taken : goal.asked-turn-requires-clause-taken
-asked-turn-requires-clause-taken g c =
-    let fits = taken-fits c.args.tables.now c.args.self.now c.requires.planned c.requires.count in
-    omega (arith, fits)
 
 -- what is refused leaves the book
 pub returns-in_err-answer-clause-book : goal.returns-in_err-answer-clause-book

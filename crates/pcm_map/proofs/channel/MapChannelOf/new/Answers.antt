@@ -30,4 +30,5 @@ returns g c =
         stands = stands-empty g.B.Feeder.kept c.args.tables.now _ (ap (λ (b : MapBook). b.eaten) begun) (ap (λ (b : MapBook). b.given) begun) c.begin_run.ensures.empty;
         area = ap (take (ring_bytes c.begun.result.opening)) (items-written c.new-area.result c.silence.new.area (c.silence.auto.area ∙ c.deref_mut.ensures.len)) ∙ c.silence.ensures;
       };
+      boxes = c.begin_run.ensures.marks ∙ c.in_ok-path.ensures.boxes;
     }

@@ -15,4 +15,5 @@ returns g c =
         planned = c.begin.ensures.planned;
         stands = stands-empty g.B.Feeder.kept c.args.tables.now _ (ap (λ (b : PlayBook). b.written) begun) (ap (λ (b : PlayBook). b.eaten) begun) (ap (λ (b : PlayBook). b.given) begun) c.begin.ensures.empty;
       };
+      boxes = c.begin.ensures.marks ∙ c.in_ok-path.ensures.boxes;
     }

@@ -42,10 +42,10 @@ captured-self-requires g c =
     let tables = c.args.tables.now in
     let planned = c.requires.planned in
     let rate = rate-pushed tables old c.push.new.self c.rate-rate.result c.plan.result.now planned c.rate-rate.ensures.value c.plan.ensures c.push.ensures.plan in
-    let more = given-most (seen tables old.path.device) c.args.frames old.book (device-is tables old planned) old.serves.rate (safe-at tables old planned) c.requires.count in
+    let more = given-most (seen tables old.path.device) c.args.frames old.book (device-is tables old planned) old.serves.rate (safe-at tables old planned) c.requires.count.given in
     let most = kept-most (seen tables old.path.device) c.args.frames old.book (sym c.if-not-is_running.ensures) (safe-at tables old planned) in
     record {
-      keeps = record { ratio = c.rate-rate.ensures.ratio; captured = omega (arith, c.requires.count); read = old.within; fill = old.safe.fill; fragments = old.safe.fragments };
+      keeps = record { ratio = c.rate-rate.ensures.ratio; captured = c.requires.count.captured; read = old.within; fill = old.safe.fill; fragments = old.safe.fragments };
       given = subst (λ (r : Rate). old.book.given + coming r c.args.frames old.book < 2 ^ 64) (sym rate) more;
       kept = subst (λ (r : Rate). old.book.kept + keeping r c.args.frames old.book * frame_bytes old.book.opening.settings < 2 ^ 64) (sym rate) (omega (arith, most, c.requires.kept));
     }

@@ -17,4 +17,5 @@ returns g c =
             (record { captured_none = ap (λ (b : RecordBook). b.captured) begun; kept_none = ap (λ (b : RecordBook). b.kept) begun; read_none = ap (λ (b : RecordBook). b.read) begun })
             c.begin.ensures.empty;
       };
+      boxes = c.begin.ensures.marks ∙ c.in_ok-path.ensures.boxes;
     }
