@@ -31,7 +31,7 @@ use Rattle.pcm_record.specs.Channels.{IsRecordReady}
 use Rattle.pcm_record.proofs.Moving as recorders
 use Rattle.pcm_map.specs.declared.channel.MapChannelOf.{MapChannelOf}
 use Rattle.pcm_map.specs.Channels.{IsMapReady}
-use Rattle.pcm_map.proofs.Books.{planned-safe}
+use Rattle.pcm_map.proofs.Books.{counts-fit, planned-safe, taken-fits}
 use Rattle.pcm_bus.specs.Slots.{MapAreOf, PlayAreOf, map_books_of, play_books_of}
 use Rattle.pcm_vchan.specs.Slots.{RecordAreOf, record_books_of}
 use Rattle.pcm_bus.proofs.Channels.{some_channel}
@@ -55,7 +55,7 @@ own_safe kind kept filters device channel own ready =
 
 -- a book that nobody has opened
 unopened_safe : (device : DeviceSeen) → IsSafe device (play_unopened device)
-unopened_safe device = record { order = unstarted; fill = omega arith; fragments = usual-fragments; volume = refl; told = omega arith }
+unopened_safe device = record { order = (refl, unstarted); fill = omega arith; fragments = usual-fragments; volume = refl; told = omega arith }
 
 -- what holds of the book of each channel, and of one that nobody has opened, holds of each slot
 each_book : {B : Type 0} (holds : PlayBook → Type 0) (device : DeviceSeen) (channels : List (PlayChannelOf B)) (slot : ℕ) → All (λ (channel : PlayChannelOf B). holds channel.book) channels → holds (play_unopened device)
@@ -216,5 +216,9 @@ can-be-asked kind kept engine here ready few is = record {
   at = is ∙ here-seen kept engine ready.bus;
   places = subst (λ (place : Here). All (IsPlayHere engine.tables place) (play_channels engine.parent)) (sym is) (channels-here kept engine ready.bus ready.places);
   count = λ slot other there. (let counted = engine.counted slot other there in omega (arith, counted, few));
-  given = λ slot other there. (let given = engine.maps_given slot other there in omega (arith, given, few));
+  taken = λ slot other there.
+      let channel = get_or (map_channels engine.parent) slot other in
+      let given = engine.maps_given slot other there in
+      let planned = (ready.mapped slot other there).planned in
+      taken-fits engine.tables 0 channel planned (counts-fit engine.tables 0 channel planned (omega (arith, given, few)));
 }

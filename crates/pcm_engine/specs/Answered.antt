@@ -13,7 +13,7 @@ use Rattle.pcm_desk.specs.Here.{IsHere}
 use Rattle.pcm_play.specs.Channels.{IsPlayHere}
 use Rattle.pcm_bus.specs.Slots.{MapAreOf, PlayAreOf}
 use Rattle.pcm_vchan.specs.declared.parent.ParentOf.{ParentOf}
-use Rattle.pcm_vchan.specs.Parents.{map_channels, play_channels, record_channels, untouched, AreServed, EachMapKeeps, EachPlayMoves, EachRecordMoves, GivenFit, KeepsOutput, TotalsFit}
+use Rattle.pcm_vchan.specs.Parents.{map_channels, play_channels, record_channels, untouched, AreServed, EachMapKeeps, EachPlayMoves, EachRecordMoves, KeepsOutput, TakenFit, TotalsFit}
 use Rattle.pcm_vchan.specs.Slots.{RecordAreOf}
 use Rattle.pcm_engine.specs.declared.descriptors.Descriptors.{Descriptors}
 use Rattle.pcm_engine.specs.Desks.{ChangesBy, IsAt, RepliesBy}
@@ -26,7 +26,7 @@ pub record CanBeAsked {B : Type 0} (kind : B → Kind) (kept : B → Kept) (filt
   pub at : IsAt filters place parent
   pub places : All (IsPlayHere filters place) (play_channels parent)
   pub count : TotalsFit parent
-  pub given : GivenFit parent
+  pub taken : TakenFit parent
 
 -- By these filters a call is answered with a turn, and no bytes come with it. All channels stay those of the device, nothing moves into one or
 -- out of it, and a refusal changes nothing.

@@ -7,7 +7,7 @@ ghost use Rattle.pcm_engine.specs.declared.limits.TheConstants.{STEPS};
 ghost use Rattle.pcm_desk.specs.Events.{Fits, bytes_handed};
 ghost use Rattle.pcm_desk.specs.Device.{seen};
 ghost use Rattle.pcm_desk.specs.Own.{HoldApart};
-ghost use Rattle.pcm_vchan.specs.Parents.{map_channels, play_channels, record_channels, HasBus};
+ghost use Rattle.pcm_vchan.specs.Parents.{map_channels, play_channels, record_channels, HasBus, HasRacks};
 ghost use Rattle.pcm_bus.specs.Slots.{MapAreOf, PlayAreOf};
 ghost use Rattle.pcm_vchan.specs.Slots.{RecordAreOf};
 ghost use Rattle.pcm_desk.proofs.Props.{hold_props};
@@ -80,6 +80,8 @@ impl<B: Feeder> EngineOf<B> {
         ensures steps { IfOk result (λ engine. engine.steps ≡ 0) }
         ensures ready { IfOk result (AreReady B.kind B.kept) }
         ensures stands { IfOk result (λ engine. (pool : Pool) → Stands B.kept engine pool []) }
+        // Each slot has the boxes of its own rack, and so has the bus.
+        ensures racks { IfOk result (λ engine. HasRacks B.mark (list_of racks) engine.parent) }
     {
         let parent = ParentOf::new(alloc, device, &tables, racks)?;
         let samples = device.ring_frames as usize * device.settings.layout.channels();

@@ -1,2 +1,4 @@
 pub mod Channels
 pub mod Starting
+pub mod Racks
+pub mod Counting

@@ -1,12 +1,13 @@
 -- What a parent is to the rules.
-use Rattle.std.specs.Prelude.{◌≡◌, ℕ, ◌+◌, ◌^◌, ◌<◌, ◌≤◌, All, ℤ, List, [], length, IfOk, Option, Some, None, Result, Ok, Err, slice_set}
+use Rattle.std.specs.Prelude.{◌≡◌, ◌⊎◌, ℕ, ◌+◌, ◌^◌, ◌<◌, ◌≤◌, All, ℤ, List, [], ◌∷◌, length, take, drop, IfOk, Option, Some, None, Result, Ok, Err, slice_set}
 use Rattle.pcm_fixed.specs.Fixed.{fixed_items}
 use Rattle.pcm_format.specs.declared.settings.Settings.{Settings}
 use Rattle.pcm_format.specs.Frames.{Frame}
 use Rattle.pcm_oss.specs.declared.reply.Errno.{Errno}
 use Rattle.pcm_oss.specs.declared.reply.Errno.TheVariants.{Busy}
-use Rattle.pcm_feeder.specs.Racks.{HaveKinds}
-use Rattle.pcm_chain.specs.Chains.{boxes_in}
+use Rattle.pcm_feeder.specs.declared.rack.RackOf.{RackOf}
+use Rattle.pcm_feeder.specs.Racks.{HaveKinds, rack_marks}
+use Rattle.pcm_chain.specs.Chains.{boxes_in, marks_in}
 use Rattle.pcm_desk.specs.declared.device.Device.{Device}
 use Rattle.pcm_desk.specs.declared.limits.TheConstants.{MIX_FRAMES, RING_FRAMES}
 use Rattle.pcm_oss.specs.declared.event.TheConstants.{SLOTS}
@@ -20,7 +21,7 @@ use Rattle.pcm_feeder.specs.Filters.{Filters}
 use Rattle.pcm_feeder.specs.Kept.{Kept}
 use Rattle.pcm_desk.specs.PlayBooks.{play_begun}
 use Rattle.pcm_desk.specs.RecordBooks.{record_begun}
-use Rattle.pcm_desk.specs.MapBooks.{map_begun}
+use Rattle.pcm_desk.specs.MapBooks.{map_begun, taken_of}
 use Rattle.pcm_desk.specs.Desk.{least_free_map, least_free_play, least_free_record, mixed_by}
 use Rattle.pcm_play.specs.declared.channel.PlayChannelOf.{PlayChannelOf}
 use Rattle.pcm_play.specs.Channels.{IsPlayReady, IsPlayUnopened, PlayMoves}
@@ -34,6 +35,7 @@ use Rattle.pcm_bus.specs.Handovers.{IsPlannedBy}
 use Rattle.pcm_vchan.specs.Captures.{AllCapture}
 use Rattle.pcm_bus.specs.Slots.{Each, IsMapDue, IsPlayDue, MapAreOf, MapPlays, PlayAreOf, map_books_of, play_books_of}
 use Rattle.pcm_vchan.specs.Slots.{IsRecordDue, MapKeeps, Passes, RecordAreOf, record_books_of}
+use Rattle.pcm_vchan.specs.Racks.{map_marks, play_marks, record_marks}
 use Rattle.pcm_vchan.specs.Starts.{EachAt}
 
 -- the channels of a parent, by slot: those that play
@@ -57,6 +59,14 @@ record_books parent = record_books_of (record_channels parent)
 
 abbrev pub map_books : {B : Type 0} → ParentOf B → List MapBook
 map_books parent = map_books_of (map_channels parent)
+
+-- Each slot has the boxes of its own rack: those that play have the first ones, mapped ones those behind them, those that record the ones
+-- from the seventeenth on, and the bus has the one behind all of these.
+pub record HasRacks {B : Type 0} (mark : B → ℕ) (racks : List (RackOf B)) (parent : ParentOf B) : Type 0 where
+  pub playing : play_marks mark (play_channels parent) ≡ rack_marks mark (take parent.device.play_slots racks)
+  pub mapped : map_marks mark (map_channels parent) ≡ rack_marks mark (take parent.device.map_slots (drop parent.device.play_slots racks))
+  pub recording : record_marks mark (record_channels parent) ≡ rack_marks mark (take parent.device.record_slots (drop SLOTS racks))
+  pub bus : marks_in mark parent.bus.chain ∷ [] ≡ rack_marks mark (drop (SLOTS + SLOTS) racks)
 
 -- a device that a parent can be made for
 pub record HasLimits (device : Device) : Type 0 where
@@ -90,9 +100,13 @@ pub record AreClosable {B : Type 0} (kind : B → Kind) (parent : ParentOf B) : 
 abbrev pub TotalsFit : {B : Type 0} → ParentOf B → Type 0
 TotalsFit parent = All (λ channel. channel.book.done + channel.book.written < 2 ^ 64) (play_channels parent)
 
--- and the frames that each mapped one gave fit one
-abbrev pub GivenFit : {B : Type 0} → ParentOf B → Type 0
-GivenFit parent = All (λ channel. channel.book.given < 2 ^ 50) (map_channels parent)
+-- and so do those that each mapped one has taken
+abbrev pub TakenFit : {B : Type 0} → ParentOf B → Type 0
+TakenFit parent = All (λ channel. taken_of channel.book < 2 ^ 64) (map_channels parent)
+
+-- few enough frames were mixed so far, or are handed over by the end of an interrupt of n, that the counts of both have room
+abbrev pub HaveRoom : {B : Type 0} → ℕ → ParentOf B → Type 0
+HaveRoom n parent = (parent.mixed < 2 ^ 56) ⊎ (parent.handed + n < 2 ^ 56)
 
 -- how many frames an interrupt of n mixes
 abbrev pub mixed_in : {B : Type 0} → Filters → ℕ → ParentOf B → ℕ

@@ -13,7 +13,7 @@ use Rattle.pcm_play.specs.declared.channel.PlayChannelOf.{PlayChannelOf}
 use Rattle.pcm_oss.specs.declared.fragments.TheConstants.{RING_BYTES}
 use Rattle.pcm_play.specs.Channels.{PlayMoves, SettlesBook}
 use Rattle.pcm_record.specs.declared.channel.RecordChannelOf.{RecordChannelOf}
-use Rattle.pcm_record.specs.Channels.{IsRecordReady, RecordStands}
+use Rattle.pcm_record.specs.Channels.{CaptureFits, IsRecordReady, RecordStands}
 use Rattle.pcm_map.specs.declared.channel.MapChannelOf.{MapChannelOf}
 use Rattle.pcm_map.specs.Channels.{MapMoves, area_of}
 use Rattle.pcm_sound.specs.Areas.{silences, silent_area}
@@ -47,7 +47,7 @@ AllRecordStand kept filters channels bytes frames = (slot : ℕ) (other : Record
 pub record IsRecordDue {B : Type 0} (kind : B → Kind) (keeps : B → Kept) (filters : Filters) (device : Device) (frames : ℕ) (channel : RecordChannelOf B) : Type 0 where
   pub own : channel.path.device ≡ device
   pub ready : IsRecordReady kind keeps filters channel
-  pub captured : channel.book.captured + frames < 2 ^ 56
+  pub captured : CaptureFits filters frames channel
   pub kept : channel.book.kept + RING_BYTES < 2 ^ 64
 
 -- ---- mapped channels

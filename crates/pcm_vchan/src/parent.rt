@@ -1,12 +1,12 @@
 //! What all clients share: the slots of a device, its ring, and the buffers in which a block is mixed.
 
 ghost use Rattle.std.specs.Borrow.{sem};
-ghost use Rattle.std.specs.Prelude.{◌≡◌, ◌+◌, ◌*◌, ◌^◌, ◌<◌, ◌≤◌, [], length, vec_len, All, OnErr, IfOk, IfSome, take, position, slice_index_or};
+ghost use Rattle.std.specs.Prelude.{◌≡◌, ◌+◌, ◌*◌, ◌^◌, ◌<◌, ◌≤◌, ◌≤ℤ◌, pos, [], length, vec_len, All, OnErr, IfOk, IfSome, take, position, slice_index_or};
 ghost use Rattle.pcm_fixed.specs.Fixed.{fixed_len};
 ghost use Rattle.pcm_format.specs.Frames.{frame_bytes};
 ghost use Rattle.pcm_format.specs.Layouts.{channels_of};
 ghost use Rattle.pcm_feeder.specs.Limits.{IsRate};
-ghost use Rattle.pcm_feeder.specs.Racks.{AreRacks, list_of};
+ghost use Rattle.pcm_feeder.specs.Racks.{AreRacks, list_of, rack_marks};
 ghost use Rattle.pcm_desk.specs.declared.limits.TheConstants.{RING_FRAMES};
 ghost use Rattle.pcm_oss.specs.declared.event.TheConstants.{SLOTS};
 ghost use Rattle.pcm_mixdev.specs.Mixers.{full_mixer};
@@ -25,6 +25,7 @@ ghost use Rattle.pcm_record.specs.Channels.{IsRecordReady, IsRecordUnopened};
 ghost use Rattle.pcm_vchan.specs.Starts.{EachAt, MayRecord, MayStart, Records, Starts, is_in};
 ghost use Rattle.pcm_bus.specs.Blocks.{silent_ring};
 ghost use Rattle.pcm_bus.specs.Handovers.{HasMade, IsPlannedBy};
+ghost use Rattle.pcm_vchan.specs.Racks.{map_marks, play_marks, record_marks};
 
 use crate::recorder::capture_all;
 use crate::settler::settle_all;
@@ -72,7 +73,7 @@ pub struct ParentOf<B> {
 
 impl<B: Feeder> ParentOf<B> {
     ghost use Rattle.pcm_oss.specs.declared.event.Way.TheVariants.{Play, Record, Map};
-    ghost use Rattle.pcm_vchan.specs.Parents.{map_channels, play_books, play_channels, record_books, record_channels, mixed_in, AreDue, AreMapUnopened, ArePlayUnopened, AreRecordUnopened, AreServed, EachCaptures, EachMapPlays, EachPasses, EachPlayMoves, EachRecordMoves, HasBus, HasLimits, KeepsOutput, OpensMap, OpensPlay, OpensRecord, BusTurns, TotalsFit, here_of};
+    ghost use Rattle.pcm_vchan.specs.Parents.{map_channels, play_books, play_channels, record_books, record_channels, mixed_in, AreDue, AreMapUnopened, ArePlayUnopened, AreRecordUnopened, AreServed, EachCaptures, EachMapPlays, EachPasses, EachPlayMoves, EachRecordMoves, HasBus, HasLimits, HaveRoom, KeepsOutput, OpensMap, OpensPlay, OpensRecord, BusTurns, HasRacks, TotalsFit, here_of};
     ghost use Rattle.pcm_vchan.specs.Lending.{LendsChannel, LendsMap, LendsMixer, LendsRecorder};
 
     /// A device that nobody has opened, whose ring is full of silence. Each slot gets a rack: those that play the first ones, mapped ones
@@ -98,6 +99,7 @@ impl<B: Feeder> ParentOf<B> {
         ensures ring { IfOk result (λ made. made.ring.bytes ≡ silent_ring (seen tables.now device)) }
         ensures handed { IfOk result (λ made. made.handed ≡ 0) }
         ensures mixed { IfOk result (λ made. made.mixed ≡ 0) }
+        ensures racks { IfOk result (HasRacks B.mark (list_of racks)) }
     {
         let mut playing = racks.into_list();
         let mut recording = playing.split_off(SLOTS)?;
@@ -289,8 +291,7 @@ impl<B: Feeder> ParentOf<B> {
         requires captured { length captured.now ≡ n * channels_of self.old.device.settings.layout }
         requires out { length out.old ≡ n * frame_bytes self.old.device.settings }
         requires due { AreDue B.kind B.kept tables.now n self.old }
-        requires handed { self.old.handed + n < 2 ^ 56 }
-        requires mixed { self.old.mixed + mixed_in tables.now n self.old < 2 ^ 64 }
+        requires counts { HaveRoom n self.old }
         ensures device { self.new.device ≡ self.old.device }
         ensures mixer { self.new.mixer ≡ self.old.mixer }
         ensures own { PlayAreOf self.new.device (play_channels self.new) }
@@ -329,8 +330,9 @@ impl<B: Feeder> ParentOf<B> {
 
     // So many frames were handed over, and so many mixed for them: draining runs end whose last frame has left the ring.
     fn pass(&mut self, n: usize, mixed: usize)
-        requires handed { self.old.handed + n < 2 ^ 56 }
+        requires handed { self.old.handed + n < 2 ^ 64 }
         requires mixed { self.old.mixed + mixed < 2 ^ 64 }
+        requires passed { passed_for (unfiltered self.old.device) (self.old.handed + n) ≤ℤ pos (2 ^ 62) }
         requires due { All (MayEndRun B.kind) (play_channels self.old) }
         ensures device { self.new.device ≡ self.old.device }
         ensures slots { length (play_channels self.new) ≡ length (play_channels self.old) }
@@ -399,6 +401,7 @@ fn free_channels<B: Feeder>(
     requires enough { device.play_slots ≤ vec_len racks }
     requires kinds { AreRacks B.kind racks.items }
     ensures slots { IfOk result (λ made. length made.items ≡ device.play_slots) }
+    ensures boxes { IfOk result (λ made. play_marks B.mark made.items ≡ rack_marks B.mark (take device.play_slots racks.items)) }
     ensures channels { IfOk result (λ made. All (IsPlayUnopened B.kind B.kept tables.now device) made.items) }
 {
     let mut racks = racks;
@@ -421,6 +424,7 @@ fn free_recorders<B: Feeder>(
     requires enough { device.record_slots ≤ vec_len racks }
     requires kinds { AreRacks B.kind racks.items }
     ensures slots { IfOk result (λ made. length made.items ≡ device.record_slots) }
+    ensures boxes { IfOk result (λ made. record_marks B.mark made.items ≡ rack_marks B.mark (take device.record_slots racks.items)) }
     ensures channels { IfOk result (λ made. All (IsRecordUnopened B.kind B.kept tables.now device) made.items) }
 {
     let mut racks = racks;
@@ -443,6 +447,7 @@ fn free_maps<B: Feeder>(
     requires enough { device.map_slots ≤ vec_len racks }
     requires kinds { AreRacks B.kind racks.items }
     ensures slots { IfOk result (λ made. length made.items ≡ device.map_slots) }
+    ensures boxes { IfOk result (λ made. map_marks B.mark made.items ≡ rack_marks B.mark (take device.map_slots racks.items)) }
     ensures channels { IfOk result (λ made. All (IsMapUnopened B.kind B.kept tables.now device) made.items) }
 {
     let mut racks = racks;

@@ -1,4 +1,4 @@
-use Rattle.std.proofs.Common.{rules, ◌+◌, ◌<◌, [], get_or, refl, sym, ap, ◌∙◌, subst, arith}
+use Rattle.std.proofs.Common.{rules, ◌+◌, ◌^◌, ◌<◌, [], get_or, refl, sym, ap, ◌∙◌, subst, arith}
 use Rattle.std.proofs.lemmas.Result.{on_err_weaker}
 use Rattle.pcm_fixed.proofs.Items.{item-kept, items-count}
 use Rattle.pcm_feeder.specs.Racks.{HaveKinds}
@@ -6,6 +6,7 @@ use Rattle.pcm_chain.specs.Chains.{boxes_in}
 use Rattle.pcm_oss.specs.declared.event.Way.TheVariants.{Play, Record, Map}
 use Rattle.pcm_desk.specs.declared.device.Device.{Device}
 use Rattle.pcm_desk.specs.Device.{seen}
+use Rattle.pcm_desk.specs.MapBooks.{taken_of}
 use Rattle.pcm_desk.specs.MapRequests.{map_ask}
 use Rattle.pcm_desk.specs.RecordRequests.{record_ask}
 use Rattle.pcm_desk.specs.declared.here.Here.{Here}
@@ -190,7 +191,7 @@ ioctl-requires-in-Map-clause-count g c =
     let held = c.in_ok-held.held in
     let e = holding-is (held_by (desk_with parent c.args.descriptors.now) c.args.fd) c.in_ok-held.held (sym c.holding.ensures ∙ c.in_ok-held.was) in
     let there = map-there parent c.args.descriptors.now c.args.fd held c.requires.apart e c.in-Map.is in
-    subst (λ (channel : MapChannelOf _). channel.book.given < 1125899906842624) (sym c.mapped.ensures.value) (c.requires.able.given held.slot c.mapped.result.now there)
+    subst (λ (channel : MapChannelOf _). taken_of channel.book < 2 ^ 64) (sym c.mapped.ensures.value) (c.requires.able.taken held.slot c.mapped.result.now there)
 
 pub returns-in-Map : goal.returns-in-Map
 returns-in-Map g c =

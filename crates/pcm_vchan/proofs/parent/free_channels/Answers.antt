@@ -1,10 +1,13 @@
-use Rattle.std.proofs.Common.{◌≡◌, ◌+◌, ◌++◌, ◌∷◌, [], List, length, ap, ◌∙◌, arith, length-take}
+use Rattle.std.proofs.Common.{◌≡◌, ◌+◌, ◌++◌, ◌∷◌, [], List, length, refl, ap, ◌∙◌, arith, length-take}
 use Rattle.std.proofs.lemmas.List.{length_push}
 use Rattle.std.proofs.lemmas.List.Elements.{All-nil, All-push, All-same, All-take, All-head, All-tail}
 use Rattle.pcm_feeder.specs.declared.rack.RackOf.{RackOf}
-use Rattle.pcm_feeder.specs.Racks.{IsRack}
+use Rattle.pcm_feeder.specs.Racks.{IsRack, boxes_of, marks_of}
+use Rattle.pcm_chain.specs.Chains.{marks_in}
 use Rattle.pcm_play.specs.declared.channel.PlayChannelOf.{PlayChannelOf}
 use Rattle.pcm_play.specs.Channels.{IsPlayUnopened}
+use Rattle.pcm_vchan.specs.Racks.{play_marks}
+use Rattle.pcm_vchan.proofs.Racks.{none-left, one-more}
 use Rattle.pcm_vchan.proofs.parent.free_channels.Goals as goal
 
 pub loop-rack-init : goal.loop-rack-init
@@ -15,6 +18,7 @@ loop-rack-init g c =
       count = rw (none, rest) (omega (arith, length-take c.args.device.play_slots c.args.racks.items, c.args.racks.ok.0, c.requires.enough));
       play_unopened = rw none (All-nil (IsPlayUnopened g.B.Feeder.kind g.B.Feeder.kept c.args.tables.now c.args.device));
       kinds = rw rest (All-take (IsRack g.B.Feeder.kind) c.args.device.play_slots c.args.racks.items c.requires.kinds);
+      boxes = rw (none, rest) refl;
     }
 
 pub new-requires-clause-kinds : goal.new-requires-clause-kinds
@@ -36,4 +40,11 @@ loop-rack-preserved g c =
       count = omega arith;
       play_unopened = All-same P c.push.new.self.items (before ++ channel ∷ []) items (All-push P before channel c.loop-rack.invariant.play_unopened made);
       kinds = All-tail (IsRack g.B.Feeder.kind) c.in-Some.rack c.next.new.self.rest.items (rw steps at c.loop-rack.invariant.kinds);
+      boxes = one-more (λ (made : PlayChannelOf _). marks_in g.B.Feeder.mark made.path.chain) (λ (rack : RackOf _). marks_of g.B.Feeder.mark (boxes_of rack)) before c.push.new.self.items
+          c.loop-rack.rack-iterator.rest.items c.next.new.self.rest.items channel c.in-Some.rack _ c.loop-rack.invariant.boxes items steps c.in_ok-new.ensures.boxes;
     }
+
+pub returns-clause-boxes : goal.returns-clause-boxes
+returns-clause-boxes g c =
+    none-left (λ (rack : RackOf _). marks_of g.B.Feeder.mark (boxes_of rack)) (play_marks g.B.Feeder.mark c.loop-rack.channels.items) _ c.loop-rack.rack-iterator.rest.items
+    (omega (arith, c.in-None.ensures.steps.0, c.loop-rack.rack-iterator.rest.ok.0)) c.loop-rack.invariant.boxes

@@ -1,4 +1,4 @@
-use Rattle.std.proofs.Common.{rules, ℕ, ℤ, ◌+◌, ◌*◌, List, [], get_or, length, length-take, take, sym, ap, ◌∙◌, subst, arith}
+use Rattle.std.proofs.Common.{rules, inl, ℕ, ℤ, ◌+◌, ◌*◌, List, [], get_or, length, length-take, take, sym, ap, ◌∙◌, subst, arith}
 use Rattle.pcm_fixed.specs.declared.fixed.Fixed.{Fixed}
 use Rattle.pcm_fixed.specs.Fixed.{fixed_items}
 use Rattle.pcm_oss.specs.declared.event.Event.{Event}
@@ -17,7 +17,9 @@ use Rattle.pcm_desk.proofs.Apart.{apart-after}
 use Rattle.pcm_play.specs.Channels.{PlayMoves}
 use Rattle.pcm_play.proofs.Moving.{moves-nothing}
 use Rattle.pcm_record.specs.Channels.{RecordMoves}
+use Rattle.pcm_record.proofs.Capturing.{capture-fits}
 use Rattle.pcm_record.proofs.Moving as recorders
+use Rattle.pcm_map.proofs.Books.{counts-fit}
 use Rattle.pcm_bus.specs.Slots.{Each, MapAreOf, PlayAreOf}
 use Rattle.pcm_vchan.specs.Slots.{MapKeeps, RecordAreOf}
 use Rattle.pcm_vchan.specs.Starts.{EachAt}
@@ -26,7 +28,7 @@ use Rattle.pcm_vchan.specs.declared.parent.ParentOf.{ParentOf}
 use Rattle.pcm_engine.specs.Engines.{samples_at_hand, device_of, desk_of, samples_most}
 use Rattle.pcm_engine.specs.Steps.{BusMoves, ChannelsMove, MapsMove, RecordersMove, bytes_answered}
 use Rattle.pcm_vchan.proofs.Channels.{map_books_of-passed, play_books_of-passed, record_books_of-captured}
-use Rattle.pcm_vchan.specs.Parents.{HasBus, map_channels, play_channels, record_channels, untouched}
+use Rattle.pcm_vchan.specs.Parents.{HasBus, map_channels, mixed_in, play_channels, record_channels, untouched}
 use Rattle.pcm_engine.proofs.Desks.{count-stays, count-within, desk_with-mixed}
 use Rattle.pcm_vchan.proofs.Channels.{map-keeps-nothing}
 use Rattle.pcm_engine.proofs.Buses.{bus-same, bus-stays, mixes-few}
@@ -163,12 +165,18 @@ interrupt-requires-clause-due g c =
           record {
             own = old.recorders_own slot other there;
             ready = c.requires.ready.recording slot other there;
-            captured = omega (arith, captured, within, fits.1, c.requires.count);
+            captured = capture-fits old.tables c.in-Intr.frames (get_or (record_channels old.parent) slot other) (c.requires.ready.recording slot other there).planned
+                (omega (arith, captured, within, fits.1, c.requires.count));
             kept = omega (arith, kept, c.requires.count);
           };
       mapped = λ slot other there.
           let given = old.maps_given slot other there in
-          record { own = old.maps_own slot other there; ready = c.requires.ready.mapped slot other there; given = omega (arith, given, few, c.requires.count) };
+          record {
+            own = old.maps_own slot other there;
+            ready = c.requires.ready.mapped slot other there;
+            counted = counts-fit old.tables (mixed_in old.tables c.in-Intr.frames old.parent) (get_or (map_channels old.parent) slot other) (c.requires.ready.mapped slot other there).planned
+                (omega (arith, given, few, c.requires.count));
+          };
     }
 
 -- every channel is ready for a call
@@ -500,12 +508,8 @@ returns-in-Intr-clause-turns g c =
     subst (λ (event : Event). BusMoves g.B.Feeder.kept (device_of old) old.parent.handed old.parent.mixer event (play_channels old.parent) (map_channels old.parent) old.parent.bus.chain new.bus.chain old.parent.ring.bytes new.ring.bytes) (sym c.in-Intr.is)
     c.interrupt.ensures.turns
 
-pub interrupt-requires-clause-mixed : goal.interrupt-requires-clause-mixed
-interrupt-requires-clause-mixed g c =
-    let old = c.args.self.now in
-    let fits = rw c.in-Intr.is at c.requires.within in
-    let few = mixes-few old.tables c.in-Intr.frames old.parent c.requires.ready.bus.planned.limits fits.1 in
-    omega (arith, few, old.mixed_within, c.requires.count)
+pub interrupt-requires-clause-counts : goal.interrupt-requires-clause-counts
+interrupt-requires-clause-counts g c = inl (let within = c.args.self.now.mixed_within in omega (arith, within, c.requires.count))
 
 pub returns-in-Open-clause-channels : goal.returns-in-Open-clause-channels
 returns-in-Open-clause-channels g c =

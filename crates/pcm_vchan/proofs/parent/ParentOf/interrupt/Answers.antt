@@ -1,4 +1,4 @@
-use Rattle.std.proofs.Common.{refl, ◌≡◌, ◌+◌, ◌++◌, ℕ, List, length, take, drop, All, sym, ap, ◌∙◌, subst, arith}
+use Rattle.std.proofs.Common.{refl, ◌≡◌, ◌<◌, ◌≤◌, ◌+◌, ◌++◌, ℕ, List, length, take, drop, All, sym, ap, ◌∙◌, subst, arith}
 use Rattle.std.proofs.lemmas.List.{take_at}
 use Rattle.pcm_fixed.specs.Fixed.{fixed_len}
 use Rattle.pcm_feeder.specs.declared.kind.Kind.{Kind}
@@ -6,7 +6,8 @@ use Rattle.pcm_feeder.specs.Filters.{Filters}
 use Rattle.pcm_feeder.specs.Kept.{Kept}
 use Rattle.pcm_desk.specs.declared.device.Device.{Device}
 use Rattle.pcm_desk.specs.declared.here.Here.{Here}
-use Rattle.pcm_desk.specs.Device.{passed_for, seen, unfiltered}
+use Rattle.pcm_desk.specs.declared.limits.TheConstants.{MIX_FRAMES}
+use Rattle.pcm_desk.specs.Device.{mix_frames, passed_for, seen, unfiltered}
 use Rattle.pcm_desk.specs.Desk.{mixed_by}
 use Rattle.pcm_desk.proofs.Ratios.{mixed-behind}
 use Rattle.pcm_play.specs.declared.channel.PlayChannelOf.{PlayChannelOf}
@@ -17,8 +18,10 @@ use Rattle.pcm_bus.specs.Handovers.{IsPlannedBy}
 use Rattle.pcm_vchan.specs.Captures.{Captures}
 use Rattle.pcm_bus.specs.Slots.{AreMixed, AreTaken, Each, IsMapDue, IsPlayDue, PlayAreOf}
 use Rattle.pcm_vchan.specs.Slots.{IsRecordDue, Settles}
-use Rattle.pcm_vchan.specs.Parents.{here_of, map_channels, mixed_in, play_channels, record_channels}
+use Rattle.pcm_vchan.specs.declared.parent.ParentOf.{ParentOf}
+use Rattle.pcm_vchan.specs.Parents.{here_of, map_channels, mixed_in, play_channels, record_channels, AreDue, HaveRoom}
 use Rattle.pcm_vchan.proofs.Channels.{ArePassed, all-passed, may-settle}
+use Rattle.pcm_vchan.proofs.Counting.{AreCounted, counted}
 use Rattle.pcm_vchan.proofs.parent.ParentOf.interrupt.Goals as goal
 
 -- what stands in a list whose front was written over by as many elements
@@ -40,18 +43,40 @@ turn-mixed-requires-clause-maps_due g c =
 pub capture_all-requires-clause-due : goal.capture_all-requires-clause-due
 capture_all-requires-clause-due g c = subst (All (IsRecordDue g.B.Feeder.kind g.B.Feeder.kept c.args.tables.now c.args.self.now.device c.args.n)) (sym c.deref_mut-3.ensures.value) c.requires.due.recording
 
+-- the counts have room
+roomy : {B : Type 0} (kind : B → Kind) (kept : B → Kept) (filters : Filters) (n : ℕ) (old : ParentOf B) → 0 < n → n ≤ old.device.ring_frames → AreDue kind kept filters n old → HaveRoom n old
+    → AreCounted (seen filters old.device) old.mixed old.handed n
+roomy kind kept filters n old some within due room =
+    let few = subst (λ (device : Device). mix_frames (unfiltered device) ≤ MIX_FRAMES) old.bus_of old.bus.mix_within in
+    let ring = old.within in
+    counted (seen filters old.device) old.mixed old.handed n due.bus.planned.limits some within (omega (arith, few)) (omega (arith, ring)) due.bus.level room
+
+pub turn-mixed-requires-clause-handed : goal.turn-mixed-requires-clause-handed
+turn-mixed-requires-clause-handed g c =
+    (roomy g.B.Feeder.kind g.B.Feeder.kept c.args.tables.now c.args.n c.args.self.now c.requires.some c.requires.within c.requires.due c.requires.counts).handed_fit
+
+pub pass-requires-clause-handed : goal.pass-requires-clause-handed
+pass-requires-clause-handed g c =
+    (roomy g.B.Feeder.kind g.B.Feeder.kept c.args.tables.now c.args.n c.args.self.now c.requires.some c.requires.within c.requires.due c.requires.counts).handed_fit
+
+pub pass-requires-clause-passed : goal.pass-requires-clause-passed
+pass-requires-clause-passed g c =
+    (roomy g.B.Feeder.kind g.B.Feeder.kept c.args.tables.now c.args.n c.args.self.now c.requires.some c.requires.within c.requires.due c.requires.counts).passed_near
+
 pub turn-mixed-requires-clause-count : goal.turn-mixed-requires-clause-count
 turn-mixed-requires-clause-count g c =
     let old = c.args.self.now in
+    let room = roomy g.B.Feeder.kind g.B.Feeder.kept c.args.tables.now c.args.n old c.requires.some c.requires.within c.requires.due c.requires.counts in
     let mixed : c.here-before.result.mixed ≡ old.mixed = ap (λ (here : Here). here.mixed) c.here-before.ensures in
     let count : mixed_by (seen c.args.tables.now old.bus.device) old.handed c.args.n ≡ mixed_in c.args.tables.now c.args.n old = ap (λ (device : Device). mixed_by (seen c.args.tables.now device) old.handed c.args.n) old.bus_of in
-    omega (arith, mixed, count, c.requires.mixed)
+    omega (arith, mixed, count, room.mixed_fit)
 
 pub pass-requires-clause-mixed : goal.pass-requires-clause-mixed
 pass-requires-clause-mixed g c =
     let old = c.args.self.now in
+    let room = roomy g.B.Feeder.kind g.B.Feeder.kept c.args.tables.now c.args.n old c.requires.some c.requires.within c.requires.due c.requires.counts in
     let count = c.turn-mixed.ensures.count ∙ ap (λ (device : Device). mixed_by (seen c.args.tables.now device) old.handed c.args.n) old.bus_of in
-    omega (arith, count, c.requires.mixed)
+    omega (arith, count, room.mixed_fit)
 
 -- what the bus leaves of the channels, whatever the names of its device and counts
 are-mixed : {B : Type 0} (kind : B → Kind) (kept : B → Kept) (filters : Filters) (mixer device : Device) (here : Here) (mixed result frames : ℕ) (lent old new : List (PlayChannelOf B)) → mixer ≡ device → here.mixed ≡ mixed → result ≡ frames → lent ≡ old

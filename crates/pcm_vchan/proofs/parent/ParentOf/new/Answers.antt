@@ -1,12 +1,17 @@
-use Rattle.std.proofs.Common.{List, arith, [], ◌∷◌, ◌++◌, w64, sym, ap, ◌∙◌, subst}
-use Rattle.std.proofs.lemmas.Int.{to_z-of_z}
+use Rattle.std.proofs.Common.{◌≡◌, ℕ, List, arith, [], ◌∷◌, ◌++◌, length, take, drop, w64, sym, ap, ◌∙◌, subst}
+use Rattle.std.proofs.lemmas.Int.{ints, to_z-of_z}
 use Rattle.std.specs.Prelude.{All}
 use Rattle.std.specs.Option.{option_to_list}
+use Rattle.std.proofs.lemmas.List.{drop-drop, length-append, length-drop, take-append-le, take-take}
 use Rattle.std.proofs.lemmas.List.Elements.{All-cons, All-head, All-nil, All-tail, All-take, All-drop}
-use Rattle.pcm_feeder.specs.Racks.{AreRacks, IsRack}
+use Rattle.pcm_feeder.specs.Racks.{AreRacks, IsRack, list_of, rack_marks}
+use Rattle.pcm_desk.specs.Device.{unfiltered}
+use Rattle.pcm_desk.proofs.Passing.{passed-none}
 use Rattle.pcm_play.specs.Channels.{IsPlayUnopened}
 use Rattle.pcm_record.specs.Channels.{IsRecordUnopened}
 use Rattle.pcm_map.specs.Channels.{IsMapUnopened}
+use Rattle.pcm_vchan.specs.Racks.{map_marks, play_marks, record_marks}
+use Rattle.pcm_vchan.proofs.Racks.{drop_length, part-of-first}
 use Rattle.pcm_vchan.proofs.parent.ParentOf.new.Goals as goal
 
 -- what holds of all elements holds of those before some, and of those behind
@@ -76,3 +81,35 @@ returns-clause-recording g c =
 pub returns-clause-mapped : goal.returns-clause-mapped
 returns-clause-mapped g c =
     subst (All (IsMapUnopened g.B.Feeder.kind g.B.Feeder.kept c.args.tables.now c.args.device)) (sym c.new-4.ensures.items) c.in_ok-maps.ensures.channels
+
+pub returns-clause-racks : goal.returns-clause-racks
+returns-clause-racks g c =
+    let mark = g.B.Feeder.mark in
+    let device = c.args.device in
+    let p = device.play_slots in
+    let all = c.into_list-playing.result.items in
+    let racks = list_of c.args.racks in
+    let whole : all ≡ racks = c.into_list-playing.ensures.same in
+    let first : c.split_off.new.self.items ≡ take 16 racks = c.in_ok-recording.ensures.items ∙ ap (take 16) whole in
+    let tail : c.in_ok-recording.recording.items ≡ drop 16 racks = c.in_ok-recording.ensures.tail ∙ ap (drop 16) whole in
+    let front = c.pop.new.self.items in
+    let parted : drop 16 racks ≡ front ++ c.unwrap.result ∷ [] =
+        sym tail ∙ c.pop.ensures.items ∙ ap (λ last. front ++ option_to_list last) c.unwrap.ensures in
+    let sixteen : length front ≡ 16 = omega (arith, ap length parted, length-append front (c.unwrap.result ∷ []), length-drop 16 racks, ap length whole, c.into_list-playing.ensures.count) in
+    record {
+      playing = ap (play_marks mark) c.new-2.ensures.items ∙ c.in_ok-channels.ensures.boxes
+          ∙ ap (λ list. rack_marks mark (take p list)) (c.in_ok-mapped.ensures.items ∙ ap (take p) first)
+          ∙ ap (rack_marks mark) (take-take p p (take 16 racks) (omega arith) ∙ take-take p 16 racks (omega (arith, c.requires.limits.slots)));
+      mapped = ap (map_marks mark) c.new-4.ensures.items ∙ c.in_ok-maps.ensures.boxes
+          ∙ ap (λ list. rack_marks mark (take device.map_slots list)) (c.in_ok-mapped.ensures.tail ∙ ap (drop p) first)
+          ∙ ap (rack_marks mark) (part-of-first p device.map_slots 16 racks c.requires.limits.slots);
+      recording = ap (record_marks mark) c.new-3.ensures.items ∙ c.in_ok-recorders.ensures.boxes
+          ∙ ap (rack_marks mark) (sym (take-append-le device.record_slots front (c.unwrap.result ∷ []) (omega (arith, sixteen, c.requires.limits.recorders))) ∙ ap (take device.record_slots) (sym parted));
+      bus = ap (λ marks. marks ∷ []) c.in_ok-bus.ensures.boxes
+          ∙ ap (rack_marks mark) (sym (drop_length front (c.unwrap.result ∷ []) 16 sixteen) ∙ ap (drop 16) (sym parted) ∙ drop-drop 16 16 racks);
+    }
+
+pub passed-requires-clause-count : goal.passed-requires-clause-count
+passed-requires-clause-count g c =
+    let none = passed-none (unfiltered c.args.device) c.requires.limits.rates.mix_rate in
+    omega (arith, ints, none)
