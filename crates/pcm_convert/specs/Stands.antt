@@ -2,8 +2,9 @@
 use Rattle.std.specs.Prelude.{◌≡◌, ◌<◌, ◌≤◌, ℕ, ◌+◌, ◌*◌, List, ◌++◌, length, take, drop}
 use Rattle.pcm_format.specs.declared.settings.Settings.{Settings}
 use Rattle.pcm_format.specs.Frames.{frame_bytes, frames, whole_frames}
+use Rattle.pcm_feeder.specs.declared.rack.RackOf.{RackOf}
 use Rattle.pcm_feeder.specs.Kept.{Kept}
-use Rattle.pcm_chain.specs.Chains.{ChainStands}
+use Rattle.pcm_chain.specs.Chains.{ChainStands, HasRack}
 use Rattle.pcm_convert.specs.Conversions.{block_after, block_count}
 use Rattle.pcm_feeder.specs.Filters.{no_filters}
 use Rattle.pcm_convert.specs.declared.conversion.ConversionOf.{ConversionOf}
@@ -15,6 +16,10 @@ source_in conversion = conversion.source
 -- the settings of the bytes that come out
 abbrev pub target_in : {B : Type 0} → ConversionOf B → Settings
 target_in conversion = conversion.target
+
+-- its chain has the boxes of a rack
+abbrev pub HoldsRack : {B : Type 0} → (B → ℕ) → RackOf B → ConversionOf B → Type 0
+HoldsRack mark rack conversion = HasRack mark rack conversion.chain
 
 -- A conversion has given so many frames of a body: its chain has eaten the first whole frames, and the bytes behind them, as
 -- far as they were read, wait in the ring. Silence is eaten only behind the last frame.

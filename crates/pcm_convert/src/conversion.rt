@@ -48,7 +48,7 @@ impl<B: Feeder> ConversionOf<B> {
     ghost use Rattle.std.specs.Prelude.{◌≤◌, ℕ, List, length, IfOk};
     ghost use Rattle.pcm_feeder.specs.Racks.{IsRack};
     ghost use Rattle.pcm_convert.specs.Conversions.{converted_frames};
-    ghost use Rattle.pcm_convert.specs.Stands.{source_in, target_in, ConversionStands, IsBlockSize, IsUnderWay, MovesOn, PutsBlock};
+    ghost use Rattle.pcm_convert.specs.Stands.{source_in, target_in, ConversionStands, HoldsRack, IsBlockSize, IsUnderWay, MovesOn, PutsBlock};
 
     /// A conversion from settings to settings that has given nothing of a body. All its memory is taken here.
     pub fn new(
@@ -62,6 +62,7 @@ impl<B: Feeder> ConversionOf<B> {
         requires target { IsRate target.rate }
         ensures source { IfOk result (λ made. source_in made ≡ source) }
         ensures target { IfOk result (λ made. target_in made ≡ target) }
+        ensures boxes { IfOk result (HoldsRack B.mark rack) }
         ensures stands { IfOk result (λ made. (body : List ℕ) → ConversionStands B.kept made body 0) }
     {
         let tables = Tables::none(alloc);

@@ -1,5 +1,6 @@
 -- What a call that came to its end leaves of what its words ask for.
 use Rattle.std.proofs.Common.{◌≡◌, ℕ, List, Option, Some, Ok, sym, ap, ◌∙◌, subst}
+use Rattle.pcm_feeder.specs.declared.kind.Kind.{Kind}
 use Rattle.pcm_feeder.specs.Kept.{Kept}
 use Rattle.pcm_engine.specs.declared.engine.EngineOf.{EngineOf}
 use Rattle.pcm_verdict.specs.Commands.{Command, command_of, SoakRun}
@@ -25,25 +26,25 @@ spells-same : (words : List (List ℕ)) (spells : Spells words) (command : Comma
 spells-same words spells command asked = let e : Some spells.command ≡ Some command = sym spells.is ∙ asked in cc
 
 -- where the files tell, the verdict says all
-told-as : {B : Type 0} (kept : B → Kept) (call : Call) (engine : Option (EngineOf B)) (does : DoesWords kept call engine) (accepted : Accepted)
+told-as : {B : Type 0} (kind : B → Kind) (kept : B → Kept) (call : Call) (engine : Option (EngineOf B)) (does : DoesWords kind kept call engine) (accepted : Accepted)
     → IsAccepted call.words call.before.files accepted → does.does.accepted ≡ accepted
-told-as kept call engine does accepted is =
+told-as kind kept call engine does accepted is =
     let same : Ok does.does.accepted ≡ Ok accepted = sym (verdict-of call.words does.spells does.does.accepted call.before.files does.does.came is.tells) ∙ is.accepts in
     cc
 
 -- what was asked for is what was done
-done-as : {B : Type 0} (kept : B → Kept) (call : Call) (engine : Option (EngineOf B)) (does : DoesWords kept call engine) (accepted : Accepted)
+done-as : {B : Type 0} (kind : B → Kind) (kept : B → Kept) (call : Call) (engine : Option (EngineOf B)) (does : DoesWords kind kept call engine) (accepted : Accepted)
     → AsksFor call accepted → does.does.accepted ≡ accepted
-done-as kept call engine does (Runs name inputs) asked = told-as kept call engine does (Runs name inputs) asked
-done-as kept call engine does (Checks inputs) asked = told-as kept call engine does (Checks inputs) asked
-done-as kept call engine does (Converts name conversion) asked = told-as kept call engine does (Converts name conversion) asked
-done-as kept call engine does (Soaks n) asked = soaks-of n does.does.accepted
+done-as kind kept call engine does (Runs name inputs) asked = told-as kind kept call engine does (Runs name inputs) asked
+done-as kind kept call engine does (Checks inputs) asked = told-as kind kept call engine does (Checks inputs) asked
+done-as kind kept call engine does (Converts name conversion) asked = told-as kind kept call engine does (Converts name conversion) asked
+done-as kind kept call engine does (Soaks n) asked = soaks-of n does.does.accepted
     (subst (λ (command : Command). IsOf command does.does.accepted) (spells-same call.words does.spells (SoakRun n) asked) does.does.is_of)
 
-pub leaves-all : {B : Type 0} (kept : B → Kept) (call : Call) (engine : Option (EngineOf B)) → DoesWords kept call engine → (accepted : Accepted) → LeavesAll call accepted
-leaves-all kept call engine does accepted asked =
-    subst (λ (a : Accepted). WritesAll (output_of a) call.before call.after) (done-as kept call engine does accepted asked) does.does.writes
+pub leaves-all : {B : Type 0} (kind : B → Kind) (kept : B → Kept) (call : Call) (engine : Option (EngineOf B)) → DoesWords kind kept call engine → (accepted : Accepted) → LeavesAll call accepted
+leaves-all kind kept call engine does accepted asked =
+    subst (λ (a : Accepted). WritesAll (output_of a) call.before call.after) (done-as kind kept call engine does accepted asked) does.does.writes
 
-pub ran-as : {B : Type 0} (kept : B → Kept) (call : Call) (engine : Option (EngineOf B)) → DoesWords kept call engine → (accepted : Accepted) → AsksFor call accepted → HasRun kept engine accepted
-ran-as kept call engine does accepted asked =
-    subst (λ (a : Accepted). HasRun kept engine a) (done-as kept call engine does accepted asked) does.does.ran
+pub ran-as : {B : Type 0} (kind : B → Kind) (kept : B → Kept) (call : Call) (engine : Option (EngineOf B)) → DoesWords kind kept call engine → (accepted : Accepted) → AsksFor call accepted → HasRun kind kept engine accepted
+ran-as kind kept call engine does accepted asked =
+    subst (λ (a : Accepted). HasRun kind kept engine a) (done-as kind kept call engine does accepted asked) does.does.ran

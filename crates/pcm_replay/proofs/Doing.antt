@@ -3,6 +3,7 @@ use Rattle.std.proofs.Common.{◌≡◌, ℕ, List, Option, None, Some, Ok, IsTr
 use Rattle.pcm_format.specs.declared.settings.Settings.{Settings}
 use Rattle.pcm_outside.specs.Files.{FilesSeen, OnlyReads}
 use Rattle.pcm_outside.specs.Sink.{SinkSeen, FailsToPut, Puts}
+use Rattle.pcm_feeder.specs.declared.kind.Kind.{Kind}
 use Rattle.pcm_feeder.specs.Kept.{Kept}
 use Rattle.pcm_engine.specs.declared.engine.EngineOf.{EngineOf}
 use Rattle.pcm_verdict.specs.Commands.{Command, command_of, RunScript, CheckScript, ConvertWave, SoakRun}
@@ -86,9 +87,9 @@ cuts-command command accepted NoMemory before between after is_of came only same
 }
 
 -- it was done to its end
-pub does-command : {B : Type 0} (kept : B → Kept) (command : Command) (accepted : Accepted) (engine : Option (EngineOf B)) (before between after : Outside) → IsOf command accepted
-    → Comes (command_part command) (Ok accepted) before.files → OnlyHasRead before between → HasRun kept engine accepted → WritesAll (output_of accepted) between after → DoesCommand kept command before after engine
-does-command kept command accepted engine before between after is_of came only ran writes = record {
+pub does-command : {B : Type 0} (kind : B → Kind) (kept : B → Kept) (command : Command) (accepted : Accepted) (engine : Option (EngineOf B)) (before between after : Outside) → IsOf command accepted
+    → Comes (command_part command) (Ok accepted) before.files → OnlyHasRead before between → HasRun kind kept engine accepted → WritesAll (output_of accepted) between after → DoesCommand kind kept command before after engine
+does-command kind kept command accepted engine before between after is_of came only ran writes = record {
   accepted = accepted;
   is_of = is_of;
   came = came;

@@ -3,6 +3,7 @@ pub mod Accepted
 pub mod Plain
 pub mod Quiet
 pub mod Statuses
+pub mod Unfailing
 pub mod Cuts
 pub mod Plays
 pub mod Turns

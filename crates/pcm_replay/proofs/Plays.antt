@@ -69,9 +69,9 @@ played kind kept old new pool events at other piece reply there s h =
       engine = record {
         device_is = refl;
         stands = subst (λ (list : List Event). Stands kept new.engine pool list) (sym more) (s.stands h.engine.stands);
+        ready = s.ready;
         steps = s.steps ∙ ap (λ n. n + 1) h.engine.steps ∙ length-push (take at events) event ∙ ap (λ (list : List Event). length list) (sym more);
       };
-      ready = s.ready;
       room = s.room ∙ h.room ∙ ap (λ (d : DeviceSeen). greatest_taken events * device_frame_bytes d) (sym s.device);
       line_room = s.line_room ∙ h.line_room;
     }

@@ -1,5 +1,6 @@
 -- What a call leaves that came to its end, by what its words ask for.
 use Rattle.std.specs.Prelude.{◌≡◌, ◌++◌, ℕ, List, Some, IsSomeAnd, Option}
+use Rattle.pcm_feeder.specs.declared.kind.Kind.{Kind}
 use Rattle.pcm_feeder.specs.Kept.{Kept}
 use Rattle.pcm_engine.specs.declared.engine.EngineOf.{EngineOf}
 use Rattle.pcm_outside.specs.Files.{FilesSeen}
@@ -54,10 +55,10 @@ LeavesAlike call = (name : List ℕ) (inputs other : Inputs) → AsksFor call (R
     → IsAcceptedRun other → PlayAlike inputs other → WritesLike name inputs other call.before.files call.after.files
 
 -- the engine that is left ran what was asked for: a run's script, or the script of a soak's number
-abbrev pub RunsEngine : {B : Type 0} → (B → Kept) → Lent (Option (EngineOf B)) → Call → Type 0
-RunsEngine kept ran call = (name : List ℕ) (inputs : Inputs) → AsksFor call (Runs name inputs)
-    → IsSomeAnd ran.exit.now (λ engine. RanInputs kept engine inputs)
+abbrev pub RunsEngine : {B : Type 0} → (B → Kind) → (B → Kept) → Lent (Option (EngineOf B)) → Call → Type 0
+RunsEngine kind kept ran call = (name : List ℕ) (inputs : Inputs) → AsksFor call (Runs name inputs)
+    → IsSomeAnd ran.exit.now (λ engine. RanInputs kind kept engine inputs)
 
-abbrev pub SoaksEngine : {B : Type 0} → (B → Kept) → Lent (Option (EngineOf B)) → Words → Type 0
-SoaksEngine kept ran words = (n : ℕ) → command_of (texts words) ≡ Some (SoakRun n)
-    → IsSomeAnd ran.exit.now (λ engine. RanSoak kept engine n)
+abbrev pub SoaksEngine : {B : Type 0} → (B → Kind) → (B → Kept) → Lent (Option (EngineOf B)) → Words → Type 0
+SoaksEngine kind kept ran words = (n : ℕ) → command_of (texts words) ≡ Some (SoakRun n)
+    → IsSomeAnd ran.exit.now (λ engine. RanSoak kind kept engine n)

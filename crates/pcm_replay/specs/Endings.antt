@@ -1,6 +1,7 @@
 -- What a call did, by its ending.
 use Rattle.std.specs.Prelude.{◌≡◌, Option, Some, None, Ok}
 use Rattle.pcm_config.specs.Configs.{device_seen}
+use Rattle.pcm_feeder.specs.declared.kind.Kind.{Kind}
 use Rattle.pcm_feeder.specs.Kept.{Kept}
 use Rattle.pcm_engine.specs.declared.engine.EngineOf.{EngineOf}
 use Rattle.pcm_verdict.specs.Commands.{Command}
@@ -39,23 +40,23 @@ Cuts accepted before after NoMemory = after ≡ before
 Cuts accepted before after ending = ⊥
 
 -- an engine ran the script of these inputs
-abbrev pub RanInputs : {B : Type 0} → (B → Kept) → EngineOf B → Inputs → Type 0
-RanInputs kept engine inputs = RanThrough kept engine (device_seen inputs.config) (inputs_pool inputs) inputs.script.events
+abbrev pub RanInputs : {B : Type 0} → (B → Kind) → (B → Kept) → EngineOf B → Inputs → Type 0
+RanInputs kind kept engine inputs = RanThrough kind kept engine (device_seen inputs.config) (inputs_pool inputs) inputs.script.events
 
 -- an engine ran where a script was to be run, and there is none elsewhere
-abbrev pub HasRun : {B : Type 0} → (B → Kept) → Option (EngineOf B) → Accepted → Type 0
-HasRun kept (Some engine) (Runs out inputs) = RanInputs kept engine inputs
-HasRun kept (Some engine) (Soaks n) = RanSoak kept engine n
-HasRun kept None (Checks inputs) = Unit {0}
-HasRun kept None (Converts out conversion) = Unit {0}
-HasRun kept ran accepted = ⊥
+abbrev pub HasRun : {B : Type 0} → (B → Kind) → (B → Kept) → Option (EngineOf B) → Accepted → Type 0
+HasRun kind kept (Some engine) (Runs out inputs) = RanInputs kind kept engine inputs
+HasRun kind kept (Some engine) (Soaks n) = RanSoak kind kept engine n
+HasRun kind kept None (Checks inputs) = Unit {0}
+HasRun kind kept None (Converts out conversion) = Unit {0}
+HasRun kind kept ran accepted = ⊥
 
 -- a command was done to its end
-pub record DoesCommand {B : Type 0} (kept : B → Kept) (command : Command) (before after : Outside) (engine : Option (EngineOf B)) : Type 0 where
+pub record DoesCommand {B : Type 0} (kind : B → Kind) (kept : B → Kept) (command : Command) (before after : Outside) (engine : Option (EngineOf B)) : Type 0 where
   pub accepted : Accepted
   pub is_of : IsOf command accepted
   pub came : Comes (command_part command) (Ok accepted) before.files
-  pub ran : HasRun kept engine accepted
+  pub ran : HasRun kind kept engine accepted
   pub writes : Does accepted before after
 
 -- what a command that was accepted was to leave was cut short
@@ -81,9 +82,9 @@ EndsCommand command before after CannotWrite = IsCommandCut command before after
 EndsCommand command before after NoMemory = Lacks before after
 
 -- words that spell a command, which was done to its end
-pub record DoesWords {B : Type 0} (kept : B → Kept) (call : Call) (engine : Option (EngineOf B)) : Type 0 where
+pub record DoesWords {B : Type 0} (kind : B → Kind) (kept : B → Kept) (call : Call) (engine : Option (EngineOf B)) : Type 0 where
   pub spells : Spells call.words
-  pub does : DoesCommand kept spells.command call.before call.after engine
+  pub does : DoesCommand kind kept spells.command call.before call.after engine
 
 -- the engine of a run is left, and without a run what was there stays
 abbrev pub LeavesEngine : {B : Type 0} → Option (EngineOf B) → Option (EngineOf B) → Option (EngineOf B) → Type 0
@@ -91,7 +92,7 @@ LeavesEngine None old new = new ≡ old
 LeavesEngine (Some engine) old new = new ≡ Some engine
 
 -- what a call did that came to its end
-pub record Finishes {B : Type 0} (kept : B → Kept) (ran : Lent (Option (EngineOf B))) (call : Call) : Type 0 where
+pub record Finishes {B : Type 0} (kind : B → Kind) (kept : B → Kept) (ran : Lent (Option (EngineOf B))) (call : Call) : Type 0 where
   pub engine : Option (EngineOf B)
-  pub does : DoesWords kept call engine
+  pub does : DoesWords kind kept call engine
   pub leaves : LeavesEngine engine ran.entry.now ran.exit.now

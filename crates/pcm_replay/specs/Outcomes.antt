@@ -146,10 +146,22 @@ MayEnd (Err fault) status = MayRefuse fault status
 abbrev pub MayEndAs : Call → ℕ → Type 0
 MayEndAs call status = IsTrue call.before.files.tells → MayEnd (verdict_of call) status
 
--- where the files tell that it is accepted, and no read, write or put failed, a call comes to its end, or lacks memory
+-- the status of a fault where no read, write or put failed: its own, or that of want of memory; a missing file is one that failed to be read
+abbrev pub MayRefuseUnfailing : Fault → ℕ → Type 0
+MayRefuseUnfailing Usage status = (status ≡ 2) ⊎ (status ≡ 8)
+MayRefuseUnfailing (Missing name) status = status ≡ 8
+MayRefuseUnfailing (BadConfig refusal) status = (status ≡ 4) ⊎ (status ≡ 8)
+MayRefuseUnfailing (BadScript refusal) status = (status ≡ 5) ⊎ (status ≡ 8)
+MayRefuseUnfailing (BadWave name kind) status = (status ≡ 6) ⊎ (status ≡ 8)
+
+-- the statuses of a verdict where none failed: what is accepted comes to its end, or lacks memory
+abbrev pub MayEndUnfailing : Result Accepted Fault → ℕ → Type 0
+MayEndUnfailing (Ok accepted) status = (status ≡ 0) ⊎ (status ≡ 8)
+MayEndUnfailing (Err fault) status = MayRefuseUnfailing fault status
+
+-- where the files tell, and no read, write or put failed, the status is the verdict's, or that of want of memory
 abbrev pub EndsUnfailing : Call → ℕ → Type 0
-EndsUnfailing call status = IsTrue call.before.files.tells → IsAcceptedBy (verdict_of call)
-    → (OneRose call.before call.after → ⊥) → (status ≡ 0) ⊎ (status ≡ 8)
+EndsUnfailing call status = IsTrue call.before.files.tells → (OneRose call.before call.after → ⊥) → MayEndUnfailing (verdict_of call) status
 
 -- words of no form end as such, or with a put that failed
 abbrev pub EndsFormless : Call → ℕ → Type 0

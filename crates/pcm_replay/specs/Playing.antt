@@ -8,7 +8,7 @@ use Rattle.pcm_desk.specs.Events.{frames_taken}
 use Rattle.pcm_sound.specs.DeviceList.{device_text}
 use Rattle.pcm_feeder.specs.declared.kind.Kind.{Kind}
 use Rattle.pcm_feeder.specs.Kept.{Kept}
-use Rattle.pcm_engine.specs.Engines.{AreReady, device_of}
+use Rattle.pcm_engine.specs.Engines.{device_of}
 use Rattle.pcm_report.specs.declared.line.TheConstants.{LINE_BYTES}
 use Rattle.pcm_verdict.specs.Outputs.{Output}
 use Rattle.pcm_verdict.specs.Transcript.{transcript}
@@ -22,8 +22,7 @@ greatest_taken events = fold (λ most event. max most (frames_taken event)) 0 ev
 
 -- the first events were run, and there is room for what every event gives
 pub record HasPlayed {B : Type 0} (kind : B → Kind) (kept : B → Kept) (replay : ReplayOf B) (pool : Pool) (events : List Event) (done : ℕ) : Type 0 where
-  pub engine : RanThrough kept replay.engine (device_of replay.engine) pool (take done events)
-  pub ready : AreReady kind kept replay.engine
+  pub engine : RanThrough kind kept replay.engine (device_of replay.engine) pool (take done events)
   pub room : fixed_len replay.block ≡ greatest_taken events * device_frame_bytes (device_of replay.engine)
   pub line_room : fixed_len replay.line ≡ LINE_BYTES
 

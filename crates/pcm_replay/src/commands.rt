@@ -30,7 +30,7 @@ pub fn do_command<B: Feeder, F: Files, K: Sink>(
 ) -> Result<Option<EngineOf<B>>, Ending>
     requires kinds { AreRacks B.kind (list_of racks) }
     requires limits { AreLimits command }
-    ensures ok { IfOk result (DoesCommand B.kept (command_seen command.entry) over both F.seen K.seen files out) }
+    ensures ok { IfOk result (DoesCommand B.kind B.kept (command_seen command.entry) over both F.seen K.seen files out) }
     ensures err { IfErr result (EndsCommand (command_seen command.entry) over both F.seen K.seen files out) }
 {
     match command {
@@ -60,7 +60,7 @@ fn run<B: Feeder, F: Files, K: Sink>(
     name: &str,
 ) -> Result<Option<EngineOf<B>>, Ending>
     requires kinds { AreRacks B.kind (list_of racks) }
-    ensures ok { IfOk result (DoesCommand B.kept
+    ensures ok { IfOk result (DoesCommand B.kind B.kept
         (RunScript script.now name.now (named config.entry)) over both F.seen K.seen files out) }
     ensures err { IfErr result (EndsCommand
         (RunScript script.now name.now (named config.entry)) over both F.seen K.seen files out) }
@@ -78,7 +78,7 @@ fn check<B: Feeder, F: Files, K: Sink>(
     files: &mut F,
     out: &mut K,
 ) -> Result<Option<EngineOf<B>>, Ending>
-    ensures ok { IfOk result (DoesCommand B.kept
+    ensures ok { IfOk result (DoesCommand B.kind B.kept
         (CheckScript script.now (named config.entry)) over both F.seen K.seen files out) }
     ensures err { IfErr result (EndsCommand
         (CheckScript script.now (named config.entry)) over both F.seen K.seen files out) }
@@ -101,7 +101,7 @@ fn convert<B: Feeder, F: Files, K: Sink>(
     requires kinds { AreRacks B.kind (list_of racks) }
     requires rate { IsRate target.rate }
     requires format { IsWaveFormat target.format }
-    ensures ok { IfOk result (DoesCommand B.kept
+    ensures ok { IfOk result (DoesCommand B.kind B.kept
         (ConvertWave input.now name.now target) over both F.seen K.seen files out) }
     ensures err { IfErr result (EndsCommand (ConvertWave input.now name.now target) over both F.seen K.seen files out) }
 {
@@ -119,7 +119,7 @@ fn soak_run<B: Feeder, F: Files, K: Sink>(
     racks: RacksOf<B>,
 ) -> Result<Option<EngineOf<B>>, Ending>
     requires kinds { AreRacks B.kind (list_of racks) }
-    ensures ok { IfOk result (DoesCommand B.kept (SoakRun seed) over both F.seen K.seen files out) }
+    ensures ok { IfOk result (DoesCommand B.kind B.kept (SoakRun seed) over both F.seen K.seen files out) }
     ensures err { IfErr result (EndsCommand (SoakRun seed) over both F.seen K.seen files out) }
 {
     let engine = run_soak(alloc, racks, seed, out)?;

@@ -44,7 +44,7 @@ pub fn run_script<B: Feeder, F: Files, K: Sink>(
     requires captures { IsCaptureIn inputs.config.device.settings.layout (inputs_pool (inputs_seen inputs)) }
     requires count { length inputs.script.events ≤ EVENTS }
     requires frames { bytes_taken (device_seen inputs.config) inputs.script ≤ DEVICE_BYTES }
-    ensures ran { IfOk result (λ engine. RanInputs B.kept engine (inputs_seen inputs)) }
+    ensures ran { IfOk result (λ engine. RanInputs B.kind B.kept engine (inputs_seen inputs)) }
     ensures ok { OnOk result (Does (Runs name.now (inputs_seen inputs)) over both F.seen K.seen files out) }
     ensures err { IfErr result (Cuts (Runs name.now (inputs_seen inputs)) over both F.seen K.seen files out) }
 {

@@ -39,7 +39,7 @@ pub fn dsp_main<B: Feeder, F: Files, K: Sink>(
     ensures accepted { result ≡ 0 → WasAccepted (call F.seen K.seen words files out) }
     // A run: the device file has exactly its bytes, and exactly the replies were put.
     ensures headline { result ≡ 0 → LeavesRun (call F.seen K.seen words files out) }
-    ensures engine { result ≡ 0 → RunsEngine B.kept ran (call F.seen K.seen words files out) }
+    ensures engine { result ≡ 0 → RunsEngine B.kind B.kept ran (call F.seen K.seen words files out) }
     // A run without a shortage: the file has what is heard of its clients from their starts to their ends, whatever was counted.
     ensures plain { result ≡ 0 → LeavesPlain (call F.seen K.seen words files out) }
     // Its device gets the bytes of any other run whose clients sound alike, as far as both go.
@@ -48,10 +48,10 @@ pub fn dsp_main<B: Feeder, F: Files, K: Sink>(
     ensures checked { result ≡ 0 → LeavesCheck (call F.seen K.seen words files out) }
     // A soak, whatever the files tell: nothing was written, exactly its line was put, and its engine ran through the number's script.
     ensures soaked { result ≡ 0 → LeavesSoak (call F.seen K.seen words files out) }
-    ensures soak_engine { result ≡ 0 → SoaksEngine B.kept ran words }
+    ensures soak_engine { result ≡ 0 → SoaksEngine B.kind B.kept ran words }
     // A conversion: the file is exactly the converted wave, and exactly its line was put.
     ensures converted { result ≡ 0 → LeavesWave (call F.seen K.seen words files out) }
-    ensures finished { result ≡ 0 → Finishes B.kept ran (call F.seen K.seen words files out) }
+    ensures finished { result ≡ 0 → Finishes B.kind B.kept ran (call F.seen K.seen words files out) }
     ensures no_rise { result ≡ 0 → NoneRose over both F.seen K.seen files out }
     ensures stays { result ≢ 0 → ran.new ≡ ran.old }
 
@@ -92,7 +92,7 @@ fn carry_out<B: Feeder, F: Files, K: Sink>(
     racks: RacksOf<B>,
 ) -> Result<Option<EngineOf<B>>, Ending>
     requires kinds { AreRacks B.kind (list_of racks) }
-    ensures ok { IfOk result (DoesWords B.kept (call F.seen K.seen words files out)) }
+    ensures ok { IfOk result (DoesWords B.kind B.kept (call F.seen K.seen words files out)) }
     ensures err { IfErr result (EndsCall (call F.seen K.seen words files out)) }
 {
     let Some(command) = command_in(words) else {

@@ -135,9 +135,9 @@ soaked kind kept old new pool events event piece reply counted s h =
       engine = record {
         device_is = s.device ∙ is;
         stands = s.stands h.engine.stands;
+        ready = s.ready;
         steps = s.steps ∙ ap (λ n. n + 1) h.engine.steps ∙ length-push events event;
       };
-      ready = s.ready;
       tally = s.heard ∙ ap (λ (tally : Tally). record tally { sum = tally.sum + total piece }) counts
           ∙ sym (tally_of-more usual_device pool events event piece bytes);
       within = subst (λ (n : ℕ). IsWithin n new.tally) (length-push events event) heard;

@@ -8,7 +8,6 @@ use Rattle.pcm_desk.specs.Usual.{usual_device}
 use Rattle.pcm_feeder.specs.declared.kind.Kind.{Kind}
 use Rattle.pcm_feeder.specs.Kept.{Kept}
 use Rattle.pcm_engine.specs.declared.engine.EngineOf.{EngineOf}
-use Rattle.pcm_engine.specs.Engines.{AreReady}
 use Rattle.pcm_soak.specs.Soak.{soak_script}
 use Rattle.pcm_soak.specs.Tallies.{IsWithin}
 use Rattle.pcm_verdict.specs.Soaks.{soak_pool, tally_line, tally_of}
@@ -22,8 +21,7 @@ ring_room device = ring_frames device * device_frame_bytes device
 
 -- so many events of a script that a number makes were run, and what they came to was added up
 pub record HasSoaked {B : Type 0} (kind : B → Kind) (kept : B → Kept) (soak : SoakOf B) (pool : Pool) (events : List Event) : Type 0 where
-  pub engine : RanThrough kept soak.engine usual_device pool events
-  pub ready : AreReady kind kept soak.engine
+  pub engine : RanThrough kind kept soak.engine usual_device pool events
   pub tally : soak.tally ≡ tally_of usual_device pool events
   pub within : IsWithin (length events) soak.tally
   pub sum : soak.tally.sum ≤ 2 ^ 33 * length events
@@ -35,5 +33,5 @@ abbrev pub line_of : ℕ → Pool → List Event → List ℕ
 line_of frames pool events = tally_line (length events) frames (tally_of usual_device pool events)
 
 -- an engine ran the script that a number makes
-abbrev pub RanSoak : {B : Type 0} → (B → Kept) → EngineOf B → ℕ → Type 0
-RanSoak kept engine n = RanThrough kept engine usual_device (soak_pool n) (soak_script n).events
+abbrev pub RanSoak : {B : Type 0} → (B → Kind) → (B → Kept) → EngineOf B → ℕ → Type 0
+RanSoak kind kept engine n = RanThrough kind kept engine usual_device (soak_pool n) (soak_script n).events

@@ -77,7 +77,7 @@ pub fn run_soak<B: Feeder, K: Sink>(
     out: &mut K,
 ) -> Result<EngineOf<B>, Ending>
     requires kinds { AreRacks B.kind (list_of racks) }
-    ensures ran { IfOk result (λ engine. RanSoak B.kept engine seed) }
+    ensures ran { IfOk result (λ engine. RanSoak B.kind B.kept engine seed) }
     ensures ok { OnOk result (Puts (K.seen out.old) (K.seen out.new) (soak_line seed)) }
     ensures err { IfErr result (CutsLines (soak_line seed) (K.seen out.old) (K.seen out.new)) }
 {

@@ -44,6 +44,6 @@ returns-clause-ok g c =
     let between : Outside = outside (g.F.Files.seen c.read_inputs.new.files) (g.K.Sink.seen c.read_inputs.new.out) in
     let after : Outside = outside (g.F.Files.seen c.read_inputs.new.files) (g.K.Sink.seen c.tell_script.new.out) in
     let read = c.in_ok-inputs.ensures.ok in
-    does-command g.B.Feeder.kept command (Checks inputs) None before between after tt
+    does-command g.B.Feeder.kind g.B.Feeder.kept command (Checks inputs) None before between after tt
     (comes-check c.args.script.now (named c.args.config) inputs before.files read.came) read.only tt
     (writes-lines (Checks inputs) (check_line inputs) between.files between.sink after.sink refl c.in_ok-tell_script.ensures.ok)

@@ -44,5 +44,5 @@ returns-clause-ok g c =
     let between : Outside = outside (g.F.Files.seen c.read_source.new.files) (g.K.Sink.seen c.read_source.new.out) in
     let after : Outside = outside (g.F.Files.seen c.convert_wave.new.files) (g.K.Sink.seen c.convert_wave.new.out) in
     let read = c.in_ok-source.ensures.ok in
-    does-command g.B.Feeder.kept command accepted None before between after (refl, refl)
+    does-command g.B.Feeder.kind g.B.Feeder.kept command accepted None before between after (refl, refl)
     (comes-convert c.args.input.now c.args.name.now c.args.target conversion before.files read.came) read.only tt c.in_ok-convert_wave.ensures.ok

@@ -43,5 +43,5 @@ returns-clause-ok g c =
     let between : Outside = outside (g.F.Files.seen c.read_inputs.new.files) (g.K.Sink.seen c.read_inputs.new.out) in
     let after : Outside = outside (g.F.Files.seen c.run_script.new.files) (g.K.Sink.seen c.run_script.new.out) in
     let read = c.in_ok-inputs.ensures.ok in
-    does-command g.B.Feeder.kept command accepted (Some c.in_ok-engine.engine) before between after refl
+    does-command g.B.Feeder.kind g.B.Feeder.kept command accepted (Some c.in_ok-engine.engine) before between after refl
     (comes-run c.args.script.now c.args.name.now (named c.args.config) inputs before.files read.came) read.only c.in_ok-engine.ensures.ran c.in_ok-engine.ensures.ok

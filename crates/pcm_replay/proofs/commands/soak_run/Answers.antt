@@ -26,6 +26,6 @@ returns-clause-ok g c =
     let n = c.args.seed in
     let before : Outside = outside (g.F.Files.seen c.args.files.now) (g.K.Sink.seen c.args.out.now) in
     let after : Outside = outside (g.F.Files.seen c.args.files.now) (g.K.Sink.seen c.run_soak.new.out) in
-    does-command g.B.Feeder.kept (SoakRun n) (Soaks n) (Some c.in_ok-engine.engine) before before after refl
+    does-command g.B.Feeder.kind g.B.Feeder.kept (SoakRun n) (Soaks n) (Some c.in_ok-engine.engine) before before after refl
     (comes-soak n before.files) (nothing before) c.in_ok-engine.ensures.ran
     (writes-lines (Soaks n) (soak_line n) before.files before.sink after.sink refl c.in_ok-engine.ensures.ok)

@@ -1,4 +1,4 @@
-use Rattle.std.proofs.Common.{ℕ, Global, List, String, map, string_bytes, subst, sym}
+use Rattle.std.proofs.Common.{ℕ, Global, List, String, map, string_bytes, refl, subst, sym}
 use Rattle.pcm_outside.specs.Files.{FilesSeen}
 use Rattle.pcm_outside.specs.Sink.{SinkSeen}
 use Rattle.pcm_verdict.specs.Outputs.{output_of}
@@ -12,6 +12,7 @@ use Rattle.pcm_replay.proofs.Accepted.{leaves-all, ran-as}
 use Rattle.pcm_replay.proofs.Plain.{alike-run, plain-run}
 use Rattle.pcm_replay.proofs.Quiet.{only-put-fails}
 use Rattle.pcm_replay.proofs.Statuses.{ended-as, may-end, none-rose}
+use Rattle.pcm_replay.proofs.Unfailing.{done-unfailing, unfailing}
 use Rattle.pcm_replay.proofs.top.dsp_main.Goals as goal
 
 -- a call's words, files and sink
@@ -72,80 +73,96 @@ returns-in-Err-clause-no_file g c = λ named.
 pub returns-in-Ok-None-clause-headline : goal.returns-in-Ok-None-clause-headline
 returns-in-Ok-None-clause-headline g c = λ is.
     let here : Call = called c.args.words.now (g.F.Files.seen c.args.files.now) (g.K.Sink.seen c.args.out.now) (g.F.Files.seen c.carry_out.new.files) (g.K.Sink.seen c.carry_out.new.out) in
-    λ name inputs asked. leaves-all g.B.Feeder.kept here c.in-Ok-None.field-0 c.in-Ok-None.ensures.ok (Runs name inputs) asked
+    λ name inputs asked. leaves-all g.B.Feeder.kind g.B.Feeder.kept here c.in-Ok-None.field-0 c.in-Ok-None.ensures.ok (Runs name inputs) asked
 
 pub returns-in-Ok-None-clause-checked : goal.returns-in-Ok-None-clause-checked
 returns-in-Ok-None-clause-checked g c = λ is.
     let here : Call = called c.args.words.now (g.F.Files.seen c.args.files.now) (g.K.Sink.seen c.args.out.now) (g.F.Files.seen c.carry_out.new.files) (g.K.Sink.seen c.carry_out.new.out) in
-    λ inputs asked. leaves-all g.B.Feeder.kept here c.in-Ok-None.field-0 c.in-Ok-None.ensures.ok (Checks inputs) asked
+    λ inputs asked. leaves-all g.B.Feeder.kind g.B.Feeder.kept here c.in-Ok-None.field-0 c.in-Ok-None.ensures.ok (Checks inputs) asked
 
 pub returns-in-Ok-None-clause-soaked : goal.returns-in-Ok-None-clause-soaked
 returns-in-Ok-None-clause-soaked g c = λ is.
     let here : Call = called c.args.words.now (g.F.Files.seen c.args.files.now) (g.K.Sink.seen c.args.out.now) (g.F.Files.seen c.carry_out.new.files) (g.K.Sink.seen c.carry_out.new.out) in
-    λ n asked. leaves-all g.B.Feeder.kept here c.in-Ok-None.field-0 c.in-Ok-None.ensures.ok (Soaks n) asked
+    λ n asked. leaves-all g.B.Feeder.kind g.B.Feeder.kept here c.in-Ok-None.field-0 c.in-Ok-None.ensures.ok (Soaks n) asked
 
 pub returns-in-Ok-None-clause-converted : goal.returns-in-Ok-None-clause-converted
 returns-in-Ok-None-clause-converted g c = λ is.
     let here : Call = called c.args.words.now (g.F.Files.seen c.args.files.now) (g.K.Sink.seen c.args.out.now) (g.F.Files.seen c.carry_out.new.files) (g.K.Sink.seen c.carry_out.new.out) in
-    λ name conversion asked. leaves-all g.B.Feeder.kept here c.in-Ok-None.field-0 c.in-Ok-None.ensures.ok (Converts name conversion) asked
+    λ name conversion asked. leaves-all g.B.Feeder.kind g.B.Feeder.kept here c.in-Ok-None.field-0 c.in-Ok-None.ensures.ok (Converts name conversion) asked
 
 pub returns-in-Ok-None-clause-plain : goal.returns-in-Ok-None-clause-plain
 returns-in-Ok-None-clause-plain g c = λ is.
     let here : Call = called c.args.words.now (g.F.Files.seen c.args.files.now) (g.K.Sink.seen c.args.out.now) (g.F.Files.seen c.carry_out.new.files) (g.K.Sink.seen c.carry_out.new.out) in
-    plain-run here (λ name inputs asked. leaves-all g.B.Feeder.kept here c.in-Ok-None.field-0 c.in-Ok-None.ensures.ok (Runs name inputs) asked)
+    plain-run here (λ name inputs asked. leaves-all g.B.Feeder.kind g.B.Feeder.kept here c.in-Ok-None.field-0 c.in-Ok-None.ensures.ok (Runs name inputs) asked)
 
 pub returns-in-Ok-None-clause-alike : goal.returns-in-Ok-None-clause-alike
 returns-in-Ok-None-clause-alike g c = λ is.
     let here : Call = called c.args.words.now (g.F.Files.seen c.args.files.now) (g.K.Sink.seen c.args.out.now) (g.F.Files.seen c.carry_out.new.files) (g.K.Sink.seen c.carry_out.new.out) in
-    alike-run here (λ name inputs asked. leaves-all g.B.Feeder.kept here c.in-Ok-None.field-0 c.in-Ok-None.ensures.ok (Runs name inputs) asked)
+    alike-run here (λ name inputs asked. leaves-all g.B.Feeder.kind g.B.Feeder.kept here c.in-Ok-None.field-0 c.in-Ok-None.ensures.ok (Runs name inputs) asked)
 
 pub returns-in-Ok-None-clause-engine : goal.returns-in-Ok-None-clause-engine
 returns-in-Ok-None-clause-engine g c = λ is.
     let here : Call = called c.args.words.now (g.F.Files.seen c.args.files.now) (g.K.Sink.seen c.args.out.now) (g.F.Files.seen c.carry_out.new.files) (g.K.Sink.seen c.carry_out.new.out) in
-    λ name inputs asked. absurd (subst (λ engine. HasRun g.B.Feeder.kept engine (Runs name inputs)) c.in-Ok-None.field-0-is (ran-as g.B.Feeder.kept here c.in-Ok-None.field-0 c.in-Ok-None.ensures.ok (Runs name inputs) asked))
+    λ name inputs asked. absurd (subst (λ engine. HasRun g.B.Feeder.kind g.B.Feeder.kept engine (Runs name inputs)) c.in-Ok-None.field-0-is (ran-as g.B.Feeder.kind g.B.Feeder.kept here c.in-Ok-None.field-0 c.in-Ok-None.ensures.ok (Runs name inputs) asked))
 
 pub returns-in-Ok-None-clause-soak_engine : goal.returns-in-Ok-None-clause-soak_engine
 returns-in-Ok-None-clause-soak_engine g c = λ is.
     let here : Call = called c.args.words.now (g.F.Files.seen c.args.files.now) (g.K.Sink.seen c.args.out.now) (g.F.Files.seen c.carry_out.new.files) (g.K.Sink.seen c.carry_out.new.out) in
-    λ n asked. absurd (subst (λ engine. HasRun g.B.Feeder.kept engine (Soaks n)) c.in-Ok-None.field-0-is (ran-as g.B.Feeder.kept here c.in-Ok-None.field-0 c.in-Ok-None.ensures.ok (Soaks n) asked))
+    λ n asked. absurd (subst (λ engine. HasRun g.B.Feeder.kind g.B.Feeder.kept engine (Soaks n)) c.in-Ok-None.field-0-is (ran-as g.B.Feeder.kind g.B.Feeder.kept here c.in-Ok-None.field-0 c.in-Ok-None.ensures.ok (Soaks n) asked))
 
 -- what was asked for is there, and its engine is left
 pub returns-in-Ok-Some-clause-headline : goal.returns-in-Ok-Some-clause-headline
 returns-in-Ok-Some-clause-headline g c = λ is.
     let here : Call = called c.args.words.now (g.F.Files.seen c.args.files.now) (g.K.Sink.seen c.args.out.now) (g.F.Files.seen c.carry_out.new.files) (g.K.Sink.seen c.carry_out.new.out) in
-    λ name inputs asked. leaves-all g.B.Feeder.kept here c.in-Ok-Some.field-0 c.in-Ok-Some.ensures.ok (Runs name inputs) asked
+    λ name inputs asked. leaves-all g.B.Feeder.kind g.B.Feeder.kept here c.in-Ok-Some.field-0 c.in-Ok-Some.ensures.ok (Runs name inputs) asked
 
 pub returns-in-Ok-Some-clause-checked : goal.returns-in-Ok-Some-clause-checked
 returns-in-Ok-Some-clause-checked g c = λ is.
     let here : Call = called c.args.words.now (g.F.Files.seen c.args.files.now) (g.K.Sink.seen c.args.out.now) (g.F.Files.seen c.carry_out.new.files) (g.K.Sink.seen c.carry_out.new.out) in
-    λ inputs asked. leaves-all g.B.Feeder.kept here c.in-Ok-Some.field-0 c.in-Ok-Some.ensures.ok (Checks inputs) asked
+    λ inputs asked. leaves-all g.B.Feeder.kind g.B.Feeder.kept here c.in-Ok-Some.field-0 c.in-Ok-Some.ensures.ok (Checks inputs) asked
 
 pub returns-in-Ok-Some-clause-soaked : goal.returns-in-Ok-Some-clause-soaked
 returns-in-Ok-Some-clause-soaked g c = λ is.
     let here : Call = called c.args.words.now (g.F.Files.seen c.args.files.now) (g.K.Sink.seen c.args.out.now) (g.F.Files.seen c.carry_out.new.files) (g.K.Sink.seen c.carry_out.new.out) in
-    λ n asked. leaves-all g.B.Feeder.kept here c.in-Ok-Some.field-0 c.in-Ok-Some.ensures.ok (Soaks n) asked
+    λ n asked. leaves-all g.B.Feeder.kind g.B.Feeder.kept here c.in-Ok-Some.field-0 c.in-Ok-Some.ensures.ok (Soaks n) asked
 
 pub returns-in-Ok-Some-clause-converted : goal.returns-in-Ok-Some-clause-converted
 returns-in-Ok-Some-clause-converted g c = λ is.
     let here : Call = called c.args.words.now (g.F.Files.seen c.args.files.now) (g.K.Sink.seen c.args.out.now) (g.F.Files.seen c.carry_out.new.files) (g.K.Sink.seen c.carry_out.new.out) in
-    λ name conversion asked. leaves-all g.B.Feeder.kept here c.in-Ok-Some.field-0 c.in-Ok-Some.ensures.ok (Converts name conversion) asked
+    λ name conversion asked. leaves-all g.B.Feeder.kind g.B.Feeder.kept here c.in-Ok-Some.field-0 c.in-Ok-Some.ensures.ok (Converts name conversion) asked
 
 pub returns-in-Ok-Some-clause-plain : goal.returns-in-Ok-Some-clause-plain
 returns-in-Ok-Some-clause-plain g c = λ is.
     let here : Call = called c.args.words.now (g.F.Files.seen c.args.files.now) (g.K.Sink.seen c.args.out.now) (g.F.Files.seen c.carry_out.new.files) (g.K.Sink.seen c.carry_out.new.out) in
-    plain-run here (λ name inputs asked. leaves-all g.B.Feeder.kept here c.in-Ok-Some.field-0 c.in-Ok-Some.ensures.ok (Runs name inputs) asked)
+    plain-run here (λ name inputs asked. leaves-all g.B.Feeder.kind g.B.Feeder.kept here c.in-Ok-Some.field-0 c.in-Ok-Some.ensures.ok (Runs name inputs) asked)
 
 pub returns-in-Ok-Some-clause-alike : goal.returns-in-Ok-Some-clause-alike
 returns-in-Ok-Some-clause-alike g c = λ is.
     let here : Call = called c.args.words.now (g.F.Files.seen c.args.files.now) (g.K.Sink.seen c.args.out.now) (g.F.Files.seen c.carry_out.new.files) (g.K.Sink.seen c.carry_out.new.out) in
-    alike-run here (λ name inputs asked. leaves-all g.B.Feeder.kept here c.in-Ok-Some.field-0 c.in-Ok-Some.ensures.ok (Runs name inputs) asked)
+    alike-run here (λ name inputs asked. leaves-all g.B.Feeder.kind g.B.Feeder.kept here c.in-Ok-Some.field-0 c.in-Ok-Some.ensures.ok (Runs name inputs) asked)
 
 pub returns-in-Ok-Some-clause-engine : goal.returns-in-Ok-Some-clause-engine
 returns-in-Ok-Some-clause-engine g c = λ is.
     let here : Call = called c.args.words.now (g.F.Files.seen c.args.files.now) (g.K.Sink.seen c.args.out.now) (g.F.Files.seen c.carry_out.new.files) (g.K.Sink.seen c.carry_out.new.out) in
-    λ name inputs asked. subst (λ engine. HasRun g.B.Feeder.kept engine (Runs name inputs)) c.in-Ok-Some.field-0-is (ran-as g.B.Feeder.kept here c.in-Ok-Some.field-0 c.in-Ok-Some.ensures.ok (Runs name inputs) asked)
+    λ name inputs asked. subst (λ engine. HasRun g.B.Feeder.kind g.B.Feeder.kept engine (Runs name inputs)) c.in-Ok-Some.field-0-is (ran-as g.B.Feeder.kind g.B.Feeder.kept here c.in-Ok-Some.field-0 c.in-Ok-Some.ensures.ok (Runs name inputs) asked)
 
 pub returns-in-Ok-Some-clause-soak_engine : goal.returns-in-Ok-Some-clause-soak_engine
 returns-in-Ok-Some-clause-soak_engine g c = λ is.
     let here : Call = called c.args.words.now (g.F.Files.seen c.args.files.now) (g.K.Sink.seen c.args.out.now) (g.F.Files.seen c.carry_out.new.files) (g.K.Sink.seen c.carry_out.new.out) in
-    λ n asked. subst (λ engine. HasRun g.B.Feeder.kept engine (Soaks n)) c.in-Ok-Some.field-0-is (ran-as g.B.Feeder.kept here c.in-Ok-Some.field-0 c.in-Ok-Some.ensures.ok (Soaks n) asked)
+    λ n asked. subst (λ engine. HasRun g.B.Feeder.kind g.B.Feeder.kept engine (Soaks n)) c.in-Ok-Some.field-0-is (ran-as g.B.Feeder.kind g.B.Feeder.kept here c.in-Ok-Some.field-0 c.in-Ok-Some.ensures.ok (Soaks n) asked)
+
+-- where nothing failed, the status is the verdict's, or that of memory
+pub returns-in-Err-clause-unfailing : goal.returns-in-Err-clause-unfailing
+returns-in-Err-clause-unfailing g c =
+    let here : Call = called c.args.words.now (g.F.Files.seen c.args.files.now) (g.K.Sink.seen c.args.out.now) (g.F.Files.seen c.carry_out.new.files) (g.K.Sink.seen c.carry_out.new.out) in
+    unfailing here c.in-Err.ending c.status.result c.status.ensures c.in-Err.ensures.err
+
+pub returns-in-Ok-None-clause-unfailing : goal.returns-in-Ok-None-clause-unfailing
+returns-in-Ok-None-clause-unfailing g c =
+    let here : Call = called c.args.words.now (g.F.Files.seen c.args.files.now) (g.K.Sink.seen c.args.out.now) (g.F.Files.seen c.carry_out.new.files) (g.K.Sink.seen c.carry_out.new.out) in
+    done-unfailing g.B.Feeder.kind g.B.Feeder.kept here c.in-Ok-None.field-0 0 refl c.in-Ok-None.ensures.ok
+
+pub returns-in-Ok-Some-clause-unfailing : goal.returns-in-Ok-Some-clause-unfailing
+returns-in-Ok-Some-clause-unfailing g c =
+    let here : Call = called c.args.words.now (g.F.Files.seen c.args.files.now) (g.K.Sink.seen c.args.out.now) (g.F.Files.seen c.carry_out.new.files) (g.K.Sink.seen c.carry_out.new.out) in
+    done-unfailing g.B.Feeder.kind g.B.Feeder.kept here c.in-Ok-Some.field-0 0 refl c.in-Ok-Some.ensures.ok

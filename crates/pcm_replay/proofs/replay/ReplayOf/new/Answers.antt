@@ -5,8 +5,12 @@ use Rattle.pcm_replay.proofs.replay.ReplayOf.new.Goals as goal
 
 pub returns-clause-played : goal.returns-clause-played
 returns-clause-played g c = λ pool. record {
-  engine = record { device_is = refl; stands = c.in_ok-new.ensures.stands pool; steps = c.in_ok-new.ensures.steps };
-  ready = c.in_ok-new.ensures.ready;
+  engine = record {
+    device_is = refl;
+    stands = c.in_ok-new.ensures.stands pool;
+    ready = c.in_ok-new.ensures.ready;
+    steps = c.in_ok-new.ensures.steps;
+  };
   line_room = c.new-4.ensures.len ∙ c.in_ok-vec-2.ensures.len;
   room = c.new-3.ensures.len ∙ c.in_ok-vec.ensures.len
       ∙ ap (λ (most : ℕ). most * c.frame_bytes.result) c.greatest_taken.ensures

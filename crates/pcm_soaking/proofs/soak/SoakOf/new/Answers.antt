@@ -14,9 +14,9 @@ returns g c =
         engine = record {
           device_is = c.in_ok-new.ensures.device ∙ ap device_seen c.default_config-config.ensures;
           stands = c.in_ok-new.ensures.stands pool;
+          ready = c.in_ok-new.ensures.ready;
           steps = c.in_ok-new.ensures.steps;
         };
-        ready = c.in_ok-new.ensures.ready;
         tally = c.none.ensures;
         within = IsWithin-none c.none.result c.none.ensures;
         sum = omega (arith, ap (λ (tally : Tally). tally.sum) c.none.ensures);
