@@ -3,6 +3,7 @@ pub mod Files
 pub mod Sink
 pub mod Results
 pub mod Calls
+pub mod Rooms
 pub mod Folder
 pub mod Buffer
 pub mod Edge

@@ -1,5 +1,5 @@
 -- What a contract sees of the forms that only count bytes: nothing is told, and nothing ever failed.
-use Rattle.std.specs.Prelude.{ℕ, ◌+◌, ◌-◌, ◌^◌, min, true, None}
+use Rattle.std.specs.Prelude.{ℕ, ◌+◌, ◌-◌, ◌^◌, Bool, min, None}
 use Rattle.pcm_outside.specs.Files.{FilesSeen}
 use Rattle.pcm_outside.specs.Sink.{SinkSeen}
 use Rattle.pcm_outside.specs.Edge.{untold_files, untold_sink}
@@ -8,9 +8,9 @@ use Rattle.pcm_outside.specs.Edge.{untold_files, untold_sink}
 abbrev pub taken_more : ℕ → ℕ → ℕ
 taken_more total more = min (total + more) (2 ^ 64 - 1)
 
--- files that take all bytes
-abbrev pub counting_files : FilesSeen
-counting_files = untold_files true 0 0 None
+-- files that take all bytes, by whether one stands created
+abbrev pub counting_files : Bool → FilesSeen
+counting_files stands = untold_files stands 0 0 None
 
 -- a sink that takes all bytes
 abbrev pub counting_sink : SinkSeen

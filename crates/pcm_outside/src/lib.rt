@@ -2,13 +2,16 @@
 //! The forms in memory tell their contents and fail where told to; the real forms are the edge to the system.
 #![tactic(auto)]
 
+mod byte_count;
 mod calls;
 mod mem_files;
 mod mem_sink;
 mod outside;
 mod real_files;
 mod real_sink;
-mod tally_forms;
+mod room;
+mod tally_files;
+mod tally_sink;
 mod transfer;
 
 pub use mem_files::MemFiles;
@@ -16,5 +19,6 @@ pub use mem_sink::MemSink;
 pub use outside::{Files, ReadFault, Sink, WriteFault};
 pub use real_files::RealFiles;
 pub use real_sink::RealSink;
-pub use tally_forms::{ByteCount, TallyFiles, TallySink};
+pub use tally_files::TallyFiles;
+pub use tally_sink::TallySink;
 pub use transfer::{read_front, write_whole};

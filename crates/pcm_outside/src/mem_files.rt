@@ -7,6 +7,7 @@ ghost use Rattle.pcm_outside.specs.Folder.{empty_folder, with_added, bytes_named
 
 use crate::calls::CallList;
 use crate::outside::{Files, ReadFault, WriteFault};
+use crate::room::Room;
 use std::alloc::{AllocError, Global};
 use std::marker::Model;
 
@@ -44,14 +45,15 @@ fn first_bytes(alloc: Global, bytes: &[u8], most: usize) -> Result<Vec<u8>, Read
     Vec::from_slice(alloc, front).map_err(|_| ReadFault::Memory)
 }
 
-/// A folder in memory. The calls that are listed fail, and all that is written fits the room it was made with.
+/// A folder in memory. The calls that are listed fail, and all that is written fits the room it was made with, which
+/// can't grow.
 #[derive(Drop)]
 pub struct MemFiles {
     room: usize,
     added: Vec<Held>,
-    name: Vec<u8>,
+    name: Room,
     is_made: bool,
-    written: Vec<u8>,
+    written: Room,
     stands: bool,
     calls: CallList,
     read_faults: u64,
@@ -60,7 +62,7 @@ pub struct MemFiles {
 }
 
 impl Model for MemFiles {
-    ghost use Rattle.std.specs.Prelude.{◌≤◌, Some, None, vec_items, vec_len, vec_capacity, option_map, if◌then◌else◌};
+    ghost use Rattle.std.specs.Prelude.{◌≡◌, Some, None, vec_items, option_map, if◌then◌else◌};
     ghost use Rattle.pcm_outside.specs.Folder.{Folder};
 
     ghost Value = { Folder };
@@ -68,8 +70,8 @@ impl Model for MemFiles {
     ghost view = { λ f. record {
       room = f.room;
       added = f.added.items;
-      created = if f.is_made then Some f.name.items else None;
-      written = f.written.items;
+      created = if f.is_made then Some f.name.bytes else None;
+      written = f.written.bytes;
       stands = f.stands;
       calls = f.calls;
       read_faults = f.read_faults;
@@ -77,8 +79,7 @@ impl Model for MemFiles {
       failed = option_map vec_items f.failed;
     } };
 
-    ghost invariant = { λ f. (f.room ≤ vec_capacity f.name)
-        × ((f.room ≤ vec_capacity f.written) × (vec_len f.written ≤ f.room)) };
+    ghost invariant = { λ f. (f.name.room ≡ f.room) × (f.written.room ≡ f.room) };
 }
 
 impl MemFiles {
@@ -86,8 +87,8 @@ impl MemFiles {
     pub fn new(alloc: Global, room: usize) -> Result<MemFiles, AllocError>
         ensures { IfOk result (λ files. files ≡ empty_folder room) }
     {
-        let name = Vec::with_capacity(alloc, room)?;
-        let written = Vec::with_capacity(alloc, room)?;
+        let name = Room::new(alloc, room)?;
+        let written = Room::new(alloc, room)?;
         Ok(MemFiles {
             room,
             added: Vec::new(alloc),
@@ -205,7 +206,7 @@ impl Files for MemFiles {
             return Err(self.fail_write());
         }
         self.name.clear();
-        self.name.extend_from_slice(name.as_bytes()).unwrap();
+        self.name.put(name.as_bytes());
         self.written.clear();
         self.is_made = true;
         self.stands = true;
@@ -221,10 +222,10 @@ impl Files for MemFiles {
         ensures after { OnOk result (self.new ≡ after_append self.old piece.now) }
         ensures after_failed { OnErr result (self.new ≡ after_failed_append self.old) }
     {
-        if self.calls.count() || self.room - self.written.len() < piece.len() {
+        if self.calls.count() || self.written.lacks(piece.len()) {
             return Err(self.fail_write());
         }
-        self.written.extend_from_slice(piece).unwrap();
+        self.written.put(piece);
         Ok(())
     }
 }

@@ -6,27 +6,24 @@ ghost use Rattle.pcm_outside.specs.Buffer.{empty_buffer, buffer_seen, put_fails,
 
 use crate::calls::CallList;
 use crate::outside::{Sink, WriteFault};
+use crate::room::Room;
 use std::alloc::{AllocError, Global};
 use std::marker::Model;
 
-/// A sink in memory. The puts that are listed fail, and all that is put fits the room it was made with.
+/// A sink in memory. The puts that are listed fail, and all that is put fits the room it was made with, which can't grow.
 #[derive(Drop)]
 pub struct MemSink {
-    room: usize,
-    bytes: Vec<u8>,
+    bytes: Room,
     calls: CallList,
     faults: u64,
 }
 
 impl Model for MemSink {
-    ghost use Rattle.std.specs.Prelude.{◌≤◌, vec_len, vec_capacity};
     ghost use Rattle.pcm_outside.specs.Buffer.{Buffer};
 
     ghost Value = { Buffer };
 
-    ghost view = { λ s. record { room = s.room; bytes = s.bytes.items; calls = s.calls; faults = s.faults } };
-
-    ghost invariant = { λ s. (s.room ≤ vec_capacity s.bytes) × (vec_len s.bytes ≤ s.room) };
+    ghost view = { λ s. record { room = s.bytes.room; bytes = s.bytes.bytes; calls = s.calls; faults = s.faults } };
 }
 
 impl MemSink {
@@ -34,9 +31,8 @@ impl MemSink {
     pub fn new(alloc: Global, room: usize) -> Result<MemSink, AllocError>
         ensures { IfOk result (λ sink. sink ≡ empty_buffer room) }
     {
-        let bytes = Vec::with_capacity(alloc, room)?;
+        let bytes = Room::new(alloc, room)?;
         Ok(MemSink {
-            room,
             bytes,
             calls: CallList::new(alloc),
             faults: 0,
@@ -71,11 +67,11 @@ impl Sink for MemSink {
         ensures after { OnOk result (self.new ≡ after_put self.old piece.now) }
         ensures after_failed { OnErr result (self.new ≡ after_failed_put self.old) }
     {
-        if self.calls.count() || self.room - self.bytes.len() < piece.len() {
+        if self.calls.count() || self.bytes.lacks(piece.len()) {
             self.faults = self.faults.saturating_add(1);
             return Err(WriteFault);
         }
-        self.bytes.extend_from_slice(piece).unwrap();
+        self.bytes.put(piece);
         Ok(())
     }
 }
