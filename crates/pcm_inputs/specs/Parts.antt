@@ -81,8 +81,8 @@ inputs_seen inputs = record { config = inputs.config; files = inputs.files; scri
 -- one data file more was read, which has the shape of the device if it is recorded from
 pub record AddsFile (config : Config) (file : FilePath) (old new : Loaded) (before after : Outside) : Type 0 where
   pub next : DataFileSeen
-  pub gives : GivesValue (data_part config old.files file) next before after
-  pub files : new.files ≡ old.files ++ next ∷ []
+  pub gives : GivesValue (data_part config old.files.items file) next before after
+  pub files : new.files.items ≡ old.files.items ++ next ∷ []
   pub shaped : IsShaped config next
 
 -- what a file with these bytes is judged to be under its name

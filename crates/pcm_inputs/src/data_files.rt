@@ -47,7 +47,7 @@ fn read_next<F: Files, K: Sink>(
     out: &mut K,
 ) -> Result<(), Ending>
     ensures ok { OnOk result (AddsFile config.now file.now loaded.old loaded.new over both F.seen K.seen files out) }
-    ensures err { IfErr result (Ends (data_part config.now loaded.old.files file.now)
+    ensures err { IfErr result (Ends (data_part config.now loaded.old.files.items file.now)
         over both F.seen K.seen files out) }
 {
     let path = file.path.as_str();

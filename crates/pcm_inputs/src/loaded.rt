@@ -12,25 +12,25 @@ use std::alloc::Global;
 /// The data files that were read so far, and how many bytes the next may have.
 #[derive(Drop)]
 pub struct Loaded {
-    files: DataFiles,
+    files: Vec<DataFile>,
     left: usize,
-    ghost left_is: { left ≡ DATA_BYTES - bytes_held files },
+    ghost left_is: { left ≡ DATA_BYTES - bytes_held files.items },
 }
 
 impl Loaded {
     /// No file was read yet.
     pub fn new(alloc: Global) -> Loaded
-        ensures { result.files ≡ [] }
+        ensures { result.files.items ≡ [] }
     {
         Loaded {
-            files: DataFiles::new(Vec::new(alloc)),
+            files: Vec::new(alloc),
             left: DATA_BYTES,
         }
     }
 
     /// How many bytes the next file may have.
     pub fn left(&self) -> usize
-        ensures value { result ≡ DATA_BYTES - bytes_held self.now.files }
+        ensures value { result ≡ DATA_BYTES - bytes_held self.now.files.items }
         ensures most { result ≤ DATA_BYTES }
     {
         self.left
@@ -39,8 +39,8 @@ impl Loaded {
     /// Keeps a file of so many bytes behind the others.
     pub fn keep(&mut self, file: DataFile, size: usize) -> Result<(), Ending>
         requires size { size ≡ length file.bytes }
-        requires left { size ≤ DATA_BYTES - bytes_held self.old.files }
-        ensures ok { OnOk result (self.new.files ≡ self.old.files ++ file ∷ []) }
+        requires left { size ≤ DATA_BYTES - bytes_held self.old.files.items }
+        ensures ok { OnOk result (self.new.files.items ≡ self.old.files.items ++ file ∷ []) }
         ensures err { IfErr result (λ ending. ending ≡ NoMemory) }
     {
         if self.files.push(file).is_err() {
@@ -50,10 +50,10 @@ impl Loaded {
         Ok(())
     }
 
-    /// GivesValue the files.
+    /// Gives the files, as the list that nothing grows any more.
     pub fn into_files(self) -> DataFiles
-        ensures { result ≡ self.files }
+        ensures { result ≡ self.files.items }
     {
-        self.files
+        DataFiles::new(self.files)
     }
 }

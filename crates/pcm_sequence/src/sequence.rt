@@ -1,11 +1,11 @@
 //! A list as contracts see it.
 
-ghost use Rattle.std.specs.Prelude.{◌≡◌, ◌∷◌, ◌++◌, [], List, OnErr, OnOk};
+ghost use Rattle.std.specs.Prelude.{◌≡◌, List};
 
-use std::alloc::AllocError;
 use std::marker::Model;
 
-/// A list of the elements of a vector. In a clause it is the list alone, without the room that it takes.
+/// A list of the elements of a vector, made whole: nothing grows it, and it lends no vector and no allocator.
+/// In a clause it is the list alone, without the room that it takes.
 #[derive(Debug, Drop)]
 pub struct Sequence<T> {
     items: Vec<T>,
@@ -37,18 +37,5 @@ impl<T> Sequence<T> {
         ensures { result.items ≡ self }
     {
         self.items
-    }
-}
-
-impl<T: Drop> Sequence<T> {
-    /// Puts an element behind the others. After a refusal of memory the list is as it was, and the element is dropped.
-    pub fn push(&mut self, item: T) -> Result<(), AllocError>
-        ensures ok { OnOk result (self.new ≡ self.old ++ item ∷ []) }
-        ensures err { OnErr result (self.new ≡ self.old) }
-    {
-        match self.items.push(item) {
-            Ok(()) => Ok(()),
-            Err(_) => Err(AllocError),
-        }
     }
 }

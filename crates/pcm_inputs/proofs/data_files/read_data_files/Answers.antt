@@ -23,7 +23,7 @@ returns-in_err-read_next-clause-err g c =
     let there : slice_get files c.loop-at.at ≡ Some file = file-at c.as_slice-paths.result.now files c.loop-at.at file c.as_slice-paths.ensures
     (slice_get_read c.as_slice-paths.result.now (length c.as_slice-paths.result.now) c.loop-at.at file refl (omega arith) c.index-paths-at.is) in
     err-as _ c.in_err-read_next.field-0.0 c.from_residual.result c.from_residual.ensures.1
-    (has_loaded-ends c.args.config.now c.loop-at.at c.loop-at.loaded.files file c.in_err-read_next.field-0.0 _ _ _ (slice_get_within files c.loop-at.at file there) there
+    (has_loaded-ends c.args.config.now c.loop-at.at c.loop-at.loaded.files.items file c.in_err-read_next.field-0.0 _ _ _ (slice_get_within files c.loop-at.at file there) there
     c.loop-at.invariant.loaded c.in_err-read_next.ensures.err)
 
 -- one file more
@@ -38,9 +38,9 @@ loop-at-preserved g c =
       loaded = subst (λ (loaded : List DataFileSeen). HasLoaded c.args.config.now (c.loop-at.at + 1) loaded
           (outside (g.F.Files.seen c.args.files.now) (g.K.Sink.seen c.args.out.now)) (outside (g.F.Files.seen c.read_next.new.files) (g.K.Sink.seen c.read_next.new.out)))
           (sym adds.files)
-          (has_loaded-next c.args.config.now c.loop-at.at c.loop-at.loaded.files file adds.next _ _ _ (slice_get_within files c.loop-at.at file there) there c.loop-at.invariant.loaded adds.gives);
+          (has_loaded-next c.args.config.now c.loop-at.at c.loop-at.loaded.files.items file adds.next _ _ _ (slice_get_within files c.loop-at.at file there) there c.loop-at.invariant.loaded adds.gives);
       shaped = subst (All (IsShaped c.args.config.now)) (sym adds.files)
-          (All-append (IsShaped c.args.config.now) c.loop-at.loaded.files (adds.next ∷ []) c.loop-at.invariant.shaped
+          (All-append (IsShaped c.args.config.now) c.loop-at.loaded.files.items (adds.next ∷ []) c.loop-at.invariant.shaped
           (All-cons (IsShaped c.args.config.now) adds.next [] adds.shaped (All-nil (IsShaped c.args.config.now))));
     }
 
@@ -51,7 +51,7 @@ returns-clause-ok g c =
     subst (λ (read : List DataFileSeen). GivesValue (data_behind c.args.config.now [] c.args.config.now.files) read
     (outside (g.F.Files.seen c.args.files.now) (g.K.Sink.seen c.args.out.now)) (outside (g.F.Files.seen c.loop-at.files) (g.K.Sink.seen c.loop-at.out)))
     (sym c.into_files.ensures)
-    (has_loaded-all c.args.config.now c.loop-at.at c.loop-at.loaded.files _ _ past c.loop-at.invariant.loaded)
+    (has_loaded-all c.args.config.now c.loop-at.at c.loop-at.loaded.files.items _ _ past c.loop-at.invariant.loaded)
 
 -- and all have the shape that they are to have
 pub returns-clause-shaped : goal.returns-clause-shaped

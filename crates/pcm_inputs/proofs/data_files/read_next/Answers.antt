@@ -10,16 +10,16 @@ use Rattle.pcm_inputs.proofs.data_files.read_next.Goals as goal
 -- the file could not be read
 pub returns-in_err-bytes-clause-err : goal.returns-in_err-bytes-clause-err
 returns-in_err-bytes-clause-err g c =
-    let whole = data_part c.args.config.now c.args.loaded.now.files c.args.file.now in
+    let whole = data_part c.args.config.now c.args.loaded.now.files.items c.args.file.now in
     err-as _ c.in_err-bytes.field-0.0 c.from_residual.result c.from_residual.ensures.1
     (ends-as whole (file_part c.as_str-path.result.now) _ _ _
-    (file-begins c.args.config.now c.args.loaded.now.files c.args.file.now c.as_str-path.result.now _ c.as_str-path.ensures) c.in_err-bytes.ensures.err)
+    (file-begins c.args.config.now c.args.loaded.now.files.items c.args.file.now c.as_str-path.result.now _ c.as_str-path.ensures) c.in_err-bytes.ensures.err)
 
 -- with the others it is too long
 pub returns-then-size-left-clause-err : goal.returns-then-size-left-clause-err
 returns-then-size-left-clause-err g c =
     let config = c.args.config.now in
-    let before = c.args.loaded.now.files in
+    let before = c.args.loaded.now.files.items in
     let file = c.args.file.now in
     let path = c.as_str-path.result.now in
     let bytes = c.in_ok-bytes.bytes.items in
@@ -36,7 +36,7 @@ keep-requires-clause-size g c = omega (arith, c.len-size.ensures, ap length c.in
 pub returns-in-Ok-file_of-clause-ok : goal.returns-in-Ok-file_of-clause-ok
 returns-in-Ok-file_of-clause-ok g c =
     let config = c.args.config.now in
-    let before = c.args.loaded.now.files in
+    let before = c.args.loaded.now.files.items in
     let file = c.args.file.now in
     let bytes = c.in_ok-bytes.bytes.items in
     on-ok c.keep.result c.keep.ensures.ok (λ kept. record {
@@ -55,7 +55,7 @@ returns-in-Ok-file_of-clause-ok g c =
 pub returns-in-Err-clause-err : goal.returns-in-Err-clause-err
 returns-in-Err-clause-err g c =
     let config = c.args.config.now in
-    let before = c.args.loaded.now.files in
+    let before = c.args.loaded.now.files.items in
     let file = c.args.file.now in
     let path = c.as_str-path.result.now in
     let bytes = c.in_ok-bytes.bytes.items in
