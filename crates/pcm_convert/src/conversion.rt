@@ -1,6 +1,7 @@
 //! A conversion: the bytes that it has read wait in a ring, and a chain makes frames of them.
 
-ghost use Rattle.std.specs.Prelude.{◌≡◌, ◌+◌, ◌*◌, vec_len};
+ghost use Rattle.std.specs.Prelude.{◌≡◌, ◌+◌, ◌*◌};
+ghost use Rattle.pcm_fixed.specs.Fixed.{fixed_len};
 ghost use Rattle.pcm_format.specs.Frames.{frame_bytes};
 ghost use Rattle.pcm_format.specs.Layouts.{channels_of};
 ghost use Rattle.pcm_rate.specs.Rates.{need};
@@ -13,6 +14,7 @@ ghost use Rattle.pcm_convert.specs.declared.conversion.TheConstants.{BLOCK};
 
 use pcm_chain::ChainOf;
 use pcm_feeder::{Feeder, RackOf, Tables, UNITY};
+use pcm_fixed::Fixed;
 use pcm_format::{Settings, spell_frames};
 use pcm_plan::plan_record;
 use pcm_ring::ByteRing;
@@ -32,7 +34,7 @@ pub struct ConversionOf<B> {
     tables: Tables,
     chain: ChainOf<B>,
     ring: ByteRing,
-    samples: Vec<i32>,
+    samples: Fixed<i32>,
     // How many bytes of the body went into the ring.
     entered: usize,
     ghost source_rate: { IsRate source.rate },
@@ -41,7 +43,7 @@ pub struct ConversionOf<B> {
     ghost plan: { plan_in chain ≡ conversion_plan source target },
     ghost room: { ring.size
         ≡ need (rate_in_plan (conversion_plan source target)) (BLOCK + 1) * frame_bytes source },
-    ghost block: { vec_len samples ≡ BLOCK * channels_of target.layout },
+    ghost block: { fixed_len samples ≡ BLOCK * channels_of target.layout },
 }
 
 impl<B: Feeder> ConversionOf<B> {
@@ -70,7 +72,7 @@ impl<B: Feeder> ConversionOf<B> {
         // So many frames are enough for a block, wherever the conversion stands.
         let frames = plan.need(BLOCK as u64 + 1) as usize;
         let ring = ByteRing::new(alloc, frames * source.frame_bytes())?;
-        let samples = vec![in alloc; 0i32; BLOCK * target.layout.channels()]?;
+        let samples = Fixed::new(vec![in alloc; 0i32; BLOCK * target.layout.channels()]?);
         let mut chain = ChainOf::new(alloc, rack)?;
         chain.reset(&plan);
         Ok(ConversionOf {

@@ -2,7 +2,7 @@ use Rattle.std.specs.Prelude.{All}
 use Rattle.std.specs.List.{flat_map}
 use Rattle.std.proofs.Common.{◌≡◌, ◌+◌, ◌*◌, ◌<◌, ◌++◌, ℕ, length, take, drop, refl, sym, ap, ◌∙◌, subst, arith}
 use Rattle.std.proofs.Math.Nat.{mul-le-mul_right, mul_assoc}
-use Rattle.std.proofs.lemmas.List.{length-take-le, take_at}
+use Rattle.std.proofs.lemmas.List.{length-take-le}
 use Rattle.std.proofs.lemmas.List.Elements.{All-from_get_or}
 use Rattle.pcm_format.specs.Formats.{bits_of, bytes_of}
 use Rattle.pcm_format.specs.Frames.{frame_bytes, frames}
@@ -10,6 +10,7 @@ use Rattle.pcm_format.specs.Layouts.{channels_of}
 use Rattle.pcm_format.specs.Samples.{spelled}
 use Rattle.pcm_ring.specs.Ring.{Ring}
 use Rattle.pcm_feeder.specs.Filters.{Filters}
+use Rattle.pcm_fixed.proofs.Items.{items-written}
 use Rattle.pcm_plan.specs.Fits.{HaveTables}
 use Rattle.pcm_plan.specs.Plans.{PlanSeen}
 use Rattle.pcm_plan.specs.Through.{recs}
@@ -46,7 +47,7 @@ spell_frames-requires-clause-lengths g c =
     let bytes : length (take (n * c.frame_bytes.result) c.args.out.now) ≡ n * frame_bytes target =
     ap (λ k. length (take (n * k) c.args.out.now)) c.frame_bytes.ensures ∙ length-take-le (n * frame_bytes target) c.args.out.now (omega (arith, few, c.requires.room)) in
     let back : c.deref.result.now ≡ c.pull-pulled.new.out =
-    c.deref.ensures.value ∙ take_at c.pull-pulled.new.out (drop (length c.pull-pulled.new.out) c.args.self.now.samples.items) c.args.self.now.samples.len (omega (arith, c.pull-pulled.auto.out, c.deref_mut.ensures.len)) in
+    c.deref.ensures.value ∙ items-written c.args.self.now.samples c.pull-pulled.new.out (c.pull-pulled.auto.out ∙ c.deref_mut.ensures.len) in
     let count : length (take (n * c.channels.result) c.deref.result.now) ≡ n * channels =
     ap (λ k. length (take (n * k) c.deref.result.now)) c.channels.ensures ∙ length-take-le (n * channels) c.deref.result.now (omega (arith, narrow, ap length back, c.pull-pulled.auto.out, c.deref_mut.ensures.len, c.args.self.now.block)) in
     bytes ∙ sym (mul_assoc n channels (bytes_of target.format)) ∙ ap (λ k. k * bytes_of target.format) (sym count)
@@ -64,7 +65,7 @@ spell_frames-requires-clause-range g c =
     let list = recs (conversion_plan old.source old.target) no_filters all given n in
     let below : All (λ byte. byte < 256) body = All-from_get_or (λ byte. byte < 256) body 0 (λ i _. (c.type_inv.body i).fits) in
     let back : c.deref.result.now ≡ c.pull-pulled.new.out =
-    c.deref.ensures.value ∙ take_at c.pull-pulled.new.out (drop (length c.pull-pulled.new.out) c.args.self.now.samples.items) c.args.self.now.samples.len (omega (arith, c.pull-pulled.auto.out, c.deref_mut.ensures.len)) in
+    c.deref.ensures.value ∙ items-written c.args.self.now.samples c.pull-pulled.new.out (c.pull-pulled.auto.out ∙ c.deref_mut.ensures.len) in
     let front = ap (λ samples. take (n * c.channels.result) samples) back ∙ ap (λ k. take (n * k) c.pull-pulled.new.out) c.channels.ensures ∙ block.frames_are in
     rw front (interleaved-bits (bits_of old.target.format) list (recs-bits no_filters 1 old.target old.source all given n old.target_rate (frames-bits old.source body below)))
 
@@ -88,7 +89,7 @@ returns-clause-block g c = λ given s.
     let format = old.target.format in
     let list = recs (conversion_plan old.source old.target) no_filters (frames old.source body) given n in
     let back : c.deref.result.now ≡ c.pull-pulled.new.out =
-    c.deref.ensures.value ∙ take_at c.pull-pulled.new.out (drop (length c.pull-pulled.new.out) c.args.self.now.samples.items) c.args.self.now.samples.len (omega (arith, c.pull-pulled.auto.out, c.deref_mut.ensures.len)) in
+    c.deref.ensures.value ∙ items-written c.args.self.now.samples c.pull-pulled.new.out (c.pull-pulled.auto.out ∙ c.deref_mut.ensures.len) in
     let front = ap (λ samples. take (n * c.channels.result) samples) back ∙ ap (λ k. take (n * k) c.pull-pulled.new.out) c.channels.ensures ∙ block.frames_are in
     ap (λ bytes. bytes ++ drop (n * c.frame_bytes.result) c.args.out.now)
     (c.spell_frames.ensures ∙ ap (flat_map (spelled format)) front ∙ spelled-interleaved format list ∙ block-recs old.source old.target body given n old.source_rate old.target_rate block.count)
