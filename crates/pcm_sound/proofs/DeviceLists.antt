@@ -47,7 +47,7 @@ use Rattle.pcm_sound.proofs.Numbers.{by-number}
 use Rattle.pcm_sound.proofs.Sounding.{fader-later}
 use Rattle.pcm_sound.proofs.Stories.{table_of-told}
 
-fold-same : {A B : Type 0} (f g : B → A → B) (start : B) (xs : List A) → ((b : B) (x : A) → f b x ≡ g b x) → fold f start xs ≡ fold g start xs
+pub fold-same : {A B : Type 0} (f g : B → A → B) (start : B) (xs : List A) → ((b : B) (x : A) → f b x ≡ g b x) → fold f start xs ≡ fold g start xs
 fold-same f g start [] h = refl
 fold-same f g start (x ∷ xs) h = rw (h start x) (fold-same f g (g start x) xs h)
 

@@ -113,7 +113,7 @@ RunIsHeard device mixed run = IsUnbroken run → HeardFrom device mixed run run.
 over_from_heard : (device : DeviceSeen) (mixed : ℕ) (run : Run) (start : Option ℕ) → IsOverFrom device mixed run start → IsUnbroken run → HeardFrom device mixed run start
 over_from_heard device mixed run None over unbroken = over
 over_from_heard device mixed run (Some start) over unbroken =
-    let o = over unbroken in
+    let o = over.1 unbroken in
     record { count = o.count; follow = o.follow; past = o.past; end = o.end mixed (omega arith) }
 
 over_heard : (device : DeviceSeen) (mixed : ℕ) (run : Run) → IsOver device mixed run → RunIsHeard device mixed run
@@ -196,7 +196,7 @@ map-runs-heard device mixed book (run ∷ runs) v =
 -- ---- spans
 
 -- a run that started, as it is heard until a position
-abbrev span_from : DeviceSeen → ℕ → Run → ℕ → Span
+abbrev pub span_from : DeviceSeen → ℕ → Run → ℕ → Span
 span_from device until run start = record { plan = play_plan_between device run.settings; stream = run_frames run; start = start; end = run_end device until start run }
 
 -- it is heard at a position

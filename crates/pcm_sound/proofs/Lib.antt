@@ -12,6 +12,7 @@ pub mod Numbers
 pub mod DeviceLists
 pub mod Heard
 pub mod Plain
+pub mod Apart
 pub mod FadedBlocks
 pub mod Turns
 pub mod MapTurns

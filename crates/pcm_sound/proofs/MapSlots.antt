@@ -31,7 +31,7 @@ use Rattle.pcm_sound.specs.MapRuns.{map_marking, map_piece, map_played, map_play
 use Rattle.pcm_sound.specs.Plain.{IsUnbroken, lasting}
 use Rattle.pcm_sound.specs.Places.{FollowFrom, IsGoingMap, IsOver, IsOverFrom, MapArePlaced}
 use Rattle.pcm_sound.specs.Valid.{HasRate, MapIsNewest, MapIsValid, PieceIsValid, RunIsValid, frames_given, given_in}
-use Rattle.pcm_sound.proofs.Places.{over-all}
+use Rattle.pcm_sound.proofs.Places.{dropped-within, over-all}
 use Rattle.pcm_sound.proofs.Slots.{frames_given-grows}
 
 -- ---- what an event that mixes nothing leaves of a book
@@ -139,9 +139,9 @@ placed_same device mixed old new (run ∷ runs) g p = (
 )
 
 -- all runs of a slot that hasn't started are over
-over_idle : (device : DeviceSeen) (mixed : ℕ) (book : MapBook) (runs : List Run) → MapArePlaced device mixed book false runs → All (IsOver device mixed) runs
-over_idle device mixed book [] p = All-nil (IsOver device mixed)
-over_idle device mixed book (run ∷ runs) p = All-cons (IsOver device mixed) run runs (p.1 refl) p.0
+pub unstarted-over : (device : DeviceSeen) (mixed : ℕ) (book : MapBook) (runs : List Run) → MapArePlaced device mixed book false runs → All (IsOver device mixed) runs
+unstarted-over device mixed book [] p = All-nil (IsOver device mixed)
+unstarted-over device mixed book (run ∷ runs) p = All-cons (IsOver device mixed) run runs (p.1 refl) p.0
 
 idle_over : (device : DeviceSeen) (mixed : ℕ) (book : MapBook) (runs : List Run) → All (IsOver device mixed) runs → MapArePlaced device mixed book false runs
 idle_over device mixed book [] over = tt
@@ -159,12 +159,15 @@ stop_end false start lasts given mixed until e n h = omega arith
 stopped_over : (device : DeviceSeen) (mixed : ℕ) (book : MapBook) (run : Run) → run.drained ≡ false → IsGoingMap mixed book run → IsOver device mixed (record run { dropped = Some mixed })
 stopped_over device mixed book run more g =
     let next = g.next in
-    subst (IsOverFrom device mixed (record run { dropped = Some mixed })) (sym g.started) (λ unbroken. record {
-      count = book.given;
-      follow = g.follow;
-      past = omega arith;
-      end = λ until h. stop_end run.drained g.start (lasting device run) book.given mixed until more next h;
-    })
+    subst (IsOverFrom device mixed (record run { dropped = Some mixed })) (sym g.started) (
+      λ until. dropped-within (cond run.drained (g.start + lasting device run) until) mixed until,
+      λ unbroken. record {
+        count = book.given;
+        follow = g.follow;
+        past = omega arith;
+        end = λ until h. stop_end run.drained g.start (lasting device run) book.given mixed until more next h;
+      },
+    )
 
 -- the slot after one of these
 marked : (was is : Bool) (device : DeviceSeen) (mixed : ℕ) (old new : MapBook) (runs : List Run) → is_map_running old.state ≡ was → is_map_running new.state ≡ is
@@ -188,7 +191,7 @@ marked false false device mixed old new runs was is k v = record {
   pieces = v.pieces;
   own = v.own;
   placed = subst (λ (b : Bool). MapArePlaced device mixed new b runs) (sym is)
-      (idle_over device mixed new runs (over_idle device mixed old runs (subst (λ (b : Bool). MapArePlaced device mixed old b runs) was v.placed)));
+      (idle_over device mixed new runs (unstarted-over device mixed old runs (subst (λ (b : Bool). MapArePlaced device mixed old b runs) was v.placed)));
   whole = v.whole;
 }
 marked false true device mixed old new runs was is k v =
@@ -203,7 +206,7 @@ marked false true device mixed old new runs was is k v =
       pieces = All-cons (RunIsValid device mixed) run runs (All-nil (PieceIsValid mixed (given_in device run))) v.pieces;
       own = All-cons HasRate run runs (k.rate v.settings) v.own;
       placed = subst (λ (b : Bool). MapArePlaced device mixed new b (run ∷ runs)) (sym is) (
-        over_idle device mixed old runs (subst (λ (b : Bool). MapArePlaced device mixed old b runs) was v.placed),
+        unstarted-over device mixed old runs (subst (λ (b : Bool). MapArePlaced device mixed old b runs) was v.placed),
         (λ off. cc),
         (λ on. record { start = mixed; started = refl; dropped = refl; follow = none; next = omega arith }),
       );
@@ -264,7 +267,7 @@ idle_valid device mixed n book area runs off v =
       pieces = runs_later device mixed (mixed + n) runs (omega arith) v.pieces;
       own = v.own;
       placed = subst (λ (b : Bool). MapArePlaced device (mixed + n) book b runs) (sym off)
-          (idle_over device (mixed + n) book runs (over-all device mixed (mixed + n) runs (omega arith) (over_idle device mixed book runs (subst (λ (b : Bool). MapArePlaced device mixed book b runs) off v.placed))));
+          (idle_over device (mixed + n) book runs (over-all device mixed (mixed + n) runs (omega arith) (unstarted-over device mixed book runs (subst (λ (b : Bool). MapArePlaced device mixed book b runs) off v.placed))));
       whole = v.whole;
     })
 

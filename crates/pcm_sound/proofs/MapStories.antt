@@ -149,6 +149,19 @@ map_marking-same position old new runs same = at (is_map_running old.state) (is_
     at true false e = cc
     at false true e = cc
 
+-- an event that mixes nothing takes nothing of a slot
+pub map-untaken : (device : DeviceSeen) (pool : Pool) (desk : Desk) (event : Event) (book : MapBook) (area : List ℕ) (runs : List Run) → Fits device pool event → frames_taken event ≡ 0 → map_carrying device desk event book area runs ≡ runs
+map-untaken device pool desk (Open fd way settings) book area runs fits none = refl
+map-untaken device pool desk (Write fd source at count) book area runs fits none = refl
+map-untaken device pool desk (Poke fd offset at count) book area runs fits none = refl
+map-untaken device pool desk (Read fd count) book area runs fits none = refl
+map-untaken device pool desk (Ioctl fd request) book area runs fits none = refl
+map-untaken device pool desk (Join fd group) book area runs fits none = refl
+map-untaken device pool desk (StartGroup fd group) book area runs fits none = refl
+map-untaken device pool desk (Close fd) book area runs fits none = refl
+map-untaken device pool desk (Mixer request) book area runs fits none = refl
+map-untaken device pool desk (Intr n) book area runs fits none = absurd (let some = fits.0 in omega arith)
+
 -- what an interrupt takes of a slot
 abbrev pub map_taken_at : DeviceSeen → Story → ℕ → ℕ → List Run
 map_taken_at device story n slot = map_playing device story.desk.mixed (mixed_by device story.desk.handed n) (map_at device story.desk slot) (story.areas slot) (story.map_runs slot)

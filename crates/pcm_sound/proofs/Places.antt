@@ -32,9 +32,12 @@ use Rattle.pcm_sound.proofs.Slots.{Accepts, IsUntold, none_above, still_drained}
 -- a run that is over at a position is over at any later one
 over_from_later : (device : DeviceSeen) (mixed later : ℕ) (run : Run) (start : Option ℕ) → mixed ≤ later → IsOverFrom device mixed run start → IsOverFrom device later run start
 over_from_later device mixed later run None h over = over
-over_from_later device mixed later run (Some start) h over = λ unbroken.
-    let o = over unbroken in
-    record { count = o.count; follow = o.follow; past = (let past = o.past in omega arith); end = λ until l. o.end until (omega arith) }
+over_from_later device mixed later run (Some start) h over = (
+  λ until. let end = over.0 until in omega arith,
+  λ unbroken.
+      let o = over.1 unbroken in
+      record { count = o.count; follow = o.follow; past = (let past = o.past in omega arith); end = λ until l. o.end until (omega arith) },
+)
 
 over-later : (device : DeviceSeen) (mixed later : ℕ) (run : Run) → mixed ≤ later → IsOver device mixed run → IsOver device later run
 over-later device mixed later run h over = over_from_later device mixed later run run.start h over
@@ -87,6 +90,15 @@ lasted_end true None start lasts until d e l = omega arith
 lasted_end true (Some position) start lasts until d e l = cc
 lasted_end false dropped start lasts until d e l = cc
 
+-- a run that was dropped ends by there, whether it lasts longer or not
+pub dropped-within : (lasted mixed until : ℕ) → min lasted (min mixed until) ≤ mixed
+dropped-within lasted mixed until = omega arith
+
+-- and one that was drained by what it lasts for
+lasted_within : (drained : Bool) (lasted until rest mixed : ℕ) → drained ≡ true → lasted ≤ mixed → min (cond drained lasted until) rest ≤ mixed
+lasted_within true lasted until rest mixed d l = omega arith
+lasted_within false lasted until rest mixed d l = cc
+
 -- ---- what an event tells of the newest run
 
 -- a run with the marks of an event, from whether its book was started before and after it, drains, and is dropped
@@ -122,17 +134,21 @@ waiting_over device mixed run w = subst (λ (start : Option ℕ). IsOverFrom dev
 
 -- a run that was going, once it is over
 going_over : (device : DeviceSeen) (mixed : ℕ) (book : PlayBook) (was run : Run) → run.start ≡ was.start → run.pieces ≡ was.pieces → IsGoing device mixed book was
+    → ((start : ℕ) → start + book.given ≤ mixed → (until : ℕ) → run_end device until start run ≤ mixed)
     → ((start : ℕ) → start + book.given ≤ mixed → ((was.drained ≡ true → book.given < lasting device was) → start + book.given ≡ mixed) → (until : ℕ) → mixed ≤ until → run_end device until start run ≡ start + book.given)
     → IsOver device mixed run
-going_over device mixed book was run start pieces g end =
-    subst (λ (s : Option ℕ). IsOverFrom device mixed run s) (sym (start ∙ g.started)) (λ unbroken.
-    let whole : IsUnbroken was = subst (λ (list : List Piece). All (λ (piece : Piece). piece.short ≡ 0) list) pieces unbroken in
-    record {
-      count = book.given;
-      follow = subst (λ (list : List Piece). FollowFrom g.start book.given list) (sym pieces) (g.follow whole);
-      past = g.past;
-      end = λ until l. end g.start g.past (g.next whole) until l;
-    })
+going_over device mixed book was run start pieces g within end =
+    subst (λ (s : Option ℕ). IsOverFrom device mixed run s) (sym (start ∙ g.started)) (
+      λ until. within g.start g.past until,
+      λ unbroken.
+          let whole : IsUnbroken was = subst (λ (list : List Piece). All (λ (piece : Piece). piece.short ≡ 0) list) pieces unbroken in
+          record {
+            count = book.given;
+            follow = subst (λ (list : List Piece). FollowFrom g.start book.given list) (sym pieces) (g.follow whole);
+            past = g.past;
+            end = λ until l. end g.start g.past (g.next whole) until l;
+          },
+    )
 
 -- a run that its book counted, once nothing of it is left
 over_counted : (before after draining dropping : Bool) (device : DeviceSeen) (mixed : ℕ) (old : PlayBook) (run : Run) → is_started old.state ≡ before → after ≡ false
@@ -145,11 +161,14 @@ over_counted false false draining dropping device mixed old run b a most whole c
 over_counted true false draining true device mixed old run b a most whole c =
     let now : Run = told_run true false draining true mixed run in
     going_over device mixed old run now refl refl (c.goes b)
+    (λ start past until. dropped-within (cond now.drained (start + lasting device run) until) mixed until)
     (λ start past next until l. dropped_end run.drained now.drained (lasting device run) start old.given mixed until (still_drained run.drained draining ((true && not false) && not true)) (most refl) past next l)
 over_counted true false draining false device mixed old run b a most whole c =
     let all = whole refl refl in
     let now : Run = told_run true false draining false mixed run in
-    going_over device mixed old run now refl refl (c.goes b) (λ start past next until l.
+    going_over device mixed old run now refl refl (c.goes b)
+    (λ start past until. lasted_within now.drained (start + lasting device run) until (min (drop_end until run.dropped) until) mixed (drained_now run.drained draining) (omega arith))
+    (λ start past next until l.
     lasted_end now.drained run.dropped start (lasting device run) until (drained_now run.drained draining) c.dropped (omega arith) ∙ ap (λ lasted. start + lasted) (sym all))
 
 -- a run that its book goes on to count

@@ -64,7 +64,7 @@ use Rattle.pcm_sound.proofs.Slots.{Accepts, WritesSome, IsUntold, writes-nothing
 use Rattle.pcm_sound.proofs.Places.{placed-left, placed-taken}
 use Rattle.pcm_sound.proofs.Interrupts.{placed-passing}
 use Rattle.pcm_sound.proofs.MapSlots.{map-marked}
-use Rattle.pcm_sound.proofs.MapStories.{keeps-maps, map-interrupted, map-valid-start, sounding-map_carrying, sounding-map_marking}
+use Rattle.pcm_sound.proofs.MapStories.{keeps-maps, map-interrupted, map-untaken, map-valid-start, sounding-map_carrying, sounding-map_marking}
 
 -- ---- the counts of a book
 
@@ -673,20 +673,8 @@ maps-kept device pool story event fits none same v slot =
     let old : MapBook = map_at device story.desk slot in
     let new : MapBook = map_at device (after device story.desk event).desk slot in
     subst (λ (mixed : ℕ). MapIsValid device mixed new ((told device pool story event).map_runs slot)) (sym same)
-    (subst (λ (runs : List Run). MapIsValid device story.desk.mixed new (map_marking story.desk.mixed old new runs)) (sym (untaken event fits none))
+    (subst (λ (runs : List Run). MapIsValid device story.desk.mixed new (map_marking story.desk.mixed old new runs)) (sym (map-untaken device pool story.desk event old (story.areas slot) (story.map_runs slot) fits none))
     (map-marked device story.desk.mixed old new (story.map_runs slot) (keeps-maps device pool story.desk event fits none slot) (v.maps slot)))
-  where
-    untaken : (event : Event) → Fits device pool event → frames_taken event ≡ 0 → map_carrying device story.desk event (map_at device story.desk slot) (story.areas slot) (story.map_runs slot) ≡ story.map_runs slot
-    untaken (Open fd way settings) fits none = refl
-    untaken (Write fd source at count) fits none = refl
-    untaken (Poke fd offset at count) fits none = refl
-    untaken (Read fd count) fits none = refl
-    untaken (Ioctl fd request) fits none = refl
-    untaken (Join fd group) fits none = refl
-    untaken (StartGroup fd group) fits none = refl
-    untaken (Close fd) fits none = refl
-    untaken (Mixer request) fits none = refl
-    untaken (Intr n) fits none = absurd (let some = fits.0 in omega arith)
 
 -- a slot of the next desk is valid once its newest run was told of the event
 valid-at : (device : DeviceSeen) (pool : Pool) (story : Story) (event : Event) (mixed slot : ℕ) → IsDevice device → (after device story.desk event).desk.mixed ≡ mixed

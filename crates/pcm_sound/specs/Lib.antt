@@ -9,6 +9,7 @@ pub mod StoryReplies
 pub mod Mix
 pub mod DeviceList
 pub mod Plain
+pub mod Apart
 pub mod Places
 pub mod Added
 pub mod Valid

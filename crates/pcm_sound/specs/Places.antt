@@ -25,9 +25,9 @@ pub record IsPlayed (device : DeviceSeen) (mixed start : ℕ) (run : Run) : Type
 -- a run that is over, by where it started
 abbrev pub IsOverFrom : DeviceSeen → ℕ → Run → Option ℕ → Type 0
 IsOverFrom device mixed run None = run.pieces ≡ []
-IsOverFrom device mixed run (Some start) = IsUnbroken run → IsPlayed device mixed start run
+IsOverFrom device mixed run (Some start) = ((until : ℕ) → run_end device until start run ≤ mixed) × (IsUnbroken run → IsPlayed device mixed start run)
 
--- a run that is over: nothing is heard of it if it never started, else its pieces as long as none is short
+-- a run that is over: nothing is heard of it if it never started, else it ends by what is mixed, and its pieces are heard as long as none is short
 abbrev pub IsOver : DeviceSeen → ℕ → Run → Type 0
 IsOver device mixed run = IsOverFrom device mixed run run.start
 

@@ -1,4 +1,4 @@
-//! What holds of all recordings, and of all runs without a shortage: the functions here have no work, and their contracts are the laws.
+//! What holds of all recordings and of all runs, and more of runs without a shortage: the functions here have no work, and their contracts are the laws.
 
 ghost use Rattle.std.specs.Prelude.{◌≡◌, ◌<◌, ◌≤◌, ◌+◌, ◌-◌, ◌^◌, ◌↔◌, ◌++◌, ◌∷◌, ℕ, true, min, List, length, take, drop, slice_index_or, All, IsOk, Ok, Some};
 ghost use Rattle.pcm_format.specs.declared.settings.Settings.{Settings};
@@ -22,9 +22,10 @@ ghost use Rattle.pcm_desk.specs.Events.{Fits};
 ghost use Rattle.pcm_desk.specs.Own.{HoldApart, MembersWait};
 ghost use Rattle.pcm_desk.specs.OwnEvents.{JoinsNone, Opens, own_events};
 ghost use Rattle.pcm_desk.specs.RecordBooks.{is_running};
-ghost use Rattle.pcm_sound.specs.DeviceList.{device_text};
+ghost use Rattle.pcm_sound.specs.Apart.{AreApart, all_by_pieces, all_by_spans, sum_of_all};
+ghost use Rattle.pcm_sound.specs.DeviceList.{device_text, faded_table, sum_at, table_of};
 ghost use Rattle.pcm_sound.specs.OwnReplies.{client_replies};
-ghost use Rattle.pcm_sound.specs.Plain.{AgreeInCommon, HasNoShortage, IsInPlace, IsUnbroken, SoundAlike, plain_text};
+ghost use Rattle.pcm_sound.specs.Plain.{AgreeInCommon, HasNoShortage, IsInPlace, IsUnbroken, SoundAlike, plain_table, plain_text};
 ghost use Rattle.pcm_sound.specs.Gains.{master_gain_at, slot_gain_at};
 ghost use Rattle.pcm_sound.specs.Given.{recorded_bytes};
 ghost use Rattle.pcm_sound.specs.MapRuns.{area_taken};
@@ -54,6 +55,25 @@ pub fn pieces_stand_in_their_place()
         → All (Fits device pool) events
         → let story = story_of device pool events in
         All (λ run. IsUnbroken run → IsInPlace device story.desk.mixed run) (story.runs slot) }
+{}
+
+/// No position has two pieces of the runs of a slot, nor two of their spans, whatever was short. So what all runs give there, by their pieces or by
+/// their spans, has the sum of what each slot gives.
+pub fn runs_of_a_slot_lie_apart()
+    ensures apart { (device : DeviceSeen) (pool : Pool) (events : List Event) (slot : ℕ) → IsDevice device
+        → All (Fits device pool) events
+        → let story = story_of device pool events in
+        AreApart device story.desk.mixed (story.runs slot) × AreApart device story.desk.mixed (story.map_runs slot) }
+    ensures mix { (device : DeviceSeen) (pool : Pool) (events : List Event) (position : ℕ) → IsDevice device
+        → All (Fits device pool) events
+        → let story = story_of device pool events in
+        sum_of_all device story.faders (all_by_pieces device story) position
+        ≡ sum_at device (faded_table device story.faders (table_of device story)) position }
+    ensures plain { (device : DeviceSeen) (pool : Pool) (events : List Event) (position : ℕ) → IsDevice device
+        → All (Fits device pool) events
+        → let story = story_of device pool events in
+        sum_of_all device story.faders (all_by_spans device story) position
+        ≡ sum_at device (faded_table device story.faders (plain_table device story)) position }
 {}
 
 /// A run of a mapped channel is never short, so its pieces stand in their place whatever happens: at each position of the run its slot gives
