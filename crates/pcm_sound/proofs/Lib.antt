@@ -24,3 +24,5 @@ pub mod AreaLaws
 pub mod FaderLaws
 pub mod OwnReplies
 pub mod Together
+pub mod OwnAreas
+pub mod AreasAlike

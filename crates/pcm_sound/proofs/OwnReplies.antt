@@ -112,17 +112,17 @@ next_same device pool handed event fd (Mapped book) recording n = refl
 next_same device pool handed event fd (Recording book) recording n = starts_none (is_running book.state) (recording_from handed) (going_on device pool event book book recording) ∙ goes_nowhere device pool event fd book recording n
 
 -- nor does it hand frames over
-takes_none : (event : Event) (fd : ℕ) → concerns fd event ≡ false → frames_taken event ≡ 0
-takes_none (Open at way settings) fd n = refl
-takes_none (Write at source from count) fd n = refl
-takes_none (Poke at offset from count) fd n = refl
-takes_none (Read at count) fd n = refl
-takes_none (Ioctl at request) fd n = refl
-takes_none (Join at group) fd n = refl
-takes_none (StartGroup at group) fd n = refl
-takes_none (Close at) fd n = refl
-takes_none (Mixer request) fd n = refl
-takes_none (Intr frames) fd n = cc
+pub takes-none : (event : Event) (fd : ℕ) → concerns fd event ≡ false → frames_taken event ≡ 0
+takes-none (Open at way settings) fd n = refl
+takes-none (Write at source from count) fd n = refl
+takes-none (Poke at offset from count) fd n = refl
+takes-none (Read at count) fd n = refl
+takes-none (Ioctl at request) fd n = refl
+takes-none (Join at group) fd n = refl
+takes-none (StartGroup at group) fd n = refl
+takes-none (Close at) fd n = refl
+takes-none (Mixer request) fd n = refl
+takes-none (Intr frames) fd n = cc
 
 -- a read of its own gets the bytes of its recording
 read_own : (device : DeviceSeen) (story : Story) (count : ℕ) (way : Way) (slot : ℕ)
@@ -224,7 +224,7 @@ told_step device pool story event events fd held false closing o c h m a joined 
     let more : List Event = own_events fd events in
     let channel : Channel = channel_at device story.desk held in
     let is = other-stays device event story.desk fd held o joined h m a in
-    let none : new.desk.handed ≡ story.desk.handed = (let taken = handed-taken device story.desk event in let nothing = takes_none event fd o in omega arith) in
+    let none : new.desk.handed ≡ story.desk.handed = (let taken = handed-taken device story.desk event in let nothing = takes-none event fd o in omega arith) in
     rest (others-go event fd o) is.holds is.alone
     ∙ ap (λ (r : recordings.Recording). own_told device pool (channel_at device new.desk held) r new.desk.handed more)
     (next_told device pool story event held.way held.slot ∙ ap (λ (c : Channel). next_recording device pool story.desk.handed event channel c (own_recording story held)) is.channel

@@ -158,9 +158,9 @@ start-as-one device pool story fd group v waits ok =
     Goal turn = IsOk turn.reply → turn.desk ≡ (after device story.desk (StartGroup fd group)).desk → StartAsOne device group story (told device pool story (StartGroup fd group))
 
 -- the desk of a story
-desk_of : (device : DeviceSeen) (pool : Pool) (story : Story) (events : List Event) → (told_all device pool story events).desk ≡ after_all device story.desk events
-desk_of device pool story [] = refl
-desk_of device pool story (event ∷ events) = desk_of device pool (told device pool story event) events
+pub desk-told : (device : DeviceSeen) (pool : Pool) (story : Story) (events : List Event) → (told_all device pool story events).desk ≡ after_all device story.desk events
+desk-told device pool story [] = refl
+desk-told device pool story (event ∷ events) = desk-told device pool (told device pool story event) events
 
 -- of any script
 pub start-in-story : (device : DeviceSeen) (pool : Pool) (events : List Event) (fd group : ℕ) → IsDevice device → All (Fits device pool) events
@@ -168,4 +168,4 @@ pub start-in-story : (device : DeviceSeen) (pool : Pool) (events : List Event) (
     IsOk (after device story.desk (StartGroup fd group)).reply → StartAsOne device group story (told device pool story (StartGroup fd group))
 start-in-story device pool events fd group d fit =
     start-as-one device pool (story_of device pool events) fd group (valid-story device pool events d fit)
-    (subst (MembersWait device) (sym (desk_of device pool (story_at_start device) events)) (waits-always device events))
+    (subst (MembersWait device) (sym (desk-told device pool (story_at_start device) events)) (waits-always device events))

@@ -16,3 +16,4 @@ pub mod Valid
 pub mod Together
 pub mod Pools
 pub mod OwnReplies
+pub mod OwnAreas

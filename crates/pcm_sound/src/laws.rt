@@ -1,6 +1,6 @@
 //! What holds of all recordings and of all runs, and more of runs without a shortage: the functions here have no work, and their contracts are the laws.
 
-ghost use Rattle.std.specs.Prelude.{◌≡◌, ◌<◌, ◌≤◌, ◌+◌, ◌-◌, ◌^◌, ◌↔◌, ◌++◌, ◌∷◌, ℕ, true, min, List, length, take, drop, slice_index_or, All, IsOk, Ok, Some};
+ghost use Rattle.std.specs.Prelude.{◌≡◌, ◌<◌, ◌≤◌, ◌+◌, ◌-◌, ◌^◌, ◌↔◌, ◌++◌, ◌∷◌, ℕ, true, false, min, List, length, take, drop, slice_index_or, All, IsOk, Ok, Some};
 ghost use Rattle.pcm_format.specs.declared.settings.Settings.{Settings};
 ghost use Rattle.pcm_oss.specs.declared.event.Event.{Event};
 ghost use Rattle.pcm_oss.specs.declared.event.Event.TheVariants.{Mixer, Open, Poke, StartGroup};
@@ -18,12 +18,13 @@ ghost use Rattle.pcm_desk.specs.declared.device.Held.{Held};
 ghost use Rattle.pcm_desk.specs.Device.{DeviceSeen, IsDevice, device_settings};
 ghost use Rattle.pcm_desk.specs.Desk.{after, held_by, map_at, mixing, record_at};
 ghost use Rattle.pcm_desk.specs.MapRequests.{map_ask};
-ghost use Rattle.pcm_desk.specs.Events.{Fits};
-ghost use Rattle.pcm_desk.specs.Own.{HoldApart, MembersWait};
-ghost use Rattle.pcm_desk.specs.OwnEvents.{JoinsNone, Opens, own_events};
+ghost use Rattle.pcm_desk.specs.Events.{Fits, IsDescriptor};
+ghost use Rattle.pcm_desk.specs.Own.{HoldApart, MembersWait, descriptor_of};
+ghost use Rattle.pcm_desk.specs.OwnEvents.{JoinsNone, Opens, closes, own_events};
 ghost use Rattle.pcm_desk.specs.RecordBooks.{is_running};
 ghost use Rattle.pcm_sound.specs.Apart.{AreApart, all_by_pieces, all_by_spans, sum_of_all};
 ghost use Rattle.pcm_sound.specs.DeviceList.{device_text, faded_table, sum_at, table_of};
+ghost use Rattle.pcm_sound.specs.OwnAreas.{ChangesOneArea, mapped_slot, own_pokes};
 ghost use Rattle.pcm_sound.specs.OwnReplies.{client_replies};
 ghost use Rattle.pcm_sound.specs.Plain.{AgreeInCommon, HasNoShortage, IsInPlace, IsUnbroken, SoundAlike, plain_table, plain_text};
 ghost use Rattle.pcm_sound.specs.Gains.{master_gain_at, slot_gain_at};
@@ -32,7 +33,7 @@ ghost use Rattle.pcm_sound.specs.MapRuns.{area_taken};
 ghost use Rattle.pcm_sound.specs.Pools.{AreAlike, IsLonger};
 ghost use Rattle.pcm_sound.specs.Recordings.{recorded_frames};
 ghost use Rattle.pcm_sound.specs.Runs.{piece_of};
-ghost use Rattle.pcm_sound.specs.Story.{Story, story_of, told};
+ghost use Rattle.pcm_sound.specs.Story.{Story, story_of, told, told_all};
 ghost use Rattle.pcm_sound.specs.Together.{StartAsOne};
 
 /// What all reads of a running recording got, joined, is a prefix of all that is recorded from its start on, as long as no interrupt lost
@@ -176,9 +177,9 @@ pub fn alike_pools_tell_one_story()
 
 /// Two openings with equal settings, equal events of their own and equal interrupts between them get equal replies, the bytes of reads
 /// included, whatever others do: in one script or in two, as long as the same is captured and as many frames were handed over before, and they
-/// join no group.
+/// join no group. Two that are mapped, whose pokes bring equal bytes, have equal areas until they are closed.
 pub fn clients_are_told_alike()
-    ensures { (device : DeviceSeen) (pool more : Pool) (fd at : ℕ) (way : Way) (settings : Settings) (held theirs : Held)
+    ensures replies { (device : DeviceSeen) (pool more : Pool) (fd at : ℕ) (way : Way) (settings : Settings) (held theirs : Held)
         (one other : Story) (events others : List Event)
         → capture_frames more ≡ capture_frames pool → one.desk.handed ≡ other.desk.handed
         → HoldApart one.desk → HoldApart other.desk → MembersWait device one.desk → MembersWait device other.desk
@@ -188,4 +189,21 @@ pub fn clients_are_told_alike()
         → JoinsNone device fd new.desk events → JoinsNone device at anew.desk others
         → own_events fd events ≡ own_events at others
         → client_replies device pool fd new events ≡ client_replies device more at anew others }
+    ensures areas { (device : DeviceSeen) (pool more : Pool) (fd at slot place : ℕ) (settings : Settings)
+        (one other : Story) (events others : List Event)
+        → one.desk.handed ≡ other.desk.handed → HoldApart one.desk → HoldApart other.desk
+        → let new = told device pool one (Open fd Map settings) in
+        let anew = told device more other (Open at Map settings) in
+        Opens device fd Map settings (mapped_slot slot) one.desk new.desk → Opens device at Map settings (mapped_slot place) other.desk anew.desk
+        → All (λ event. closes fd event ≡ false) events → All (λ event. closes at event ≡ false) others
+        → own_events fd events ≡ own_events at others → own_pokes pool fd events ≡ own_pokes more at others
+        → (told_all device pool new events).areas slot ≡ (told_all device more anew others).areas place }
+{}
+
+/// An event changes at most the area of the channel that its descriptor holds, by the book of that channel and the bytes that it brings: what
+/// others do leaves an area alone.
+pub fn areas_go_alone()
+    ensures { (device : DeviceSeen) (pool : Pool) (events : List Event) (event : Event) → IsDescriptor (descriptor_of event)
+        → let story = story_of device pool events in
+        ChangesOneArea device pool event story (told device pool story event) }
 {}
