@@ -30,8 +30,11 @@ abbrev pub small_mapped : DeviceSeen
 small_mapped = record small_device { slots = 1; maps = 1 }
 
 -- an opening with an area of two fragments of 16 bytes, which are eight frames
+abbrev pub maps_at : ℕ → List Event
+maps_at fd = Open fd Map usual_settings ∷ Ioctl fd (SetFragment 131076) ∷ []
+
 abbrev pub maps_open : List Event
-maps_open = Open 0 Map usual_settings ∷ Ioctl 0 (SetFragment 131076) ∷ []
+maps_open = maps_at 0
 
 abbrev pub maps_lines : List ℕ
 maps_lines = joined (codes "1: ok 1" ∷ codes "2: ok 131076" ∷ [])
@@ -124,6 +127,34 @@ recut_script = record {
   inline_bytes = stereo_bytes (1 ∷ []);
   device_frames = 0;
 }
+
+-- ---- two areas
+
+-- two mapped channels on a ring of four frames
+abbrev pub two_mapped : DeviceSeen
+two_mapped = record small_mapped { maps = 2 }
+
+-- of two clients the second pokes two frames, one where the first pokes its own, and closes
+abbrev pub crowded_script : Script
+crowded_script = record {
+  events = maps_at 0 ++ maps_at 1 ++ Poke 1 0 0 4 ∷ Poke 0 4 4 4 ∷ Intr 1 ∷ Poke 1 4 8 4 ∷ Close 1 ∷ [];
+  inline_bytes = stereo_bytes (1 ∷ 2 ∷ 3 ∷ []);
+  device_frames = 1;
+}
+
+-- the first one by itself
+abbrev pub lone_script : Script
+lone_script = record { events = maps_at 5 ++ Poke 5 4 0 4 ∷ Intr 1 ∷ []; inline_bytes = stereo_bytes (2 ∷ []); device_frames = 1 }
+
+abbrev pub its_area : List ℕ
+its_area = stereo_bytes (0 ∷ 2 ∷ 0 ∷ 0 ∷ 0 ∷ 0 ∷ 0 ∷ 0 ∷ [])
+
+abbrev pub other_area : List ℕ
+other_area = stereo_bytes (1 ∷ 3 ∷ 0 ∷ 0 ∷ 0 ∷ 0 ∷ 0 ∷ 0 ∷ [])
+
+-- its open, its fragments, its poke and the interrupt
+abbrev pub its_pokes : List (List ℕ)
+its_pokes = [] ∷ [] ∷ stereo_bytes (2 ∷ []) ∷ [] ∷ []
 
 -- ---- what is asked of a mapped channel
 

@@ -100,6 +100,7 @@ pub use limits::limits_of_texts;
 pub use limits::numbers_of_an_opening;
 pub use maps::a_halt_leaves_the_area;
 pub use maps::a_poke_changes_what_was_not_taken;
+pub use maps::an_area_among_others;
 pub use maps::an_area_goes_round;
 pub use maps::another_format_silences_the_area;
 pub use maps::bytes_go_round_in_an_area;

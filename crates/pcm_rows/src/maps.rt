@@ -7,8 +7,10 @@ ghost use Rattle.pcm_format.specs.declared.format.Format.TheVariants.{S24Le, U8,
 ghost use Rattle.pcm_oss.specs.declared.event.Way.TheVariants.{Play, Map};
 ghost use Rattle.pcm_desk.specs.Desk.{slot_number};
 ghost use Rattle.pcm_sound.specs.Areas.{area_bytes, poked, silent_byte};
+ghost use Rattle.pcm_sound.specs.OwnAreas.{own_pokes};
+ghost use Rattle.pcm_script.specs.Lines.{pool_of};
 ghost use Rattle.pcm_rows.specs.Calls.{accepted, judged, played, plainly_played, printed, ring_of_silence, stereo_bytes, story_after};
-ghost use Rattle.pcm_rows.specs.MappedRows.{stopped_map_bytes, stopped_map_runs, stopped_map_script, mapped_device, mapped_requests, poked_lines, poked_script, poked_text, recut_script, replies_of, round_bytes, round_lines, round_script, round_text, running_map, running_replies, small_mapped};
+ghost use Rattle.pcm_rows.specs.MappedRows.{crowded_script, its_area, its_pokes, lone_script, mapped_device, mapped_requests, other_area, poked_lines, poked_script, poked_text, recut_script, replies_of, round_bytes, round_lines, round_script, round_text, running_map, running_replies, small_mapped, stopped_map_bytes, stopped_map_runs, stopped_map_script, two_mapped};
 
 /// The device takes what stands in the area when it comes there: of two frames that were poked the second is poked again before it is taken.
 pub fn a_poke_changes_what_was_not_taken()
@@ -29,6 +31,15 @@ pub fn a_halt_leaves_the_area()
     ensures device { played small_mapped stopped_map_script ≡ stopped_map_bytes }
     ensures plain { plainly_played small_mapped stopped_map_script ≡ stopped_map_bytes }
     ensures runs { (story_after small_mapped stopped_map_script).map_runs 0 ≡ stopped_map_runs }
+{}
+
+/// What stands in an area is the same among others and by itself, at whatever descriptor.
+pub fn an_area_among_others()
+    ensures among { (story_after two_mapped crowded_script).areas 0 ≡ its_area }
+    ensures alone { (story_after two_mapped lone_script).areas 0 ≡ its_area }
+    ensures other { (story_after two_mapped crowded_script).areas 1 ≡ other_area }
+    ensures pokes_among { own_pokes (pool_of [] crowded_script) 0 crowded_script.events ≡ its_pokes }
+    ensures pokes_alone { own_pokes (pool_of [] lone_script) 5 lone_script.events ≡ its_pokes }
 {}
 
 /// Where another format is set, the area is silent anew, in that format.
