@@ -6,7 +6,7 @@ ghost use Rattle.pcm_feeder.specs.declared.rack.TheConstants.{RACKS};
 use crate::{Feeder, Kind};
 use std::alloc::{AllocError, AllocFailed, Global};
 
-/// How many racks a run has: one for each play slot, one for each record slot, and one for the way from the mix to the device.
+/// How many racks a run has: one for each slot that plays or is mapped, one for each that records, and one for the way from the mix to the device.
 pub const RACKS: usize = 33;
 
 /// The boxes of a rack, one for each kind of stage.
@@ -132,7 +132,8 @@ impl<T: Drop> From<AllocFailed<T>> for RackFault {
     }
 }
 
-/// The racks of a run: 0 to 15 serve the play slots and 16 to 31 the record slots.
+/// The racks of a run: 0 to 15 serve the slots that play, mapped ones behind the others, 16 to 31 those that record, and 32 the way from
+/// the mix to the device.
 #[derive(Drop)]
 pub struct RacksOf<B> {
     list: Vec<RackOf<B>>,
