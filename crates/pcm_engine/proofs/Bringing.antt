@@ -10,7 +10,8 @@ use Rattle.pcm_wave.specs.declared.pool.Source.{Source}
 use Rattle.pcm_wave.specs.declared.pool.Source.TheVariants.{Inline}
 use Rattle.pcm_wave.specs.Pools.{source_bytes}
 use Rattle.pcm_desk.specs.Device.{DeviceSeen, ring_frames}
-use Rattle.pcm_desk.specs.Events.{Fits}
+use Rattle.pcm_desk.specs.Events.{Fits, IsDescriptor}
+use Rattle.pcm_desk.specs.Own.{descriptor_of}
 use Rattle.pcm_sound.proofs.Stories.{OpensWithin}
 use Rattle.pcm_engine.specs.Brought.{HasNamed, IsAllowed, bytes_brought, bytes_asked, placeless, samples_asked}
 
@@ -48,6 +49,19 @@ of_placeless holds write poke (Intr frames) h = h
 -- What holds of an event wherever its bytes stand, holds of each that is the same.
 pub wherever : (holds : Event → Type 0) → OfWrites holds → OfPokes holds → (event named : Event) → placeless named ≡ placeless event → holds event → holds named
 wherever holds write poke event named same h = of_placeless holds write poke named (subst holds (sym same) (to_placeless holds write poke event h))
+
+-- an event that fits names a descriptor that there can be, if any
+pub descriptor-fits : (device : DeviceSeen) (pool : Pool) (event : Event) → Fits device pool event → IsDescriptor (descriptor_of event)
+descriptor-fits device pool (Open fd way settings) fits = fits.0
+descriptor-fits device pool (Write fd source at count) fits = fits.0
+descriptor-fits device pool (Poke fd offset at count) fits = fits.0
+descriptor-fits device pool (Read fd count) fits = fits.0
+descriptor-fits device pool (Ioctl fd request) fits = fits
+descriptor-fits device pool (Join fd group) fits = fits
+descriptor-fits device pool (StartGroup fd group) fits = tt
+descriptor-fits device pool (Close fd) fits = fits
+descriptor-fits device pool (Mixer request) fits = tt
+descriptor-fits device pool (Intr frames) fits = tt
 
 -- an event that fits keeps the limits, and its bytes are there
 pub allowed-fits : (device : DeviceSeen) (pool : Pool) (event : Event) → Fits device pool event → IsAllowed device event

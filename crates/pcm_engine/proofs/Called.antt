@@ -17,10 +17,12 @@ use Rattle.pcm_desk.specs.Desk.{Desk, after}
 use Rattle.pcm_desk.specs.Events.{Fits, bytes_handed}
 use Rattle.pcm_desk.specs.Own.{MembersWait}
 use Rattle.pcm_sound.specs.DeviceList.{device_body}
+use Rattle.pcm_sound.specs.OwnAreas.{ChangesOneArea}
 use Rattle.pcm_sound.specs.Story.{story_of, story_at_start, told}
 use Rattle.pcm_sound.specs.StoryReplies.{bytes_to}
 use Rattle.pcm_sound.specs.Together.{StartAsOne}
 use Rattle.pcm_sound.specs.Valid.{StoryIsValid}
+use Rattle.pcm_sound.proofs.OwnAreas.{area-in-story}
 use Rattle.pcm_sound.proofs.Plain.{map-in_place, plain-body}
 use Rattle.pcm_sound.proofs.Stories.{told_all-push}
 use Rattle.pcm_sound.proofs.Together.{start-as-one}
@@ -30,7 +32,7 @@ use Rattle.pcm_engine.specs.Brought.{IsCalled, bytes_brought, padded, samples_br
 use Rattle.pcm_engine.specs.Engines.{AnswersKept, BeginsAsOne, HandsOver, RepliesAsTold, Stands, StandsForNext, StepCaptures, StepMaps, StepMoves, StepsAs, StepsAsCalled, StepTurns, device_of, desk_of, samples_most}
 use Rattle.pcm_engine.specs.Stands.{RecordersStand, bytes_kept, frames_captured}
 use Rattle.pcm_engine.specs.Steps.{bytes_answered}
-use Rattle.pcm_engine.proofs.Bringing.{wherever}
+use Rattle.pcm_engine.proofs.Bringing.{descriptor-fits, wherever}
 use Rattle.pcm_engine.proofs.Recording.{all-record, answered-told, recorders-told, reply-made}
 use Rattle.pcm_engine.proofs.Standing.{Parts, StandsFor, Stepped, body-told, stands-told}
 
@@ -171,6 +173,9 @@ steps_as kind kept pool event old new reply handed a fits captures =
           ∙ hands_over kind kept pool event old new reply handed a fits events s;
       mapped = λ events slot s. map-in_place device (story_of device pool (events ++ event ∷ [])) slot (valid_next kind kept pool event old new reply handed a fits captures events s);
       together = begins_as_one kind kept pool event old new reply handed a;
+      areas = λ events s.
+          subst (ChangesOneArea device pool event (story_of device pool events)) (sym (told_all-push device pool (story_at_start device) events event))
+          (area-in-story device pool events event (descriptor-fits device pool event fits));
     }
 
 -- A step that does so with an event is one on each event of a script that is the same.

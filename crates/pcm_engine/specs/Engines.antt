@@ -18,6 +18,7 @@ use Rattle.pcm_desk.specs.MapSafe.{MapIsSafe}
 use Rattle.pcm_desk.specs.Desk.{Desk, after, desk_here, held_by, map_at, map_rate_at, play_at, play_rate_at, record_at, record_rate_at}
 use Rattle.pcm_desk.specs.Events.{Fits, bytes_handed}
 use Rattle.pcm_sound.specs.DeviceList.{device_text}
+use Rattle.pcm_sound.specs.OwnAreas.{ChangesOneArea}
 use Rattle.pcm_sound.specs.Plain.{HasNoShortage, IsInPlace, IsUnbroken, plain_text}
 use Rattle.pcm_sound.specs.Pools.{AreAlike, IsLonger}
 use Rattle.pcm_sound.specs.Story.{story_of}
@@ -96,6 +97,11 @@ MappedStandInPlace kept pool event engine = (events : List Event) (slot : ℕ) �
     → let story = story_of (device_of engine) pool (events ++ event ∷ []) in
     All (λ run. IsUnbroken run × IsInPlace (device_of engine) story.desk.mixed run) (story.map_runs slot)
 
+-- the area of each mapped slot stays, but that of the event's own channel, which goes by its own book and the bytes that the event brings
+abbrev pub AreasGoAlone : {B : Type 0} → (B → Kept) → Pool → Event → EngineOf B → Type 0
+AreasGoAlone kept pool event engine = (events : List Event) → Stands kept engine pool events
+    → ChangesOneArea (device_of engine) pool event (story_of (device_of engine) pool events) (story_of (device_of engine) pool (events ++ event ∷ []))
+
 -- whatever bytes its channels stand for, the bytes of its reply are those that were kept in the slot of the event
 abbrev pub AnswersKept : {B : Type 0} → (B → Kept) → Event → EngineOf B → List ℕ → Type 0
 AnswersKept kept event engine got = (bytes : ℕ → List ℕ) (frames : ℕ → List Frame) → AllRecordStand kept engine.tables (record_channels engine.parent) bytes frames
@@ -114,6 +120,7 @@ pub record StepsAs {B : Type 0} (kept : B → Kept) (pool : Pool) (event : Event
   pub plain : HandsOverPlain kept pool event old handed
   pub mapped : MappedStandInPlace kept pool event old
   pub together : BeginsAsOne kept pool event old told.result
+  pub areas : AreasGoAlone kept pool event old
 
 -- a step on an event that brings such bytes and samples is the step on each event of a script that is the same
 abbrev pub StepsAsCalled : {B : Type 0} → (B → Kept) → Event → List ℕ → List ℤ → EngineOf B → EngineOf B → Reply → List ℕ → Type 0

@@ -64,7 +64,7 @@ impl<B: Feeder> EngineOf<B> {
     ghost use Rattle.pcm_desk.specs.Own.{IsIsolated, MembersWait};
     ghost use Rattle.pcm_engine.specs.Brought.{bytes_asked, padded, IsAllowed};
     ghost use Rattle.pcm_feeder.specs.Racks.{AreRacks, list_of};
-    ghost use Rattle.pcm_engine.specs.Engines.{device_of, desk_of, AnswersKept, AreReady, BeginsAsOne, BooksAreHere, BooksAreSafe, HandsOver, HandsOverPlain, HasStepped, IsUnchanged, MapBooksAreSafe, MappedStandInPlace, RecordsAreSafe, RepliesAsTold, RingsHold, Stands, StandsForNext, StepCaptures, StepMaps, StepMoves, StepsAsCalled, StepTurns, TakesFront, samples_at_hand, samples_most};
+    ghost use Rattle.pcm_engine.specs.Engines.{device_of, desk_of, AnswersKept, AreReady, AreasGoAlone, BeginsAsOne, BooksAreHere, BooksAreSafe, HandsOver, HandsOverPlain, HasStepped, IsUnchanged, MapBooksAreSafe, MappedStandInPlace, RecordsAreSafe, RepliesAsTold, RingsHold, Stands, StandsForNext, StepCaptures, StepMaps, StepMoves, StepsAsCalled, StepTurns, TakesFront, samples_at_hand, samples_most};
 
     /// The engine of a device with its filters, before its first event. Its channels pick their stages from the racks, one rack a slot; after
     /// a refusal the racks are dropped. All memory of the engine is taken here.
@@ -148,6 +148,7 @@ impl<B: Feeder> EngineOf<B> {
         ensures together { BeginsAsOne B.kept pool.now event.now self.old reply.new.result }
         ensures isolated { IsIsolated (device_of self.old) event.now
             (desk_of self.old) (desk_of self.new) reply.new.result }
+        ensures areas { AreasGoAlone B.kept pool.now event.now self.old }
         ensures read { AnswersKept B.kept event.now self.old reply.new.bytes }
         ensures taken { TakesFront event.now self.old reply.new.bytes }
 

@@ -31,3 +31,8 @@ pub returns-clause-together : goal.returns-clause-together
 returns-clause-together g c = λ events fd group s is ok.
     (c.answer.ensures.called c.args.pool.now c.args.event.now (loaded-called c.args.self.now c.args.pool.now c.args.event.now _ _ c.requires.fits c.requires.captures c.bytes_brought.ensures
     (c.load_brought.ensures.length ∙ ap (λ (samples : List ℤ). length samples) c.deref_mut.ensures.value) c.load_brought.ensures.loaded)).together events fd group (record { playing = s.playing; recording = s.recording }) is ok
+
+pub returns-clause-areas : goal.returns-clause-areas
+returns-clause-areas g c = λ events s.
+    (c.answer.ensures.called c.args.pool.now c.args.event.now (loaded-called c.args.self.now c.args.pool.now c.args.event.now _ _ c.requires.fits c.requires.captures c.bytes_brought.ensures
+    (c.load_brought.ensures.length ∙ ap (λ (samples : List ℤ). length samples) c.deref_mut.ensures.value) c.load_brought.ensures.loaded)).areas events (record { playing = s.playing; recording = s.recording })
