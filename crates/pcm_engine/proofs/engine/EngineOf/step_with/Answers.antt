@@ -13,6 +13,7 @@ returns-clause-called g c = λ pool named called.
       plain = λ events s unbroken. step.plain events (record { playing = s.playing; recording = s.recording }) unbroken;
       mapped = λ events slot s. step.mapped events slot (record { playing = s.playing; recording = s.recording });
       together = λ events fd group s is ok. step.together events fd group (record { playing = s.playing; recording = s.recording }) is ok;
+      areas = λ events s. step.areas events (record { playing = s.playing; recording = s.recording });
     }
 
 -- the samples at hand are no matter to it
