@@ -8,5 +8,6 @@ pub use laws::{
     alike_pools_tell_one_story, areas_go_alone, clients_are_told_alike,
     mapped_runs_are_never_short, members_start_as_one, pieces_stand_in_their_place,
     pokes_change_what_was_not_taken, reads_get_what_is_recorded, runs_are_heard_from_start_to_end,
-    runs_of_a_slot_lie_apart, shortages_are_counted, what_sounds_alike_has_equal_bytes,
+    runs_of_a_slot_lie_apart, shortages_are_counted, the_mixer_sets_gains_from_the_next_frame,
+    what_sounds_alike_has_equal_bytes,
 };
