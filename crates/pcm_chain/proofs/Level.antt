@@ -70,8 +70,7 @@ fed-alone : (keeps : Spec → Kept) (tables : Filters) (gain : Gain) (want : ℕ
     → AreFed keeps keeps tables gain want specs input
 fed-alone keeps tables gain want [] x input given limits each h = tt
 fed-alone keeps tables gain want (spec ∷ specs) x input given limits each h =
-    let turned = turn_in keeps tables gain want spec input in
-    (
+    let turned = turn_in keeps tables gain want spec input in (
       keeps-same spec tables gain (keeps spec) x input (length h.0) (asked spec want (length input)) (All-head IsSpec spec specs limits) (All-head TurnsEach spec specs each) h.1,
       fed-alone keeps tables gain want specs h.0 turned.frames given (All-tail IsSpec spec specs limits) (All-tail TurnsEach spec specs each) h.3,
     )

@@ -1,11 +1,11 @@
 -- What a request leaves of a mapped book: its counts, or nothing of its run.
-use Rattle.std.proofs.Common.{◌≡◌, true, false, ◌⊎◌, inl, inr, refl, ap, ◌∙◌}
+use Rattle.std.proofs.Common.{◌≡◌, true, false, ◌⊎◌, inl, inr, refl, sym, ap, ◌∙◌}
 use Rattle.pcm_oss.specs.declared.request.Request.{Request}
 use Rattle.pcm_rate.specs.declared.rate.Rate.{Rate}
 use Rattle.pcm_desk.specs.declared.map_book.MapBook.{MapBook}
 use Rattle.pcm_desk.specs.declared.map_book.MapState.{MapState}
 use Rattle.pcm_desk.specs.declared.map_book.MapState.TheVariants.{Free, Setup, Running}
-use Rattle.pcm_desk.specs.MapBooks.{is_map_running, is_map_setup}
+use Rattle.pcm_desk.specs.MapBooks.{is_map_free, is_map_running, is_map_setup}
 use Rattle.pcm_desk.specs.MapRequests.{map_ask}
 use Rattle.pcm_desk.specs.MapSafe.{MapIsSafe}
 use Rattle.pcm_desk.proofs.MapAsking.{Halting, Halts, Noting, Notes, SettingUp, SetsUp, map-asked-does}
@@ -18,6 +18,7 @@ pub record Stays (old new : MapBook) : Type 0 where
   pub eaten : new.eaten ≡ old.eaten
   pub given : new.given ≡ old.given
   pub runs : is_map_running old.state ≡ true → is_map_running new.state ≡ true
+  pub held : is_map_free new.state ≡ false → is_map_free old.state ≡ false
 
 -- nothing is left of a run, which may have had other settings
 pub record Ends (old new : MapBook) : Type 0 where
@@ -40,6 +41,7 @@ noted old new n = record {
   eaten = n.eaten;
   given = n.given;
   runs = λ h. elim n.state [ inl same ↦ ap is_map_running same ∙ h | inr starts ↦ ap is_map_running starts.1 ];
+  held = λ h. elim n.state [ inl same ↦ ap is_map_free (sym same) ∙ h | inr starts ↦ ap is_map_free starts.0 ];
 }
 
 set_up : (rate : Rate) (old new : MapBook) → MapIsSafe rate old → SetsUp old new → Ends old new

@@ -25,13 +25,14 @@ use Rattle.pcm_desk.proofs.RecordSafe.{safe-unstarted}
 use Rattle.pcm_play.specs.declared.channel.PlayChannelOf.{PlayChannelOf}
 use Rattle.pcm_sound.proofs.Stories.{HaveRates}
 use Rattle.pcm_play.specs.Channels.{IsPlayHere, IsPlayReady}
-use Rattle.pcm_play.proofs.Moving.{safe-at}
+use Rattle.pcm_play.proofs.Moving.{safe-served}
 use Rattle.pcm_record.specs.declared.channel.RecordChannelOf.{RecordChannelOf}
 use Rattle.pcm_record.specs.Channels.{IsRecordReady}
 use Rattle.pcm_record.proofs.Moving as recorders
 use Rattle.pcm_map.specs.declared.channel.MapChannelOf.{MapChannelOf}
 use Rattle.pcm_map.specs.Channels.{IsMapReady}
-use Rattle.pcm_map.proofs.Books.{counts-fit, planned-safe, taken-fits}
+use Rattle.pcm_map.proofs.Books as maps
+use Rattle.pcm_map.proofs.Books.{taken-few}
 use Rattle.pcm_bus.specs.Slots.{MapAreOf, PlayAreOf, map_books_of, play_books_of}
 use Rattle.pcm_vchan.specs.Slots.{RecordAreOf, record_books_of}
 use Rattle.pcm_bus.proofs.Channels.{some_channel}
@@ -51,7 +52,7 @@ IsSafe device book = PlayIsSafe (play_rate_at device book) book
 own_safe : {B : Type 0} (kind : B → Kind) (kept : B → Kept) (filters : Filters) (device : Device) (channel : PlayChannelOf B) → channel.path.device ≡ device → IsPlayReady kind kept filters channel → IsSafe (seen filters device) channel.book
 own_safe kind kept filters device channel own ready =
     subst (λ (d : Device). IsSafe (seen filters d) channel.book) own
-    (safe-at filters channel ready.planned)
+    (safe-served filters channel ready.planned)
 
 -- a book that nobody has opened
 unopened_safe : (device : DeviceSeen) → IsSafe device (play_unopened device)
@@ -120,7 +121,7 @@ IsRecordSafe device book = RecordIsSafe (record_rate_at device book) book
 record_own_safe : {B : Type 0} (kind : B → Kind) (kept : B → Kept) (filters : Filters) (device : Device) (channel : RecordChannelOf B) → channel.path.device ≡ device → IsRecordReady kind kept filters channel → IsRecordSafe (seen filters device) channel.book
 record_own_safe kind kept filters device channel own ready =
     subst (λ (d : Device). IsRecordSafe (seen filters d) channel.book) own
-    (recorders.safe-at filters channel ready.planned)
+    (recorders.safe-served filters channel ready.planned)
 
 record_unopened_safe : (device : DeviceSeen) → IsRecordSafe device (record_unopened device)
 record_unopened_safe device =
@@ -147,7 +148,7 @@ IsMapSafe device book = MapIsSafe (map_rate_at device book) book
 map_own_safe : {B : Type 0} (kind : B → Kind) (kept : B → Kept) (filters : Filters) (device : Device) (channel : MapChannelOf B) → channel.path.device ≡ device → IsMapReady kind kept filters channel → IsMapSafe (seen filters device) channel.book
 map_own_safe kind kept filters device channel own ready =
     subst (λ (d : Device). IsMapSafe (seen filters d) channel.book) own
-    (planned-safe filters channel ready.planned)
+    (maps.safe-served filters channel ready.planned)
 
 map_unopened_safe : (device : DeviceSeen) → IsMapSafe device (map_unopened device)
 map_unopened_safe device = record { order = refl; taken = refl; fragments = usual-fragments; volume = refl; told = omega arith }
@@ -219,6 +220,6 @@ can-be-asked kind kept engine here ready few is = record {
   taken = λ slot other there.
       let channel = get_or (map_channels engine.parent) slot other in
       let given = engine.maps_given slot other there in
-      let planned = (ready.mapped slot other there).planned in
-      taken-fits engine.tables 0 channel planned (counts-fit engine.tables 0 channel planned (omega (arith, given, few)));
+      let device = subst (λ (d : Device). IsDevice (seen engine.tables d)) (sym (engine.maps_own slot other there)) ready.bus.planned.limits in
+      taken-few engine.tables channel device (ready.mapped slot other there).planned (omega (arith, given, few));
 }

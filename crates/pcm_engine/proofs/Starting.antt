@@ -59,7 +59,7 @@ spelled-silence format settings (suc n) =
 pub ready-unopened : {B : Type 0} (kind : B → Kind) (kept : B → Kept) (filters : Filters) (device : Device) (channels : List (PlayChannelOf B)) → All (IsPlayUnopened kind kept filters device) channels → All (IsPlayReady kind kept filters) channels
 ready-unopened kind kept filters device channels each = λ slot other there.
     let u = each slot other there in
-    record { kinds = u.kinds; planned = u.planned; stands = record { bytes = []; stands = u.stands } }
+    record { kinds = u.kinds; planned = λ used. u.planned; stands = record { bytes = []; stands = u.stands } }
 
 -- the books of channels that nobody has opened
 pub play_books_of-play_unopened : {B : Type 0} (kind : B → Kind) (kept : B → Kept) (filters : Filters) (device : Device) (channels : List (PlayChannelOf B)) → length channels ≡ device.play_slots → All (IsPlayUnopened kind kept filters device) channels
@@ -78,7 +78,7 @@ play_books_of-play_unopened {B = B} kind kept filters device channels slots each
 pub map-ready-unopened : {B : Type 0} (kind : B → Kind) (kept : B → Kept) (filters : Filters) (device : Device) (maps : List (MapChannelOf B)) → All (IsMapUnopened kind kept filters device) maps → All (IsMapReady kind kept filters) maps
 map-ready-unopened kind kept filters device maps each = λ slot other there.
     let u = each slot other there in
-    record { kinds = u.kinds; planned = u.planned; stands = record { bytes = []; stands = u.stands } }
+    record { kinds = u.kinds; planned = λ used. u.planned; stands = record { bytes = []; stands = u.stands } }
 
 -- their books
 pub map_books_of-unopened : {B : Type 0} (kind : B → Kind) (kept : B → Kept) (filters : Filters) (device : Device) (maps : List (MapChannelOf B)) → length maps ≡ device.map_slots → All (IsMapUnopened kind kept filters device) maps
@@ -162,7 +162,7 @@ parent-starts kind kept filters device parent descriptors limits unopened =
 pub record-ready-unopened : {B : Type 0} (kind : B → Kind) (kept : B → Kept) (filters : Filters) (device : Device) (recorders : List (RecordChannelOf B)) → All (IsRecordUnopened kind kept filters device) recorders → All (IsRecordReady kind kept filters) recorders
 record-ready-unopened kind kept filters device recorders each = λ slot other there.
     let u = each slot other there in
-    record { kinds = u.kinds; planned = u.planned; stands = record { bytes = []; frames = []; stands = u.stands } }
+    record { kinds = u.kinds; planned = λ used. u.planned; stands = record { bytes = []; frames = []; stands = u.stands } }
 
 -- their books
 pub record_books_of-unopened : {B : Type 0} (kind : B → Kind) (kept : B → Kept) (filters : Filters) (device : Device) (recorders : List (RecordChannelOf B)) → length recorders ≡ device.record_slots → All (IsRecordUnopened kind kept filters device) recorders

@@ -6,10 +6,8 @@ ghost use Rattle.pcm_feeder.specs.Filters.{Filters};
 ghost use Rattle.pcm_feeder.specs.Limits.{IsRate};
 ghost use Rattle.pcm_oss.specs.declared.event.Way.TheVariants.{Play, Record, Map};
 ghost use Rattle.pcm_oss.specs.Replies.{bytes_due};
-ghost use Rattle.pcm_oss.specs.declared.event.TheConstants.{SLOTS};
 ghost use Rattle.pcm_oss.specs.declared.reply.TheConstants.{REPLY_BYTES};
 ghost use Rattle.pcm_desk.specs.declared.limits.TheConstants.{DESCRIPTORS, READ_BYTES};
-ghost use Rattle.pcm_desk.specs.Desk.{slot_number};
 ghost use Rattle.pcm_desk.specs.Own.{HoldApart};
 ghost use Rattle.pcm_bus.specs.Slots.{MapAreOf, PlayAreOf};
 ghost use Rattle.pcm_vchan.specs.Slots.{RecordAreOf};
@@ -43,18 +41,7 @@ pub fn open<B: Feeder>(
     descriptors.shut(fd)?;
     let slot = parent.open_slot(tables, way, settings)?;
     descriptors.set(fd, Some(Held { way, slot }));
-    Ok(Answer::Number(number_of(parent, way, slot)))
-}
-
-// The number of a slot, as a client is told it: mapped ones are numbered behind those that play.
-fn number_of<B: Feeder>(parent: &ParentOf<B>, way: Way, slot: usize) -> u32
-    requires { slot < SLOTS }
-    ensures { result ≡ slot_number (length (play_channels parent.now)) way slot }
-{
-    match way {
-        Way::Play | Way::Record => slot as u32,
-        Way::Map => parent.device.play_slots + slot as u32,
-    }
+    Ok(Answer::Number(parent.number_of(way, slot)))
 }
 
 /// Writes to the channel that a descriptor holds, where the mix and the device are. One that records takes no bytes.

@@ -1,7 +1,8 @@
 -- What a channel's book counts, by the rate of its chain's plan.
-use Rattle.std.proofs.Common.{◌≡◌, ℕ, zero, suc, ◌+◌, ◌-◌, ◌*◌, ◌/◌, ◌<◌, ◌≤◌, ◌^◌, Bool, true, false, cond, Ok, refl, sym, ap, ◌∙◌, subst, arith}
+use Rattle.std.proofs.Common.{inl, inr, ◌≡◌, ℕ, zero, suc, ◌+◌, ◌-◌, ◌*◌, ◌/◌, ◌<◌, ◌≤◌, ◌^◌, Bool, true, false, cond, Ok, refl, sym, ap, ◌∙◌, subst, arith}
 use Rattle.std.specs.Prelude.{nat_lt}
 use Rattle.std.proofs.Math.Nat.{mul-le-mul_right, mul-div_cancel}
+use Rattle.std.proofs.lemmas.Bool.{cases_Bool}
 use Rattle.std.proofs.lemmas.Bool.Decides.{nat_tests}
 use Rattle.pcm_format.specs.declared.settings.Settings.{Settings}
 use Rattle.pcm_format.specs.Frames.{frame_bytes, whole_frames}
@@ -16,6 +17,7 @@ use Rattle.pcm_plan.specs.Plans.{PlanSeen, rate_in_plan}
 use Rattle.pcm_plan.specs.Fits.{IsPlan}
 use Rattle.pcm_chain.specs.Chains.{plan_in}
 use Rattle.pcm_chain.specs.Counts.{IsNear}
+use Rattle.pcm_path.specs.Paths.{path_rate}
 use Rattle.pcm_chain.proofs.Counting.{need-near, rate-near}
 use Rattle.pcm_desk.specs.declared.map_book.MapBook.{MapBook}
 use Rattle.pcm_desk.specs.declared.map_book.MapState.{MapState}
@@ -24,13 +26,14 @@ use Rattle.pcm_desk.specs.declared.turn.Turn.{Turn}
 use Rattle.pcm_desk.specs.Device.{DeviceSeen, IsDevice, play_plan_between, seen}
 use Rattle.pcm_desk.specs.BookTurns.{doing, refused}
 use Rattle.pcm_desk.specs.Openings.{ring_bytes}
-use Rattle.pcm_desk.specs.MapBooks.{is_map_running, map_gives, map_refilled, map_refilled_in, poke_turn, taken_of}
+use Rattle.pcm_desk.specs.MapBooks.{is_map_free, is_map_running, map_gives, map_refilled, map_refilled_in, poke_turn, taken_of}
 use Rattle.pcm_desk.specs.MapSafe.{MapIsSafe}
 use Rattle.pcm_desk.specs.Desk.{map_mixing, map_rate_at}
 use Rattle.pcm_desk.proofs.Ratios.{device-is, plan-between-fits}
 use Rattle.pcm_map.specs.declared.channel.MapChannelOf.{MapChannelOf}
-use Rattle.pcm_map.specs.Channels.{CountsFit, IsMapPlanned}
+use Rattle.pcm_map.specs.Channels.{CountsFit, IsMapPlanned, IsMapServed}
 use Rattle.pcm_map.specs.Pieces.{book_giving}
+use Rattle.pcm_map.proofs.Held.{safe-any}
 use Rattle.pcm_desk.proofs.MapSafe.{map-safe-refilled}
 
 -- ---- counts alone
@@ -123,10 +126,19 @@ planned-near filters channel p = rate-near (play_plan_between (seen filters chan
 pub planned-safe : {B : Type 0} (filters : Filters) (channel : MapChannelOf B) → IsMapPlanned filters channel → MapIsSafe (map_rate_at (seen filters channel.path.device) channel.book) channel.book
 planned-safe filters channel p = subst (λ (rate : Rate). MapIsSafe rate channel.book) (planned-rate filters channel p) channel.safe
 
+-- and so a channel's that may be free
+pub safe-served : {B : Type 0} (filters : Filters) (channel : MapChannelOf B) → IsMapServed filters channel → MapIsSafe (map_rate_at (seen filters channel.path.device) channel.book) channel.book
+safe-served filters channel served =
+    elim (cases_Bool (is_map_free channel.book.state)) [
+      | inl free ↦ safe-any (path_rate channel.path) (map_rate_at (seen filters channel.path.device) channel.book) channel.book free channel.safe
+      | inr used ↦ planned-safe filters channel (served used)
+    ]
+
 -- counts that stay below a bound fit
-pub counts-fit : {B : Type 0} (filters : Filters) (n : ℕ) (channel : MapChannelOf B) → IsMapPlanned filters channel → channel.book.given + n < 2 ^ 50 → CountsFit filters n channel
-counts-fit filters n channel p few =
-    let fits = need-fits (map_rate_at (seen filters channel.path.device) channel.book) channel.book.opening.settings (channel.book.given + n) (planned-near filters channel p) few in
+pub counts-fit : {B : Type 0} (filters : Filters) (n : ℕ) (channel : MapChannelOf B) → IsDevice (seen filters channel.path.device) → channel.book.given + n < 2 ^ 50 → CountsFit filters n channel
+counts-fit filters n channel d few =
+    let fits = need-fits (map_rate_at (seen filters channel.path.device) channel.book) channel.book.opening.settings (channel.book.given + n)
+    (rate-near (play_plan_between (seen filters channel.path.device) channel.book.opening.settings) (plan-between-fits (seen filters channel.path.device) channel.book.opening.settings d channel.rate)) few in
     record { given = omega (arith, few); taken = omega (arith, fits) }
 
 -- so do those of an interrupt that mixes fewer
@@ -135,7 +147,7 @@ counts-fewer filters few n channel p within fits =
     let rate = map_rate_at (seen filters channel.path.device) channel.book in
     let z = frame_bytes channel.book.opening.settings in
     let grows = mul-le-mul_right {m = need rate (channel.book.given + few)} {n = need rate (channel.book.given + n)} z
-            (need_grows rate (channel.book.given + few) (channel.book.given + n) (planned-near filters channel p).ratio.dst (omega arith)) in
+    (need_grows rate (channel.book.given + few) (channel.book.given + n) (planned-near filters channel p).ratio.dst (omega arith)) in
     record { given = omega (arith, fits.given); taken = omega (arith, fits.taken, grows) }
 
 -- then the bytes taken so far fit
@@ -146,6 +158,16 @@ taken-fits filters n channel p fits =
     let none : channel.book.given + 0 ≡ channel.book.given = omega arith in
     let now = counts-fewer filters 0 n channel p (omega arith) fits in
     let taken = (planned-safe filters channel p).taken in
+    omega (arith, now.taken, ap (λ (k : ℕ). need rate k * z) none, ap (λ (k : ℕ). k * z) taken)
+
+-- so do those of a channel that has given few frames
+pub taken-few : {B : Type 0} (filters : Filters) (channel : MapChannelOf B) → IsDevice (seen filters channel.path.device) → IsMapServed filters channel → channel.book.given < 2 ^ 50 → taken_of channel.book < 2 ^ 64
+taken-few filters channel d served few =
+    let rate = map_rate_at (seen filters channel.path.device) channel.book in
+    let z = frame_bytes channel.book.opening.settings in
+    let none : channel.book.given + 0 ≡ channel.book.given = omega arith in
+    let now = counts-fit filters 0 channel d (omega (arith, few)) in
+    let taken = (safe-served filters channel served).taken in
     omega (arith, now.taken, ap (λ (k : ℕ). need rate k * z) none, ap (λ (k : ℕ). k * z) taken)
 
 -- the book of a piece, by the rate of the chain's plan

@@ -26,7 +26,7 @@ use Rattle.pcm_path.proofs.Paths.{planned-as}
 use Rattle.pcm_desk.specs.declared.map_book.MapBook.{MapBook}
 use Rattle.pcm_desk.specs.declared.turn.Turn.{Turn}
 use Rattle.pcm_desk.specs.Device.{DeviceSeen, mix_settings, play_rate_between, seen}
-use Rattle.pcm_desk.specs.MapBooks.{is_map_running, taken_of}
+use Rattle.pcm_desk.specs.MapBooks.{is_map_free, is_map_running, taken_of}
 use Rattle.pcm_desk.specs.MapRequests.{map_ask}
 use Rattle.pcm_desk.specs.MapSafe.{MapIsSafe}
 use Rattle.pcm_desk.specs.Desk.{map_rate_at}
@@ -36,12 +36,13 @@ use Rattle.pcm_sound.specs.Gains.{map_gain}
 use Rattle.pcm_sound.specs.Given.{given_samples}
 use Rattle.pcm_sound.specs.MapRuns.{area_taken}
 use Rattle.pcm_map.specs.declared.channel.MapChannelOf.{MapChannelOf}
-use Rattle.pcm_map.specs.Channels.{area_of, IsMapPlanned, MapMoves, MapStands, MapTakes}
+use Rattle.pcm_map.specs.Channels.{area_of, IsMapPlanned, IsMapServed, MapMoves, MapStands, MapTakes}
 use Rattle.pcm_map.specs.Pieces.{taken_for, MapGives}
 use Rattle.pcm_desk.proofs.MapAsking.{map-asked-kept, map-asked-rate}
 use Rattle.pcm_desk.proofs.MapSafe.{map-safe-asked}
 use Rattle.pcm_desk.proofs.MapLeaves.{Leaves, Stays, map-asked-leaves}
-use Rattle.pcm_map.proofs.Books.{mixing-gives, planned-safe}
+use Rattle.pcm_map.proofs.Books.{mixing-gives, safe-served}
+use Rattle.pcm_map.proofs.Held.{running-held}
 
 -- ---- what a channel stands for
 
@@ -54,17 +55,17 @@ pub stands-empty : {B : Type 0} (kept : B → Kept) (filters : Filters) (channel
 stands-empty kept filters channel eaten given empty = record {
   book_is = refl;
   count = (let none : 0 ≡ 0 * frame_bytes channel.book.opening.settings = omega arith in none) ∙ ap (λ (k : ℕ). k * frame_bytes channel.book.opening.settings) (sym eaten);
-  chain_is = subst (λ (list : List Frame). ChainStands kept filters channel.path.chain list 0 channel.book.given) (sym (frames-none channel.book.opening.settings))
+  chain_is = λ used. subst (λ (list : List Frame). ChainStands kept filters channel.path.chain list 0 channel.book.given) (sym (frames-none channel.book.opening.settings))
       (subst (λ (k : ℕ). ChainStands kept filters channel.path.chain [] 0 k) (sym given) (empty.begins filters));
 }
 
 -- one whose counts and chain stay stands for the same bytes
 pub stands-kept : {B : Type 0} (kept : B → Kept) (filters : Filters) (old new : MapChannelOf B) (bytes : List ℕ) → new.path.chain ≡ old.path.chain → new.book.opening.settings ≡ old.book.opening.settings → new.book.eaten ≡ old.book.eaten → new.book.given ≡ old.book.given
-    → MapStands kept filters old old.book bytes → MapStands kept filters new new.book bytes
-stands-kept kept filters old new bytes chain settings eaten given s = record {
+    → (is_map_free new.book.state ≡ false → is_map_free old.book.state ≡ false) → MapStands kept filters old old.book bytes → MapStands kept filters new new.book bytes
+stands-kept kept filters old new bytes chain settings eaten given held s = record {
   book_is = refl;
   count = s.count ∙ ap (λ (k : ℕ). k * frame_bytes old.book.opening.settings) (sym eaten) ∙ ap (λ (r : Settings). new.book.eaten * frame_bytes r) (sym settings);
-  chain_is = rw (chain, settings, given) s.chain_is;
+  chain_is = λ used. rw (chain, settings, given) (s.chain_is (held used));
 }
 
 -- ---- moves
@@ -80,18 +81,18 @@ moves-nothing kind kept filters more frames channel = record {
 
 -- so does one whose counts, chain and device stay
 pub moves-kept : {B : Type 0} (kind : B → Kind) (kept : B → Kept) (filters : Filters) (more : List ℕ) (frames : ℕ) (old new : MapChannelOf B) → new.path.device ≡ old.path.device → new.path.chain ≡ old.path.chain → new.book.opening.settings ≡ old.book.opening.settings → new.book.eaten ≡ old.book.eaten → new.book.given ≡ old.book.given
-    → MapMoves kind kept filters more frames old new
-moves-kept kind kept filters more frames old new device chain settings eaten given = record {
+    → (is_map_free new.book.state ≡ false → is_map_free old.book.state ≡ false) → MapMoves kind kept filters more frames old new
+moves-kept kind kept filters more frames old new device chain settings eaten given held = record {
   kinds = λ h. rw chain h;
-  planned = planned-as Map filters _ _ old.path new.path device (ap plan_in chain) settings;
+  planned = λ p used. planned-as Map filters _ _ old.path new.path device (ap plan_in chain) settings (p (held used));
   stands = λ bytes s.
-      let now = stands-kept kept filters old new bytes chain settings eaten given s in
+      let now = stands-kept kept filters old new bytes chain settings eaten given held s in
       subst (MapStands kept filters new new.book) (sym (take_at bytes more (taken_of new.book) now.count)) now;
   given = omega (arith, given);
 }
 
 -- a channel that begins, or whose run is over
-pub moves-ended : {B : Type 0} (kind : B → Kind) (kept : B → Kept) (filters : Filters) (more : List ℕ) (frames : ℕ) (old new : MapChannelOf B) → HaveKinds kind (boxes_in new.path.chain) → (IsMapPlanned filters old → IsMapPlanned filters new) → new.book.eaten ≡ 0 → new.book.given ≡ 0 → IsEmpty kept new.path
+pub moves-ended : {B : Type 0} (kind : B → Kind) (kept : B → Kept) (filters : Filters) (more : List ℕ) (frames : ℕ) (old new : MapChannelOf B) → HaveKinds kind (boxes_in new.path.chain) → (IsMapServed filters old → IsMapServed filters new) → new.book.eaten ≡ 0 → new.book.given ≡ 0 → IsEmpty kept new.path
     → MapMoves kind kept filters more frames old new
 moves-ended kind kept filters more frames old new kinds planned eaten given empty = record {
   kinds = λ h. kinds;
@@ -117,7 +118,7 @@ pub record Left (now : Rate) (old new : MapBook) : Type 0 where
   pub ended : new.given ≡ 0 → new.eaten ≡ 0
 
 -- a request, at the rate that the book has after it
-pub book-asked : {B : Type 0} (filters : Filters) (request : Request) (old : MapChannelOf B) (turn : Turn MapBook) → IsMapPlanned filters old → turn ≡ map_ask request old.book
+pub book-asked : {B : Type 0} (filters : Filters) (request : Request) (old : MapChannelOf B) (turn : Turn MapBook) → IsMapServed filters old → turn ≡ map_ask request old.book
     → Left (map_rate_at (seen filters old.path.device) turn.book) old.book turn.book
 book-asked filters request old turn planned asked =
     let device : DeviceSeen = seen filters old.path.device in
@@ -125,7 +126,7 @@ book-asked filters request old turn planned asked =
     let before : Rate = map_rate_at device book in
     let after : MapBook = (map_ask request book).book in
     let is : turn.book ≡ after = ap (λ (t : Turn MapBook). t.book) asked in
-    let safe = planned-safe filters old planned in
+    let safe = safe-served filters old planned in
     let safe_after = map-safe-asked before (map_rate_at device after) request book (λ runs. ap (play_rate_between device) (map-asked-kept request book runs)) safe in
     let now : MapIsSafe (map_rate_at device turn.book) turn.book = subst (λ (b : MapBook). MapIsSafe (map_rate_at device b) b) (sym is) safe_after in
     record {
@@ -149,7 +150,7 @@ moves-given {B = B} kind kept filters n old new samples some running g =
     let given : new.book.given ≡ old.book.given + n = ap (λ (b : MapBook). b.given) g.book in
     record {
       kinds = g.kinds;
-      planned = planned-as Map filters _ _ old.path new.path g.device g.plan (ap (λ (b : MapBook). b.opening.settings) g.book);
+      planned = λ p used. planned-as Map filters _ _ old.path new.path g.device g.plan (ap (λ (b : MapBook). b.opening.settings) g.book) (p (running-held old.book.state running));
       stands = λ bytes s.
           let now = g.stands bytes s in
           subst (MapStands kept filters new new.book)

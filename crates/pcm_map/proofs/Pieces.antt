@@ -35,7 +35,7 @@ use Rattle.pcm_chain.proofs.Waiting.{frames-waiting}
 use Rattle.pcm_desk.specs.declared.device.Device.{Device}
 use Rattle.pcm_desk.specs.declared.map_book.MapBook.{MapBook}
 use Rattle.pcm_desk.specs.Device.{DeviceSeen, filters_of, play_plan_between, seen}
-use Rattle.pcm_desk.specs.MapBooks.{map_gives, taken_of}
+use Rattle.pcm_desk.specs.MapBooks.{is_map_running, map_gives, taken_of}
 use Rattle.pcm_desk.specs.Desk.{map_rate_at}
 use Rattle.pcm_desk.specs.Openings.{ring_bytes}
 use Rattle.pcm_sound.specs.Areas.{area_bytes}
@@ -48,6 +48,7 @@ use Rattle.pcm_oss.specs.declared.event.Way.TheVariants.{Map}
 use Rattle.pcm_path.proofs.Paths.{planned-as}
 use Rattle.pcm_map.proofs.Areas.{area-add, length-area_bytes}
 use Rattle.pcm_map.proofs.Books.{counts-fewer, given-allowed, gives-add, gives-none, planned-fits, planned-near, planned-rate, planned-safe, taken-grows}
+use Rattle.pcm_map.proofs.Held.{running-held}
 use Rattle.pcm_sound.proofs.DeviceLists.{frames-channels}
 use Rattle.pcm_sound.proofs.Sounding.{frames-append, frames-front}
 use Rattle.pcm_path.proofs.Paths.{front-written}
@@ -101,10 +102,10 @@ pub record PullsPiece {B : Type 0} (kept : B → Kept) (filters : Filters) (gain
   pub samples : out_new ≡ written (outs (play_plan_between (seen filters old.path.device) old.book.opening.settings) filters gain (frames old.book.opening.settings (bytes ++ taken_for filters n old)) old.book.given n) out_old
   pub chain_is : ChainStands kept filters new (frames old.book.opening.settings (bytes ++ taken_for filters n old)) 0 (old.book.given + n)
 
-pub pulls-piece : {B : Type 0} (kept : B → Kept) (filters : Filters) (gain : Gain) (n : ℕ) (old : MapChannelOf B) (ring : Ring) (new : ChainOf B) (pulled : Pulled) (out_old out_new : List ℤ) → IsMapPlanned filters old
+pub pulls-piece : {B : Type 0} (kept : B → Kept) (filters : Filters) (gain : Gain) (n : ℕ) (old : MapChannelOf B) (ring : Ring) (new : ChainOf B) (pulled : Pulled) (out_old out_new : List ℤ) → IsMapPlanned filters old → is_map_running old.book.state ≡ true
     → ring.bytes ≡ taken_for filters n old → PullsOn kept filters gain false n old.book.opening.settings.format ring old.path.chain new pulled out_old out_new
     → (bytes : List ℕ) → MapStands kept filters old old.book bytes → PullsPiece kept filters gain n old bytes new pulled out_old out_new
-pulls-piece {B = B} kept filters gain n old ring new pulled out_old out_new planned taken pulls bytes s =
+pulls-piece {B = B} kept filters gain n old ring new pulled out_old out_new planned running taken pulls bytes s =
     let device : DeviceSeen = seen filters old.path.device in
     let book : MapBook = old.book in
     let settings : Settings = book.opening.settings in
@@ -138,7 +139,7 @@ pulls-piece {B = B} kept filters gain n old ring new pulled out_old out_new plan
     let rest_long : length waiting ≡ m - need rate book.given =
     ap (λ (rest : List Frame). length rest) waiting_is ∙ length-drop book.eaten list ∙ (let e : length list - book.eaten ≡ m - need rate book.given = omega (arith, length-frames settings (bytes ++ more), whole, counted) in e) in
     let x_long : length x ≡ need rate book.given = length-frames settings bytes ∙ eaten_frames ∙ counted in
-    let p = pulls x 0 book.given s.chain_is (λ some. absurd (omega arith)) in
+    let p = pulls x 0 book.given (s.chain_is (running-held book.state running)) (λ some. absurd (omega arith)) in
     let far : PullsAsFar rate false n (length x) (length waiting) book.given pulled = subst (λ (r : Rate). PullsAsFar r false n (length x) (length waiting) book.given pulled) (planned-rate filters old planned) p.far in
     let went = far-enough rate n (length x) (length waiting) book.given pulled ratio x_long rest_long far in
     let taken_all : take pulled.eaten waiting ≡ waiting = take_all pulled.eaten waiting (omega (arith, went.1)) in
@@ -199,11 +200,11 @@ put-behind a list piece =
     ∙ ap (λ (rest : List ℤ). take a list ++ rest) (append-nil piece)
 
 -- what a piece leaves of a channel
-pub piece-gives : {B : Type 0} (kind : B → Kind) (kept : B → Kept) (filters : Filters) (n : ℕ) (old new : MapChannelOf B) (ring : Ring) (pulled : Pulled) (gain : Gain) (out_old out_new : List ℤ) → IsMapPlanned filters old
+pub piece-gives : {B : Type 0} (kind : B → Kind) (kept : B → Kept) (filters : Filters) (n : ℕ) (old new : MapChannelOf B) (ring : Ring) (pulled : Pulled) (gain : Gain) (out_old out_new : List ℤ) → IsMapPlanned filters old → is_map_running old.book.state ≡ true
     → new.path.device ≡ old.path.device → new.area ≡ old.area → plan_in new.path.chain ≡ plan_in old.path.chain → (HaveKinds kind (boxes_in old.path.chain) → HaveKinds kind (boxes_in new.path.chain))
     → new.book ≡ book_giving filters n old → ring.bytes ≡ taken_for filters n old → gain ≡ map_gain old.book
     → PullsOn kept filters gain false n old.book.opening.settings.format ring old.path.chain new.path.chain pulled out_old out_new → MapGives kind kept filters n old new out_new
-piece-gives {B = B} kind kept filters n old new ring pulled gain out_old out_new planned device area plan kinds book taken gain_is pulls =
+piece-gives {B = B} kind kept filters n old new ring pulled gain out_old out_new planned running device area plan kinds book taken gain_is pulls =
     let settings : Settings = old.book.opening.settings in
     let d : DeviceSeen = seen filters old.path.device in
     let rate : Rate = map_rate_at d old.book in
@@ -216,15 +217,15 @@ piece-gives {B = B} kind kept filters n old new ring pulled gain out_old out_new
       plan = plan;
       kinds = kinds;
       stands = λ bytes s.
-          let p = pulls-piece kept filters gain n old ring new.path.chain pulled out_old out_new planned taken pulls bytes s in
+          let p = pulls-piece kept filters gain n old ring new.path.chain pulled out_old out_new planned running taken pulls bytes s in
           record {
             book_is = refl;
             count = length-append bytes more ∙ (let count = s.count in let long = length-area_bytes (area_of old) (taken_of old.book) (taken_of (book_giving filters n old) - taken_of old.book) in
                 let e : length bytes + length more ≡ taken_of (book_giving filters n old) = omega (arith, count, long, grows) in e) ∙ ap taken_of (sym book);
-            chain_is = subst (λ (b : MapBook). ChainStands kept filters new.path.chain (frames b.opening.settings (bytes ++ more)) 0 b.given) (sym book) p.chain_is;
+            chain_is = λ used. subst (λ (b : MapBook). ChainStands kept filters new.path.chain (frames b.opening.settings (bytes ++ more)) 0 b.given) (sym book) p.chain_is;
           };
       samples_are = λ bytes s.
-          let p = pulls-piece kept filters gain n old ring new.path.chain pulled out_old out_new planned taken pulls bytes s in
+          let p = pulls-piece kept filters gain n old ring new.path.chain pulled out_old out_new planned running taken pulls bytes s in
           let size : ℕ = channels_of old.path.device.mix.layout in
           let list : List Frame = frames settings (bytes ++ more) in
           let given : List Frame = outs (play_plan_between d settings) filters gain list old.book.given n in
@@ -316,10 +317,10 @@ gives-more {B = B} kind kept filters a b old mid new samples piece planned g h r
     }
 
 -- what was ready is ready still
-pub ready-given : {B : Type 0} (kind : B → Kind) (kept : B → Kept) (filters : Filters) (n : ℕ) (old new : MapChannelOf B) (samples : List ℤ) → IsMapReady kind kept filters old → MapGives kind kept filters n old new samples → IsMapReady kind kept filters new
-ready-given kind kept filters n old new samples ready g = record {
+pub ready-given : {B : Type 0} (kind : B → Kind) (kept : B → Kept) (filters : Filters) (n : ℕ) (old new : MapChannelOf B) (samples : List ℤ) → is_map_running old.book.state ≡ true → IsMapReady kind kept filters old → MapGives kind kept filters n old new samples → IsMapReady kind kept filters new
+ready-given kind kept filters n old new samples running ready g = record {
   kinds = g.kinds ready.kinds;
-  planned = planned-as Map filters _ _ old.path new.path g.device g.plan (ap (λ (book : MapBook). book.opening.settings) g.book) ready.planned;
+  planned = λ used. planned-as Map filters _ _ old.path new.path g.device g.plan (ap (λ (book : MapBook). book.opening.settings) g.book) (ready.planned (running-held old.book.state running));
   stands = record { bytes = ready.stands.bytes ++ taken_for filters n old; stands = g.stands ready.stands.bytes ready.stands.stands };
 }
 
@@ -334,6 +335,6 @@ counts-left kind kept filters done rest n old mid samples planned within g fits 
     ap (λ (device : Device). map_rate_at (seen filters device) mid.book) g.device ∙ ap (λ (book : MapBook). map_rate_at d book) g.book in
     let place : mid.book.given + rest ≡ old.book.given + (done + rest) = omega (arith, ap (λ (book : MapBook). book.given) g.book) in
     let same = ap (λ (r : Rate). need r (mid.book.given + rest) * frame_bytes mid.book.opening.settings) same_rate
-            ∙ ap (λ (k : ℕ). need rate k * frame_bytes mid.book.opening.settings) place
-            ∙ ap (λ (book : MapBook). need rate (old.book.given + (done + rest)) * frame_bytes book.opening.settings) g.book in
+    ∙ ap (λ (k : ℕ). need rate k * frame_bytes mid.book.opening.settings) place
+    ∙ ap (λ (book : MapBook). need rate (old.book.given + (done + rest)) * frame_bytes book.opening.settings) g.book in
     record { given = omega (arith, few.given, place); taken = omega (arith, few.taken, same) }

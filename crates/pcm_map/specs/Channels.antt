@@ -1,5 +1,5 @@
 -- A mapped channel: what it stands for, what stands in its area, and what an event changes of it.
-use Rattle.std.specs.Prelude.{◌≡◌, ℕ, ◌+◌, ◌*◌, ◌^◌, ◌<◌, ◌≤◌, ℤ, if◌then◌else◌, List, [], ◌++◌, length, take}
+use Rattle.std.specs.Prelude.{◌≡◌, ℕ, ◌+◌, ◌*◌, ◌^◌, ◌<◌, ◌≤◌, false, ℤ, if◌then◌else◌, List, [], ◌++◌, length, take}
 use Rattle.pcm_fixed.specs.Fixed.{fixed_items}
 use Rattle.pcm_format.specs.Frames.{frame_bytes, frames}
 use Rattle.pcm_rate.specs.Rates.{need}
@@ -12,7 +12,7 @@ use Rattle.pcm_oss.specs.declared.event.Way.TheVariants.{Map}
 use Rattle.pcm_desk.specs.declared.map_book.MapBook.{MapBook}
 use Rattle.pcm_desk.specs.declared.device.Device.{Device}
 use Rattle.pcm_desk.specs.Device.{seen}
-use Rattle.pcm_desk.specs.MapBooks.{taken_of}
+use Rattle.pcm_desk.specs.MapBooks.{is_map_free, taken_of}
 use Rattle.pcm_desk.specs.Openings.{ring_bytes}
 use Rattle.pcm_desk.specs.Desk.{map_rate_at, map_unopened}
 use Rattle.pcm_sound.specs.Added.{map_turned}
@@ -29,21 +29,26 @@ area_of channel = take (ring_bytes channel.book.opening) (fixed_items channel.ar
 abbrev pub IsMapPlanned : {B : Type 0} → Filters → MapChannelOf B → Type 0
 IsMapPlanned filters channel = IsPlanned Map filters channel.book.opening.settings channel.path
 
--- A channel stands for a book and all bytes that were taken of its area in its run: the chain has eaten them all, and no silence.
+-- and so it is of a channel that isn't free: of a free one no plan is asked
+abbrev pub IsMapServed : {B : Type 0} → Filters → MapChannelOf B → Type 0
+IsMapServed filters channel = is_map_free channel.book.state ≡ false → IsMapPlanned filters channel
+
+-- A channel stands for a book and all bytes that were taken of its area in its run: the chain has eaten them all, and no silence. Of a
+-- free one's chain nothing is said.
 pub record MapStands {B : Type 0} (kept : B → Kept) (filters : Filters) (channel : MapChannelOf B) (book : MapBook) (bytes : List ℕ) : Type 0 where
   pub book_is : channel.book ≡ book
   pub count : length bytes ≡ taken_of book
-  pub chain_is : ChainStands kept filters channel.path.chain (frames book.opening.settings bytes) 0 book.given
+  pub chain_is : is_map_free book.state ≡ false → ChainStands kept filters channel.path.chain (frames book.opening.settings bytes) 0 book.given
 
 -- a channel stands for its book and some bytes
 pub record MapStandsForSome {B : Type 0} (kept : B → Kept) (filters : Filters) (channel : MapChannelOf B) : Type 0 where
   pub bytes : List ℕ
   pub stands : MapStands kept filters channel channel.book bytes
 
--- each box of a channel is of its place's kind, its chain goes by its plan, and the channel stands for some bytes
+-- each box of a channel is of its place's kind, its chain goes by its plan unless it is free, and the channel stands for some bytes
 pub record IsMapReady {B : Type 0} (kind : B → Kind) (kept : B → Kept) (filters : Filters) (channel : MapChannelOf B) : Type 0 where
   pub kinds : HasBoxes kind channel.path
-  pub planned : IsMapPlanned filters channel
+  pub planned : IsMapServed filters channel
   pub stands : MapStandsForSome kept filters channel
 
 -- the frames that a channel gives by an interrupt that mixes so many, and the bytes that it takes for them, fit their counts
@@ -75,7 +80,7 @@ pub record IsMapUnopened {B : Type 0} (kind : B → Kind) (kept : B → Kept) (f
 -- stands for these and what it took, or for none where its run is over.
 pub record MapMoves {B : Type 0} (kind : B → Kind) (kept : B → Kept) (filters : Filters) (more : List ℕ) (frames : ℕ) (old new : MapChannelOf B) : Type 0 where
   pub kinds : HasBoxes kind old.path → HasBoxes kind new.path
-  pub planned : IsMapPlanned filters old → IsMapPlanned filters new
+  pub planned : IsMapServed filters old → IsMapServed filters new
   pub stands : (bytes : List ℕ) → MapStands kept filters old old.book bytes → MapStands kept filters new new.book (take (taken_of new.book) (bytes ++ more))
   pub given : new.book.given ≤ old.book.given + frames
 

@@ -56,7 +56,7 @@ impl<B: Feeder> MapChannelOf<B> {
     ghost use Rattle.pcm_feeder.specs.Filters.{Filters};
     ghost use Rattle.pcm_map.specs.declared.channel.TheConstants.{PIECE_FRAMES};
     ghost use Rattle.pcm_map.specs.Pieces.{MapGives};
-    ghost use Rattle.pcm_map.specs.Channels.{area_of, CountsFit, IsMapPlanned, IsMapReady, IsMapUnopened, MapAddsTo, MapMoves, MapTakes, RecutsArea};
+    ghost use Rattle.pcm_map.specs.Channels.{area_of, CountsFit, IsMapReady, IsMapServed, IsMapUnopened, MapAddsTo, MapMoves, MapTakes, RecutsArea};
 
     /// A channel of a device that nobody has opened. All its memory is taken here.
     pub fn new(
@@ -129,7 +129,7 @@ impl<B: Feeder> MapChannelOf<B> {
     /// the area silent.
     pub fn ioctl(&mut self, tables: &Tables, request: Request) -> Result<Answer, Errno>
         requires kinds { HasBoxes B.kind self.old.path }
-        requires planned { IsMapPlanned tables.now self.old }
+        requires planned { IsMapServed tables.now self.old }
         requires count { taken_of self.old.book < 2 ^ 64 }
         ensures book { self.new.book ≡ (map_ask request self.old.book).book }
         ensures reply { result ≡ (map_ask request self.old.book).reply }

@@ -1,4 +1,5 @@
 pub mod Refills
 pub mod Stands
+pub mod Held
 pub mod Moving
 pub mod Refilling

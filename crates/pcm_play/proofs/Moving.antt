@@ -1,6 +1,7 @@
 -- What the calls on a channel move, from what they leave of its book, its ring and its chain.
-use Rattle.std.proofs.Common.{◌≡◌, ℕ, ℤ, ◌+◌, ◌-◌, ◌*◌, ◌≤◌, min, false, Ok, List, [], ◌++◌, length, take, length-take, sym, ap, ◌∙◌, subst, inl, inr, arith}
+use Rattle.std.proofs.Common.{◌≡◌, ℕ, ℤ, ◌+◌, ◌-◌, ◌*◌, ◌≤◌, min, false, Ok, List, [], ◌++◌, length, take, length-take, refl, sym, ap, ◌∙◌, subst, inl, inr, arith}
 use Rattle.std.proofs.Math.Seq.{take-append-add}
+use Rattle.std.proofs.lemmas.Bool.{cases_Bool}
 use Rattle.std.proofs.lemmas.List.{take_at}
 use Rattle.pcm_format.specs.Frames.{frame_bytes, whole_frames}
 use Rattle.pcm_format.proofs.Whole.{frames_there}
@@ -14,16 +15,15 @@ use Rattle.pcm_rate.specs.declared.rate.Rate.{Rate}
 use Rattle.pcm_rate.specs.Rates.{IsRatio}
 use Rattle.pcm_plan.specs.Plans.{PlanSeen, rate_in_plan}
 use Rattle.pcm_chain.specs.Chains.{boxes_in, plan_in}
-use Rattle.pcm_path.specs.Paths.{IsEmpty}
+use Rattle.pcm_path.specs.Paths.{IsEmpty, path_rate}
 use Rattle.pcm_oss.specs.declared.event.Way.TheVariants.{Play}
 use Rattle.pcm_path.proofs.Paths.{device-served, planned-as}
 use Rattle.pcm_desk.specs.declared.here.Here.{Here}
 use Rattle.pcm_desk.specs.declared.play_book.PlayBook.{PlayBook}
 use Rattle.pcm_desk.specs.Device.{DeviceSeen, IsDevice, seen}
-use Rattle.pcm_desk.specs.Desk.{asking, play_rate_at}
-use Rattle.pcm_desk.proofs.Ratios.{ratio-between}
+use Rattle.pcm_desk.specs.Desk.{asking, closing, play_rate_at}
 use Rattle.pcm_desk.specs.Openings.{ring_bytes}
-use Rattle.pcm_desk.specs.PlayBooks.{accepting, close_turn, is_draining, play_fill_of, play_free_of, play_settled, takes_none, write_turn}
+use Rattle.pcm_desk.specs.PlayBooks.{accepting, close_turn, is_draining, is_play_free, play_fill_of, play_free_of, play_settled, takes_none, write_turn}
 use Rattle.pcm_desk.proofs.Refused.{write-done}
 use Rattle.pcm_ring.specs.Ring.{free_bytes}
 use Rattle.pcm_oss.specs.declared.reply.Answer.{Answer}
@@ -38,8 +38,10 @@ use Rattle.pcm_sound.proofs.Stories.{IsSafeAt, safe-asking}
 use Rattle.pcm_feeder.specs.Limits.{IsRate}
 use Rattle.pcm_format.specs.declared.settings.Settings.{Settings}
 use Rattle.pcm_play.specs.declared.channel.PlayChannelOf.{PlayChannelOf}
-use Rattle.pcm_play.specs.Channels.{IsPlayHere, PlayStands, IsPlayPlanned, PlayMoves}
+use Rattle.pcm_play.specs.Channels.{IsPlayHere, PlayStands, IsPlayPlanned, IsPlayServed, PlayMoves}
 use Rattle.pcm_sound.proofs.Sounding.{frames-front}
+use Rattle.pcm_play.proofs.Held.{ask-any, close-any, here-any, safe-any, written-held}
+use Rattle.pcm_desk.proofs.PlaySafeAsking.{safe-ask}
 use Rattle.pcm_play.proofs.Stands.{stands-taking, stands-empty, stands-state, nothing-more}
 
 -- a channel that stays stands for what it stood for
@@ -55,7 +57,7 @@ moves-nothing kind kept filters more frames channel = record {
 }
 
 -- a channel that begins, or whose run is over
-pub moves-ended : {B : Type 0} (kind : B → Kind) (kept : B → Kept) (filters : Filters) (more : List ℕ) (frames : ℕ) (old new : PlayChannelOf B) → HaveKinds kind (boxes_in new.path.chain) → (IsPlayPlanned filters old → IsPlayPlanned filters new) → new.book.written ≡ 0 → new.book.eaten ≡ 0 → new.book.given ≡ 0
+pub moves-ended : {B : Type 0} (kind : B → Kind) (kept : B → Kept) (filters : Filters) (more : List ℕ) (frames : ℕ) (old new : PlayChannelOf B) → HaveKinds kind (boxes_in new.path.chain) → (IsPlayServed filters old → IsPlayServed filters new) → new.book.written ≡ 0 → new.book.eaten ≡ 0 → new.book.given ≡ 0
     → IsEmpty kept new.path → new.book.done ≤ old.book.done + old.book.written → PlayMoves kind kept filters more frames old new
 moves-ended kind kept filters more frames old new kinds planned written eaten given empty done = record {
   kinds = λ h. kinds;
@@ -76,17 +78,20 @@ ended rate book ratio safe written =
     (eaten, none.given_none, omega arith, omega arith)
 
 -- a channel whose state alone changed
-pub moves-state : {B : Type 0} (kind : B → Kind) (kept : B → Kept) (filters : Filters) (old new : PlayChannelOf B) → new.path.device ≡ old.path.device → new.path.chain ≡ old.path.chain → new.path.ring.bytes ≡ old.path.ring.bytes → Stays old.book new.book → PlayMoves kind kept filters [] 0 old new
-moves-state {B = B} kind kept filters old new device chain ring st = record {
+pub moves-state : {B : Type 0} (kind : B → Kind) (kept : B → Kept) (filters : Filters) (old new : PlayChannelOf B) → new.path.device ≡ old.path.device → new.path.chain ≡ old.path.chain → new.path.ring.bytes ≡ old.path.ring.bytes → Stays old.book new.book → (new.book.written ≡ 0 → ⊥) → PlayMoves kind kept filters [] 0 old new
+moves-state {B = B} kind kept filters old new device chain ring st some = record {
   kinds = λ h. rw chain h;
-  planned = planned-as Play filters _ _ old.path new.path device (ap plan_in chain) st.settings;
+  planned = λ p used. planned-as Play filters _ _ old.path new.path device (ap plan_in chain) st.settings (p held);
   stands = λ bytes s. subst (PlayStands kept filters new new.book) (sym (nothing-more new.book.written bytes (s.count ∙ sym st.written)))
-      (stands-state kept filters old new bytes chain ring st.settings st.eaten st.given st.written st.drains s);
+      (stands-state kept filters old new bytes chain ring st.settings st.eaten st.given st.written st.drains held s);
   written = omega (arith, st.written);
   counted = omega (arith, st.written, st.done);
   grown = omega (arith, st.written, st.done);
   given = omega (arith, st.given);
 }
+  where
+    held : is_play_free old.book.state ≡ false
+    held = written-held (path_rate old.path) old.book old.safe (λ none. some (st.written ∙ none))
 
 -- what a close or a request leaves of a book whose rate is then this one
 pub record Left (now : Rate) (old new : PlayBook) : Type 0 where
@@ -144,32 +149,66 @@ device-is filters channel p = device-served Play filters channel.book.opening ch
 pub safe-at : {B : Type 0} (filters : Filters) (channel : PlayChannelOf B) → IsPlayPlanned filters channel → IsSafeAt (seen filters channel.path.device) channel.book
 safe-at filters channel p = subst (λ (plan : PlanSeen). PlayIsSafe (rate_in_plan plan) channel.book) p.plan_is channel.safe
 
+-- and so a channel's that may be free
+pub safe-served : {B : Type 0} (filters : Filters) (channel : PlayChannelOf B) → IsPlayServed filters channel → IsSafeAt (seen filters channel.path.device) channel.book
+safe-served filters channel served =
+    elim (cases_Bool (is_play_free channel.book.state)) [
+      | inl free ↦ safe-any (path_rate channel.path) (play_rate_at (seen filters channel.path.device) channel.book) channel.book free channel.safe
+      | inr used ↦ safe-at filters channel (served used)
+    ]
+
 -- a request, by the rate of the chain's plan
-pub asked-is : {B : Type 0} (filters : Filters) (here : Here) (request : Request) (old : PlayChannelOf B) (turn : Turn PlayBook) (between : Rate) (plan : PlanSeen) → IsPlayPlanned filters old
+pub asked-is : {B : Type 0} (filters : Filters) (here : Here) (request : Request) (old : PlayChannelOf B) (turn : Turn PlayBook) (between : Rate) (plan : PlanSeen) → IsPlayServed filters old
     → turn ≡ play_ask between old.path.device.mix.rate here request old.book → between ≡ rate_in_plan plan → plan ≡ plan_in old.path.chain → turn ≡ asking (seen filters old.path.device) here request old.book
-asked-is filters here request old turn between plan p turned rate_is plan_is =
-    turned ∙ ap (λ (r : Rate). play_ask r old.path.device.mix.rate here request old.book) (rate_is ∙ ap (λ (q : PlanSeen). rate_in_plan q) (plan_is ∙ p.plan_is))
+asked-is filters here request old turn between plan served turned rate_is plan_is =
+    elim (cases_Bool (is_play_free old.book.state)) [
+      | inl free ↦ turned ∙ ask-any between (play_rate_at (seen filters old.path.device) old.book) old.path.device.mix.rate here request old.book free
+      | inr used ↦ (
+          let p = served used in
+          turned ∙ ap (λ (r : Rate). play_ask r old.path.device.mix.rate here request old.book) (rate_is ∙ ap (λ (q : PlanSeen). rate_in_plan q) (plan_is ∙ p.plan_is)))
+    ]
 
 -- and where it stands by that rate
-pub asked-here : {B : Type 0} (filters : Filters) (here : Here) (old : PlayChannelOf B) (between : Rate) (plan : PlanSeen) → IsPlayPlanned filters old → between ≡ rate_in_plan plan → plan ≡ plan_in old.path.chain → IsPlayHere filters here old
+pub asked-here : {B : Type 0} (filters : Filters) (here : Here) (old : PlayChannelOf B) (between : Rate) (plan : PlanSeen) → IsPlayServed filters old → between ≡ rate_in_plan plan → plan ≡ plan_in old.path.chain → IsPlayHere filters here old
     → PlayIsHere between here old.book
-asked-here filters here old between plan p rate_is plan_is at =
-    subst (λ (rate : Rate). PlayIsHere rate here old.book) (sym (rate_is ∙ ap (λ (q : PlanSeen). rate_in_plan q) (plan_is ∙ p.plan_is))) at
+asked-here filters here old between plan served rate_is plan_is at =
+    elim (cases_Bool (is_play_free old.book.state)) [
+      | inl free ↦ here-any between here old.book free
+      | inr used ↦ (
+          let p = served used in
+          subst (λ (rate : Rate). PlayIsHere rate here old.book) (sym (rate_is ∙ ap (λ (q : PlanSeen). rate_in_plan q) (plan_is ∙ p.plan_is))) at)
+    ]
 
--- what it leaves, at the rate that the book has after it
-pub book-asked : {B : Type 0} (filters : Filters) (here : Here) (request : Request) (old : PlayChannelOf B) (turn : Turn PlayBook) → IsPlayPlanned filters old → turn ≡ asking (seen filters old.path.device) here request old.book
-    → Left (play_rate_at (seen filters old.path.device) turn.book) old.book turn.book
-book-asked filters here request old turn p asked =
-    let device : DeviceSeen = seen filters old.path.device in
-    let book : PlayBook = old.book in
-    let before : Rate = play_rate_at device book in
+-- a close, by the rate of the chain's plan
+pub closed-is : {B : Type 0} (filters : Filters) (here : Here) (old : PlayChannelOf B) (new : PlayBook) (between : Rate) (plan : PlanSeen) → IsPlayServed filters old
+    → new ≡ close_turn between here old.book → between ≡ rate_in_plan plan → plan ≡ plan_in old.path.chain → new ≡ closing (seen filters old.path.device) here old.book
+closed-is filters here old new between plan served closed rate_is plan_is =
+    elim (cases_Bool (is_play_free old.book.state)) [
+      | inl free ↦ closed ∙ close-any between (play_rate_at (seen filters old.path.device) old.book) here old.book free
+      | inr used ↦ (
+          let p = served used in
+          closed ∙ ap (λ (r : Rate). close_turn r here old.book) (rate_is ∙ ap (λ (q : PlanSeen). rate_in_plan q) (plan_is ∙ p.plan_is)))
+    ]
+
+-- what it leaves, at the rate of the chain's plan
+pub book-asked : {B : Type 0} (here : Here) (request : Request) (old : PlayChannelOf B) (turn : Turn PlayBook) (between : Rate) (plan : PlanSeen)
+    → turn ≡ play_ask between old.path.device.mix.rate here request old.book → between ≡ rate_in_plan plan → plan ≡ plan_in old.path.chain → Left (rate_in_plan (plan_in old.path.chain)) old.book turn.book
+book-asked here request old turn between plan turned rate_is plan_is =
+    let now : Rate = rate_in_plan (plan_in old.path.chain) in
     let mix_rate : ℕ = old.path.device.mix.rate in
-    let d = device-is filters old p in
-    let is : turn.book ≡ (asking device here request book).book = ap (λ (t : Turn PlayBook). t.book) asked in
-    let rate : IsRate turn.book.opening.settings.rate = subst (λ (b : PlayBook). IsRate b.opening.settings.rate) (sym is) (ask-rate before mix_rate here request book old.serves.rate) in
-    leaves_left (play_rate_at device turn.book) book turn.book (ratio-between device turn.book.opening.settings d rate) rate
-    (subst (IsSafeAt device) (sym is) (safe-asking device here request book d old.serves.rate (safe-at filters old p)))
-    (subst (Leaves book) (sym is) (ask-leaves before mix_rate here request book (safe-at filters old p)))
+    let book : PlayBook = old.book in
+    let is : turn.book ≡ (play_ask now mix_rate here request book).book =
+    ap (λ (t : Turn PlayBook). t.book) (turned ∙ ap (λ (r : Rate). play_ask r mix_rate here request book) (rate_is ∙ ap (λ (q : PlanSeen). rate_in_plan q) plan_is)) in
+    leaves_left now book turn.book old.serves.ratio (subst (λ (b : PlayBook). IsRate b.opening.settings.rate) (sym is) (ask-rate now mix_rate here request book old.serves.rate))
+    (subst (PlayIsSafe now) (sym is) (safe-ask now now mix_rate here request book old.serves.ratio old.safe (λ e. refl)))
+    (subst (Leaves book) (sym is) (ask-leaves now mix_rate here request book old.safe))
+
+-- and at the rate that the book has after it
+pub safe-asked : {B : Type 0} (filters : Filters) (here : Here) (request : Request) (old : PlayChannelOf B) (turn : Turn PlayBook) → IsDevice (seen filters old.path.device) → IsPlayServed filters old → turn ≡ asking (seen filters old.path.device) here request old.book
+    → IsSafeAt (seen filters old.path.device) turn.book
+safe-asked filters here request old turn d served asked =
+    let device : DeviceSeen = seen filters old.path.device in
+    subst (IsSafeAt device) (sym (ap (λ (t : Turn PlayBook). t.book) asked)) (safe-asking device here request old.book d old.serves.rate (safe-served filters old served))
 
 -- ---- writes
 
@@ -203,8 +242,8 @@ takes-written old here count accepted turn answer is ok taken =
 
 -- a channel that took so many bytes from the front of `more`
 pub moves-taking : {B : Type 0} (kind : B → Kind) (kept : B → Kept) (filters : Filters) (more : List ℕ) (mixed accepted : ℕ) (old new : PlayChannelOf B) → new.path.device ≡ old.path.device → new.path.chain ≡ old.path.chain → new.path.ring.bytes ≡ old.path.ring.bytes ++ take accepted more → new.book ≡ accepting mixed accepted old.book
-    → accepted ≤ length more → accepted ≤ RING_BYTES → is_draining old.book.state ≡ false → old.book.eaten * frame_bytes old.book.opening.settings ≤ old.book.written → PlayMoves kind kept filters more 0 old new
-moves-taking {B = B} kind kept filters more mixed accepted old new device chain ring is within room busy there =
+    → accepted ≤ length more → accepted ≤ RING_BYTES → is_draining old.book.state ≡ false → is_play_free old.book.state ≡ false → old.book.eaten * frame_bytes old.book.opening.settings ≤ old.book.written → PlayMoves kind kept filters more 0 old new
+moves-taking {B = B} kind kept filters more mixed accepted old new device chain ring is within room busy held there =
     let a = accepts mixed accepted old.book in
     let written : new.book.written ≡ old.book.written + accepted = ap (λ (b : PlayBook). b.written) is ∙ a.written in
     let given : new.book.given ≡ old.book.given = ap (λ (b : PlayBook). b.given) is ∙ (let e : (accepting mixed accepted old.book).given ≡ old.book.given = omega (arith, a.given, a.given_same) in e) in
@@ -213,13 +252,13 @@ moves-taking {B = B} kind kept filters more mixed accepted old new device chain 
     let long : length (take accepted more) ≡ accepted = omega (arith, length-take accepted more) in
     record {
       kinds = λ h. rw chain h;
-      planned = planned-as Play filters _ _ old.path new.path device (ap plan_in chain) settings;
+      planned = λ p used. planned-as Play filters _ _ old.path new.path device (ap plan_in chain) settings (p held);
       stands = λ bytes s.
           let front : take new.book.written (bytes ++ more) ≡ bytes ++ take accepted more =
           ap (λ n. take n (bytes ++ more)) (written ∙ (let count = s.count in let e : old.book.written + accepted ≡ length bytes + accepted = omega arith in e)) ∙ take-append-add bytes more accepted in
           let frames_within : old.book.eaten ≤ whole_frames old.book.opening.settings (length bytes) = frames_there old.book.opening.settings (length bytes) old.book.eaten (omega (arith, s.count)) in
           subst (PlayStands kept filters new new.book) (sym front)
-          (stands-taking kept filters old new bytes (take accepted more) chain settings eaten given (omega (arith, written, long)) busy there ring
+          (stands-taking kept filters old new bytes (take accepted more) chain settings eaten given (omega (arith, written, long)) busy held there ring
           (frames-front old.book.opening.settings bytes (take accepted more) old.book.eaten frames_within) s);
       written = omega arith;
       counted = omega (arith, (accepting-adds mixed accepted old.book).done, ap (λ (b : PlayBook). b.done) is);

@@ -41,6 +41,7 @@ use Rattle.pcm_chain.proofs.Waiting.{frames-waiting}
 use Rattle.pcm_oss.specs.declared.event.Way.TheVariants.{Play}
 use Rattle.pcm_path.proofs.Paths.{front-written, planned-as}
 use Rattle.pcm_play.proofs.Moving.{safe-at}
+use Rattle.pcm_play.proofs.Held.{started-held}
 use Rattle.pcm_play.proofs.Stands.{nothing-more, stands-pulled}
 use Rattle.pcm_play.proofs.Refills.{Goes, PullsAsCounted, giving-none, refilled-goes, mixing-some, eaten-written, length-eaten, length-waiting, pulls-counted}
 
@@ -77,7 +78,7 @@ pulls-run {B = B} kept filters old new gain no_more n pulled out_old out_new byt
     let at_plan : PullsFor kept (filters_of device) gain (is_draining book.state) n (drop book.eaten all) old.path.chain new pulled out_old out_new =
     rw (drains, waiting-is kept filters old bytes planned within s) at pulls in
     let long : length all ≡ frames_written book = length-frames book.opening.settings bytes ∙ ap (whole_frames book.opening.settings) s.count in
-    let p = at_plan (take book.eaten all) s.zeros book.given s.chain_is (λ some.
+    let p = at_plan (take book.eaten all) s.zeros book.given (s.chain_is (started-held book.state started)) (λ some.
     let over = s.ended some in
     (over.0, drop_all book.eaten all (omega (arith, over.1, long)))) in
     record {
@@ -160,7 +161,7 @@ pub moves-pulled : {B : Type 0} (kind : B → Kind) (kept : B → Kept) (filters
     → ((bytes : List ℕ) → PlayStands kept filters old old.book bytes → PullsRun kept (seen filters old.path.device) gain n old.book bytes new.path.chain pulled out_old out_new) → PlayMoves kind kept filters [] n old new
 moves-pulled {B = B} kind kept filters old new n pulled gain out_old out_new planned device plan go kinds ring pulls = record {
   kinds = kinds;
-  planned = planned-as Play filters _ _ old.path new.path device plan go.settings;
+  planned = λ p used. planned-as Play filters _ _ old.path new.path device plan go.settings planned;
   stands = λ bytes s.
       let p = pulls bytes s in
       subst (PlayStands kept filters new new.book) (sym (nothing-more new.book.written bytes (s.count ∙ sym go.written)))

@@ -11,7 +11,7 @@ use Rattle.pcm_feeder.specs.Kept.{Kept}
 use Rattle.pcm_chain.specs.declared.chain.Pulled.{Pulled}
 use Rattle.pcm_path.specs.Paths.{IsEmpty}
 use Rattle.pcm_chain.specs.Pulls.{StandsBehind}
-use Rattle.pcm_desk.specs.PlayBooks.{is_draining, frames_written}
+use Rattle.pcm_desk.specs.PlayBooks.{is_draining, is_play_free, frames_written}
 use Rattle.pcm_play.specs.declared.channel.PlayChannelOf.{PlayChannelOf}
 use Rattle.pcm_play.specs.Channels.{waiting_of, PlayStands}
 use Rattle.pcm_play.proofs.Refills.{Goes, PullsAsCounted, length-waiting}
@@ -24,7 +24,7 @@ stands-empty kept filters channel written eaten given empty = record {
   count = sym written;
   ring_is = empty.ring ∙ nothing-left;
   zeros = 0;
-  chain_is = rw (eaten, given) (empty.begins filters);
+  chain_is = λ used. rw (eaten, given) (empty.begins filters);
   ended = λ some. absurd (omega arith);
 }
   where
@@ -51,7 +51,7 @@ stands-pulled kept filters old new rate n pulled bytes within go counted ring be
       ring_is = ring ∙ ap (drop (p * z)) s.ring_is ∙ drop-drop (p * z) (e * z) bytes ∙ ap (λ m. drop m bytes) sum
           ∙ ap (λ m. drop (m * z) bytes) (sym eaten) ∙ ap (λ (r : Settings). drop (new.book.eaten * frame_bytes r) bytes) (sym go.settings);
       zeros = behind.zeros;
-      chain_is = rw (go.settings, eaten, given, take-add e p all) behind.stands;
+      chain_is = λ used. rw (go.settings, eaten, given, take-add e p all) behind.stands;
       ended = λ some.
           let over = behind.ends some in
           let rest : p ≡ frames_written old.book - e = over.1 ∙ length-waiting settings bytes e ∙ ap (λ m. whole_frames settings m - e) s.count in
@@ -61,18 +61,18 @@ stands-pulled kept filters old new rate n pulled bytes within go counted ring be
 
 -- a channel that took bytes stands for these too
 pub stands-taking : {B : Type 0} (kept : B → Kept) (filters : Filters) (old new : PlayChannelOf B) (bytes more : List ℕ) → new.path.chain ≡ old.path.chain → new.book.opening.settings ≡ old.book.opening.settings → new.book.eaten ≡ old.book.eaten → new.book.given ≡ old.book.given
-    → new.book.written ≡ old.book.written + length more → is_draining old.book.state ≡ false
+    → new.book.written ≡ old.book.written + length more → is_draining old.book.state ≡ false → is_play_free old.book.state ≡ false
     → old.book.eaten * frame_bytes old.book.opening.settings ≤ old.book.written → new.path.ring.bytes ≡ old.path.ring.bytes ++ more
     → take old.book.eaten (frames old.book.opening.settings (bytes ++ more)) ≡ take old.book.eaten (frames old.book.opening.settings bytes)
     → PlayStands kept filters old old.book bytes → PlayStands kept filters new new.book (bytes ++ more)
-stands-taking kept filters old new bytes more chain settings eaten given written busy within ring front s = record {
+stands-taking kept filters old new bytes more chain settings eaten given written busy held within ring front s = record {
   book_is = refl;
   count = omega (arith, length-append bytes more, s.count);
   ring_is = ring ∙ ap (λ waiting. waiting ++ more) s.ring_is
       ∙ sym (drop-append-le (old.book.eaten * frame_bytes old.book.opening.settings) bytes more (omega (arith, s.count)))
       ∙ ap (λ m. drop (m * frame_bytes old.book.opening.settings) (bytes ++ more)) (sym eaten) ∙ ap (λ (r : Settings). drop (new.book.eaten * frame_bytes r) (bytes ++ more)) (sym settings);
   zeros = 0;
-  chain_is = rw (chain, settings, eaten, given, front) (rw none-fed at s.chain_is);
+  chain_is = λ used. rw (chain, settings, eaten, given, front) (rw none-fed at (s.chain_is held));
   ended = λ some. absurd (omega arith);
 }
   where
@@ -84,14 +84,14 @@ stands-taking kept filters old new bytes more chain settings eaten given written
 
 -- a channel whose state alone changed stands for the same bytes
 pub stands-state : {B : Type 0} (kept : B → Kept) (filters : Filters) (old new : PlayChannelOf B) (bytes : List ℕ) → new.path.chain ≡ old.path.chain → new.path.ring.bytes ≡ old.path.ring.bytes → new.book.opening.settings ≡ old.book.opening.settings → new.book.eaten ≡ old.book.eaten → new.book.given ≡ old.book.given
-    → new.book.written ≡ old.book.written → (is_draining old.book.state ≡ true → is_draining new.book.state ≡ true)
+    → new.book.written ≡ old.book.written → (is_draining old.book.state ≡ true → is_draining new.book.state ≡ true) → is_play_free old.book.state ≡ false
     → PlayStands kept filters old old.book bytes → PlayStands kept filters new new.book bytes
-stands-state kept filters old new bytes chain ring settings eaten given written drains s = record {
+stands-state kept filters old new bytes chain ring settings eaten given written drains held s = record {
   book_is = refl;
   count = s.count ∙ sym written;
   ring_is = ring ∙ s.ring_is ∙ ap (λ m. drop (m * frame_bytes old.book.opening.settings) bytes) (sym eaten) ∙ ap (λ (r : Settings). drop (new.book.eaten * frame_bytes r) bytes) (sym settings);
   zeros = s.zeros;
-  chain_is = rw (chain, settings, eaten, given) s.chain_is;
+  chain_is = λ used. rw (chain, settings, eaten, given) (s.chain_is held);
   ended = λ some.
       let over = s.ended some in
       let same : frames_written new.book ≡ frames_written old.book = ap (λ (r : Settings). whole_frames r new.book.written) settings ∙ ap (whole_frames old.book.opening.settings) written in

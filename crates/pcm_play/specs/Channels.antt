@@ -1,5 +1,5 @@
 -- A channel that plays: what it stands for, and what an event changes of it.
-use Rattle.std.specs.Prelude.{◌≡◌, ℕ, ◌+◌, ◌*◌, ◌^◌, ◌<◌, ◌≤◌, true, ℤ, List, [], ◌++◌, length, take, drop}
+use Rattle.std.specs.Prelude.{◌≡◌, ℕ, ◌+◌, ◌*◌, ◌^◌, ◌<◌, ◌≤◌, true, false, ℤ, List, [], ◌++◌, length, take, drop}
 use Rattle.pcm_format.specs.Frames.{frame_bytes, frames}
 use Rattle.pcm_feeder.specs.declared.kind.Kind.{Kind}
 use Rattle.pcm_feeder.specs.declared.stage.Gain.{Gain}
@@ -10,7 +10,7 @@ use Rattle.pcm_desk.specs.declared.play_book.PlayBook.{PlayBook}
 use Rattle.pcm_desk.specs.Device.{seen}
 use Rattle.pcm_desk.specs.declared.device.Device.{Device}
 use Rattle.pcm_desk.specs.declared.here.Here.{Here}
-use Rattle.pcm_desk.specs.PlayBooks.{frames_written, is_draining, play_settled}
+use Rattle.pcm_desk.specs.PlayBooks.{frames_written, is_draining, is_play_free, play_settled}
 use Rattle.pcm_desk.specs.PlaySafe.{PlayIsHere}
 use Rattle.pcm_desk.specs.Desk.{closing, play_rate_at, play_unopened}
 use Rattle.pcm_sound.specs.Added.{turned}
@@ -27,14 +27,19 @@ waiting_of book bytes = drop (book.eaten * frame_bytes book.opening.settings) by
 abbrev pub IsPlayPlanned : {B : Type 0} → Filters → PlayChannelOf B → Type 0
 IsPlayPlanned filters channel = IsPlanned Play filters channel.book.opening.settings channel.path
 
+-- and so it is of a channel that isn't free: of a free one no plan is asked
+abbrev pub IsPlayServed : {B : Type 0} → Filters → PlayChannelOf B → Type 0
+IsPlayServed filters channel = is_play_free channel.book.state ≡ false → IsPlayPlanned filters channel
+
 -- A channel stands for a book and all bytes that were accepted in its run: those that were not eaten wait in the ring, and
--- the chain has eaten the others. It is fed silence once no more comes, behind the last frame.
+-- the chain has eaten the others. It is fed silence once no more comes, behind the last frame. Of a free one's chain nothing is said.
 pub record PlayStands {B : Type 0} (kept : B → Kept) (filters : Filters) (channel : PlayChannelOf B) (book : PlayBook) (bytes : List ℕ) : Type 0 where
   pub book_is : channel.book ≡ book
   pub count : length bytes ≡ book.written
   pub ring_is : channel.path.ring.bytes ≡ waiting_of book bytes
   pub zeros : ℕ
-  pub chain_is : ChainStands kept filters channel.path.chain (take book.eaten (frames book.opening.settings bytes)) zeros book.given
+  pub chain_is : is_play_free book.state ≡ false
+      → ChainStands kept filters channel.path.chain (take book.eaten (frames book.opening.settings bytes)) zeros book.given
   pub ended : 0 < zeros → (is_draining book.state ≡ true) × (book.eaten ≡ frames_written book)
 
 -- a channel stands for its book and some bytes
@@ -42,10 +47,10 @@ pub record PlayStandsForSome {B : Type 0} (kept : B → Kept) (filters : Filters
   pub bytes : List ℕ
   pub stands : PlayStands kept filters channel channel.book bytes
 
--- each box of a channel is of its place's kind, its chain goes by its plan, and the channel stands for some bytes
+-- each box of a channel is of its place's kind, its chain goes by its plan unless it is free, and the channel stands for some bytes
 pub record IsPlayReady {B : Type 0} (kind : B → Kind) (kept : B → Kept) (filters : Filters) (channel : PlayChannelOf B) : Type 0 where
   pub kinds : HasBoxes kind channel.path
-  pub planned : IsPlayPlanned filters channel
+  pub planned : IsPlayServed filters channel
   pub stands : PlayStandsForSome kept filters channel
 
 -- whatever bytes a channel stands for, it adds what the rules say of them, at a gain, to a block of so many frames
@@ -63,11 +68,11 @@ pub record MayEndRun {B : Type 0} (kind : B → Kind) (channel : PlayChannelOf B
 
 -- a close leaves the book that the rules say, by whichever filters the chain's plan is of
 abbrev pub ClosesBook : {B : Type 0} → Here → PlayChannelOf B → PlayChannelOf B → Type 0
-ClosesBook here old new = (filters : Filters) → IsPlayPlanned filters old → new.book ≡ closing (seen filters old.path.device) here old.book
+ClosesBook here old new = (filters : Filters) → IsPlayServed filters old → new.book ≡ closing (seen filters old.path.device) here old.book
 
 -- and so do frames that are handed over
 abbrev pub SettlesBook : {B : Type 0} → Here → PlayChannelOf B → PlayChannelOf B → Type 0
-SettlesBook here old new = (filters : Filters) → IsPlayPlanned filters old → new.book ≡ play_settled (play_rate_at (seen filters old.path.device) old.book) here.passed old.book
+SettlesBook here old new = (filters : Filters) → IsPlayServed filters old → new.book ≡ play_settled (play_rate_at (seen filters old.path.device) old.book) here.passed old.book
 
 -- nobody has opened the channel yet: it stands for no bytes, its boxes are of the right kinds, and its chain goes by its plan
 pub record IsPlayUnopened {B : Type 0} (kind : B → Kind) (kept : B → Kept) (filters : Filters) (device : Device) (channel : PlayChannelOf B) : Type 0 where
@@ -81,7 +86,7 @@ pub record IsPlayUnopened {B : Type 0} (kind : B → Kind) (kept : B → Kept) (
 -- it stood for, it stands for these and what it took, or for none where its run is over.
 pub record PlayMoves {B : Type 0} (kind : B → Kind) (kept : B → Kept) (filters : Filters) (more : List ℕ) (frames : ℕ) (old new : PlayChannelOf B) : Type 0 where
   pub kinds : HasBoxes kind old.path → HasBoxes kind new.path
-  pub planned : IsPlayPlanned filters old → IsPlayPlanned filters new
+  pub planned : IsPlayServed filters old → IsPlayServed filters new
   pub stands : (bytes : List ℕ) → PlayStands kept filters old old.book bytes → PlayStands kept filters new new.book (take new.book.written (bytes ++ more))
   pub written : new.book.written ≤ old.book.written + length more
   -- with the runs before this one

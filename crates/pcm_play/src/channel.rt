@@ -38,7 +38,7 @@ pub struct PlayChannelOf<B> {
 
 impl<B: Feeder> PlayChannelOf<B> {
     ghost use Rattle.pcm_feeder.specs.Filters.{Filters};
-    ghost use Rattle.pcm_play.specs.Channels.{AddsTo, ClosesBook, IsPlayHere, IsPlayPlanned, IsPlayReady, IsPlayUnopened, MayEndRun, PlayMoves, SettlesBook};
+    ghost use Rattle.pcm_play.specs.Channels.{AddsTo, ClosesBook, IsPlayHere, IsPlayReady, IsPlayServed, IsPlayUnopened, MayEndRun, PlayMoves, SettlesBook};
 
     /// A channel of a device that nobody has opened.
     pub fn new(
@@ -115,7 +115,7 @@ impl<B: Feeder> PlayChannelOf<B> {
     /// the book says.
     pub fn ioctl(&mut self, tables: &Tables, request: Request, here: Here) -> Result<Answer, Errno>
         requires kinds { HasBoxes B.kind self.old.path }
-        requires planned { IsPlayPlanned tables.now self.old }
+        requires planned { IsPlayServed tables.now self.old }
         requires here { IsHere here }
         requires at { IsPlayHere tables.now here self.old }
         requires count { self.old.book.done + self.old.book.written < 2 ^ 64 }

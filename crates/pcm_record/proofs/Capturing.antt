@@ -99,9 +99,9 @@ given-most device n book d rate safe fits =
     omega arith
 
 -- counts that stay below a bound have room
-pub capture-fits : {B : Type 0} (filters : Filters) (n : ℕ) (channel : RecordChannelOf B) → IsRecordPlanned filters channel → channel.book.captured + n < 2 ^ 56 → CaptureFits filters n channel
-capture-fits filters n channel p few =
-    let most = record-few (seen filters channel.path.device) channel.book.opening.settings (channel.book.captured + n) (device-is filters channel p) channel.serves.rate in
+pub capture-fits : {B : Type 0} (filters : Filters) (n : ℕ) (channel : RecordChannelOf B) → IsDevice (seen filters channel.path.device) → channel.book.captured + n < 2 ^ 56 → CaptureFits filters n channel
+capture-fits filters n channel d few =
+    let most = record-few (seen filters channel.path.device) channel.book.opening.settings (channel.book.captured + n) d channel.serves.rate in
     record { captured = omega (arith, few); given = omega (arith, few, most) }
 
 -- ---- pushes
@@ -196,7 +196,7 @@ pub moves-captured : {B : Type 0} (kind : B → Kind) (kept : B → Kept) (filte
     → RecordMoves kind kept filters input (keeping (record_rate_at (seen filters old.path.device) old.book) n old.book) old new
 moves-captured {B = B} kind kept filters old new n input pushed planned device plan kinds count bits b pushes = record {
   kinds = kinds;
-  planned = planned-as Record filters _ _ old.path new.path device plan b.settings;
+  planned = λ p used. planned-as Record filters _ _ old.path new.path device plan b.settings planned;
   stands = λ bytes frames s.
       let p = pushes bytes frames s in
       let more : List ℕ = recorded_bytes (seen filters old.path.device) old.book.opening.settings (frames ++ input) old.book.given (keeping (record_rate_at (seen filters old.path.device) old.book) n old.book) in

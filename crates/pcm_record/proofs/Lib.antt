@@ -1,3 +1,4 @@
 pub mod Stands
+pub mod Held
 pub mod Moving
 pub mod Capturing

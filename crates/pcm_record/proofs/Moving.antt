@@ -13,7 +13,7 @@ use Rattle.pcm_rate.specs.declared.rate.Rate.{Rate}
 use Rattle.pcm_plan.specs.Plans.{PlanSeen, rate_in_plan}
 use Rattle.pcm_chain.specs.declared.chain.ChainOf.{ChainOf}
 use Rattle.pcm_chain.specs.Chains.{boxes_in, plan_in}
-use Rattle.pcm_path.specs.Paths.{IsEmpty}
+use Rattle.pcm_path.specs.Paths.{IsEmpty, path_rate}
 use Rattle.pcm_oss.specs.declared.event.Way.TheVariants.{Record}
 use Rattle.pcm_path.proofs.Paths.{device-served, planned-as}
 use Rattle.pcm_oss.specs.declared.reply.Answer.{Answer}
@@ -22,7 +22,7 @@ use Rattle.pcm_desk.specs.declared.record_book.RecordBook.{RecordBook}
 use Rattle.pcm_desk.specs.declared.turn.Turn.{Turn}
 use Rattle.pcm_desk.specs.Device.{DeviceSeen, IsDevice, record_rate_between, seen}
 use Rattle.pcm_desk.specs.Desk.{record_rate_at}
-use Rattle.pcm_desk.specs.RecordBooks.{is_record_setup, is_running, read_turn, record_fill_of}
+use Rattle.pcm_desk.specs.RecordBooks.{is_record_free, is_record_setup, is_running, read_turn, record_fill_of}
 use Rattle.pcm_desk.specs.RecordRequests.{record_ask}
 use Rattle.pcm_desk.specs.RecordSafe.{IsRecordUnstarted, RecordIsSafe}
 use Rattle.pcm_desk.proofs.Refused.{read-done}
@@ -31,7 +31,9 @@ use Rattle.pcm_desk.proofs.RecordLeaves.{Stays, record-ask-leaves}
 use Rattle.pcm_desk.proofs.RecordSafe.{record-safe-ask}
 use Rattle.pcm_sound.specs.Given.{recorded_bytes}
 use Rattle.pcm_record.specs.declared.channel.RecordChannelOf.{RecordChannelOf}
-use Rattle.pcm_record.specs.Channels.{IsRecordPlanned, RecordMoves}
+use Rattle.pcm_record.specs.Channels.{IsRecordPlanned, IsRecordServed, RecordMoves}
+use Rattle.std.proofs.lemmas.Bool.{cases_Bool}
+use Rattle.pcm_record.proofs.Held.{safe-any}
 use Rattle.pcm_record.proofs.Stands.{Reads, none-captured, none-kept, stands-as, stands-empty, stands-read}
 
 -- a channel that stays stands for what it stood for
@@ -48,7 +50,7 @@ moves-nothing kind kept filters input count channel = record {
 }
 
 -- a channel that begins, or whose recording is over
-pub moves-ended : {B : Type 0} (kind : B → Kind) (kept : B → Kept) (filters : Filters) (old new : RecordChannelOf B) → HaveKinds kind (boxes_in new.path.chain) → (IsRecordPlanned filters old → IsRecordPlanned filters new) → IsRecordUnstarted new.book
+pub moves-ended : {B : Type 0} (kind : B → Kind) (kept : B → Kept) (filters : Filters) (old new : RecordChannelOf B) → HaveKinds kind (boxes_in new.path.chain) → (IsRecordServed filters old → IsRecordServed filters new) → IsRecordUnstarted new.book
     → IsEmpty kept new.path → RecordMoves kind kept filters [] 0 old new
 moves-ended kind kept filters old new kinds planned none empty = record {
   kinds = λ h. kinds;
@@ -63,14 +65,14 @@ moves-ended kind kept filters old new kinds planned none empty = record {
 
 -- a channel of whose bytes so many were read, or whose state alone changed
 pub moves-read : {B : Type 0} (kind : B → Kind) (kept : B → Kept) (filters : Filters) (count : ℕ) (old new : RecordChannelOf B) → new.path.device ≡ old.path.device → new.path.chain ≡ old.path.chain → new.path.ring.bytes ≡ drop count old.path.ring.bytes → Reads count old.book new.book
-    → RecordMoves kind kept filters [] 0 old new
-moves-read {B = B} kind kept filters count old new device chain ring r = record {
+    → (is_record_free new.book.state ≡ false → is_record_free old.book.state ≡ false) → RecordMoves kind kept filters [] 0 old new
+moves-read {B = B} kind kept filters count old new device chain ring r held = record {
   kinds = λ h. subst (λ (c : ChainOf B). HaveKinds kind (boxes_in c)) (sym chain) h;
-  planned = planned-as Record filters _ _ old.path new.path device (ap plan_in chain) r.settings;
+  planned = λ p used. planned-as Record filters _ _ old.path new.path device (ap plan_in chain) r.settings (p (held used));
   stands = λ bytes frames s.
       stands-as kept filters new bytes (take new.book.kept (bytes ++ recorded_bytes (seen filters old.path.device) old.book.opening.settings (frames ++ []) old.book.given 0)) frames (take new.book.captured (frames ++ []))
       (none-kept new.book.kept (seen filters old.path.device) old.book.opening.settings bytes (frames ++ []) old.book.given (s.count ∙ sym r.kept)) (none-captured new.book.captured frames (s.captured ∙ sym r.captured))
-      (stands-read kept filters old new count bytes frames chain ring r s);
+      (stands-read kept filters old new count bytes frames chain ring r held s);
   captured = omega (arith, r.captured);
   kept = omega (arith, r.kept);
 }
@@ -111,6 +113,14 @@ device-is filters channel p = device-served Record filters channel.book.opening 
 pub safe-at : {B : Type 0} (filters : Filters) (channel : RecordChannelOf B) → IsRecordPlanned filters channel → RecordIsSafe (record_rate_at (seen filters channel.path.device) channel.book) channel.book
 safe-at filters channel p = subst (λ (plan : PlanSeen). RecordIsSafe (rate_in_plan plan) channel.book) p.plan_is channel.safe
 
+-- and so a channel's that may be free
+pub safe-served : {B : Type 0} (filters : Filters) (channel : RecordChannelOf B) → IsRecordServed filters channel → RecordIsSafe (record_rate_at (seen filters channel.path.device) channel.book) channel.book
+safe-served filters channel served =
+    elim (cases_Bool (is_record_free channel.book.state)) [
+      | inl free ↦ safe-any (path_rate channel.path) (record_rate_at (seen filters channel.path.device) channel.book) channel.book free channel.safe
+      | inr used ↦ safe-at filters channel (served used)
+    ]
+
 -- what a request leaves of a book whose rate is then this one
 pub record Left (now : Rate) (old new : RecordBook) : Type 0 where
   pub rate : IsRate new.opening.settings.rate
@@ -119,17 +129,17 @@ pub record Left (now : Rate) (old new : RecordBook) : Type 0 where
   pub goes : is_running new.state ≡ true → Stays old new
 
 -- a request
-pub book-asked : {B : Type 0} (filters : Filters) (request : Request) (old : RecordChannelOf B) (turn : Turn RecordBook) → IsRecordPlanned filters old → turn ≡ record_ask request old.book → Left (record_rate_at (seen filters old.path.device) turn.book) old.book turn.book
+pub book-asked : {B : Type 0} (filters : Filters) (request : Request) (old : RecordChannelOf B) (turn : Turn RecordBook) → IsRecordServed filters old → turn ≡ record_ask request old.book → Left (record_rate_at (seen filters old.path.device) turn.book) old.book turn.book
 book-asked filters request old turn p asked =
     let device : DeviceSeen = seen filters old.path.device in
     let book : RecordBook = old.book in
     let is : turn.book ≡ (record_ask request book).book = ap (λ (t : Turn RecordBook). t.book) asked in
     let same : is_record_setup book.state ≡ false → record_rate_at device turn.book ≡ record_rate_at device book =
     λ e. ap (λ (s : Settings). record_rate_between device s) (ap (λ (b : RecordBook). b.opening.settings) is ∙ record-ask-settings request book e) in
-    let leaves = record-ask-leaves (record_rate_at device book) request book (safe-at filters old p) in
+    let leaves = record-ask-leaves (record_rate_at device book) request book (safe-served filters old p) in
     record {
       rate = subst (λ (b : RecordBook). IsRate b.opening.settings.rate) (sym is) (record-ask-rate request book old.serves.rate);
-      safe = subst (RecordIsSafe (record_rate_at device turn.book)) (sym is) (record-safe-ask (record_rate_at device book) (record_rate_at device turn.book) request book same (safe-at filters old p));
+      safe = subst (RecordIsSafe (record_rate_at device turn.book)) (sym is) (record-safe-ask (record_rate_at device book) (record_rate_at device turn.book) request book same (safe-served filters old p));
       goes = subst (λ (b : RecordBook). is_running b.state ≡ true → Stays book b) (sym is) (λ runs. elim leaves.counts [
         | inl stays ↦ stays
         | inr over ↦ absurd (let clash : true ≡ false = sym runs ∙ over.stopped in cc)

@@ -1,5 +1,5 @@
 -- What a channel stands for after each call.
-use Rattle.std.proofs.Common.{◌≡◌, ℕ, ◌+◌, ◌≤◌, List, [], ◌++◌, length, drop, All, refl, sym, ap, ◌∙◌, subst, arith, length-append}
+use Rattle.std.proofs.Common.{◌≡◌, ℕ, ◌+◌, ◌≤◌, false, List, [], ◌++◌, length, drop, All, refl, sym, ap, ◌∙◌, subst, arith, length-append}
 use Rattle.std.proofs.lemmas.List.{drop-append-le, drop-drop, take_at}
 use Rattle.std.proofs.lemmas.List.Elements.{All-append, All-nil}
 use Rattle.std.specs.Prelude.{take}
@@ -14,6 +14,7 @@ use Rattle.pcm_chain.specs.Pushes.{HasRecorded}
 use Rattle.pcm_path.specs.Paths.{IsEmpty}
 use Rattle.pcm_desk.specs.declared.record_book.RecordBook.{RecordBook}
 use Rattle.pcm_desk.specs.Device.{DeviceSeen}
+use Rattle.pcm_desk.specs.RecordBooks.{is_record_free}
 use Rattle.pcm_desk.specs.RecordSafe.{IsRecordUnstarted}
 use Rattle.pcm_sound.specs.Given.{recorded_bytes}
 use Rattle.pcm_record.specs.declared.channel.RecordChannelOf.{RecordChannelOf}
@@ -28,7 +29,7 @@ stands-empty kept filters channel none empty = record {
   ring_is = empty.ring ∙ ap (λ n. drop n []) (sym none.read_none);
   captured = sym none.captured_none;
   bits = All-nil (λ (frame : Frame). All (FitsBits 32) frame);
-  records = empty.records filters;
+  records = λ used. empty.records filters;
 }
 
 -- what a channel stands for, told by equal lists
@@ -56,14 +57,14 @@ reads-count count old new is = record {
 
 -- a channel of whose bytes so many were read stands for the same bytes
 pub stands-read : {B : Type 0} (kept : B → Kept) (filters : Filters) (old new : RecordChannelOf B) (count : ℕ) (bytes : List ℕ) (frames : List Frame) → new.path.chain ≡ old.path.chain → new.path.ring.bytes ≡ drop count old.path.ring.bytes → Reads count old.book new.book
-    → RecordStands kept filters old old.book bytes frames → RecordStands kept filters new new.book bytes frames
-stands-read {B = B} kept filters old new count bytes frames chain ring r s = record {
+    → (is_record_free new.book.state ≡ false → is_record_free old.book.state ≡ false) → RecordStands kept filters old old.book bytes frames → RecordStands kept filters new new.book bytes frames
+stands-read {B = B} kept filters old new count bytes frames chain ring r held s = record {
   book_is = refl;
   count = s.count ∙ sym r.kept;
   ring_is = ring ∙ ap (drop count) s.ring_is ∙ drop-drop count old.book.read bytes ∙ ap (λ n. drop n bytes) (sym r.read);
   captured = s.captured ∙ sym r.captured;
   bits = s.bits;
-  records = subst (λ (c : ChainOf B). HasRecorded kept filters c frames) (sym chain) s.records;
+  records = λ used. subst (λ (c : ChainOf B). HasRecorded kept filters c frames) (sym chain) (s.records (held used));
 }
 
 -- a channel that captured more frames, of which more bytes were kept, stands for these too
@@ -76,7 +77,7 @@ stands-captured kept filters old new bytes more frames input ring read within gr
   ring_is = ring ∙ ap (λ waiting. waiting ++ more) s.ring_is ∙ sym (drop-append-le old.book.read bytes more (omega (arith, s.count))) ∙ ap (λ n. drop n (bytes ++ more)) (sym read);
   captured = omega (arith, length-append frames input, s.captured, captures);
   bits = All-append (λ (frame : Frame). All (FitsBits 32) frame) frames input s.bits bits;
-  records = records;
+  records = λ used. records;
 }
 
 -- ---- lists that are cut where they end

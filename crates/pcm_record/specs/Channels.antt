@@ -1,5 +1,5 @@
 -- A channel that records: what it stands for, and what an event changes of it.
-use Rattle.std.specs.Prelude.{◌≡◌, ℕ, ◌+◌, ◌^◌, ◌<◌, ◌≤◌, List, [], ◌++◌, length, take, drop, ℤ, Result}
+use Rattle.std.specs.Prelude.{◌≡◌, ℕ, ◌+◌, ◌^◌, ◌<◌, ◌≤◌, false, List, [], ◌++◌, length, take, drop, ℤ, Result}
 use Rattle.pcm_format.specs.Frames.{Frame}
 use Rattle.pcm_format.specs.Layouts.{channels_of}
 use Rattle.pcm_rate.specs.Rates.{can}
@@ -17,7 +17,7 @@ use Rattle.pcm_desk.specs.declared.record_book.RecordBook.{RecordBook}
 use Rattle.pcm_desk.specs.declared.device.Device.{Device}
 use Rattle.pcm_desk.specs.Device.{seen}
 use Rattle.pcm_desk.specs.Desk.{record_rate_at, record_unopened}
-use Rattle.pcm_desk.specs.RecordBooks.{keeping}
+use Rattle.pcm_desk.specs.RecordBooks.{is_record_free, keeping}
 use Rattle.pcm_sound.specs.Given.{recorded_bytes}
 use Rattle.pcm_oss.specs.declared.event.Way.TheVariants.{Record}
 use Rattle.pcm_path.specs.Paths.{HasBoxes, IsPlanned}
@@ -31,15 +31,20 @@ unread_of book bytes = drop book.read bytes
 abbrev pub IsRecordPlanned : {B : Type 0} → Filters → RecordChannelOf B → Type 0
 IsRecordPlanned filters channel = IsPlanned Record filters channel.book.opening.settings channel.path
 
+-- and so it is of a channel that isn't free: of a free one no plan is asked
+abbrev pub IsRecordServed : {B : Type 0} → Filters → RecordChannelOf B → Type 0
+IsRecordServed filters channel = is_record_free channel.book.state ≡ false → IsRecordPlanned filters channel
+
 -- A channel stands for a book, all bytes that were kept since the start, and all frames of the device that were captured since:
--- the bytes that were not read wait in the ring, and the chain has eaten the frames and given all that they allow.
+-- the bytes that were not read wait in the ring, and the chain has eaten the frames and given all that they allow. Of a free one's
+-- chain nothing is said.
 pub record RecordStands {B : Type 0} (kept : B → Kept) (filters : Filters) (channel : RecordChannelOf B) (book : RecordBook) (bytes : List ℕ) (frames : List Frame) : Type 0 where
   pub book_is : channel.book ≡ book
   pub count : length bytes ≡ book.kept
   pub ring_is : channel.path.ring.bytes ≡ unread_of book bytes
   pub captured : length frames ≡ book.captured
   pub bits : HaveBits 32 frames
-  pub records : HasRecorded kept filters channel.path.chain frames
+  pub records : is_record_free book.state ≡ false → HasRecorded kept filters channel.path.chain frames
 
 -- a channel stands for its book, some bytes and some frames
 pub record RecordStandsForSome {B : Type 0} (kept : B → Kept) (filters : Filters) (channel : RecordChannelOf B) : Type 0 where
@@ -47,10 +52,10 @@ pub record RecordStandsForSome {B : Type 0} (kept : B → Kept) (filters : Filte
   pub frames : List Frame
   pub stands : RecordStands kept filters channel channel.book bytes frames
 
--- each box of a channel is of its place's kind, its chain goes by its plan, and the channel stands for some bytes and frames
+-- each box of a channel is of its place's kind, its chain goes by its plan unless it is free, and the channel stands for some bytes and frames
 pub record IsRecordReady {B : Type 0} (kind : B → Kind) (kept : B → Kept) (filters : Filters) (channel : RecordChannelOf B) : Type 0 where
   pub kinds : HasBoxes kind channel.path
-  pub planned : IsRecordPlanned filters channel
+  pub planned : IsRecordServed filters channel
   pub stands : RecordStandsForSome kept filters channel
 
 -- the frames that a channel captures of so many more, and those that come of them, fit their counts
@@ -76,7 +81,7 @@ pub record IsRecordUnopened {B : Type 0} (kind : B → Kind) (kept : B → Kept)
 -- frames it stood for, it stands for these with what was kept and captured, or for none where its recording is over.
 pub record RecordMoves {B : Type 0} (kind : B → Kind) (keeps : B → Kept) (filters : Filters) (input : List Frame) (count : ℕ) (old new : RecordChannelOf B) : Type 0 where
   pub kinds : HasBoxes kind old.path → HasBoxes kind new.path
-  pub planned : IsRecordPlanned filters old → IsRecordPlanned filters new
+  pub planned : IsRecordServed filters old → IsRecordServed filters new
   pub stands : (bytes : List ℕ) (frames : List Frame) → RecordStands keeps filters old old.book bytes frames
       → RecordStands keeps filters new new.book
       (take new.book.kept (bytes ++ recorded_bytes (seen filters old.path.device) old.book.opening.settings (frames ++ input) old.book.given count))

@@ -37,7 +37,7 @@ pub struct RecordChannelOf<B> {
 
 impl<B: Feeder> RecordChannelOf<B> {
     ghost use Rattle.pcm_feeder.specs.Filters.{Filters};
-    ghost use Rattle.pcm_record.specs.Channels.{CaptureFits, CaptureMoves, GivesUnread, IsRecordPlanned, IsRecordUnopened, RecordMoves, RecordStandsForSome};
+    ghost use Rattle.pcm_record.specs.Channels.{CaptureFits, CaptureMoves, GivesUnread, IsRecordServed, IsRecordUnopened, RecordMoves, RecordStandsForSome};
 
     /// A channel of a device that nobody has opened.
     pub fn new(
@@ -109,7 +109,7 @@ impl<B: Feeder> RecordChannelOf<B> {
     /// Does what a request asks. Where the channel isn't running then, the ring and the chain begin anew, as the book says.
     pub fn ioctl(&mut self, tables: &Tables, request: Request) -> Result<Answer, Errno>
         requires kinds { HasBoxes B.kind self.old.path }
-        requires planned { IsRecordPlanned tables.now self.old }
+        requires planned { IsRecordServed tables.now self.old }
         ensures book { self.new.book ≡ (record_ask request self.old.book).book }
         ensures reply { result ≡ (record_ask request self.old.book).reply }
         ensures device { self.new.path.device ≡ self.old.path.device }
@@ -141,7 +141,7 @@ impl<B: Feeder> RecordChannelOf<B> {
     pub fn capture(&mut self, tables: &Tables, frames: usize, input: &[i32])
         requires few { frames ≤ RING_FRAMES }
         requires whole { length input.now ≡ frames * channels_of self.old.path.device.settings.layout }
-        requires planned { IsRecordPlanned tables.now self.old }
+        requires planned { IsRecordServed tables.now self.old }
         requires stands { RecordStandsForSome B.kept tables.now self.old }
         requires count { CaptureFits tables.now frames self.old }
         requires kept { self.old.book.kept + RING_BYTES < 2 ^ 64 }

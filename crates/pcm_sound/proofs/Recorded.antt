@@ -62,7 +62,7 @@ pub turned-same : (device : DeviceSeen) (book : RecordBook) → IsRate book.open
 turned-same device book rate safe = record {
   rate = rate;
   safe = safe;
-  counts = inl (record { settings = refl; fragments = refl; captured = refl; given = refl; kept = refl; read = refl; runs = λ h. h });
+  counts = inl (record { settings = refl; fragments = refl; captured = refl; given = refl; kept = refl; read = refl; runs = λ h. h; held = λ h. h });
 }
 
 -- a channel that hadn't started counts nothing

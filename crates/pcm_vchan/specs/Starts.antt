@@ -9,9 +9,9 @@ use Rattle.pcm_desk.specs.declared.here.Here.{Here}
 use Rattle.pcm_desk.specs.Device.{seen}
 use Rattle.pcm_desk.specs.Desk.{play_starting, record_starting}
 use Rattle.pcm_play.specs.declared.channel.PlayChannelOf.{PlayChannelOf}
-use Rattle.pcm_play.specs.Channels.{IsPlayHere, IsPlayPlanned, PlayMoves}
+use Rattle.pcm_play.specs.Channels.{IsPlayHere, IsPlayServed, PlayMoves}
 use Rattle.pcm_record.specs.declared.channel.RecordChannelOf.{RecordChannelOf}
-use Rattle.pcm_record.specs.Channels.{IsRecordPlanned, RecordMoves}
+use Rattle.pcm_record.specs.Channels.{IsRecordServed, RecordMoves}
 
 -- a slot is in the group
 abbrev pub is_in : List ℕ → ℕ → ℕ → Bool
@@ -21,11 +21,11 @@ is_in slots group slot = slice_index_or slots slot 0 == group
 abbrev pub EachAt : {X : Type 0} → (ℕ → X → X → Type 0) → List X → List X → Type 0
 EachAt {X} how old new = (slot : ℕ) (other : X) → slot < length old → how slot (slice_index_or old slot other) (slice_index_or new slot other)
 
--- a channel that plays may be asked to start where the mix and the device are: it has the boxes of a rack, its chain goes by its plan, and
--- its counts have room
+-- a channel that plays may be asked to start where the mix and the device are: it has the boxes of a rack, its chain goes by its plan
+-- unless it is free, and its counts have room
 pub record MayStart {B : Type 0} (kind : B → Kind) (filters : Filters) (here : Here) (channel : PlayChannelOf B) : Type 0 where
   pub kinds : HaveKinds kind (boxes_in channel.path.chain)
-  pub planned : IsPlayPlanned filters channel
+  pub planned : IsPlayServed filters channel
   pub place : IsPlayHere filters here channel
   pub counted : channel.book.done + channel.book.written < 2 ^ 64
 
@@ -38,7 +38,7 @@ pub record Starts {B : Type 0} (kind : B → Kind) (kept : B → Kept) (filters 
 -- and of a channel that records
 pub record MayRecord {B : Type 0} (kind : B → Kind) (filters : Filters) (channel : RecordChannelOf B) : Type 0 where
   pub kinds : HaveKinds kind (boxes_in channel.path.chain)
-  pub planned : IsRecordPlanned filters channel
+  pub planned : IsRecordServed filters channel
 
 pub record Records {B : Type 0} (kind : B → Kind) (kept : B → Kept) (filters : Filters) (member : Bool) (old new : RecordChannelOf B) : Type 0 where
   pub device_same : new.path.device ≡ old.path.device

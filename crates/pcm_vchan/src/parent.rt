@@ -12,7 +12,7 @@ ghost use Rattle.pcm_oss.specs.declared.event.TheConstants.{SLOTS};
 ghost use Rattle.pcm_mixdev.specs.Mixers.{full_mixer};
 ghost use Rattle.pcm_desk.specs.Device.{mixed_slots, passed_for, seen, unfiltered, HasRates};
 ghost use Rattle.pcm_group.specs.Groups.{all_in, change_in};
-ghost use Rattle.pcm_desk.specs.Desk.{play_starting, record_starting};
+ghost use Rattle.pcm_desk.specs.Desk.{play_starting, record_starting, slot_number};
 ghost use Rattle.pcm_desk.specs.Here.{IsHere};
 ghost use Rattle.pcm_desk.specs.PlayBooks.{is_play_free, play_is_ready};
 ghost use Rattle.pcm_desk.specs.RecordBooks.{is_record_free};
@@ -123,7 +123,7 @@ impl<B: Feeder> ParentOf<B> {
         })
     }
 
-    /// An opening begins in the least free slot of its way.
+    /// An opening begins in the least free slot of its way, counted among those of this way.
     pub fn open_slot(
         &mut self,
         tables: &Tables,
@@ -193,6 +193,17 @@ impl<B: Feeder> ParentOf<B> {
         Ok(slot)
     }
 
+    /// The number of a slot, as a client is told it: mapped ones are numbered behind those that play.
+    pub fn number_of(&self, way: Way, slot: usize) -> u32
+        requires { slot < SLOTS }
+        ensures { result ≡ slot_number (length (play_channels self.now)) way slot }
+    {
+        match way {
+            Way::Play | Way::Record => slot as u32,
+            Way::Map => self.device.play_slots + slot as u32,
+        }
+    }
+
     /// Lends the channel of a slot.
     pub fn play(&mut self, slot: usize) -> &mut PlayChannelOf<B>
         requires { slot < fixed_len self.old.channels }
@@ -211,7 +222,7 @@ impl<B: Feeder> ParentOf<B> {
         &mut self.recorders[slot]
     }
 
-    /// Lends the mapped channel of a slot.
+    /// Lends the mapped channel of a slot, counted among mapped ones.
     pub fn mapped(&mut self, slot: usize) -> &mut MapChannelOf<B>
         requires { slot < fixed_len self.old.maps }
         ensures* writes_back { sem 𝓛 (LendsMap B.row self.entry slot result) }
@@ -350,6 +361,13 @@ impl<B: Feeder> ParentOf<B> {
         self.passed = self.device.passed(self.handed);
         let here = self.here();
         settle_all(&mut self.channels, here);
+    }
+
+    /// How many frames were mixed so far.
+    pub fn mixed(&self) -> u64
+        ensures { result ≡ self.now.mixed }
+    {
+        self.mixed
     }
 
     /// Where the mix and the device are.

@@ -13,13 +13,13 @@ use Rattle.pcm_desk.specs.declared.here.Here.{Here}
 use Rattle.pcm_desk.specs.Desk.{DeskTurn, asking, desk_here, held_by, map_turn, play_turn, play_rate_at, record_turn}
 use Rattle.pcm_desk.proofs.Silent.{ask-silent, map-asked-silent, record-ask-silent}
 use Rattle.pcm_play.specs.declared.channel.PlayChannelOf.{PlayChannelOf}
-use Rattle.pcm_play.specs.Channels.{IsPlayHere, IsPlayPlanned, PlayMoves}
+use Rattle.pcm_play.specs.Channels.{IsPlayHere, IsPlayServed, PlayMoves}
 use Rattle.pcm_play.proofs.Moving.{moves-nothing}
 use Rattle.pcm_record.specs.declared.channel.RecordChannelOf.{RecordChannelOf}
-use Rattle.pcm_record.specs.Channels.{IsRecordPlanned, RecordMoves}
+use Rattle.pcm_record.specs.Channels.{IsRecordServed, RecordMoves}
 use Rattle.pcm_record.proofs.Moving as recorders
 use Rattle.pcm_map.specs.declared.channel.MapChannelOf.{MapChannelOf}
-use Rattle.pcm_map.specs.Channels.{IsMapPlanned}
+use Rattle.pcm_map.specs.Channels.{IsMapServed}
 use Rattle.pcm_vchan.specs.Slots.{MapKeeps}
 use Rattle.pcm_vchan.proofs.Channels.{each_set, own_set, parent_same}
 use Rattle.pcm_vchan.specs.Parents.{map_channels, play_channels, record_channels, untouched}
@@ -57,7 +57,7 @@ ioctl-requires-clause-planned g c =
     let held = c.in_ok-held.held in
     let e = holding-is (held_by (desk_with parent c.args.descriptors.now) c.args.fd) c.in_ok-held.held (sym c.holding.ensures ∙ c.in_ok-held.was) in
     let there = play-there parent c.args.descriptors.now c.args.fd held c.requires.apart e c.in-Play.is in
-    subst (IsPlayPlanned c.args.tables.now) (sym c.play.ensures.value) (c.requires.able.served.ready held.slot c.play.result.now there).planned
+    subst (IsPlayServed c.args.tables.now) (sym c.play.ensures.value) (c.requires.able.served.ready held.slot c.play.result.now there).planned
 
 pub ioctl-requires-clause-count : goal.ioctl-requires-clause-count
 ioctl-requires-clause-count g c =
@@ -97,7 +97,7 @@ ioctl-requires-in-Record-clause-planned g c =
     let held = c.in_ok-held.held in
     let e = holding-is (held_by (desk_with parent c.args.descriptors.now) c.args.fd) c.in_ok-held.held (sym c.holding.ensures ∙ c.in_ok-held.was) in
     let there = record-there parent c.args.descriptors.now c.args.fd held c.requires.apart e c.in-Record.is in
-    subst (IsRecordPlanned c.args.tables.now) (sym c.recorder.ensures.value) (c.requires.able.served.recorders_ready held.slot c.recorder.result.now there).planned
+    subst (IsRecordServed c.args.tables.now) (sym c.recorder.ensures.value) (c.requires.able.served.recorders_ready held.slot c.recorder.result.now there).planned
 
 pub returns-in-Play : goal.returns-in-Play
 returns-in-Play g c =
@@ -183,7 +183,7 @@ ioctl-requires-in-Map-clause-planned g c =
     let held = c.in_ok-held.held in
     let e = holding-is (held_by (desk_with parent c.args.descriptors.now) c.args.fd) c.in_ok-held.held (sym c.holding.ensures ∙ c.in_ok-held.was) in
     let there = map-there parent c.args.descriptors.now c.args.fd held c.requires.apart e c.in-Map.is in
-    subst (IsMapPlanned c.args.tables.now) (sym c.mapped.ensures.value) (c.requires.able.served.maps_ready held.slot c.mapped.result.now there).planned
+    subst (IsMapServed c.args.tables.now) (sym c.mapped.ensures.value) (c.requires.able.served.maps_ready held.slot c.mapped.result.now there).planned
 
 pub ioctl-requires-in-Map-clause-count : goal.ioctl-requires-in-Map-clause-count
 ioctl-requires-in-Map-clause-count g c =

@@ -14,7 +14,7 @@ use Rattle.pcm_oss.specs.declared.event.Way.{Way}
 use Rattle.pcm_desk.specs.declared.here.Here.{Here}
 use Rattle.pcm_desk.specs.Desk.{Desk, by_way, closing, desk_here, map_at, play_at, record_at, with_map, with_play, with_record}
 use Rattle.pcm_play.specs.declared.channel.PlayChannelOf.{PlayChannelOf}
-use Rattle.pcm_play.specs.Channels.{IsPlayPlanned, PlayMoves}
+use Rattle.pcm_play.specs.Channels.{IsPlayServed, PlayMoves}
 use Rattle.pcm_play.proofs.Moving.{moves-nothing}
 use Rattle.pcm_record.specs.declared.channel.RecordChannelOf.{RecordChannelOf}
 use Rattle.pcm_record.specs.Channels.{RecordMoves}
@@ -71,7 +71,7 @@ returns-in-Play-clause-desk g c =
     let own = own-lent parent.device (play_channels parent) held.slot lent there c.play.ensures.value c.requires.closable.own in
     let desk : Desk = desk_with parent descriptors in
     desk-played device (λ (book : PlayBook). record { book = closing device (desk_here device desk) book; reply = Ok Done }) parent descriptors held.slot lent c.close.new.self there c.play.ensures.value
-    (c.close.ensures.book filters (subst (IsPlayPlanned filters) (sym c.play.ensures.value) (ready held.slot lent there).planned) ∙ ap (λ (d : Device). closing (seen filters d) c.args.here lent.book) own ∙ ap (λ (here : Here). closing device here lent.book) at)
+    (c.close.ensures.book filters (subst (IsPlayServed filters) (sym c.play.ensures.value) (ready held.slot lent there).planned) ∙ ap (λ (d : Device). closing (seen filters d) c.args.here lent.book) own ∙ ap (λ (here : Here). closing device here lent.book) at)
     ∙ sym (ap (λ (w : Way). by_way w (with_play desk held.slot (closing device (desk_here device desk) (play_at device desk held.slot))) (with_record desk held.slot (closed (record_at device desk held.slot))) (with_map desk held.slot (map_closed (map_at device desk held.slot)))) c.in-Play.is)
 
 pub returns-in-Record-clause-closed : goal.returns-in-Record-clause-closed

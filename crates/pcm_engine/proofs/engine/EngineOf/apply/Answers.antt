@@ -6,6 +6,7 @@ use Rattle.pcm_oss.specs.declared.event.Event.TheVariants.{Open, Write, Poke, Re
 use Rattle.pcm_format.specs.Layouts.{channels_of}
 use Rattle.pcm_oss.specs.declared.fragments.TheConstants.{RING_BYTES}
 use Rattle.pcm_desk.specs.declared.device.Device.{Device}
+use Rattle.pcm_desk.specs.Device.{IsDevice, seen}
 use Rattle.pcm_play.specs.declared.channel.PlayChannelOf.{PlayChannelOf}
 use Rattle.pcm_record.specs.declared.channel.RecordChannelOf.{RecordChannelOf}
 use Rattle.pcm_map.specs.declared.channel.MapChannelOf.{MapChannelOf}
@@ -165,7 +166,8 @@ interrupt-requires-clause-due g c =
           record {
             own = old.recorders_own slot other there;
             ready = c.requires.ready.recording slot other there;
-            captured = capture-fits old.tables c.in-Intr.frames (get_or (record_channels old.parent) slot other) (c.requires.ready.recording slot other there).planned
+            captured = capture-fits old.tables c.in-Intr.frames (get_or (record_channels old.parent) slot other)
+                (subst (λ (d : Device). IsDevice (seen old.tables d)) (sym (old.recorders_own slot other there)) c.requires.ready.bus.planned.limits)
                 (omega (arith, captured, within, fits.1, c.requires.count));
             kept = omega (arith, kept, c.requires.count);
           };
@@ -174,7 +176,8 @@ interrupt-requires-clause-due g c =
           record {
             own = old.maps_own slot other there;
             ready = c.requires.ready.mapped slot other there;
-            counted = counts-fit old.tables (mixed_in old.tables c.in-Intr.frames old.parent) (get_or (map_channels old.parent) slot other) (c.requires.ready.mapped slot other there).planned
+            counted = counts-fit old.tables (mixed_in old.tables c.in-Intr.frames old.parent) (get_or (map_channels old.parent) slot other)
+                (subst (λ (d : Device). IsDevice (seen old.tables d)) (sym (old.maps_own slot other there)) c.requires.ready.bus.planned.limits)
                 (omega (arith, given, few, c.requires.count));
           };
     }

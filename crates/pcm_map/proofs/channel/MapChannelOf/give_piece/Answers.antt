@@ -12,34 +12,35 @@ use Rattle.pcm_desk.proofs.Ratios.{tables-between}
 use Rattle.pcm_map.proofs.Books.{book-given, eaten-few, eaten-grows, next-fits, planned-device, planned-rate, safe-given, taken-fits}
 use Rattle.pcm_ring.specs.Ring.{Ring}
 use Rattle.pcm_map.specs.Pieces.{taken_for}
+use Rattle.pcm_map.proofs.Held.{running-held}
 use Rattle.pcm_map.proofs.Pieces.{piece-gives, pulls-piece, ring-again, ring-empty, ring-filled}
 use Rattle.pcm_map.proofs.channel.MapChannelOf.give_piece.Goals as goal
 
 pub refilled-book-requires-clause-eaten : goal.refilled-book-requires-clause-eaten
 refilled-book-requires-clause-eaten g c =
     let old = c.args.self.now in
-    let planned = c.requires.ready.planned in
+    let planned = c.requires.ready.planned (running-held c.args.self.now.book.state c.requires.running) in
     let fits = next-fits c.args.tables.now c.args.n old c.rate.result (c.rate.ensures.value ∙ ap (λ (p : PlanSeen). rate_in_plan p) c.plan.ensures ∙ planned-rate c.args.tables.now old planned) c.requires.count in
     omega (arith, fits)
 
 pub overflow_sub-count : goal.overflow_sub-count
 overflow_sub-count g c =
     let old = c.args.self.now in
-    let planned = c.requires.ready.planned in
+    let planned = c.requires.ready.planned (running-held c.args.self.now.book.state c.requires.running) in
     eaten-grows c.args.tables.now c.args.n old c.refilled-book.result planned
     (book-given c.args.tables.now c.args.n old c.refilled-book.result c.rate.result c.plan.result.now planned c.requires.running c.refilled-book.ensures c.rate.ensures.value c.plan.ensures)
 
 pub overflow_mul-count : goal.overflow_mul-count
 overflow_mul-count g c =
     let old = c.args.self.now in
-    let planned = c.requires.ready.planned in
+    let planned = c.requires.ready.planned (running-held c.args.self.now.book.state c.requires.running) in
     let few = eaten-few c.args.tables.now c.args.n old c.refilled-book.result c.frame_bytes.result planned c.requires.few
     (book-given c.args.tables.now c.args.n old c.refilled-book.result c.rate.result c.plan.result.now planned c.requires.running c.refilled-book.ensures c.rate.ensures.value c.plan.ensures) c.frame_bytes.ensures in
     omega (arith, few)
 
 pub taken-requires : goal.taken-requires
 taken-requires g c =
-    taken-fits c.args.tables.now c.args.n c.args.self.now c.requires.ready.planned c.requires.count
+    taken-fits c.args.tables.now c.args.n c.args.self.now (c.requires.ready.planned (running-held c.args.self.now.book.state c.requires.running)) c.requires.count
 
 pub put_round-requires-clause-some : goal.put_round-requires-clause-some
 put_round-requires-clause-some g c =
@@ -50,7 +51,7 @@ put_round-requires-clause-some g c =
 pub put_round-requires-clause-room : goal.put_round-requires-clause-room
 put_round-requires-clause-room g c =
     let old = c.args.self.now in
-    let planned = c.requires.ready.planned in
+    let planned = c.requires.ready.planned (running-held c.args.self.now.book.state c.requires.running) in
     let few = eaten-few c.args.tables.now c.args.n old c.refilled-book.result c.frame_bytes.result planned c.requires.few
     (book-given c.args.tables.now c.args.n old c.refilled-book.result c.rate.result c.plan.result.now planned c.requires.running c.refilled-book.ensures c.rate.ensures.value c.plan.ensures) c.frame_bytes.ensures in
     let empty = old.ring in
@@ -59,12 +60,12 @@ put_round-requires-clause-room g c =
 pub pull-requires-clause-fitted : goal.pull-requires-clause-fitted
 pull-requires-clause-fitted g c =
     let old = c.args.self.now in
-    stands-fitted g.B.Feeder.kept c.args.tables.now old.path.chain _ 0 old.book.given c.requires.ready.stands.stands.chain_is
+    stands-fitted g.B.Feeder.kept c.args.tables.now old.path.chain _ 0 old.book.given (c.requires.ready.stands.stands.chain_is (running-held old.book.state c.requires.running))
 
 pub pull-requires-clause-tables : goal.pull-requires-clause-tables
 pull-requires-clause-tables g c =
     let old = c.args.self.now in
-    let planned = c.requires.ready.planned in
+    let planned = c.requires.ready.planned (running-held c.args.self.now.book.state c.requires.running) in
     subst (λ (p : PlanSeen). HaveTables p.stages c.args.tables.now) (sym planned.plan_is)
     (tables-between (seen c.args.tables.now old.path.device) old.book.opening.settings (planned-device c.args.tables.now old planned) old.rate)
 
@@ -72,11 +73,11 @@ pub invariant_of-self : goal.invariant_of-self
 invariant_of-self g c =
     let old = c.args.self.now in
     let filters = c.args.tables.now in
-    let planned = c.requires.ready.planned in
+    let planned = c.requires.ready.planned (running-held c.args.self.now.book.state c.requires.running) in
     let is = book-given filters c.args.n old c.refilled-book.result c.rate.result c.plan.result.now planned c.requires.running c.refilled-book.ensures c.rate.ensures.value c.plan.ensures in
     let filled = ring-filled filters c.args.n old c.refilled-book.result c.deref.result.now c.size.result c.taken.result c.frame_bytes.result c.put_round.new.ring is c.size.ensures c.deref.ensures.value c.taken.ensures c.frame_bytes.ensures c.put_round.ensures in
     let some = c.requires.ready.stands in
-    let p = pulls-piece g.B.Feeder.kept filters c.gain_of-gain.result c.args.n old c.put_round.new.ring c.pull.new.self c.pull.result c.args.frames.now c.pull.new.out planned (ap (λ (ring : Ring). ring.bytes) filled) c.pull.ensures.pulls some.bytes some.stands in
+    let p = pulls-piece g.B.Feeder.kept filters c.gain_of-gain.result c.args.n old c.put_round.new.ring c.pull.new.self c.pull.result c.args.frames.now c.pull.new.out planned c.requires.running (ap (λ (ring : Ring). ring.bytes) filled) c.pull.ensures.pulls some.bytes some.stands in
     record {
       rates = old.rates;
       rate = subst (λ (b : MapBook). IsRate b.opening.settings.rate) (sym is) old.rate;
@@ -90,10 +91,10 @@ pub returns : goal.returns
 returns g c =
     let old = c.args.self.now in
     let filters = c.args.tables.now in
-    let planned = c.requires.ready.planned in
+    let planned = c.requires.ready.planned (running-held c.args.self.now.book.state c.requires.running) in
     let is = book-given filters c.args.n old c.refilled-book.result c.rate.result c.plan.result.now planned c.requires.running c.refilled-book.ensures c.rate.ensures.value c.plan.ensures in
     let filled = ring-filled filters c.args.n old c.refilled-book.result c.deref.result.now c.size.result c.taken.result c.frame_bytes.result c.put_round.new.ring is c.size.ensures c.deref.ensures.value c.taken.ensures c.frame_bytes.ensures c.put_round.ensures in
     record {
-      gives = piece-gives g.B.Feeder.kind g.B.Feeder.kept filters c.args.n old _ c.put_round.new.ring c.pull.result c.gain_of-gain.result c.args.frames.now c.pull.new.out planned refl refl c.pull.ensures.plan c.pull.ensures.kinds is
+      gives = piece-gives g.B.Feeder.kind g.B.Feeder.kept filters c.args.n old _ c.put_round.new.ring c.pull.result c.gain_of-gain.result c.args.frames.now c.pull.new.out planned c.requires.running refl refl c.pull.ensures.plan c.pull.ensures.kinds is
           (ap (λ (ring : Ring). ring.bytes) filled) c.gain_of-gain.ensures.value c.pull.ensures.pulls;
     }

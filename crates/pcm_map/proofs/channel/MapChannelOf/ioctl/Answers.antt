@@ -9,6 +9,8 @@ use Rattle.pcm_desk.specs.MapSafe.{MapIsSafe}
 use Rattle.pcm_desk.specs.Openings.{ring_bytes}
 use Rattle.pcm_sound.specs.Areas.{is_recut, silent_area}
 use Rattle.pcm_desk.proofs.Refused.{map-ask-refused}
+use Rattle.pcm_chain.specs.Chains.{plan_in}
+use Rattle.pcm_map.proofs.Held.{given-held}
 use Rattle.pcm_map.proofs.Moving.{book-asked, moves-ended, moves-kept}
 use Rattle.pcm_map.proofs.channel.MapChannelOf.ioctl.Goals as goal
 
@@ -51,7 +53,7 @@ invariant_of-self-else-self-eq0 g c =
       ratio = old.ratio;
       ring = old.ring;
       safe = subst (λ (p : PlanSeen). MapIsSafe (rate_in_plan p) c.asked-turn.result.book)
-          (sym (c.requires.planned.plan_is ∙ ap (play_plan_between (seen c.args.tables.now old.path.device)) (sym go.settings))) left.safe;
+          (sym ((c.requires.planned (given-held (rate_in_plan (plan_in old.path.chain)) old.book old.safe (λ none. c.if-self-eq0.false (go.given ∙ none)))).plan_is ∙ ap (play_plan_between (seen c.args.tables.now old.path.device)) (sym go.settings))) left.safe;
       size = old.size;
     }
 
@@ -75,11 +77,11 @@ pub returns-then-self-eq0-clause-moves : goal.returns-then-self-eq0-clause-moves
 returns-then-self-eq0-clause-moves g c =
     let old = c.args.self.now in
     let left = book-asked c.args.tables.now c.args.request old c.asked-turn.result c.requires.planned c.asked-turn.ensures in
-    moves-ended g.B.Feeder.kind g.B.Feeder.kept c.args.tables.now [] 0 old _ c.begin_run.ensures.kinds (λ p. c.begin_run.ensures.planned)
+    moves-ended g.B.Feeder.kind g.B.Feeder.kept c.args.tables.now [] 0 old _ c.begin_run.ensures.kinds (λ p used. c.begin_run.ensures.planned)
     (left.ended c.if-self-eq0.true) c.if-self-eq0.true c.begin_run.ensures.empty
 
 pub returns-else-self-eq0-clause-moves : goal.returns-else-self-eq0-clause-moves
 returns-else-self-eq0-clause-moves g c =
     let old = c.args.self.now in
     let go = (book-asked c.args.tables.now c.args.request old c.asked-turn.result c.requires.planned c.asked-turn.ensures).goes c.if-self-eq0.false in
-    moves-kept g.B.Feeder.kind g.B.Feeder.kept c.args.tables.now [] 0 old _ refl refl go.settings go.eaten go.given
+    moves-kept g.B.Feeder.kind g.B.Feeder.kept c.args.tables.now [] 0 old _ refl refl go.settings go.eaten go.given go.held

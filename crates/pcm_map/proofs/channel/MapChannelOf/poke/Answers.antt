@@ -35,4 +35,4 @@ returns-clause-area g c =
 
 pub returns-clause-moves : goal.returns-clause-moves
 returns-clause-moves g c = λ filters.
-    moves-kept g.B.Feeder.kind g.B.Feeder.kept filters [] 0 c.args.self.now _ refl refl refl refl refl
+    moves-kept g.B.Feeder.kind g.B.Feeder.kept filters [] 0 c.args.self.now _ refl refl refl refl refl (λ used. used)

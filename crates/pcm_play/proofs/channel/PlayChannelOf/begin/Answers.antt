@@ -8,6 +8,6 @@ returns-clause-moves g c =
     let begun = c.begun-self.ensures in
     let done = ap (λ (b : PlayBook). b.done) begun in
     moves-ended g.B.Feeder.kind g.B.Feeder.kept c.args.tables.now _ 0 c.args.self.now _ c.begin.ensures.kinds
-    (λ p. c.begin.ensures.planned)
+    (λ p used. c.begin.ensures.planned)
     (ap (λ (b : PlayBook). b.written) begun) (ap (λ (b : PlayBook). b.eaten) begun) (ap (λ (b : PlayBook). b.given) begun)
     c.begin.ensures.empty (omega (arith, done))

@@ -2,11 +2,12 @@ use Rattle.std.proofs.Common.{◌≡◌, ap, sym, subst, ◌∙◌, [], length, 
 use Rattle.pcm_format.specs.Frames.{frame_bytes}
 use Rattle.pcm_oss.specs.declared.event.Way.TheVariants.{Play}
 use Rattle.pcm_path.proofs.Paths.{planned-as, serves-as}
-use Rattle.pcm_rate.specs.declared.rate.Rate.{Rate}
 use Rattle.pcm_plan.specs.Plans.{PlanSeen, rate_in_plan}
-use Rattle.pcm_desk.specs.PlayBooks.{close_turn}
+use Rattle.pcm_desk.specs.PlayBooks.{is_play_free}
 use Rattle.pcm_desk.specs.PlaySafe.{PlayIsSafe}
-use Rattle.pcm_play.proofs.Moving.{moves-ended, moves-state, book-closed}
+use Rattle.pcm_desk.specs.declared.play_book.PlayBook.{PlayBook}
+use Rattle.pcm_play.proofs.Held.{closed-held}
+use Rattle.pcm_play.proofs.Moving.{book-closed, closed-is, moves-ended, moves-state}
 use Rattle.pcm_play.proofs.channel.PlayChannelOf.close.Goals as goal
 
 pub invariant_of-self : goal.invariant_of-self
@@ -35,12 +36,12 @@ invariant_of-self-else-self-eq0 g c =
     }
 
 pub returns-then-self-eq0-clause-book : goal.returns-then-self-eq0-clause-book
-returns-then-self-eq0-clause-book g c = λ filters planned.
-    c.closed-self.ensures ∙ ap (λ (r : Rate). close_turn r c.args.here c.args.self.now.book) (c.rate-rate.ensures.value ∙ ap (λ (p : PlanSeen). rate_in_plan p) (c.plan.ensures ∙ planned.plan_is))
+returns-then-self-eq0-clause-book g c = λ filters served.
+    closed-is filters c.args.here c.args.self.now c.closed-self.result c.rate-rate.result c.plan.result.now served c.closed-self.ensures c.rate-rate.ensures.value c.plan.ensures
 
 pub returns-else-self-eq0-clause-book : goal.returns-else-self-eq0-clause-book
-returns-else-self-eq0-clause-book g c = λ filters planned.
-    c.closed-self.ensures ∙ ap (λ (r : Rate). close_turn r c.args.here c.args.self.now.book) (c.rate-rate.ensures.value ∙ ap (λ (p : PlanSeen). rate_in_plan p) (c.plan.ensures ∙ planned.plan_is))
+returns-else-self-eq0-clause-book g c = λ filters served.
+    closed-is filters c.args.here c.args.self.now c.closed-self.result c.rate-rate.result c.plan.result.now served c.closed-self.ensures c.rate-rate.ensures.value c.plan.ensures
 
 pub returns-then-self-eq0-clause-moves : goal.returns-then-self-eq0-clause-moves
 returns-then-self-eq0-clause-moves g c = λ filters.
@@ -48,11 +49,11 @@ returns-then-self-eq0-clause-moves g c = λ filters.
     let k = book-closed old c.args.here c.closed-self.result c.rate-rate.result c.plan.result.now c.closed-self.ensures c.rate-rate.ensures.value c.plan.ensures in
     let left = k.left in
     let none = left.ended c.if-self-eq0.true in
-    moves-ended g.B.Feeder.kind g.B.Feeder.kept filters _ 0 old _ c.restart.ensures.kinds (planned-as Play filters _ _ old.path c.restart.new.self c.restart.ensures.device c.restart.ensures.plan k.keeps.settings) c.if-self-eq0.true none.0 none.1 c.restart.ensures.empty
+    moves-ended g.B.Feeder.kind g.B.Feeder.kept filters _ 0 old _ c.restart.ensures.kinds (λ p used. planned-as Play filters _ _ old.path c.restart.new.self c.restart.ensures.device c.restart.ensures.plan k.keeps.settings (p (closed-held c.rate-rate.result c.args.here old.book (ap (λ (b : PlayBook). is_play_free b.state) (sym c.closed-self.ensures) ∙ used)))) c.if-self-eq0.true none.0 none.1 c.restart.ensures.empty
     (left.done c.if-self-eq0.true)
 
 pub returns-else-self-eq0-clause-moves : goal.returns-else-self-eq0-clause-moves
 returns-else-self-eq0-clause-moves g c = λ filters.
     let old = c.args.self.now in
     let left = (book-closed old c.args.here c.closed-self.result c.rate-rate.result c.plan.result.now c.closed-self.ensures c.rate-rate.ensures.value c.plan.ensures).left in
-    moves-state g.B.Feeder.kind g.B.Feeder.kept filters old _ refl refl refl (left.goes c.if-self-eq0.false)
+    moves-state g.B.Feeder.kind g.B.Feeder.kept filters old _ refl refl refl (left.goes c.if-self-eq0.false) c.if-self-eq0.false

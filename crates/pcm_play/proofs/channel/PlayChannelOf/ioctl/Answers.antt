@@ -9,7 +9,8 @@ use Rattle.pcm_desk.specs.declared.turn.Turn.{Turn}
 use Rattle.pcm_desk.specs.Desk.{play_rate_at}
 use Rattle.pcm_desk.specs.PlaySafe.{PlayIsSafe}
 use Rattle.pcm_desk.proofs.Refused.{ask-refused}
-use Rattle.pcm_play.proofs.Moving.{asked-here, asked-is, book-asked, device-is, moves-ended, moves-state}
+use Rattle.pcm_play.proofs.Moving.{asked-here, asked-is, book-asked, moves-ended, moves-state, safe-asked}
+use Rattle.pcm_desk.proofs.Ratios.{device-is}
 use Rattle.pcm_play.proofs.channel.PlayChannelOf.ioctl.Goals as goal
 
 pub asked-turn-requires-clause-at : goal.asked-turn-requires-clause-at
@@ -17,58 +18,54 @@ asked-turn-requires-clause-at g c =
     asked-here c.args.tables.now c.args.here c.args.self.now c.rate-rate.result c.plan.result.now c.requires.planned c.rate-rate.ensures.value c.plan.ensures c.requires.at
 
 pub asked-turn-requires-clause-mix : goal.asked-turn-requires-clause-mix
-asked-turn-requires-clause-mix g c = (device-is c.args.tables.now c.args.self.now c.requires.planned).mix_rate
+asked-turn-requires-clause-mix g c = c.args.self.now.serves.device.mix_rate
 
 pub begin-requires : goal.begin-requires
 begin-requires g c =
     let old = c.args.self.now in
-    let left = book-asked c.args.tables.now c.args.here c.args.request old c.asked-turn.result c.requires.planned
-    (asked-is c.args.tables.now c.args.here c.args.request old c.asked-turn.result c.rate-rate.result c.plan.result.now c.requires.planned c.asked-turn.ensures c.rate-rate.ensures.value c.plan.ensures) in
+    let left = book-asked c.args.here c.args.request old c.asked-turn.result c.rate-rate.result c.plan.result.now c.asked-turn.ensures c.rate-rate.ensures.value c.plan.ensures in
     record { can = record { device = old.serves.device; rate = left.rate; fragments = left.safe.fragments; room = old.serves.room; kinds = c.requires.kinds } }
 
 pub invariant_of-self : goal.invariant_of-self
 invariant_of-self g c =
     let old = c.args.self.now in
-    let left = book-asked c.args.tables.now c.args.here c.args.request old c.asked-turn.result c.requires.planned
-    (asked-is c.args.tables.now c.args.here c.args.request old c.asked-turn.result c.rate-rate.result c.plan.result.now c.requires.planned c.asked-turn.ensures c.rate-rate.ensures.value c.plan.ensures) in
+    let left = book-asked c.args.here c.args.request old c.asked-turn.result c.rate-rate.result c.plan.result.now c.asked-turn.ensures c.rate-rate.ensures.value c.plan.ensures in
     let none = left.ended c.if-self-eq0.true in
     record {
       serves = c.begin.ensures.serves;
       fill = ap length c.begin.ensures.empty.ring ∙ none.3;
       within = none.2;
-      safe = subst (λ (p : PlanSeen). PlayIsSafe (rate_in_plan p) c.asked-turn.result.book) (sym (c.begin.ensures.planned.plan_is ∙ ap (λ (d : Device). play_plan_between (seen c.args.tables.now d) c.asked-turn.result.book.opening.settings) c.begin.ensures.device)) left.safe;
+      safe = subst (λ (p : PlanSeen). PlayIsSafe (rate_in_plan p) c.asked-turn.result.book) (sym (c.begin.ensures.planned.plan_is ∙ ap (λ (d : Device). play_plan_between (seen c.args.tables.now d) c.asked-turn.result.book.opening.settings) c.begin.ensures.device))
+          (safe-asked c.args.tables.now c.args.here c.args.request old c.asked-turn.result (device-is c.args.tables.now old.path.device old.serves.device c.begin.ensures.planned.limits) c.requires.planned
+          (asked-is c.args.tables.now c.args.here c.args.request old c.asked-turn.result c.rate-rate.result c.plan.result.now c.requires.planned c.asked-turn.ensures c.rate-rate.ensures.value c.plan.ensures));
     }
 
 pub invariant_of-self-else-self-eq0 : goal.invariant_of-self-else-self-eq0
 invariant_of-self-else-self-eq0 g c =
     let old = c.args.self.now in
-    let left = book-asked c.args.tables.now c.args.here c.args.request old c.asked-turn.result c.requires.planned
-    (asked-is c.args.tables.now c.args.here c.args.request old c.asked-turn.result c.rate-rate.result c.plan.result.now c.requires.planned c.asked-turn.ensures c.rate-rate.ensures.value c.plan.ensures) in
+    let left = book-asked c.args.here c.args.request old c.asked-turn.result c.rate-rate.result c.plan.result.now c.asked-turn.ensures c.rate-rate.ensures.value c.plan.ensures in
     let go = left.goes c.if-self-eq0.false in
     let size : frame_bytes c.asked-turn.result.book.opening.settings ≡ frame_bytes old.book.opening.settings = ap frame_bytes go.settings in
     record {
       serves = serves-as old.book.opening c.asked-turn.result.book.opening old.path old.path old.path.ring.bytes refl refl refl go.settings go.fragments old.serves;
       fill = old.fill ∙ sym (rw (go.written, go.eaten, size) refl);
       within = rw (go.eaten, size, go.written) old.within;
-      safe = subst (λ (p : PlanSeen). PlayIsSafe (rate_in_plan p) c.asked-turn.result.book)
-          (sym (c.requires.planned.plan_is ∙ ap (play_plan_between (seen c.args.tables.now old.path.device)) (sym go.settings))) left.safe;
+      safe = left.safe;
     }
 
 pub returns-then-self-eq0-clause-moves : goal.returns-then-self-eq0-clause-moves
 returns-then-self-eq0-clause-moves g c =
     let old = c.args.self.now in
-    let left = book-asked c.args.tables.now c.args.here c.args.request old c.asked-turn.result c.requires.planned
-    (asked-is c.args.tables.now c.args.here c.args.request old c.asked-turn.result c.rate-rate.result c.plan.result.now c.requires.planned c.asked-turn.ensures c.rate-rate.ensures.value c.plan.ensures) in
+    let left = book-asked c.args.here c.args.request old c.asked-turn.result c.rate-rate.result c.plan.result.now c.asked-turn.ensures c.rate-rate.ensures.value c.plan.ensures in
     let none = left.ended c.if-self-eq0.true in
     moves-ended g.B.Feeder.kind g.B.Feeder.kept c.args.tables.now _ 0 old _ c.begin.ensures.kinds
-    (λ p. c.begin.ensures.planned) c.if-self-eq0.true none.0 none.1 c.begin.ensures.empty (left.done c.if-self-eq0.true)
+    (λ p used. c.begin.ensures.planned) c.if-self-eq0.true none.0 none.1 c.begin.ensures.empty (left.done c.if-self-eq0.true)
 
 pub returns-else-self-eq0-clause-moves : goal.returns-else-self-eq0-clause-moves
 returns-else-self-eq0-clause-moves g c =
     let old = c.args.self.now in
-    let left = book-asked c.args.tables.now c.args.here c.args.request old c.asked-turn.result c.requires.planned
-    (asked-is c.args.tables.now c.args.here c.args.request old c.asked-turn.result c.rate-rate.result c.plan.result.now c.requires.planned c.asked-turn.ensures c.rate-rate.ensures.value c.plan.ensures) in
-    moves-state g.B.Feeder.kind g.B.Feeder.kept c.args.tables.now old _ refl refl refl (left.goes c.if-self-eq0.false)
+    let left = book-asked c.args.here c.args.request old c.asked-turn.result c.rate-rate.result c.plan.result.now c.asked-turn.ensures c.rate-rate.ensures.value c.plan.ensures in
+    moves-state g.B.Feeder.kind g.B.Feeder.kept c.args.tables.now old _ refl refl refl (left.goes c.if-self-eq0.false) c.if-self-eq0.false
 
 -- what is refused leaves the book
 pub returns-in_err-answer-clause-book : goal.returns-in_err-answer-clause-book
@@ -83,4 +80,12 @@ returns-then-self-eq0-clause-book g c =
 
 pub returns-then-self-eq0-clause-reply : goal.returns-then-self-eq0-clause-reply
 returns-then-self-eq0-clause-reply g c =
+    sym c.in_ok-answer.was ∙ ap (λ (t : Turn PlayBook). t.reply) (asked-is c.args.tables.now c.args.here c.args.request c.args.self.now c.asked-turn.result c.rate-rate.result c.plan.result.now c.requires.planned c.asked-turn.ensures c.rate-rate.ensures.value c.plan.ensures)
+
+pub returns-else-self-eq0-clause-book : goal.returns-else-self-eq0-clause-book
+returns-else-self-eq0-clause-book g c =
+    ap (λ (t : Turn PlayBook). t.book) (asked-is c.args.tables.now c.args.here c.args.request c.args.self.now c.asked-turn.result c.rate-rate.result c.plan.result.now c.requires.planned c.asked-turn.ensures c.rate-rate.ensures.value c.plan.ensures)
+
+pub returns-else-self-eq0-clause-reply : goal.returns-else-self-eq0-clause-reply
+returns-else-self-eq0-clause-reply g c =
     sym c.in_ok-answer.was ∙ ap (λ (t : Turn PlayBook). t.reply) (asked-is c.args.tables.now c.args.here c.args.request c.args.self.now c.asked-turn.result c.rate-rate.result c.plan.result.now c.requires.planned c.asked-turn.ensures c.rate-rate.ensures.value c.plan.ensures)

@@ -15,6 +15,7 @@ use Rattle.pcm_chain.proofs.Standing.{stands-fitted}
 use Rattle.pcm_desk.specs.Device.{play_plan_between, seen}
 use Rattle.pcm_desk.specs.PlaySafe.{PlayIsSafe}
 use Rattle.pcm_desk.proofs.Ratios.{tables-between}
+use Rattle.pcm_play.proofs.Held.{started-held}
 use Rattle.pcm_play.proofs.Moving.{device-is, moves-nothing, safe-at}
 use Rattle.pcm_play.proofs.Refilling.{pulls-run, book-mixed, book-refilled, turned-none, ring-refilled, turned-pulled, moves-pulled}
 use Rattle.pcm_play.proofs.channel.PlayChannelOf.refill.Goals as goal
@@ -29,12 +30,12 @@ pub pull-pulled-requires-clause-fitted : goal.pull-pulled-requires-clause-fitted
 pull-pulled-requires-clause-fitted g c =
     let old = c.args.self.now in
     let stands = c.requires.ready.stands.stands in
-    stands-fitted g.B.Feeder.kept c.args.tables.now old.path.chain _ stands.zeros old.book.given stands.chain_is
+    stands-fitted g.B.Feeder.kept c.args.tables.now old.path.chain _ stands.zeros old.book.given (stands.chain_is (started-held old.book.state (sym c.if-not-is_started.ensures)))
 
 pub pull-pulled-requires-clause-tables : goal.pull-pulled-requires-clause-tables
 pull-pulled-requires-clause-tables g c =
     let old = c.args.self.now in
-    let planned = c.requires.ready.planned in
+    let planned = c.requires.ready.planned (started-held c.args.self.now.book.state (sym c.if-not-is_started.ensures)) in
     subst (λ (p : PlanSeen). HaveTables p.stages c.args.tables.now) (sym planned.plan_is)
     (tables-between (seen c.args.tables.now old.path.device) old.book.opening.settings (device-is c.args.tables.now old planned) old.serves.rate)
 
@@ -61,13 +62,13 @@ apply_gain-requires-clause-whole g c =
 pub invariant_of-self : goal.invariant_of-self
 invariant_of-self g c =
     let old = c.args.self.now in
-    let planned = c.requires.ready.planned in
+    let planned = c.requires.ready.planned (started-held c.args.self.now.book.state (sym c.if-not-is_started.ensures)) in
     let device = seen c.args.tables.now old.path.device in
     let is = book-mixed device c.args.here.mixed c.args.n old.book c.refilled-self.result c.rate.result c.plan.result.now c.requires.some c.refilled-self.ensures c.rate.ensures.value (c.plan.ensures ∙ c.pull-pulled.ensures.plan ∙ planned.plan_is) in
     let k = book-refilled device c.args.here.mixed c.args.n old.book c.refilled-self.result c.requires.some (device-is c.args.tables.now old planned) old.serves.rate (safe-at c.args.tables.now old planned) (sym c.if-not-is_started.ensures) is in
     let go = k.goes in
     let p = pulls-run g.B.Feeder.kept c.args.tables.now old c.pull-pulled.new.self _ c.is_draining-ended.result c.args.n c.pull-pulled.result c.args.frames.now c.pull-pulled.new.out c.requires.ready.stands.bytes
-    (sym c.if-not-is_started.ensures) c.requires.ready.planned c.is_draining-ended.ensures c.pull-pulled.ensures.pulls c.requires.ready.stands.stands in
+    (sym c.if-not-is_started.ensures) (c.requires.ready.planned (started-held c.args.self.now.book.state (sym c.if-not-is_started.ensures))) c.is_draining-ended.ensures c.pull-pulled.ensures.pulls c.requires.ready.stands.stands in
     let r = ring-refilled device c.args.n old.book c.refilled-self.result c.pull-pulled.result k.safe go p.counted in
     let size = ap (λ (q : PlanSeen). c.pull-pulled.result.eaten * (channels_of q.source * bytes_of old.book.opening.settings.format)) planned.plan_is in
     record {
@@ -82,28 +83,28 @@ invariant_of-self g c =
 pub returns-clause-book : goal.returns-clause-book
 returns-clause-book g c =
     let old = c.args.self.now in
-    let planned = c.requires.ready.planned in
+    let planned = c.requires.ready.planned (started-held c.args.self.now.book.state (sym c.if-not-is_started.ensures)) in
     book-mixed (seen c.args.tables.now old.path.device) c.args.here.mixed c.args.n old.book c.refilled-self.result c.rate.result c.plan.result.now c.requires.some c.refilled-self.ensures c.rate.ensures.value (c.plan.ensures ∙ c.pull-pulled.ensures.plan ∙ planned.plan_is)
 
 pub returns-clause-moves : goal.returns-clause-moves
 returns-clause-moves g c =
     let old = c.args.self.now in
-    let planned = c.requires.ready.planned in
+    let planned = c.requires.ready.planned (started-held c.args.self.now.book.state (sym c.if-not-is_started.ensures)) in
     let device = seen c.args.tables.now old.path.device in
     let is = book-mixed device c.args.here.mixed c.args.n old.book c.refilled-self.result c.rate.result c.plan.result.now c.requires.some c.refilled-self.ensures c.rate.ensures.value (c.plan.ensures ∙ c.pull-pulled.ensures.plan ∙ planned.plan_is) in
     let k = book-refilled device c.args.here.mixed c.args.n old.book c.refilled-self.result c.requires.some (device-is c.args.tables.now old planned) old.serves.rate (safe-at c.args.tables.now old planned) (sym c.if-not-is_started.ensures) is in
     moves-pulled g.B.Feeder.kind g.B.Feeder.kept c.args.tables.now old _ c.args.n c.pull-pulled.result _ c.args.frames.now c.pull-pulled.new.out planned refl c.pull-pulled.ensures.plan k.goes c.pull-pulled.ensures.kinds
     (ap (λ (ring : Ring). ring.bytes) c.pull-pulled.ensures.ring ∙ ap (λ (q : PlanSeen). drop (c.pull-pulled.result.eaten * (channels_of q.source * bytes_of old.book.opening.settings.format)) old.path.ring.bytes) planned.plan_is)
     (λ bytes s. pulls-run g.B.Feeder.kept c.args.tables.now old c.pull-pulled.new.self _ c.is_draining-ended.result c.args.n c.pull-pulled.result c.args.frames.now c.pull-pulled.new.out bytes
-    (sym c.if-not-is_started.ensures) c.requires.ready.planned c.is_draining-ended.ensures c.pull-pulled.ensures.pulls s)
+    (sym c.if-not-is_started.ensures) (c.requires.ready.planned (started-held c.args.self.now.book.state (sym c.if-not-is_started.ensures))) c.is_draining-ended.ensures c.pull-pulled.ensures.pulls s)
 
 pub returns-clause-sum : goal.returns-clause-sum
 returns-clause-sum g c = λ bytes s.
     let old = c.args.self.now in
     let p = pulls-run g.B.Feeder.kept c.args.tables.now old c.pull-pulled.new.self _ c.is_draining-ended.result c.args.n c.pull-pulled.result c.args.frames.now c.pull-pulled.new.out bytes
-    (sym c.if-not-is_started.ensures) c.requires.ready.planned c.is_draining-ended.ensures c.pull-pulled.ensures.pulls s in
+    (sym c.if-not-is_started.ensures) (c.requires.ready.planned (started-held c.args.self.now.book.state (sym c.if-not-is_started.ensures))) c.is_draining-ended.ensures c.pull-pulled.ensures.pulls s in
     turned-pulled g.B.Feeder.kept (seen c.args.tables.now old.path.device) c.gain_of-gain.result c.args.slot_gain c.args.n old.book bytes c.pull-pulled.new.self c.pull-pulled.result c.args.frames.now c.pull-pulled.new.out c.args.sum.now c.mix_into.new.acc c.channels.result c.bits.result
-    (device-is c.args.tables.now old c.requires.ready.planned) old.serves.rate c.gain_of-gain.ensures.value p c.channels.ensures c.bits.ensures (c.mix_into.ensures.value ∙ ap (mixed c.bits.result (take (c.pull-pulled.result.given * c.channels.result) c.args.sum.now)) c.apply_gain.ensures)
+    (device-is c.args.tables.now old (c.requires.ready.planned (started-held c.args.self.now.book.state (sym c.if-not-is_started.ensures)))) old.serves.rate c.gain_of-gain.ensures.value p c.channels.ensures c.bits.ensures (c.mix_into.ensures.value ∙ ap (mixed c.bits.result (take (c.pull-pulled.result.given * c.channels.result) c.args.sum.now)) c.apply_gain.ensures)
 
 pub returns-clause-fits : goal.returns-clause-fits
 returns-clause-fits g c =

@@ -9,6 +9,7 @@ use Rattle.pcm_desk.proofs.PlayLeaves.{accepting-adds}
 use Rattle.pcm_desk.proofs.PlaySafe.{safe-accepting, undrained}
 use Rattle.pcm_sound.proofs.Slots.{accepts}
 use Rattle.pcm_desk.specs.PlaySafe.{PlayIsSafe}
+use Rattle.pcm_play.proofs.Held.{taking-held}
 use Rattle.pcm_play.proofs.Moving.{fill_of-accepting, within-accepting, moves-taking, takes-written}
 use Rattle.pcm_play.proofs.channel.PlayChannelOf.write.Goals as goal
 
@@ -39,4 +40,4 @@ returns-clause-moves g c = λ filters.
     let count = c.put.ensures.count in
     let written = takes-written old c.args.here (length c.args.bytes.now) c.put.result c.write-turn.result c.in_ok-answer.answer c.write-turn.ensures c.in_ok-answer.was count in
     moves-taking g.B.Feeder.kind g.B.Feeder.kept filters c.args.bytes.now c.args.here.mixed c.put.result old _ refl refl (ap (λ (ring : Ring). ring.bytes) c.put.ensures.kept) written.is
-    (omega (arith, count)) (let size = old.serves.size in omega (arith, count, size, old.safe.fragments.fits)) (undrained old.book.state written.more) old.within
+    (omega (arith, count)) (let size = old.serves.size in omega (arith, count, size, old.safe.fragments.fits)) (undrained old.book.state written.more) (taking-held old.book.state written.more) old.within

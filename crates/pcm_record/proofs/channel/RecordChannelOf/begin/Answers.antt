@@ -15,6 +15,6 @@ pub returns-clause-moves : goal.returns-clause-moves
 returns-clause-moves g c =
     let begun = c.begun-self.ensures in
     moves-ended g.B.Feeder.kind g.B.Feeder.kept c.args.tables.now c.args.self.now _ c.begin.ensures.kinds
-    (λ p. c.begin.ensures.planned)
+    (λ p used. c.begin.ensures.planned)
     (record { captured_none = ap (λ (b : RecordBook). b.captured) begun; kept_none = ap (λ (b : RecordBook). b.kept) begun; read_none = ap (λ (b : RecordBook). b.read) begun })
     c.begin.ensures.empty

@@ -11,6 +11,7 @@ use Rattle.pcm_desk.specs.Device.{seen}
 use Rattle.pcm_desk.specs.RecordBooks.{coming, keeping}
 use Rattle.pcm_desk.specs.RecordSafe.{RecordIsSafe}
 use Rattle.pcm_desk.proofs.Ratios.{record-bits-between, record-tables-between}
+use Rattle.pcm_record.proofs.Held.{running-held}
 use Rattle.pcm_record.proofs.Moving.{device-is, moves-nothing, safe-at}
 use Rattle.pcm_record.proofs.Capturing.{book-captured, captured-at, fill-captured, given-most, kept-most, moves-captured, push-captured, pushed-count, pushed-is, rate-pushed}
 use Rattle.pcm_record.proofs.channel.RecordChannelOf.capture.Goals as goal
@@ -21,26 +22,26 @@ returns-then-not-is_running-clause-moves g c = moves-nothing g.B.Feeder.kind g.B
 pub push-requires-clause-tables : goal.push-requires-clause-tables
 push-requires-clause-tables g c =
     let old = c.args.self.now in
-    let planned = c.requires.planned in
+    let planned = c.requires.planned (running-held c.args.self.now.book.state (sym c.if-not-is_running.ensures)) in
     subst (λ (p : PlanSeen). HaveTables p.stages c.args.tables.now) (sym planned.plan_is)
     (record-tables-between (seen c.args.tables.now old.path.device) old.book.opening.settings (device-is c.args.tables.now old planned) old.serves.rate)
 
 pub push-requires-clause-bits : goal.push-requires-clause-bits
 push-requires-clause-bits g c =
     let old = c.args.self.now in
-    let planned = c.requires.planned in
+    let planned = c.requires.planned (running-held c.args.self.now.book.state (sym c.if-not-is_running.ensures)) in
     subst (λ (p : PlanSeen). GivesBitsOf old.book.opening.settings.format p c.args.tables.now) (sym planned.plan_is)
     (record-bits-between (seen c.args.tables.now old.path.device) old.book.opening.settings (device-is c.args.tables.now old planned) old.serves.rate)
 
 pub push-requires-clause-few : goal.push-requires-clause-few
 push-requires-clause-few g c =
-    omega (arith, pushed-count c.args.tables.now c.args.self.now c.args.frames c.args.input.now c.requires.planned c.requires.whole, c.requires.few)
+    omega (arith, pushed-count c.args.tables.now c.args.self.now c.args.frames c.args.input.now (c.requires.planned (running-held c.args.self.now.book.state (sym c.if-not-is_running.ensures))) c.requires.whole, c.requires.few)
 
 pub captured-self-requires : goal.captured-self-requires
 captured-self-requires g c =
     let old = c.args.self.now in
     let tables = c.args.tables.now in
-    let planned = c.requires.planned in
+    let planned = c.requires.planned (running-held c.args.self.now.book.state (sym c.if-not-is_running.ensures)) in
     let rate = rate-pushed tables old c.push.new.self c.rate-rate.result c.plan.result.now planned c.rate-rate.ensures.value c.plan.ensures c.push.ensures.plan in
     let more = given-most (seen tables old.path.device) c.args.frames old.book (device-is tables old planned) old.serves.rate (safe-at tables old planned) c.requires.count.given in
     let most = kept-most (seen tables old.path.device) c.args.frames old.book (sym c.if-not-is_running.ensures) (safe-at tables old planned) in
@@ -55,12 +56,12 @@ invariant_of-self g c =
     let old = c.args.self.now in
     let tables = c.args.tables.now in
     let device = seen tables old.path.device in
-    let planned = c.requires.planned in
+    let planned = c.requires.planned (running-held c.args.self.now.book.state (sym c.if-not-is_running.ensures)) in
     let some = c.requires.stands in
     let new = c.captured-self.result in
     let rate = rate-pushed tables old c.push.new.self c.rate-rate.result c.plan.result.now planned c.rate-rate.ensures.value c.plan.ensures c.push.ensures.plan in
     let p = push-captured g.B.Feeder.kept tables old c.args.frames c.args.input.now c.push.new.self c.push.result c.push.new.ring.bytes some.bytes some.frames planned c.requires.whole c.push.ensures.kept
-    (c.push.ensures.pushes some.frames some.stands.records) some.stands in
+    (c.push.ensures.pushes some.frames (some.stands.records (running-held old.book.state (sym c.if-not-is_running.ensures)))) some.stands in
     let b = book-captured device c.args.frames old.book c.captured-self.result (sym c.if-not-is_running.ensures) (safe-at tables old planned)
     (captured-at (seen tables old.path.device) c.args.frames old.book c.captured-self.result c.rate-rate.result rate c.captured-self.ensures) in
     record {
@@ -74,7 +75,7 @@ pub returns-clause-book : goal.returns-clause-book
 returns-clause-book g c =
     let old = c.args.self.now in
     let tables = c.args.tables.now in
-    let planned = c.requires.planned in
+    let planned = c.requires.planned (running-held c.args.self.now.book.state (sym c.if-not-is_running.ensures)) in
     let rate = rate-pushed tables old c.push.new.self c.rate-rate.result c.plan.result.now planned c.rate-rate.ensures.value c.plan.ensures c.push.ensures.plan in
     captured-at (seen tables old.path.device) c.args.frames old.book c.captured-self.result c.rate-rate.result rate c.captured-self.ensures
 
@@ -83,7 +84,7 @@ returns-clause-moves g c =
     let old = c.args.self.now in
     let tables = c.args.tables.now in
     let device = seen tables old.path.device in
-    let planned = c.requires.planned in
+    let planned = c.requires.planned (running-held c.args.self.now.book.state (sym c.if-not-is_running.ensures)) in
     let some = c.requires.stands in
     let input = frames_of (channels_of old.path.device.settings.layout) c.args.input.now in
     let rate = rate-pushed tables old c.push.new.self c.rate-rate.result c.plan.result.now planned c.rate-rate.ensures.value c.plan.ensures c.push.ensures.plan in
@@ -94,4 +95,4 @@ returns-clause-moves g c =
     (book-captured device c.args.frames old.book c.captured-self.result (sym c.if-not-is_running.ensures) (safe-at tables old planned)
     (captured-at (seen tables old.path.device) c.args.frames old.book c.captured-self.result c.rate-rate.result rate c.captured-self.ensures))
     (λ bytes frames s. push-captured g.B.Feeder.kept tables old c.args.frames c.args.input.now c.push.new.self c.push.result c.push.new.ring.bytes bytes frames planned c.requires.whole c.push.ensures.kept
-    (c.push.ensures.pushes frames s.records) s)
+    (c.push.ensures.pushes frames (s.records (running-held old.book.state (sym c.if-not-is_running.ensures)))) s)

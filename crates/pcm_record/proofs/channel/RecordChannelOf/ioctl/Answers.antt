@@ -8,6 +8,7 @@ use Rattle.pcm_desk.specs.declared.turn.Turn.{Turn}
 use Rattle.pcm_desk.specs.RecordSafe.{RecordIsSafe}
 use Rattle.pcm_desk.proofs.Refused.{record-ask-refused}
 use Rattle.pcm_sound.proofs.Recorded.{idle-unstarted}
+use Rattle.pcm_record.proofs.Held.{running-held}
 use Rattle.pcm_record.proofs.Moving.{book-asked, moves-ended, moves-read, none-waits, stays-fill, stays-reads}
 use Rattle.pcm_record.proofs.channel.RecordChannelOf.ioctl.Goals as goal
 
@@ -40,7 +41,7 @@ invariant_of-self-else-not-is_running g c =
       fill = old.fill ∙ stays-fill old.book new go;
       within = left.safe.read;
       safe = subst (λ (p : PlanSeen). RecordIsSafe (rate_in_plan p) new)
-          (sym (c.requires.planned.plan_is ∙ ap (record_plan_between (seen c.args.tables.now old.path.device)) (sym go.settings))) left.safe;
+          (sym ((c.requires.planned (go.held (running-held new.state (sym c.if-not-is_running.ensures)))).plan_is ∙ ap (record_plan_between (seen c.args.tables.now old.path.device)) (sym go.settings))) left.safe;
     }
 
 pub returns-then-not-is_running-clause-moves : goal.returns-then-not-is_running-clause-moves
@@ -49,7 +50,7 @@ returns-then-not-is_running-clause-moves g c =
     let new = c.asked-turn.result.book in
     let left = book-asked c.args.tables.now c.args.request old c.asked-turn.result c.requires.planned c.asked-turn.ensures in
     moves-ended g.B.Feeder.kind g.B.Feeder.kept c.args.tables.now old _ c.begin.ensures.kinds
-    (λ p. c.begin.ensures.planned)
+    (λ p used. c.begin.ensures.planned)
     (idle-unstarted new.state new (sym c.if-not-is_running.ensures) left.safe.order) c.begin.ensures.empty
 
 pub returns-else-not-is_running-clause-moves : goal.returns-else-not-is_running-clause-moves
@@ -57,7 +58,7 @@ returns-else-not-is_running-clause-moves g c =
     let old = c.args.self.now in
     let new = c.asked-turn.result.book in
     let left = book-asked c.args.tables.now c.args.request old c.asked-turn.result c.requires.planned c.asked-turn.ensures in
-    moves-read g.B.Feeder.kind g.B.Feeder.kept c.args.tables.now 0 old _ refl refl refl (stays-reads old.book new (left.goes (sym c.if-not-is_running.ensures)))
+    moves-read g.B.Feeder.kind g.B.Feeder.kept c.args.tables.now 0 old _ refl refl refl (stays-reads old.book new (left.goes (sym c.if-not-is_running.ensures))) (left.goes (sym c.if-not-is_running.ensures)).held
 
 -- what is refused leaves the book
 pub returns-in_err-answer-clause-book : goal.returns-in_err-answer-clause-book
