@@ -94,7 +94,7 @@ returns-clause-racks g c =
     let tail : c.in_ok-recording.recording.items ≡ drop 16 racks = c.in_ok-recording.ensures.tail ∙ ap (drop 16) whole in
     let front = c.pop.new.self.items in
     let parted : drop 16 racks ≡ front ++ c.unwrap.result ∷ [] =
-        sym tail ∙ c.pop.ensures.items ∙ ap (λ last. front ++ option_to_list last) c.unwrap.ensures in
+    sym tail ∙ c.pop.ensures.items ∙ ap (λ last. front ++ option_to_list last) c.unwrap.ensures in
     let sixteen : length front ≡ 16 = omega (arith, ap length parted, length-append front (c.unwrap.result ∷ []), length-drop 16 racks, ap length whole, c.into_list-playing.ensures.count) in
     record {
       playing = ap (play_marks mark) c.new-2.ensures.items ∙ c.in_ok-channels.ensures.boxes
