@@ -1,5 +1,5 @@
 -- Stages that keep the rate and no sound: they stand for all frames that pass them by, as if these had been fed.
-use Rattle.std.proofs.Common.{◌≡◌, ◌≤◌, ◌+◌, ◌-◌, ◌*◌, ◌/◌, ◌%◌, ◌+ℤ◌, min, max, ℕ, ℤ, pos, List, [], ◌∷◌, ◌++◌, length, All, Option, Some, refl, sym, ap, ◌∙◌, subst, arith}
+use Rattle.std.proofs.Common.{◌≡◌, ◌+◌, ◌*◌, ◌/◌, ◌%◌, ◌+ℤ◌, ℕ, ℤ, pos, List, [], ◌∷◌, ◌++◌, length, All, Some, refl, sym, ap, ◌∙◌, subst, arith}
 use Rattle.std.proofs.lemmas.Int.{ints}
 use Rattle.std.proofs.lemmas.List.{append-nil, length-append}
 use Rattle.std.proofs.lemmas.List.Elements.{All-append, All-head, All-tail, All-weaker}
@@ -16,14 +16,14 @@ use Rattle.pcm_feeder.specs.Kept.{Kept, StandsFor, fresh}
 use Rattle.pcm_feeder.specs.Layouts.{unity}
 use Rattle.pcm_feeder.specs.Limits.{IsSpec}
 use Rattle.pcm_feeder.specs.Stages.{rate_of}
-use Rattle.pcm_feeder.specs.Streams.{HaveChannels, silence}
+use Rattle.pcm_feeder.specs.Streams.{HaveChannels}
 use Rattle.pcm_feeder.specs.Turns.{turn}
 use Rattle.pcm_feeder.proofs.Turns.{given-unchanged}
 use Rattle.pcm_feeder.proofs.Unrated.{maps-depth, maps-matrix, maps-volume}
-use Rattle.pcm_plan.specs.Plans.{PlanSeen, rate_among, rate_in_plan}
+use Rattle.pcm_plan.specs.Plans.{PlanSeen, rate_in_plan}
 use Rattle.pcm_plan.specs.Fits.{IsPlan, IsUnrated, TurnsEach}
 use Rattle.pcm_chain.specs.Boxes.{kept_in}
-use Rattle.pcm_chain.specs.Chains.{boxes_in, counts_in, plan_in, ChainStands, StagesStand}
+use Rattle.pcm_chain.specs.Chains.{boxes_in, counts_in, plan_in, StagesStand}
 use Rattle.pcm_chain.specs.Counts.{StandFor}
 use Rattle.pcm_chain.specs.Feeds.{asked, turn_in, AreFed}
 use Rattle.pcm_chain.specs.Gives.{GivesExactly}

@@ -4,7 +4,7 @@ ghost use Rattle.std.specs.Prelude.{◌≡◌, ◌+◌, ◌*◌, ◌<◌, ◌≤
 ghost use Rattle.pcm_format.specs.Frames.{frame_bytes};
 ghost use Rattle.pcm_format.specs.Layouts.{channels_of};
 ghost use Rattle.pcm_desk.specs.Device.{seen};
-ghost use Rattle.pcm_vchan.specs.Parents.{map_channels, mixed_in, play_channels, record_channels, AreDue, BusTurns, EachCaptures, EachMapPlays, EachPasses, EachPlayMoves, HasBus, HaveRoom};
+ghost use Rattle.pcm_vchan.specs.Parents.{map_channels, mixed_in, play_channels, record_channels, AreDue, BusTurns, EachCaptures, EachMapPlays, EachPasses, EachPlayMoves, HasBus, HasRoomFor};
 ghost use Rattle.pcm_bus.specs.Slots.{MapAreOf, PlayAreOf};
 ghost use Rattle.pcm_vchan.specs.Slots.{RecordAreOf};
 
@@ -25,7 +25,7 @@ pub fn interrupt<B: Feeder>(
     requires within { frames ≤ parent.old.device.ring_frames }
     requires out { frames * frame_bytes parent.old.device.settings ≤ length out.old }
     requires due { AreDue B.kind B.kept tables.now frames parent.old }
-    requires counts { HaveRoom frames parent.old }
+    requires counts { HasRoomFor frames parent.old }
     ensures device { parent.new.device ≡ parent.old.device }
     ensures own { PlayAreOf parent.new.device (play_channels parent.new) }
     ensures recorders_own { RecordAreOf parent.new.device (record_channels parent.new) }

@@ -36,7 +36,7 @@ use Rattle.pcm_sound.specs.Gains.{map_gain}
 use Rattle.pcm_sound.specs.Given.{given_samples}
 use Rattle.pcm_sound.specs.MapRuns.{area_taken}
 use Rattle.pcm_map.specs.declared.channel.MapChannelOf.{MapChannelOf}
-use Rattle.pcm_map.specs.Channels.{area_of, IsMapPlanned, IsMapServed, MapMoves, MapStands, MapTakes}
+use Rattle.pcm_map.specs.Channels.{area_of, IsMapServed, MapMoves, MapStands, MapTakes}
 use Rattle.pcm_map.specs.Pieces.{taken_for, MapGives}
 use Rattle.pcm_desk.proofs.MapAsking.{map-asked-kept, map-asked-rate}
 use Rattle.pcm_desk.proofs.MapSafe.{map-safe-asked}

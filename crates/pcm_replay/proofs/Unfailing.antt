@@ -1,5 +1,5 @@
 -- The status of a call where no read, write or put failed.
-use Rattle.std.proofs.Common.{◌≡◌, ◌⊎◌, ℕ, List, Option, Result, Ok, Err, IsTrue, inl, inr, sym, subst}
+use Rattle.std.proofs.Common.{◌≡◌, ◌⊎◌, ℕ, List, Option, Result, Ok, Err, inl, inr, sym, subst}
 use Rattle.pcm_verdict.specs.Faults as faults
 use Rattle.pcm_verdict.specs.Faults.{Fault}
 use Rattle.pcm_verdict.specs.Outputs.{Output, output_of}
@@ -7,7 +7,7 @@ use Rattle.pcm_verdict.specs.Verdict.{Accepted, Runs, Checks, Converts, Soaks}
 use Rattle.pcm_inputs.specs.declared.ending.Ending.{Ending}
 use Rattle.pcm_inputs.specs.declared.ending.Ending.TheVariants.{CannotRead, CannotWrite}
 use Rattle.pcm_inputs.specs.Faults.{ending_status}
-use Rattle.pcm_inputs.specs.Outside.{OneRose, Outside, WriteRose}
+use Rattle.pcm_inputs.specs.Outside.{Outside, WriteRose}
 use Rattle.pcm_converting.specs.Written.{AtAppend, AtCreate, AtPut, CutsOutput}
 use Rattle.pcm_feeder.specs.declared.kind.Kind.{Kind}
 use Rattle.pcm_feeder.specs.Kept.{Kept}

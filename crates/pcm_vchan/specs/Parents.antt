@@ -105,8 +105,8 @@ abbrev pub TakenFit : {B : Type 0} → ParentOf B → Type 0
 TakenFit parent = All (λ channel. taken_of channel.book < 2 ^ 64) (map_channels parent)
 
 -- few enough frames were mixed so far, or are handed over by the end of an interrupt of n, that the counts of both have room
-abbrev pub HaveRoom : {B : Type 0} → ℕ → ParentOf B → Type 0
-HaveRoom n parent = (parent.mixed < 2 ^ 56) ⊎ (parent.handed + n < 2 ^ 56)
+abbrev pub HasRoomFor : {B : Type 0} → ℕ → ParentOf B → Type 0
+HasRoomFor n parent = (parent.mixed < 2 ^ 56) ⊎ (parent.handed + n < 2 ^ 56)
 
 -- how many frames an interrupt of n mixes
 abbrev pub mixed_in : {B : Type 0} → Filters → ℕ → ParentOf B → ℕ

@@ -73,7 +73,7 @@ pub struct ParentOf<B> {
 
 impl<B: Feeder> ParentOf<B> {
     ghost use Rattle.pcm_oss.specs.declared.event.Way.TheVariants.{Play, Record, Map};
-    ghost use Rattle.pcm_vchan.specs.Parents.{map_channels, play_books, play_channels, record_books, record_channels, mixed_in, AreDue, AreMapUnopened, ArePlayUnopened, AreRecordUnopened, AreServed, EachCaptures, EachMapPlays, EachPasses, EachPlayMoves, EachRecordMoves, HasBus, HasLimits, HaveRoom, KeepsOutput, OpensMap, OpensPlay, OpensRecord, BusTurns, HasRacks, TotalsFit, here_of};
+    ghost use Rattle.pcm_vchan.specs.Parents.{map_channels, play_books, play_channels, record_books, record_channels, mixed_in, AreDue, AreMapUnopened, ArePlayUnopened, AreRecordUnopened, AreServed, EachCaptures, EachMapPlays, EachPasses, EachPlayMoves, EachRecordMoves, HasBus, HasLimits, HasRoomFor, KeepsOutput, OpensMap, OpensPlay, OpensRecord, BusTurns, HasRacks, TotalsFit, here_of};
     ghost use Rattle.pcm_vchan.specs.Lending.{LendsChannel, LendsMap, LendsMixer, LendsRecorder};
 
     /// A device that nobody has opened, whose ring is full of silence. Each slot gets a rack: those that play the first ones, mapped ones
@@ -302,7 +302,7 @@ impl<B: Feeder> ParentOf<B> {
         requires captured { length captured.now ≡ n * channels_of self.old.device.settings.layout }
         requires out { length out.old ≡ n * frame_bytes self.old.device.settings }
         requires due { AreDue B.kind B.kept tables.now n self.old }
-        requires counts { HaveRoom n self.old }
+        requires counts { HasRoomFor n self.old }
         ensures device { self.new.device ≡ self.old.device }
         ensures mixer { self.new.mixer ≡ self.old.mixer }
         ensures own { PlayAreOf self.new.device (play_channels self.new) }

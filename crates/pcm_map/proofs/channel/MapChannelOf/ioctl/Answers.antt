@@ -1,4 +1,4 @@
-use Rattle.std.proofs.Common.{rules, take, sym, ap, subst, ◌∙◌, refl, arith, [], List, ℕ, cond}
+use Rattle.std.proofs.Common.{rules, take, sym, ap, subst, ◌∙◌, refl, [], List, ℕ, cond}
 use Rattle.pcm_fixed.proofs.Items.{items-written}
 use Rattle.pcm_plan.specs.Plans.{PlanSeen, rate_in_plan}
 use Rattle.pcm_desk.specs.declared.device.Device.{Device}

@@ -6,7 +6,7 @@ use Rattle.pcm_rate.specs.declared.rate.Rate.{Rate}
 use Rattle.pcm_plan.specs.Plans.{PlanSeen, rate_in_plan}
 use Rattle.pcm_desk.specs.PlayBooks.{play_settled}
 use Rattle.pcm_desk.specs.PlaySafe.{PlayIsSafe}
-use Rattle.pcm_play.proofs.Held.{draining-held, settled-stays}
+use Rattle.pcm_play.proofs.Held.{draining-held}
 use Rattle.pcm_play.proofs.Moving.{moves-ended, moves-state, book-settled}
 use Rattle.pcm_play.proofs.channel.PlayChannelOf.settle.Goals as goal
 

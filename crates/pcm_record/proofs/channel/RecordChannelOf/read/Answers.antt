@@ -1,4 +1,4 @@
-use Rattle.std.proofs.Common.{◌≡◌, false, ℕ, ap, sym, ◌∙◌, length, take, drop, refl, arith}
+use Rattle.std.proofs.Common.{ℕ, ap, sym, ◌∙◌, length, take, drop, refl, arith}
 use Rattle.std.proofs.lemmas.List.{length-take-le, take_at}
 use Rattle.pcm_ring.specs.Ring.{Ring}
 use Rattle.pcm_desk.specs.declared.record_book.RecordBook.{RecordBook}

@@ -19,7 +19,7 @@ use Rattle.pcm_vchan.specs.Captures.{Captures}
 use Rattle.pcm_bus.specs.Slots.{AreMixed, AreTaken, Each, IsMapDue, IsPlayDue, PlayAreOf}
 use Rattle.pcm_vchan.specs.Slots.{IsRecordDue, Settles}
 use Rattle.pcm_vchan.specs.declared.parent.ParentOf.{ParentOf}
-use Rattle.pcm_vchan.specs.Parents.{here_of, map_channels, mixed_in, play_channels, record_channels, AreDue, HaveRoom}
+use Rattle.pcm_vchan.specs.Parents.{here_of, map_channels, mixed_in, play_channels, record_channels, AreDue, HasRoomFor}
 use Rattle.pcm_vchan.proofs.Channels.{ArePassed, all-passed, may-settle}
 use Rattle.pcm_vchan.proofs.Counting.{AreCounted, counted}
 use Rattle.pcm_vchan.proofs.parent.ParentOf.interrupt.Goals as goal
@@ -44,7 +44,7 @@ pub capture_all-requires-clause-due : goal.capture_all-requires-clause-due
 capture_all-requires-clause-due g c = subst (All (IsRecordDue g.B.Feeder.kind g.B.Feeder.kept c.args.tables.now c.args.self.now.device c.args.n)) (sym c.deref_mut-3.ensures.value) c.requires.due.recording
 
 -- the counts have room
-roomy : {B : Type 0} (kind : B → Kind) (kept : B → Kept) (filters : Filters) (n : ℕ) (old : ParentOf B) → 0 < n → n ≤ old.device.ring_frames → AreDue kind kept filters n old → HaveRoom n old
+roomy : {B : Type 0} (kind : B → Kind) (kept : B → Kept) (filters : Filters) (n : ℕ) (old : ParentOf B) → 0 < n → n ≤ old.device.ring_frames → AreDue kind kept filters n old → HasRoomFor n old
     → AreCounted (seen filters old.device) old.mixed old.handed n
 roomy kind kept filters n old some within due room =
     let few = subst (λ (device : Device). mix_frames (unfiltered device) ≤ MIX_FRAMES) old.bus_of old.bus.mix_within in
