@@ -16,6 +16,9 @@ use crate::{ConfigFault, ConfigKind, ConfigPlace, FilePath, FilePaths, Name};
 use std::alloc::{AllocError, Global};
 use toml::Table;
 
+/// How many bytes the name of a file has at most.
+pub const FILE_NAME_BYTES: usize = 32;
+
 // The files of their table, in the byte order of their names.
 pub(crate) fn files_in(alloc: Global, table: Option<&Table>) -> Result<FilePaths, ConfigFault>
     ensures read { Reads result (files_in (members_seen table.entry)) }
@@ -77,7 +80,7 @@ fn is_file(file: &FilePath) -> bool
 fn is_file_name(name: &[u8]) -> bool
     ensures { result ≡ is_file_name name.now }
 {
-    !name.is_empty() && name.len() <= 32 && are_name_bytes(name)
+    !name.is_empty() && name.len() <= FILE_NAME_BYTES && are_name_bytes(name)
 }
 
 fn are_name_bytes(name: &[u8]) -> bool

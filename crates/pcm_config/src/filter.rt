@@ -23,8 +23,8 @@ use pcm_sequence::Sequence;
 use std::alloc::Global;
 use toml::{Table, Value};
 
-// The keys that a filter's table may have.
-pub(crate) const FILTER_KEYS: [&str; 4] = ["src", "dst", "shift", "rows"];
+/// The keys that a filter's table may have.
+pub const FILTER_KEYS: [&str; 4] = ["src", "dst", "shift", "rows"];
 
 // What the table of a filter spells, each value of its kind.
 #[derive(Drop)]

@@ -15,7 +15,7 @@ use pcm_format::{Format, Layout, RATE_LEAST, RATE_MOST, Settings};
 use toml::Table;
 
 // Frames per second.
-const RATE: NumberRow = NumberRow {
+pub(crate) const RATE: NumberRow = NumberRow {
     place: ConfigPlace::DeviceRate,
     least: RATE_LEAST,
     most: RATE_MOST,
@@ -23,7 +23,7 @@ const RATE: NumberRow = NumberRow {
 };
 
 // Frames of a block.
-const BLOCK: NumberRow = NumberRow {
+pub(crate) const BLOCK: NumberRow = NumberRow {
     place: ConfigPlace::DeviceHwBlock,
     least: 1,
     most: 4096,
@@ -31,7 +31,7 @@ const BLOCK: NumberRow = NumberRow {
 };
 
 // Blocks of the ring.
-const BLOCKS: NumberRow = NumberRow {
+pub(crate) const BLOCKS: NumberRow = NumberRow {
     place: ConfigPlace::DeviceHwBlocks,
     least: 2,
     most: 64,

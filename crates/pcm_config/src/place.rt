@@ -75,8 +75,8 @@ impl ConfigPlace {
         }
     }
 
-    // The key at which the place stands in its table. The top stands in none.
-    pub(crate) fn key(self) -> &'static str
+    /// The key at which the place stands in its table. The top stands in none.
+    pub fn key(self) -> &'static str
         ensures { result.now ≡ key_of self }
     {
         match self {

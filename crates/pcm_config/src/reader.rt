@@ -26,8 +26,8 @@ use pcm_feeder::Tables;
 use std::alloc::{AllocError, Global};
 use toml::{Table, Value};
 
-// The keys of the top.
-const TOP: [ConfigPlace; 5] = [
+/// The keys of the top.
+pub const TOP_KEYS: [ConfigPlace; 5] = [
     ConfigPlace::Device,
     ConfigPlace::Vchans,
     ConfigPlace::Files,
@@ -35,8 +35,8 @@ const TOP: [ConfigPlace; 5] = [
     ConfigPlace::Eq,
 ];
 
-// The keys of the device's table.
-const DEVICE: [ConfigPlace; 7] = [
+/// The keys of the device's table.
+pub const DEVICE_KEYS: [ConfigPlace; 7] = [
     ConfigPlace::DeviceFormat,
     ConfigPlace::DeviceChannels,
     ConfigPlace::DeviceRate,
@@ -46,8 +46,8 @@ const DEVICE: [ConfigPlace; 7] = [
     ConfigPlace::DeviceCapture,
 ];
 
-// The keys of the table of channels.
-const VCHANS: [ConfigPlace; 6] = [
+/// The keys of the table of channels.
+pub const VCHANS_KEYS: [ConfigPlace; 6] = [
     ConfigPlace::VchansPlay,
     ConfigPlace::VchansRecord,
     ConfigPlace::VchansQuality,
@@ -106,7 +106,7 @@ fn document_read(alloc: Global, top: &Table) -> Result<Config, ConfigFault>
     ensures read { Reads result (document_read (table_view top.now)) }
     ensures settled { IfOk result IsSettled }
 {
-    if !has_only(Some(top), &TOP) {
+    if !has_only(Some(top), &TOP_KEYS) {
         return Err(refused(ConfigKind::Key, ConfigPlace::Top));
     }
     top_read(alloc, top)
@@ -139,10 +139,10 @@ fn tables_read(alloc: Global, parts: Parts<'_>) -> Result<Config, ConfigFault>
     ensures read { Reads result (of_parts tables_read parts.entry) }
     ensures settled { IfOk result IsSettled }
 {
-    if !has_only(parts.device, &DEVICE) {
+    if !has_only(parts.device, &DEVICE_KEYS) {
         return Err(refused(ConfigKind::Key, ConfigPlace::Device));
     }
-    if !has_only(parts.vchans, &VCHANS) {
+    if !has_only(parts.vchans, &VCHANS_KEYS) {
         return Err(refused(ConfigKind::Key, ConfigPlace::Vchans));
     }
     if !have_no_other(parts.tables, &FILTER_KEYS) {

@@ -14,8 +14,8 @@ use pcm_feeder::{SECTION_COEF_MOST, SECTION_SHIFT_MOST, Section};
 use std::alloc::Global;
 use toml::{Table, Value};
 
-// The keys of a section, each of which must be there.
-pub(crate) const SECTION_KEYS: [&str; 6] = ["shift", "b0", "b1", "b2", "a1", "a2"];
+/// The keys of a section, each of which must be there.
+pub const SECTION_KEYS: [&str; 6] = ["shift", "b0", "b1", "b2", "a1", "a2"];
 
 // What the table of a section spells.
 #[derive(Clone, Copy)]

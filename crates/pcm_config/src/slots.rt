@@ -14,7 +14,7 @@ use pcm_oss::SLOTS;
 use toml::Table;
 
 // Channels that play.
-const PLAY: NumberRow = NumberRow {
+pub(crate) const PLAY: NumberRow = NumberRow {
     place: ConfigPlace::VchansPlay,
     least: 1,
     most: SLOTS as u32,
@@ -22,7 +22,7 @@ const PLAY: NumberRow = NumberRow {
 };
 
 // Channels that record.
-const RECORDING: NumberRow = NumberRow {
+pub(crate) const RECORDING: NumberRow = NumberRow {
     place: ConfigPlace::VchansRecord,
     least: 0,
     most: SLOTS as u32,
@@ -30,7 +30,7 @@ const RECORDING: NumberRow = NumberRow {
 };
 
 // How rates are converted.
-const QUALITY: NumberRow = NumberRow {
+pub(crate) const QUALITY: NumberRow = NumberRow {
     place: ConfigPlace::VchansQuality,
     least: 0,
     most: QUALITY_MOST,
@@ -38,7 +38,7 @@ const QUALITY: NumberRow = NumberRow {
 };
 
 // Channels with a mapped area.
-const MAPPED: NumberRow = NumberRow {
+pub(crate) const MAPPED: NumberRow = NumberRow {
     place: ConfigPlace::VchansMapped,
     least: 0,
     most: SLOTS as u32,

@@ -39,8 +39,8 @@ impl Command {
         }
     }
 
-    // The command that a word names.
-    pub(crate) fn from_name(word: &[u8]) -> Option<Command>
+    /// The command that a word names.
+    pub fn from_name(word: &[u8]) -> Option<Command>
         ensures { result ≡ command_named word.now }
     {
         match word {
@@ -72,8 +72,8 @@ pub fn way_name(way: Way) -> &'static [u8]
     }
 }
 
-// The way that a word names.
-pub(crate) fn way_named(word: &[u8]) -> Option<Way>
+/// The way that a word names.
+pub fn way_named(word: &[u8]) -> Option<Way>
     ensures { result ≡ way_named word.now }
 {
     WAYS.iter().copied().find(|way| way_name(*way) == word)
@@ -146,8 +146,8 @@ impl Control {
         }
     }
 
-    // What a word names.
-    pub(crate) fn from_name(word: &[u8]) -> Option<Control>
+    /// What a word names.
+    pub fn from_name(word: &[u8]) -> Option<Control>
         ensures { result ≡ control_named word.now }
     {
         CONTROLS

@@ -8,6 +8,12 @@ ghost use Rattle.pcm_script.specs.Numbers.{after_prefix, are_digits, decimal_in,
 use crate::ScriptKind;
 use crate::hexadecimal::worth_of;
 
+/// How many digits a decimal number has at most.
+pub const DECIMAL_DIGITS: usize = 10;
+
+/// How many digits a hexadecimal number has at most, behind its `0x`.
+pub const HEXADECIMAL_DIGITS: usize = 8;
+
 /// The number of a word of one to ten decimal digits.
 pub fn decimal_in(word: &[u8]) -> Option<u64>
     ensures { result ≡ decimal_in word.now }
@@ -18,8 +24,8 @@ pub fn decimal_in(word: &[u8]) -> Option<u64>
     Some(digits_value(10, word))
 }
 
-// The number that a word spells.
-pub(crate) fn number_in(word: &[u8]) -> Result<u64, ScriptKind>
+/// The number that a word spells.
+pub fn number_in(word: &[u8]) -> Result<u64, ScriptKind>
     ensures { result ≡ number_in word.now }
 {
     match after_prefix(word) {
@@ -52,7 +58,7 @@ fn is_decimal(word: &[u8]) -> bool
     ensures value { result ≡ are_digits is_decimal_digit 10 word.now }
     ensures room { IsTrue result → length word.now ≤ 10 }
 {
-    !word.is_empty() && word.len() <= 10 && are_decimal(word)
+    !word.is_empty() && word.len() <= DECIMAL_DIGITS && are_decimal(word)
 }
 
 fn are_decimal(digits: &[u8]) -> bool
@@ -65,7 +71,7 @@ fn is_hexadecimal(digits: &[u8]) -> bool
     ensures value { result ≡ are_digits is_hex_digit 8 digits.now }
     ensures room { IsTrue result → length digits.now ≤ 8 }
 {
-    !digits.is_empty() && digits.len() <= 8 && are_hexadecimal(digits)
+    !digits.is_empty() && digits.len() <= HEXADECIMAL_DIGITS && are_hexadecimal(digits)
 }
 
 fn are_hexadecimal(digits: &[u8]) -> bool

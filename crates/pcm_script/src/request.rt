@@ -7,18 +7,18 @@ use crate::ScriptKind;
 use crate::names::{join_name, request_name, start_group_name};
 use pcm_oss::{Event, Request};
 
-// What the name of a request stands for.
+/// What the name of a request stands for.
 #[derive(Clone, Copy)]
-pub(crate) enum Named {
-    // A request without an argument.
+pub enum Named {
+    /// A request without an argument.
     Plain(Request),
-    // What is asked with an argument, which is told behind its name.
+    /// What is asked with an argument, which is told behind its name.
     Full(Setter),
 }
 
-// What a line asks, before its descriptor and its argument are told.
+/// What a line asks, before its descriptor and its argument are told.
 #[derive(Clone, Copy)]
-pub(crate) enum Setter {
+pub enum Setter {
     SetFmt,
     Speed,
     Channels,
@@ -29,8 +29,8 @@ pub(crate) enum Setter {
     StartGroup,
 }
 
-// All of them, in the order of `Request`, and then what is asked of groups.
-const REQUESTS: [Named; 22] = [
+/// All of them, in the order of `Request`, and then what is asked of groups.
+pub const REQUESTS: [Named; 22] = [
     Named::Full(Setter::SetFmt),
     Named::Full(Setter::Speed),
     Named::Full(Setter::Channels),
@@ -56,8 +56,8 @@ const REQUESTS: [Named; 22] = [
 ];
 
 impl Named {
-    // The word that names it.
-    fn name(self) -> &'static [u8]
+    /// The word that names it.
+    pub fn name(self) -> &'static [u8]
         ensures { result.now ≡ name_in_table self }
     {
         match self {
@@ -121,7 +121,8 @@ pub(crate) fn full_request(name: &[u8]) -> Result<Option<Setter>, ScriptKind>
     }
 }
 
-fn request_named(name: &[u8]) -> Option<Named>
+/// What a name stands for.
+pub fn request_named(name: &[u8]) -> Option<Named>
     ensures { result ≡ request_named name.now }
 {
     REQUESTS.iter().copied().find(|named| named.name() == name)

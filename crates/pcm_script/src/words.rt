@@ -8,14 +8,14 @@ ghost use Rattle.pcm_script.specs.Words.{begins_comment, is_blank, is_word, lent
 use arrayvec::ArrayVec;
 use memchr::memchr2;
 
-// How many words of a line are kept. Each command refuses so many alike, so a line needs no memory.
-const KEPT: usize = 8;
+/// How many words of a line are kept. Each command refuses so many alike, so a line needs no memory.
+pub const KEPT: usize = 8;
 
-// The words of a line that are kept.
-pub(crate) type Words<'a> = ArrayVec<&'a [u8], KEPT>;
+/// The words of a line that are kept.
+pub type Words<'a> = ArrayVec<&'a [u8], KEPT>;
 
-// The first words of a line, up to its comment.
-pub(crate) fn first_words<'a>(line: &'a [u8]) -> Words<'a>
+/// The first words of a line, up to its comment.
+pub fn first_words<'a>(line: &'a [u8]) -> Words<'a>
     ensures { lent result.items ≡ take KEPT (words_of line.now) }
 {
     let mut words = Words::new();
