@@ -1,56 +1,81 @@
-"""What the tools share: where the program is, how it is called, and what a wave has in its header."""
+"""How the program is called, and what a wave has in its header."""
 import collections
+import contextlib
 import os
 import pathlib
-import signal
+import shlex
 import subprocess
 import sys
 
-ROOT = pathlib.Path(__file__).resolve().parent.parent
-# where a packed release has the program, and where a build leaves it
-PLACES = (ROOT / "bin" / "dsp_replay", ROOT / "dsp_replay", ROOT / "crates" / "dsp_replay" / "out" / "dsp_replay")
+from commands import Progress, fail
+
 # the frames of the device's ring that the tools configure, which are silent at first
 RING = 1024
 # the formats that a wave can have, by their bytes
 FORMATS = {1: "u8", 2: "s16le", 3: "s24le", 4: "s32le"}
 WIDTHS = {name: width for width, name in FORMATS.items()}
+# the codings of a wave, by their numbers, that are no whole numbers; and the one that tells its coding further on
+CODINGS, INTEGER, EXTENSIBLE = {2: "ADPCM", 3: "floats", 6: "A-law", 7: "mu-law", 85: "MP3"}, 1, 0xFFFE
+# how often it is looked how far a run is, in seconds
+LOOK = 0.1
 
 # a wave's settings, and where its body lies in the file
 Wave = collections.namedtuple("Wave", "path format channels rate at size")
 
 
-# where nobody reads on, a tool ends as others do
-signal.signal(signal.SIGPIPE, signal.SIG_DFL)
+def call(program, *words, out=None, size=0, does="the program runs"):
+    """Calls the program, which writes a file of some size. Answers its status and what it printed on both outputs."""
+    progress = Progress(does)
+    with subprocess.Popen([str(program), *map(str, words)], stdin=subprocess.DEVNULL, stdout=subprocess.PIPE, stderr=subprocess.PIPE) as ran:
+        try:
+            printed = heard(ran, progress, out, size)
+        except BaseException:
+            ran.kill()
+            raise
+    progress.end()
+    return (ran.returncode, *(it.decode("utf-8", "surrogateescape") for it in printed))
 
 
-def fail(tool, text):
-    sys.exit(f"{tool}: {text}")
+def heard(ran, progress, out, size):
+    """What a program prints until it ends, while it is told how much it has written."""
+    while True:
+        try:
+            return ran.communicate(timeout=LOOK)
+        except subprocess.TimeoutExpired:
+            progress.at(os.path.getsize(out) if out and os.path.exists(out) else 0, size)
 
 
-def program_of(tool, named):
-    """The program that was named, or else the first that is there."""
-    for place in [pathlib.Path(named)] if named else PLACES:
-        if place.is_file():
-            return place.resolve()
-    return fail(tool, f"no program at {named or ', '.join(map(str, PLACES))}; --program PATH names it")
-
-
-def call(program, *words):
-    """Calls the program. Answers its status and what it printed."""
-    ran = subprocess.run([str(program), *map(str, words)], stdout=subprocess.PIPE, stderr=subprocess.PIPE, check=False)
-    return ran.returncode, ran.stdout.decode(), ran.stderr.decode()
+def judge(status, printed, errors):
+    """Fails where the program did, with all that it said in one line."""
+    if status < 0:
+        fail(f"the program was stopped by signal {-status}")
+    if status:
+        said = [it.strip().replace("dsp_replay: ", "", 1) for it in (printed.strip().split("\n")[-1], errors)]
+        fail(f"the program ended with {status}: {': '.join(filter(None, said)) or 'out of memory'}")
 
 
 def number(data, at, size):
     return int.from_bytes(data[at:at + size], "little")
 
 
-def wave_of(tool, path):
+def look_at_form(path, body):
+    """The settings that a wave's header tells, or a fault where its samples are no whole numbers."""
+    coding, bits = number(body, 0, 2), number(body, 14, 2)
+    coding = number(body, 24, 2) if coding == EXTENSIBLE else coding
+    form = FORMATS.get(bits // 8) if bits % 8 == 0 else None
+    if coding != INTEGER or not form:
+        holds = f"holds {CODINGS[coding]}" if coding in CODINGS else f"has samples of {bits} bits" if coding == INTEGER else f"has the coding {coding}"
+        words = [shlex.quote(it) for it in (str(path), f"{pathlib.Path(path).stem}-24.wav")]
+        fail(f"{path}: the wave {holds}: sox {words[0]} -b 24 {words[1]}")
+    return form, number(body, 2, 2), number(body, 4, 4)
+
+
+def wave_of(path):
     """What a wave's header says. What the program refuses, it refuses itself; here only what is needed to ask it is read."""
     with open(path, "rb") as file:
         head = file.read(12)
         if head[:4] != b"RIFF" or head[8:] != b"WAVE":
-            fail(tool, f"{path} is no wave")
+            fail(f"{path}: no wave")
         settings = None
         while len(chunk := file.read(8)) == 8:
             size = number(chunk, 4, 4)
@@ -58,18 +83,65 @@ def wave_of(tool, path):
                 left = os.fstat(file.fileno()).st_size - file.tell()
                 return Wave(path, *settings, file.tell(), min(size, left))
             body = file.read(size + size % 2)
-            if chunk[:4] == b"fmt ":
-                form = FORMATS.get(number(body, 14, 2) // 8)
-                settings = (form, number(body, 2, 2), number(body, 4, 4)) if form else fail(tool, f"{path} has samples of no width that is taken")
-    return fail(tool, f"{path} has no frames")
+            if chunk[:4] == b"fmt " and not settings:
+                settings = look_at_form(path, body)
+    return fail(f"{path}: a wave without frames")
+
+
+def wave_head(form, channels, rate, size, more=0):
+    """The header of a wave whose body has so many bytes, and more behind it."""
+    frame = channels * WIDTHS[form]
+    settings = b"".join(value.to_bytes(size, "little") for value, size in (
+        (16, 4), (1, 2), (channels, 2), (rate, 4), (rate * frame, 4), (frame, 2), (8 * WIDTHS[form], 2)))
+    return b"RIFF" + (36 + size + size % 2 + more).to_bytes(4, "little") + b"WAVEfmt " + settings + b"data" + size.to_bytes(4, "little")
 
 
 def put_wave(path, form, channels, rate, body):
     """Writes a wave."""
-    frame = channels * WIDTHS[form]
-    head = b"".join(value.to_bytes(size, "little") for value, size in (
-        (16, 4), (1, 2), (channels, 2), (rate, 4), (rate * frame, 4), (frame, 2), (8 * WIDTHS[form], 2)))
-    pad = bytes(len(body) % 2)
-    with open(path, "wb") as out:
-        out.write(b"RIFF" + (36 + len(body) + len(pad)).to_bytes(4, "little") + b"WAVEfmt " + head)
-        out.write(b"data" + len(body).to_bytes(4, "little") + body + pad)
+    with writing(path) as out:
+        out.write(wave_head(form, channels, rate, len(body)) + body + bytes(len(body) % 2))
+
+
+def standard_input():
+    """All bytes of standard input."""
+    return sys.stdin.buffer.read()
+
+
+def bytes_of(path):
+    """The bytes of a file, or of standard input."""
+    return standard_input() if str(path) == "-" else pathlib.Path(path).read_bytes()
+
+
+def text_of(path):
+    """The text of a file, or none where none is named. Bytes that are no text stay what they are."""
+    return bytes_of(path).decode("utf-8", "surrogateescape") if path else ""
+
+
+@contextlib.contextmanager
+def writing(path):
+    """A file to write bytes into, or standard output. What goes wrong with a file is told by its name."""
+    if str(path) == "-":
+        yield sys.stdout.buffer
+        sys.stdout.buffer.flush()
+        return
+    try:
+        with open(path, "wb") as out:
+            yield out
+    except OSError as fault:
+        fault.filename = fault.filename or str(path)
+        raise
+
+
+def look_at_out(path):
+    """Fails where a file can't be written, before anything takes long."""
+    path = pathlib.Path(path)
+    if str(path) != "-" and (path.is_dir() or not path.absolute().parent.is_dir()):
+        fail(f"{path}: {'a folder' if path.is_dir() else 'there is no such folder'}")
+    if str(path) != "-" and not os.access(path if path.exists() else path.absolute().parent, os.W_OK):
+        fail(f"{path}: it can't be written")
+
+
+def put(path, data):
+    """Writes bytes into a file, or to standard output."""
+    with writing(path) as out:
+        out.write(data)

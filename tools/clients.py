@@ -1,104 +1,288 @@
-"""What a client is told at each moment of a script: the tools put questions between its lines, and read the program's answers."""
+"""What the clients of a slot give and are told: the script is run with them alone, and questions stand between its lines."""
 import collections
-import re
+import copy
+import heapq
+import itertools
 
-from scripts import CODES, Device, handed_over, is_of, kept_open, run
+from scripts import device_of, keys_of, on_the_mix, parts_of, rates_of, value_of
+from sounds import Device, size_of
 
-# what an opening is told behind a line: how many frames were handed over by then, the bytes that wait in its ring, the size of that,
+CODES = {0x40: "s8", 8: "u8", 0x10: "s16le", 0x20: "s16be", 0x80: "u16le", 0x100: "u16be", 0x10000: "s24le", 0x20000: "s24be",
+         0x40000: "u24le", 0x80000: "u24be", 0x1000: "s32le", 0x2000: "s32be", 0x4000: "u32le", 0x8000: "u32be"}
+# what an opening is told behind an event: how many frames were handed over by then, the bytes that wait in its ring, the size of that,
 # whether it is in Setup, whether it has started, how often it was short or lost frames, its position in bytes, and its settings
-Moment = collections.namedtuple("Moment", "line at waiting size setup started missed passed settings")
+Moment = collections.namedtuple("Moment", "event at waiting size setup started missed passed settings")
 # what is asked of an opening, by its way, and of each
 QUESTIONS = {"play": ("getospace", "getodelay", "getoptr"), "map": ("getoptr",), "rec": ("getispace", "getiptr")}
 OF_ALL = ("geterror", "setfmt 0", "channels 0", "speed 0")
+# the descriptors that a script can have
+DESCRIPTORS = 64
+# up to so many places are asked at once; into so many columns the frames are cut to choose them; and so often it is looked closer
+MOST, COLUMNS, TIMES = 3000, 1000, 5
+# in so many pieces an interrupt is cut at once
+PIECES = 32
 
 
-def told(reply):
+def numbers_in(reply):
     """The numbers of a reply by their names; one without a name stands under none."""
     words = reply.split()[1:] if reply.startswith("ok") else []
     pairs = (word.rpartition("=") for word in words)
     return {name: int(value) for name, _, value in pairs if value.isdigit()}
 
 
-def rates_at(lines, replies, opening):
-    """The rate of an opening behind each line that changes it, by the number of the event."""
-    rates = {opening.line.event: opening.line.words[5] if len(opening.line.words) > 5 else "8000"}
-    for line in lines:
-        if is_of(line, opening) and line.words[2:3] == ["speed"] and replies[line.event].startswith("ok"):
-            rates[line.event] = replies[line.event].split()[1]
-    return rates
+class Solo:
+    """The clients that have one slot one after another, alone. Where one of them joins a group the others stay, and are muted."""
+
+    def __init__(self, played, openings):
+        self.played, self.script, self.openings = played, played.script, openings
+        self.slot, self.way = openings[0].slot, openings[0].way
+        self.is_whole = any(it.joins for it in openings)
+        self.own = {at: it for it in openings for at in it.events} if self.is_whole else None
+        used = {it.descriptor for it in played.openings} if self.is_whole else set()
+        self.free = next((k for k in range(DESCRIPTORS) if k not in used), None) if self.is_whole else None
+        self.has_sync = self.way == "play" and not (self.is_whole and self.free is None)
+        self.last, self.is_plain = len(self.script.events), False
+
+    def until(self, event):
+        """The same, up to an event."""
+        other = copy.copy(self)
+        other.last = event
+        return other
+
+    def at_full_volume(self):
+        """The same, without a volume of the clients or of their slot."""
+        other = copy.copy(self)
+        other.is_plain = True
+        return other
+
+    def walk(self):
+        """The events that are run."""
+        if self.is_whole:
+            return range(min(self.last + 1, len(self.script.events)))
+        own = (at for it in self.openings for at in it.events)
+        return itertools.takewhile(lambda at: at <= self.last, heapq.merge(own, self.played.turns, self.played.mixers()))
+
+    def new_slot(self):
+        """The slot that the clients have where they are alone."""
+        return self.slot if self.is_whole or self.way == "rec" else int(keys_of(self.played.room.config).get("vchans.play", 4)) if self.way == "map" else 0
+
+    def mixer_line(self, words):
+        """What the mixer is asked of the slot; the others stay muted, and the master is left at one."""
+        if len(words) < 4 or words[1] not in ("slot", "mute") or self.way == "rec":
+            return None
+        return f"mixer {words[1]} {self.new_slot()} {words[3]}" if value_of(words[2]) == self.slot else None
+
+    def own_line(self, at, opening):
+        """An event of a client. Where it plays, a sync stands in place of its close, so that it can be asked while it drains."""
+        descriptor = opening.descriptor if self.free is None else self.free
+        if at == opening.closed and self.has_sync:
+            return f"ioctl {descriptor} sync"
+        words = self.script.events[at].split(" ", 2)
+        return " ".join([words[0], str(descriptor), *words[2:]])
+
+    def muted(self):
+        """The lines that mute all others."""
+        others = [it for it in self.played.slots() if it != self.slot] if self.is_whole and self.way != "rec" else []
+        return [f"mixer mute {it} 1" for it in others]
+
+    def events(self, places=(), cuts=None, counts=None, ring=None):
+        """The events, each with what its reply answers: the place and the question; or None. Interrupts are joined up to a place or a
+        line of the clients; a cut one has a place before it and behind each of its pieces."""
+        cuts, ring, turns, waits, now, rate = cuts or {}, ring or self.played.device.ring, iter(counts or ()), 0, -1, None
+        yield from ((it, None) for it in self.muted())
+        for at in self.walk():
+            text = self.script.events[at]
+            is_turn = text.startswith("intr")
+            begins = now + 1 < len(self.openings) and at == self.openings[now + 1].at
+            line = None if is_turn else self.line(at, now + begins)
+            if is_turn and at not in cuts:
+                waits += next(turns) if counts else self.played.count(at)
+            if line is not None or at in places or at in cuts:
+                yield from ((f"intr {it}", None) for it in parts_of(waits, ring))
+                waits = 0
+            if begins:
+                yield from self.ended(now)
+                now += 1
+            yield from ((line, None) for _ in range(line is not None))
+            rate = self.rate_behind(at, now, rate)
+            for piece, part in enumerate((0, *cuts[at]) if at in cuts else (0,) if at in places else ()):
+                yield from ((f"intr {part}", None) for _ in range(part > 0))
+                yield from self.asked(at, piece, now, rate)
+        yield from ((f"intr {it}", None) for it in parts_of(waits, ring))
+
+    def is_own(self, at):
+        return not self.script.events[at].startswith(("intr", "mixer")) if self.own is None else at in self.own
+
+    def line(self, at, now):
+        """An event as it is run, or None."""
+        text = self.script.events[at]
+        if self.is_plain and (" setplayvol " in text or text.startswith("mixer slot")):
+            return None
+        if self.is_own(at):
+            return self.own_line(at, self.openings[now])
+        return self.mixer_line(text.split(" ")) if text.startswith("mixer") else text
+
+    def ended(self, current):
+        """Closes a client that was kept open, as the next one opens."""
+        if current >= 0 and self.has_sync and self.openings[current].closed is not None:
+            opening = self.openings[current]
+            yield f"close {opening.descriptor if self.free is None else self.free}", None
+
+    def rate_behind(self, at, now, rate):
+        """The rate of a client behind an event."""
+        if now < 0 or not self.is_own(at):
+            return rate
+        words, reply = self.script.words(at), self.played.replies[at]
+        if words[0] == "open":
+            return words[5] if len(words) > 5 else "8000"
+        return reply.split()[1] if words[2:3] == ["speed"] and reply.startswith("ok") else rate
+
+    def asked(self, at, piece, current, rate):
+        """The questions at a place."""
+        opening = self.openings[current] if current >= 0 else None
+        if opening is None or opening.closed is not None and at >= opening.closed and not self.has_sync:
+            return
+        descriptor = opening.descriptor if self.free is None else self.free
+        for question in (*QUESTIONS[self.way], *OF_ALL):
+            yield f"ioctl {descriptor} {question}", (current, at, piece, question)
+        yield f"ioctl {descriptor} speed {rate}", (current, at, piece, "set")
+
+    def given(self):
+        """The frames that the clients give to the mix, from the first one that is mixed on."""
+        config = self.played.room.config
+        counts = self.played.mixed() if rates_of(config) else None
+        return self.sound(on_the_mix(config) if counts else config, counts)
+
+    def sound(self, config, counts=None):
+        """The frames that come of the clients with a configuration, from the first one that is mixed on."""
+        device = device_of(config)
+        lines = (text for text, _ in self.events(counts=counts, ring=device.ring))
+        size = (sum(counts) if counts else self.played.total) * size_of(device)
+        _, sound = self.played.room.run([*lines, f"intr {device.ring}"], config, size=size, does=f"slot {self.slot} alone")
+        return sound.from_frame(device.ring)
+
+    def told(self, places, cuts=None):
+        """What each client is told at places, in their order."""
+        every, sound = self.told_and_heard(places, cuts)
+        self.played.room.forget(sound)
+        return every
+
+    def told_and_heard(self, places, cuts=None):
+        """The same, and the frames of OUT up to the last event."""
+        texts, keys = zip(*self.events(places, cuts), (f"intr {self.played.device.ring}", None))
+        size = self.played.total * size_of(self.played.device)
+        replies, sound = self.played.room.run(texts, size=size, does=f"slot {self.slot} is asked")
+        answers = {}
+        for key, reply in zip(keys, replies):
+            if key:
+                answers.setdefault(key[:3], {})[key[3]] = reply
+        every = [[] for _ in self.openings]
+        for (current, at, piece), found in answers.items():
+            every[current].append(self.moment(at, self.place_of(at, piece, cuts), found))
+        return [until_gone(it, moments) for it, moments in zip(self.openings, every)], sound
+
+    def place_of(self, at, piece, cuts):
+        """How many frames are handed over behind an event, or a piece of one."""
+        if cuts and at in cuts:
+            return self.played.handed(at) + sum(cuts[at][:piece])
+        return self.played.handed(at + 1)
+
+    def moment(self, event, at, answers):
+        """What an opening is told behind an event."""
+        room, kept = numbers_in(answers.get("getospace", "")), numbers_in(answers.get("getispace", ""))
+        size = (room or kept).get("fragstotal", 0) * (room or kept).get("fragsize", 0)
+        waiting = size - room["bytes"] if room else kept.get("bytes", 0)
+        setup = answers["set"].startswith("ok")
+        delay = numbers_in(answers.get("getodelay", "")).get("", waiting + 1)
+        passed = numbers_in(answers.get("getoptr") or answers["getiptr"]).get("bytes", 0)
+        settings = Device(CODES[numbers_in(answers["setfmt 0"])[""]], numbers_in(answers["channels 0"])[""], numbers_in(answers["speed 0"])[""], 0, 0)
+        return Moment(event, at, waiting, size, setup, not setup and delay > waiting, sum(numbers_in(answers["geterror"]).values()), passed, settings)
+
+    def candidates(self):
+        """Where the clients can be asked: behind their own events, behind interrupts once one has opened, and behind starts of groups."""
+        script, played, first = self.script, self.played, self.openings[0].at
+        last = self.openings[-1].closed if self.openings[-1].closed is not None and self.way != "play" else len(script.events)
+        own = (at for it in self.openings for at in it.events)
+        starts = (at for at in range(first, len(script.events)) if " syncstart " in script.events[at]) if self.is_whole else ()
+        return [at for at in sorted({*own, *played.turns, *starts}) if first <= at <= last]
+
+    def moments_and_sound(self):
+        """What each client is told, as closely as something happens; and the frames of OUT."""
+        every = self.candidates()
+        places = thinned(self.played, self.script, every)
+        found, sound = self.told_and_heard(places)
+        for _ in range(TIMES if len(places) < len(every) else 0):
+            more = closer(found, every, places)
+            if not more:
+                break
+            places |= more
+            found = self.told(places)
+        return found, sound
 
 
-def is_asked(line, opening):
-    """Whether questions stand behind a line: one of the opening, an interrupt, or the start of a group."""
-    return is_of(line, opening) or line.words[0] == "intr" or line.words[2:3] == ["syncstart"]
-
-
-def with_questions(lines, replies, opening):
-    """A script's lines, each with what its reply answers: the line that is asked behind, and the question; or None."""
-    rates, rate = rates_at(lines, replies, opening), None
-    for line, descriptor, text in kept_open(lines, opening):
-        yield text, None
-        rate = rates.get(line.event, rate)
-        is_gone = opening.closed and line.event >= opening.closed.event and (opening.way != "play" or descriptor == opening.descriptor)
-        if rate and is_asked(line, opening) and not is_gone:
-            for question in (*QUESTIONS[opening.way], *OF_ALL):
-                yield f"ioctl {descriptor} {question}", (line, question)
-            yield f"ioctl {descriptor} speed {rate}", (line, "set")
-
-
-def answers_of(tool, program, config, lines, replies, opening):
-    """The replies to the questions behind each line, by their names, with the line."""
-    texts, keys = zip(*with_questions(lines, replies, opening))
-    answered, _ = run(tool, program, "\n".join(texts), config)
-    answers = {}
-    for event, key in enumerate(keys, 1):
-        if key:
-            answers.setdefault(key[0].event, (key[0], {}))[1][key[1]] = answered[event]
-    return list(answers.values())
-
-
-def moment_of(line, at, answers):
-    """What an opening is told behind a line."""
-    room, kept = told(answers.get("getospace", "")), told(answers.get("getispace", ""))
-    size = (room or kept).get("fragstotal", 0) * (room or kept).get("fragsize", 0)
-    waiting = size - room["bytes"] if room else kept.get("bytes", 0)
-    setup = answers["set"].startswith("ok")
-    delay = told(answers.get("getodelay", "")).get("", waiting + 1)
-    missed = sum(told(answers["geterror"]).values())
-    passed = told(answers.get("getoptr") or answers["getiptr"]).get("bytes", 0)
-    settings = Device(CODES[told(answers["setfmt 0"])[""]], told(answers["channels 0"])[""], told(answers["speed 0"])[""], 0, 0)
-    return Moment(line, at, waiting, size, setup, not setup and delay > waiting, missed, passed, settings)
-
-
-def moments_of(tool, program, config, lines, replies, opening):
-    """What an opening is told at each moment from its open on, until it is closed and nothing is left of it."""
-    handed, moments, behind, at = dict(handed_over(lines, replies)), [], {}, 0
-    for line in lines:
-        at += handed.get(line.event, 0)
-        behind[line.event] = at
-    for line, answers in answers_of(tool, program, config, lines, replies, opening):
-        moments.append(moment_of(line, behind[line.event], answers))
-        if opening.closed and line.event >= opening.closed.event and moments[-1].setup:
-            break
+def until_gone(opening, moments):
+    """What an opening is told until it is closed and nothing is left of it."""
+    for at, it in enumerate(moments):
+        if opening.closed is not None and it.event >= opening.closed and it.setup:
+            return moments[:at + 1]
     return moments
 
 
-def first_missing(tool, program, config, lines, replies, opening, short):
-    """Of interrupts, by their events, that find an opening short: how many of their frames it gave before. Each is cut into ones of
-    a frame, behind each of which the program tells whether it was short."""
-    texts, keys = [], []
-    for line, descriptor, text in kept_open(lines, opening):
-        count = int(replies[line.event].split()[1]) if line.event in short else 0
-        pieces = [piece for _ in range(count) for piece in ("intr 1", f"ioctl {descriptor} geterror")] or [text]
-        before = [f"ioctl {descriptor} geterror"] if count else []
-        texts += [*before, *pieces]
-        keys += [*(None for _ in before), *((line.event, k // 2) if count and k % 2 else None for k in range(len(pieces)))]
-    answered, _ = run(tool, program, "\n".join(texts), config)
+def thinned(played, script, every):
+    """The places that are asked first: all, or of each column the last of the clients' own events, and the last interrupt."""
+    if len(every) <= MOST:
+        return set(every)
     found = {}
-    for event, key in enumerate(keys, 1):
-        if key and re.match(r"ok underruns=[1-9]", answered[event]):
-            found.setdefault(*key)
-    return found
+    for at in every:
+        column = played.handed(at) * COLUMNS // max(played.total, 1)
+        found[column, script.events[at].startswith("intr")] = at
+    return {*found.values(), *every[:2]}
+
+
+def closer(found, every, places):
+    """The places between two at which something other is told, as many as can be asked at once."""
+    spans = [(a.event, b.event) for moments in found for a, b in zip(moments, moments[1:]) if has_changed(a, b)]
+    more, at = [], 0
+    for begin, end in spans:
+        while at < len(every) and every[at] <= begin:
+            at += 1
+        while at < len(every) and every[at] < end:
+            more.append(every[at])
+            at += 1
+    more = [it for it in more if it not in places]
+    return set(more[::-(-len(more) // MOST)] if more else ())
+
+
+def has_changed(before, after):
+    """Whether something happened from one moment to the next, besides that frames were written and taken."""
+    return (before.setup, before.started, before.settings, before.size) != (after.setup, after.started, after.settings, after.size) or (
+        after.missed > 0 or after.passed < before.passed)
+
+
+def first_missing(solo, which, short):
+    """Of interrupts, by their events, that find a client short: how many of their frames it gave before. Each is cut into pieces, and the
+    first piece that is short again, down to one frame."""
+    ranges = {at: (0, solo.played.count(at)) for at in short}
+    while any(end - begin > 1 for begin, end in ranges.values()):
+        cuts = {at: cut(solo.played.count(at), *it) for at, it in ranges.items()}
+        found = {}
+        for it in solo.told((), cuts)[which]:
+            end = it.at - solo.played.handed(it.event)
+            if it.missed and end and it.event not in found:
+                found[it.event] = (next(begin for begin, to in bounds(cuts[it.event]) if to == end), end)
+        ranges = {at: found.get(at, (begin, begin + 1)) for at, (begin, _) in ranges.items()}
+    return {at: begin for at, (begin, _) in ranges.items()}
+
+
+def cut(count, begin, end):
+    """So many frames as what is before some of them, these in pieces, and what is behind."""
+    return [it for it in (begin, *parts_of(end - begin, -(-(end - begin) // PIECES)), count - end) if it]
+
+
+def bounds(counts):
+    """Where each of some counts begins and ends in their sum."""
+    ends = list(itertools.accumulate(counts))
+    return zip([0, *ends], ends)
 
 
 def runs_of(moments):

@@ -1,5 +1,9 @@
-"""Scripts as the tools read them: lines, what a comment expects, and what a configuration's device is."""
+"""Scripts as the tools read them: their events, what a comment expects, what a configuration's device is, and how one is run."""
+import array
+import bisect
 import collections
+import itertools
+import os
 import pathlib
 import re
 import tempfile
@@ -9,34 +13,56 @@ try:
 except ImportError:  # before python 3.11
     tomllib = None
 
-from calls import WIDTHS, call, fail, number, wave_of
+from calls import call, judge
+from commands import fail
+from sounds import WIDTH, Device, Sound, size_of, sound_of
 
-# a line that is an event: its number, which event it is, as replies count them, its words, and its comment
-Line = collections.namedtuple("Line", "number event words comment")
-# what OUT has: the device's settings, the frames of its ring, and those of an interrupt that names none
-Device = collections.namedtuple("Device", "format channels rate ring block")
-# one opening of a channel: the line that opened it, its way, its slot, its descriptor, and the line that closed it or None
-Opening = collections.namedtuple("Opening", "line way slot descriptor closed")
+# one opening of a channel: the events that opened it and closed it, or None, its way, slot and descriptor, the events that ask something
+# of it, these two with them, and whether it was in a group
+Opening = collections.namedtuple("Opening", "at closed way slot descriptor events joins")
 # the greatest ring of a client, two fragments of 65536 bytes; so many frames of the device that what they mix fits into it;
 # and how many frames are mixed at most beside those that last as long as what is handed over
 GREATEST_RING = 0x20010
 FEW = 1024
 AHEAD = 34
-# the descriptors that a script can have
-DESCRIPTORS = 64
+# texts up to so long are kept once, however often they come
+SHORT = 24
 # the numbers of a device whose configuration names none
 USUAL = {"channels": "2", "rate": "48000", "hw_block": "256", "hw_blocks": "4"}
+COMMENT = re.compile(r"(?:^|[ \t])#")
 
 
-def lines_of(text):
-    """The events of a script."""
-    found = []
-    for at, line in enumerate(text.split("\n"), 1):
-        words = re.split(r"[ \t]+", line.rstrip("\r").strip(" \t"))
-        begun = next((k for k, word in enumerate(words) if word.startswith("#")), len(words))
-        if words[:begun] and words[0]:
-            found.append(Line(at, len(found) + 1, words[:begun], " ".join(words[begun:])[1:].strip()))
-    return found
+class Script:
+    """The events of a script: of each its text, with single blanks, the number of its line, and its comment where it has one."""
+
+    def __init__(self, text):
+        self.events, self.numbers, self.comments, self.known = [], array.array("l"), {}, {}
+        for number, line in enumerate(text.split("\n"), 1):
+            self.take(number, line[:-1] if line.endswith("\r") else line)
+
+    def take(self, number, line):
+        """Keeps a line, if it is an event."""
+        found = COMMENT.search(line) if "#" in line else None
+        text = line[:found.start()] if found else line
+        if "\t" in text or "  " in text or text[:1] == " " or text[-1:] == " ":
+            text = " ".join(re.split(r"[ \t]+", text.strip(" \t")))
+        if text:
+            if found:
+                self.comments[len(self.events)] = line[found.end():].strip()
+            self.events.append(self.known.setdefault(text, text) if len(text) < SHORT else text)
+            self.numbers.append(number)
+
+    def words(self, at):
+        return self.events[at].split(" ")
+
+    def named(self, at):
+        """An event with the number of its line."""
+        return f"line {self.numbers[at]}: {shortened(self.events[at])}"
+
+
+def shortened(text, most=60):
+    """A text of which the end is left out where it is long."""
+    return text if len(text) <= most else text[:most] + ".."
 
 
 def settled(text):
@@ -62,94 +88,25 @@ def keys_of(text):
     return {f"{table}.{key}": str(value) for table, keys in tables.items() if isinstance(keys, dict) for key, value in keys.items()}
 
 
+def has_entries(text, name):
+    """Whether a configuration's text has an array of tables, as `eq`."""
+    return bool(re.search(rf"(?m)^\s*(\[\[\s*{name}\s*\]\]|{name}\s*=)", text))
+
+
+def count_of(keys, key, usual):
+    """The number that a configuration gives a key. Where it is none the program tells so."""
+    try:
+        return int(keys.get(key, usual), 0)
+    except ValueError:
+        return int(usual)
+
+
 def device_of(text):
     """The device of a configuration's text."""
     keys = keys_of(text)
-    count = {name: int(keys.get(f"device.{name}", usual), 0) for name, usual in USUAL.items()}
-    ring = count["hw_block"] * count["hw_blocks"]
-    return Device(keys.get("device.format", "s16le"), count["channels"], count["rate"], ring, count["hw_block"])
-
-
-def spans_of(lines, device):
-    """The interrupts: each with its line, and the frames of OUT from the first that it hands over to the one behind the last."""
-    at = 0
-    for line in lines:
-        if line.words[0] == "intr":
-            count = int(line.words[1], 0) if len(line.words) > 1 else device.block
-            yield line, at, at + count
-            at += count
-
-
-WIDTH = {**WIDTHS, **{f"{sign}{bits}{order}": bits // 8 for sign in "su" for bits in (8, 16, 24, 32) for order in ("", "le", "be")}}
-
-
-CODES = {0x40: "s8", 8: "u8", 0x10: "s16le", 0x20: "s16be", 0x80: "u16le", 0x100: "u16be", 0x10000: "s24le", 0x20000: "s24be",
-         0x40000: "u24le", 0x80000: "u24be", 0x1000: "s32le", 0x2000: "s32be", 0x4000: "u32le", 0x8000: "u32be"}
-
-
-def size_of(device):
-    """The bytes of a frame."""
-    return WIDTH[device.format] * device.channels
-
-
-def samples_of(body, device):
-    """The samples of whole frames, frame by frame."""
-    width, big, signed = WIDTH[device.format], device.format.endswith("be"), device.format.startswith("s")
-    half = 0 if signed else 1 << (8 * width - 1)
-    values = [int.from_bytes(body[at:at + width], "big" if big else "little", signed=signed) - half for at in range(0, len(body), width)]
-    return [tuple(values[at:at + device.channels]) for at in range(0, len(values) - device.channels + 1, device.channels)]
-
-
-def body_of(tool, path, device):
-    """The body of OUT, and the device with the settings that its header has where it is a wave."""
-    with open(path, "rb") as file:
-        data = file.read()
-    if data[:4] == b"RIFF" and data[8:12] == b"WAVE" and number(data, 4, 4) >= len(data) - 8 - 1:
-        wave = wave_of(tool, path)
-        return data[wave.at:wave.at + wave.size], device._replace(format=wave.format, channels=wave.channels, rate=wave.rate)
-    return data, device
-
-
-def text_of(path):
-    """The text of a file, or none where none is named."""
-    return pathlib.Path(path).read_text() if path else ""
-
-
-def run(tool, program, text, config):
-    """Runs a script's text. Answers its replies by the numbers of their events, and the body of OUT."""
-    with tempfile.TemporaryDirectory() as room:
-        folder = pathlib.Path(room)
-        (folder / "script").write_text(text)
-        status, replies, errors = call(program, "run", folder / "script", folder / "out", *([config] if config else []))
-        if status:
-            fail(tool, f"the program ended with {status}: {replies.strip() or errors.strip()}")
-        answers = {int(number): answer for number, answer in (line.split(": ", 1) for line in replies.splitlines())}
-        return answers, body_of(tool, folder / "out", device_of(text_of(config)))[0]
-
-
-def slots_of(lines, replies):
-    """The slots of clients that are heard, each with the first line that opened it."""
-    opened = ((line, replies.get(line.event, "")) for line in lines if line.words[0] == "open" and line.words[2:3] != ["rec"])
-    slots = {}
-    for line, reply in opened:
-        if reply.startswith("ok "):
-            slots.setdefault(int(reply.split()[1]), line)
-    return dict(sorted(slots.items()))
-
-
-def silenced(text, slots):
-    """A script in which slots are muted from the start on, whatever its own lines say of that. Each line has a greater number by
-    as many as are muted, and each event too."""
-    def is_kept(line):
-        words = line.split()
-        return not (words[:2] == ["mixer", "mute"] and len(words) > 2 and words[2].isdigit() and int(words[2]) in slots)
-
-    return "\n".join([*(f"mixer mute {slot} 1" for slot in slots), *(line if is_kept(line) else "" for line in text.split("\n"))])
-
-
-def plain(text):
-    """A script whose master stays at one."""
-    return "\n".join("" if line.split()[:2] == ["mixer", "master"] and len(line.split()) > 2 else line for line in text.split("\n"))
+    count = {name: count_of(keys, f"device.{name}", usual) for name, usual in USUAL.items()}
+    form, ring = keys.get("device.format", "s16le"), count["hw_block"] * count["hw_blocks"]
+    return Device(form if form in WIDTH else "s16le", count["channels"], count["rate"], ring, count["hw_block"])
 
 
 def value_of(word):
@@ -160,11 +117,6 @@ def value_of(word):
 def parts_of(count, most):
     """A number in parts of at most so much."""
     return [min(count - at, most) for at in range(0, count, most)]
-
-
-def handed_over(lines, replies):
-    """The interrupts, each as the number of its event and the frames that it hands over."""
-    return [(line.event, int(replies[line.event].split()[1])) for line in lines if line.words[0] == "intr"]
 
 
 def with_a_gauge(counts, rate, device_rate):
@@ -184,74 +136,154 @@ def with_a_gauge(counts, rate, device_rate):
 
 def rates_of(text):
     """The rate and the channels of the mix that a configuration tells, by these names."""
-    return {key[7:]: int(value, 0) for key, value in keys_of(text).items() if key in ("vchans.rate", "vchans.channels")}
+    keys = keys_of(text)
+    return {key[7:]: count_of(keys, key, "0") for key in keys if key in ("vchans.rate", "vchans.channels")}
 
 
-def on_the_mix(tool, text):
+UNREADABLE = "the configuration is written in a form that is not understood: lines of a key and its value below the name of their table are"
+
+
+def with_device(text, settings, gone=()):
+    """The text of a configuration whose device has other settings, by their keys, and without some keys."""
+    gone = {*gone, "device.capture", *(f"device.{key}" for key in settings)}
+    kept = [(line, key) for line, key, _ in settled(text) if key not in gone]
+    head = next((k for k, (line, _) in enumerate(kept) if re.match(r"\s*\[\s*device\s*\]", line)), None)
+    at = 0 if head is None else head + 1
+    rows = [f"{'device.' if head is None else ''}{key} = {value}" for key, value in settings.items()]
+    found = "".join(line + "\n" for line in [*(line for line, _ in kept[:at]), *rows, *(line for line, _ in kept[at:])])
+    if set(gone) & set(keys_of(found)) - {f"device.{key}" for key in settings}:
+        fail(UNREADABLE)
+    if any(keys_of(found).get(f"device.{key}") != str(value).strip('"') for key, value in settings.items()):
+        fail(UNREADABLE)
+    return found
+
+
+def on_the_mix(text):
     """The text of a configuration whose device has the rate and the channels of the mix of another one, a ring that lasts as long,
     and captures nothing."""
     device = device_of(text)
     mix = {"rate": device.rate, "channels": device.channels, **rates_of(text)}
     mix["hw_block"] = min(max(device.block * mix["rate"] // device.rate, 1), 4096)
-    gone = {"vchans.rate", "vchans.channels", "device.capture", *(f"device.{key}" for key in mix)}
-    kept = [(line, key) for line, key, _ in settled(text) if key not in gone]
-    if any(re.match(r"\s*\[\s*device\s*\]", line) for line, _ in kept):
-        at = next(k for k, (line, _) in enumerate(kept) if re.match(r"\s*\[\s*device\s*\]", line)) + 1
-        rows = [f"{key} = {value}" for key, value in mix.items()]
-    else:
-        at, rows = 0, [f"device.{key} = {value}" for key, value in mix.items()]
-    found = "".join(line + "\n" for line in [*(line for line, _ in kept[:at]), *rows, *(line for line, _ in kept[at:])])
-    if rates_of(found) or any(keys_of(found).get(f"device.{key}") != str(value) for key, value in mix.items()):
-        fail(tool, "the configuration is written in a form that is not understood: lines of a key and its value below the name of their table are")
-    return found
+    return with_device(text, mix, ("vchans.rate", "vchans.channels"))
 
 
-def openings_of(lines, replies):
-    """Every opening of a script, in the order of their lines."""
+class Room:
+    """A folder in which the program runs scripts over one configuration, until it is left."""
+
+    def __init__(self, program, config=""):
+        self.program, self.config, self.device = program, config, device_of(config)
+        self.folder, self.count = tempfile.TemporaryDirectory(), 0
+
+    def run(self, events, config=None, size=0, does="the program runs"):
+        """Runs a script of these events. Answers its replies in their order, and the frames of OUT."""
+        config = self.config if config is None else config
+        self.count += 1
+        script, out, toml = (pathlib.Path(self.folder.name) / f"{self.count}.{end}" for end in ("script", "out", "toml"))
+        write_lines(script, events)
+        toml.write_text(config, "utf-8", "surrogateescape")
+        told = call(self.program, "run", script, out, *([toml] if config else []), out=out, size=size, does=does)
+        judge(*told)
+        os.remove(script)
+        known = {}
+        replies = [known.setdefault(it, it) for it in (line.partition(": ")[2] for line in told[1].splitlines())]
+        return replies, sound_of(out, device_of(config))
+
+    def forget(self, sound):
+        """Removes frames that nobody asks for any more."""
+        os.remove(sound.file.name)
+
+
+def write_lines(path, events):
+    with open(path, "w", encoding="utf-8", errors="surrogateescape", newline="\n") as file:
+        file.writelines(f"{it}\n" for it in events)
+
+
+class Played:
+    """A script that was run: its replies, what its interrupts hand over, and its openings; and the frames of OUT, behind which stands
+    what the device's ring holds at the end."""
+
+    def __init__(self, room, script):
+        self.room, self.script, self.device = room, script, room.device
+        self.turns = array.array("l", (at for at, text in enumerate(script.events) if text.startswith("intr") and text[4:5] in ("", " ")))
+        self.ends = array.array("q", itertools.accumulate(map(self.count, self.turns)))
+        self.total = self.ends[-1] if self.ends else 0
+        size = (self.total + self.device.ring) * size_of(self.device)
+        self.replies, self.out = room.run([*script.events, f"intr {self.device.ring}"], size=size)
+        if self.out.frames != self.total + self.device.ring:
+            fail(UNREADABLE)
+        self.openings, self.known = openings_of(script, self.replies), {}
+
+    def mixers(self):
+        """The events that ask something of the mixer device."""
+        return (at for at, text in enumerate(self.script.events) if text.startswith("mixer"))
+
+    def mixed(self):
+        """How many frames each interrupt mixes."""
+        if "mixed" not in self.known:
+            self.known["mixed"] = mixed_turns(self.room, map(self.count, self.turns))
+        return self.known["mixed"]
+
+    def count(self, at):
+        """How many frames an interrupt hands over."""
+        words = self.script.words(at)
+        return value_of(words[1]) if len(words) > 1 and re.fullmatch(r"0[xX][0-9a-fA-F]+|\d+", words[1]) else self.device.block
+
+    def handed(self, at):
+        """How many frames are handed over before an event."""
+        turn = bisect.bisect_left(self.turns, at)
+        return self.ends[turn - 1] if turn else 0
+
+    def turn_of(self, frame):
+        """Which interrupt hands a frame over, counted from 0, or None."""
+        return bisect.bisect_right(self.ends, frame) if 0 <= frame < self.total else None
+
+    def spans(self):
+        """The interrupts: the frames that each hands over, from the first to the one behind the last."""
+        return zip([0, *self.ends], self.ends)
+
+    def slots(self):
+        """The slots of clients that are heard, each with the first event that opened it."""
+        slots = {}
+        for it in self.openings:
+            if it.way != "rec":
+                slots.setdefault(it.slot, it.at)
+        return dict(sorted(slots.items()))
+
+
+def openings_of(script, replies):
+    """Every opening of a script, in the order of their events."""
     found, held = [], {}
-    for line in lines:
-        reply = replies.get(line.event, "")
-        if line.words[0] == "open" and reply.startswith("ok"):
-            held[value_of(line.words[1])] = len(found)
-            found.append(Opening(line, line.words[2], int(reply.split()[1]), value_of(line.words[1]), None))
-        elif line.words[0] == "close" and reply.startswith("ok"):
-            at = held.pop(value_of(line.words[1]))
-            found[at] = found[at]._replace(closed=line)
-    return found
+    for at, text in enumerate(script.events):
+        command, _, rest = text.partition(" ")
+        if command in ("intr", "mixer"):
+            continue
+        descriptor, reply = value_of(rest.partition(" ")[0]), replies[at]
+        if command == "open" and reply.startswith("ok"):
+            held[descriptor] = len(found)
+            way, slot = rest.split(" ")[1], int(reply.split(" ")[1])
+            found.append(Opening(at, None, way, slot, descriptor, array.array("l"), False))
+        if descriptor in held:
+            look_at(found, held[descriptor], at, rest, reply)
+        if command == "close":
+            held.pop(descriptor, None)
+    return [it._replace(closed=it.events[-1] if script.events[it.events[-1]].startswith("close") else None) for it in found]
 
 
-def is_of(line, opening):
-    """Whether a line is asked of an opening."""
-    last = opening.closed.event if opening.closed else float("inf")
-    numbered = line.words[0] not in ("intr", "mixer")
-    return numbered and opening.line.event <= line.event <= last and value_of(line.words[1]) == opening.descriptor
+def look_at(openings, which, at, rest, reply):
+    """Keeps an event of an opening."""
+    openings[which].events.append(at)
+    if " syncgroup " in f" {rest}" and reply.startswith("ok"):
+        openings[which] = openings[which]._replace(joins=True)
 
 
-def kept_open(lines, opening):
-    """A script's lines, each with its text, in which an opening has a descriptor that no other has, and where it plays a sync
-    stands in place of its close, so that it can still be asked while it drains."""
-    used = {value_of(line.words[1]) for line in lines if line.words[0] == "open"}
-    free = next((k for k in range(DESCRIPTORS) if k not in used), opening.descriptor)
-    for line in lines:
-        words = line.words
-        if is_of(line, opening):
-            words = [words[0], str(free), *words[2:]]
-            if line is opening.closed and opening.way == "play" and free != opening.descriptor:
-                words = ["ioctl", str(free), "sync"]
-        yield line, free, " ".join(words)
-
-
-def mixed_turns(tool, program, settings, handed):
+def mixed_turns(room, counts):
     """How many frames each interrupt mixes: as many as it hands over, or what it takes of a client at the rate of the mix."""
-    counts, rates = [count for _, count in handed], rates_of(settings)
-    if "rate" not in rates:
+    counts, rates = list(counts), rates_of(room.config)
+    if "rate" not in rates or not counts:
         return counts
-    with tempfile.TemporaryDirectory() as room:
-        config = pathlib.Path(room) / "gauge.toml"
-        config.write_text(settings)
-        replies, _ = run(tool, program, "\n".join(with_a_gauge(counts, rates["rate"], device_of(settings).rate)), config)
-    answers = list(replies.values())
-    if "underruns=0" not in answers[-1]:
-        fail(tool, "how many frames are mixed could not be told: a client at the rate of the mix was short")
-    taken = [int(answer.split()[1][6:]) for answer in answers if answer.startswith("ok bytes=")]
+    replies, sound = room.run(with_a_gauge(counts, rates["rate"], room.device.rate), does="the program tells what is mixed")
+    room.forget(sound)
+    if "underruns=0" not in replies[-1]:
+        fail("how many frames are mixed could not be told: a client at the rate of the mix was short")
+    taken = [int(answer.split()[1][6:]) for answer in replies if answer.startswith("ok bytes=")]
     return [after - before for before, after in zip([0, *taken], taken)]

@@ -1,160 +1,177 @@
 """What a picture shows of a script: what is mixed of each slot, and what each client is told, as the program says it."""
+import bisect
+import collections
 import pathlib
-import tempfile
 
-from calls import fail
-from clients import first_missing, moments_of
-from scripts import (device_of, handed_over, is_of, lines_of, mixed_turns, on_the_mix, openings_of, parts_of, plain, rates_of,
-                     run, samples_of, silenced, size_of, slots_of, text_of)
+from clients import Solo, first_missing
+from facts import clipped, clipped_rows
+from origins import files_of
+from scripts import Played, Room, Script, device_of, on_the_mix, parts_of, rates_of
+from sounds import Sound, size_of
+from sums import limits_of, solos_of
+
+# an opening with what it is told, the clients of its slot, and its place among these
+Client = collections.namedtuple("Client", "opening moments solo which")
+# so many interrupts that find a client short are looked at frame by frame; of more it is told from which to which they are
+CLOSELY = 400
 
 
-class Mix:
-    """What is mixed, frame by frame: in all, by each slot alone, and by the slots up to one. Where the mix has a rate or channels of its
-    own the script is run on a device that has them, too, whose interrupts are of as many frames as were mixed."""
+class Along:
+    """Which frames of a sound stand where on the axis of the device: rows of the first and the one behind the last on the axis, and the
+    same of the sound."""
 
-    def __init__(self, tool, program, text, config, slots, counts, known=None):
-        self.tool, self.program, self.text, self.slots, self.counts = tool, program, text, list(slots), counts
-        self.config, self.known = config, known or {}
-        settings = text_of(config)
-        self.settings = on_the_mix(tool, settings) if rates_of(settings) else ""
-        self.device = device_of(self.settings or settings)
+    def __init__(self, rows):
+        self.rows = [row for row in rows if row[1] > row[0]]
+        self.begins, self.firsts = [row[0] for row in self.rows], [row[2] for row in self.rows]
 
-    def frames(self, text):
-        """What is mixed in a script's text."""
-        if text not in self.known:
-            self.known[text] = self.ran(text)[self.device.ring:][:sum(self.counts)]
-        return self.known[text]
+    def frames(self, begin, end):
+        """The frames of the sound at some frames of the axis, from the first to the one behind the last, or None."""
+        first, last = max(bisect.bisect_right(self.begins, begin) - 1, 0), bisect.bisect_left(self.begins, end)
+        rows = [row for row in self.rows[first:last] if row[1] > begin and row[3] > row[2]] if last - first < 4 else self.rows[first:last]
+        if not rows or rows[-1][3] <= rows[0][2]:
+            return None
+        low, high = self.inside(rows[0], begin), self.inside(rows[-1], end, 1)
+        return low, max(high, low + 1)
 
-    def whole(self):
-        return self.frames(self.text)
+    def inside(self, row, at, up=0):
+        """The frame of the sound that stands at a frame of the axis, or the one behind it."""
+        begin, end, first, last = row
+        at = min(max(at, begin), end)
+        scaled = (at - begin) * (last - first)
+        return first - (-scaled // (end - begin) if up else -(scaled // (end - begin)))
 
-    def without(self, slots):
-        """What is mixed where some slots are muted, and the master is left at one."""
-        return self.frames(silenced(plain(self.text), slots))
-
-    def given(self, slot):
-        """What a slot gives."""
-        return self.without([it for it in self.slots if it != slot])
-
-    def limited_by(self, slot):
-        """The frames at which the sum of the slots before one and what that gives isn't the sum of those up to it."""
-        before, after = (self.without([it for it in self.slots if it >= slot + more]) for more in (0, 1))
-        triples = enumerate(zip(before, self.given(slot), after))
-        return [at for at, frames in triples if any(a + b != c for a, b, c in zip(*frames))]
-
-    def ran(self, text):
-        rows, config = [*self.cut(text), f"intr {self.device.ring}"], self.config
-        with tempfile.TemporaryDirectory() as room:
-            if self.settings:
-                config = pathlib.Path(room) / "mix.toml"
-                config.write_text(self.settings)
-            return samples_of(run(self.tool, self.program, "\n".join(rows), config)[1], self.device)
-
-    def cut(self, text):
-        """The lines of a script, with interrupts of as many frames as are mixed."""
-        counts = iter(self.counts)
-        for line in lines_of(text):
-            if line.words[0] == "intr":
-                yield from (f"intr {part}" for part in parts_of(next(counts), self.device.ring))
-            else:
-                yield " ".join(line.words)
+    def place(self, frame):
+        """Where a frame of the sound stands on the axis."""
+        for begin, end, first, last in self.rows[max(bisect.bisect_right(self.firsts, frame) - 1, 0):]:
+            if first <= frame < last:
+                return begin + (frame - first) * (end - begin) // (last - first)
+        return self.rows[-1][1] if self.rows else 0
 
 
 class Shown:
     """A script with all that the program says of it."""
 
-    def __init__(self, program, script, config):
-        self.program, self.config, self.text, settings = program, config, text_of(script), text_of(config)
-        self.device, self.lines = device_of(settings), lines_of(self.text)
-        self.replies, body = run("picture", program, f"{self.text}\nintr {self.device.ring}", config)
-        self.handed = handed_over(self.lines, self.replies)
-        self.total, self.out = sum(count for _, count in self.handed), samples_of(body, self.device)
-        if len(self.out) != self.total + self.device.ring:
-            fail("picture", "the configuration is written in a form that is not understood: lines of a key and its value below the name of their table are")
-        self.slots = slots_of(self.lines, self.replies)
-        openings = openings_of(self.lines, self.replies)
-        self.openings = [(it, moments_of("picture", program, config, self.lines, self.replies, it)) for it in openings]
-        self.mixed = mixed_turns("picture", program, settings, self.handed)
-        self.own = bool(rates_of(settings))
-        known = {} if self.own else {self.text: self.out[self.device.ring:]}
-        self.mix = Mix("picture", program, self.text, config, self.slots, self.mixed, known)
-        self.limited = sorted({at for slot in list(self.slots)[1:] for at in self.mix.limited_by(slot)})
+    def __init__(self, program, text, config):
+        self.played = Played(Room(program, config), Script(text))
+        self.device, self.total, self.out = self.played.device, self.played.total, self.played.out
+        self.own, self.config = bool(rates_of(config)), config
+        self.solos, self.given, self.clients = solos_of(self.played), {}, []
+        for slot, solo in self.solos.items():
+            moments, sound = solo.moments_and_sound()
+            self.given[slot] = solo.given() if self.own else sound.from_frame(self.device.ring)
+            self.clients += [Client(*it, solo, which) for which, it in enumerate(zip(solo.openings, moments))]
+        self.clients += self.recorders()
+        self.clients.sort(key=lambda it: it.opening.at)
+        self.mix = self.mixed() if self.own else self.out.from_frame(self.device.ring)
+        self.along = Along(self.segments())
+        self.limited = limits_of(self.given, sum(self.played.mixed()) if self.own else self.total).rows
+        self.clipped = {slot: clipped_rows(clipped(it), 0, self.total) for slot, it in self.solos.items()}
+
+    def slots(self):
+        """The slots that are heard."""
+        return list(self.solos)
+
+    def recorders(self):
+        """Those that record."""
+        slots = sorted({it.slot for it in self.played.openings if it.way == "rec"})
+        for slot in slots:
+            solo = Solo(self.played, [it for it in self.played.openings if it.way == "rec" and it.slot == slot])
+            for which, it in enumerate(zip(solo.openings, solo.moments_and_sound()[0])):
+                yield Client(*it, solo, which)
 
     def of_slot(self, slot):
         """The openings that have a slot one after another, with what they are told."""
-        return [(it, moments) for it, moments in self.openings if it.slot == slot and it.way != "rec"]
+        return [it for it in self.clients if it.opening.slot == slot and it.opening.way != "rec"]
 
-    def spans(self):
-        """The interrupts: the frames of the device that each hands over, from the first to the one behind the last."""
-        at = 0
-        for event, count in self.handed:
-            yield event, at, at + count
-            at += count
+    def mixed(self):
+        """What is mixed, where that has a rate or channels of its own: by a device that has them, too."""
+        settings, counts = on_the_mix(self.config), iter(self.played.mixed())
+        device, lines = device_of(settings), []
+        for text in self.played.script.events:
+            lines += [f"intr {it}" for it in parts_of(next(counts), device.ring)] if text.startswith("intr") else [text]
+        _, sound = self.played.room.run([*lines, f"intr {device.ring}"], settings)
+        return sound.from_frame(device.ring)
 
     def segments(self):
         """At which frames of the device the frames of the mix stand."""
-        at = 0
-        for (_, begin, end), count in zip(self.spans(), self.mixed):
-            yield begin, end, at, at + count
+        if not self.own:
+            return [(0, self.total, 0, self.total)]
+        rows, at = [], 0
+        for (begin, end), count in zip(self.played.spans(), self.played.mixed()):
+            rows.append((begin, end, at, at + count))
             at += count
+        return rows
 
-    def place(self, frame):
-        """Where a frame of the mix stands."""
-        spans = ((begin, end, first, last) for begin, end, first, last in self.segments() if first <= frame < last)
-        begin, end, first, last = next(spans, (self.total, self.total, 0, 1))
-        return begin + (frame - first) * (end - begin) // (last - first)
+    def label(self, slot):
+        """The waves that a slot sends, or what stands behind its opens as a comment."""
+        files, names, script = files_of(self.config), [], self.played.script
+        for it in self.of_slot(slot):
+            sent = [script.words(at)[2] for at in it.opening.events if script.events[at].startswith("send ")]
+            comment = script.comments.get(it.opening.at, "")
+            told = [] if comment.lower().startswith(("ok", "refused")) or not comment else [comment]
+            names += [pathlib.Path(files.get(name, name)).name for name in dict.fromkeys(sent)] or told
+        return list(dict.fromkeys(names))
+
+
+def halts_of(script, replies, opening):
+    """The events that end what a recording kept."""
+    for at in opening.events:
+        words = script.words(at)
+        if replies[at].startswith("ok") and (words[2:3] == ["halt"] or words[2:3] == ["settrigger"] and int(words[3], 0) in (0, 2)):
+            yield at
 
 
 class Recording:
-    """What a recording kept: the frames that its reads got, at which frames of the device they came, and what was lost."""
+    """What a recording kept, run by run: the frames that its reads got, at which frames of the device they came, and what was lost."""
 
-    def __init__(self, shown, moments):
-        self.spans, self.lost, self.frames, self.body, self.begun = [], [], [], b"", 0
-        self.settle(moments[0])
-        for before, moment in zip(moments, moments[1:]):
-            if moment.passed < before.passed:
-                self.end_run()
-            self.settle(moment)
-            if moment.line.words[0] == "intr":
-                self.interrupt(before, moment)
-            elif moment.line.words[0] == "read":
-                words = shown.replies[moment.line.event].split()
-                self.body += bytes.fromhex(words[2]) if words[0] == "ok" and words[2] != "-" else b""
-        self.end_run()
+    def __init__(self, shown, client):
+        self.shown, self.client, self.moments = shown, client, client.moments
+        script, replies = shown.played.script, shown.played.replies
+        self.halts = list(halts_of(script, replies, client.opening))
+        self.lost, self.rows, self.bodies = [], collections.defaultdict(list), collections.defaultdict(bytearray)
+        for at in client.opening.events:
+            words = replies[at].split(" ")
+            if script.events[at].startswith("read ") and words[0] == "ok" and words[2] != "-":
+                self.bodies[self.run_at(at)] += bytes.fromhex(words[2])
+        for before, moment in zip(self.moments, self.moments[1:]):
+            self.take(before, moment)
 
-    def settle(self, moment):
-        """Takes the settings that the recording is told."""
-        self.device, self.size = moment.settings, size_of(moment.settings)
+    def run_at(self, event):
+        return bisect.bisect_right(self.halts, event)
 
-    def end_run(self):
-        """Keeps the frames that were read since the start."""
-        self.frames += samples_of(self.body, self.device)
-        self.body, self.begun = b"", len(self.frames)
-
-    def interrupt(self, before, moment):
-        """What came of an interrupt."""
-        first, last = (self.begun + it.passed // self.size for it in (before, moment))
+    def take(self, before, moment):
+        """Keeps where the frames came from one moment to the next. Those that were lost are the last ones."""
+        size = size_of(moment.settings)
+        first, last = ((0 if it is before and moment.passed < before.passed else it.passed) // size for it in (before, moment))
+        end = moment.at
         if moment.missed:
-            self.lost.append((before.at, moment.at))
-        if last > first:
-            self.spans.append((before.at, moment.at, first, last))
+            end = min(end, before.at - -(last - first) * self.shown.device.rate // moment.settings.rate)
+            self.lost.append((end, moment.at))
+        if last > first and end > before.at:
+            self.rows[self.run_at(moment.event)].append((before.at, end, first, last))
 
-    def read(self):
-        """Where the frames came that were read."""
-        return [(begin, end, first, min(last, len(self.frames))) for begin, end, first, last in self.spans if first < len(self.frames)]
+    def runs(self):
+        """The frames of each run, and where they stand: as far as they were read."""
+        for run, rows in sorted(self.rows.items()):
+            settings = next(it.settings for it in self.moments if self.run_at(it.event) == run and not it.setup)
+            path = pathlib.Path(self.shown.played.room.folder.name) / f"kept-{id(self)}-{run}"
+            path.write_bytes(self.bodies[run])
+            sound = Sound(path, settings)
+            yield sound, Along([(begin, end, first, min(last, sound.frames)) for begin, end, first, last in rows if first < sound.frames])
 
 
-def states_of(opening, moments):
+def states_of(shown, client):
     """What a channel does from one moment to the next: its word, and the frames of the device."""
-    closing = False
-    for moment, following in zip(moments, moments[1:]):
-        ends = moment.line is opening.closed or is_of(moment.line, opening) and moment.line.words[2:3] == ["sync"]
+    opening, script, closing = client.opening, shown.played.script, False
+    own = set(opening.events)
+    for moment, following in zip(client.moments, client.moments[1:]):
+        ends = moment.event == opening.closed or moment.event in own and script.words(moment.event)[2:3] == ["sync"]
         closing = not moment.setup and (closing or ends)
         if not moment.setup and following.at > moment.at:
             yield "waits" if not moment.started else "drains" if closing else "plays", moment.at, following.at
 
 
-def joined(states):
+def joined_states(states):
     """States that follow one another and are one word, as one."""
     found = []
     for word, begin, end in states:
@@ -164,58 +181,56 @@ def joined(states):
     return found
 
 
-def drops_of(opening, moments):
+def drops_of(shown, client):
     """Where bytes that waited are gone by a line of the client: the frame of the device, and how many."""
-    for before, moment in zip(moments, moments[1:]):
-        if moment.line.words[0] in ("ioctl", "close") and moment.waiting < before.waiting:
+    for before, moment in zip(client.moments, client.moments[1:]):
+        is_line = shown.played.script.events[moment.event].startswith(("ioctl", "close"))
+        if is_line and moment.at == before.at and moment.waiting < before.waiting:
             yield moment.at, before.waiting - moment.waiting
-    if opening.closed and opening.way == "rec" and moments[-1].waiting:
-        yield moments[-1].at, moments[-1].waiting
+    if client.opening.closed is not None and client.opening.way == "rec" and client.moments[-1].waiting:
+        yield client.moments[-1].at, client.moments[-1].waiting
 
 
-def shortages_of(shown, opening, moments):
+def shortages_of(shown, client):
     """The frames of the device from which on an opening is missed, to the end of each interrupt that finds it short."""
-    short = {it.line.event for it in moments if it.missed and it.line.words[0] == "intr"}
-    if opening.way != "play" or not short:
+    if client.opening.way != "play":
         return
-    found = first_missing("picture", shown.program, shown.config, shown.lines, shown.replies, opening, short)
-    for event, begin, end in shown.spans():
-        if event in found:
-            yield begin + found[event], end
+    events, found = shown.played.script.events, {}
+    pairs = [(a, b) for a, b in zip(client.moments, client.moments[1:]) if b.missed and events[b.event].startswith("intr")]
+    short = [b.event for a, b in pairs if a.at == shown.played.handed(b.event)]
+    if 0 < len(short) <= CLOSELY:
+        found = first_missing(client.solo, client.which, short)
+    for before, moment in pairs:
+        yield before.at + found.get(moment.event, 0), moment.at
 
 
-def pokes_of(shown, opening):
+def pokes_of(shown, client):
     """Where an area is poked: the frame of the device, and how many bytes."""
-    begins, at = {event: end for event, _, end in shown.spans()}, 0
-    for line in shown.lines:
-        at = begins.get(line.event, at)
-        if line.words[0] == "poke" and is_of(line, opening) and shown.replies[line.event] == "ok":
-            yield at, len(line.words[3].strip("-")) // 2
+    played = shown.played
+    for at in client.opening.events:
+        words = played.script.words(at)
+        if words[0] == "poke" and played.replies[at] == "ok":
+            yield played.handed(at), len(words[3].strip("-")) // 2
+
+
+def mixers_of(shown, slot):
+    """Where the mixer device is set: the frame of the device, and the line; of a slot, or of the master where that is None."""
+    played = shown.played
+    for at in played.mixers():
+        words = played.script.words(at)
+        is_set = len(words) > (2 if words[1] == "master" else 3) and played.replies[at].startswith("ok")
+        whose = None if words[1] == "master" else int(words[2], 0) if len(words) > 2 else None
+        if is_set and whose == slot and (words[1] == "master") == (slot is None):
+            yield played.handed(at), played.script.named(at)
 
 
 def starts_of(shown):
-    """The frame and the number of each group that starts, with the places of the openings that it starts."""
-    for line in shown.lines:
-        if line.words[2:3] == ["syncstart"] and shown.replies[line.event].startswith("ok"):
-            members, frame = [], 0
-            for at, (_, moments) in enumerate(shown.openings):
-                pairs = [(a, b) for a, b in zip(moments, moments[1:]) if b.line.event == line.event]
-                members += [at for a, b in pairs if b.started and not a.started]
-                frame = next((b.at for _, b in pairs), frame)
-            yield frame, line.words[3], members
-
-
-def rows_of(numbers):
-    """Numbers that follow one another, as the first and the one behind the last of each row of them."""
-    begin = None
-    for at, number in enumerate(numbers):
-        begin = number if begin is None else begin
-        if at + 1 == len(numbers) or numbers[at + 1] != number + 1:
-            yield begin, number + 1
-            begin = None
-
-
-def peak_of(rows):
-    """The least power of two that no sample passes."""
-    most = max((abs(sample) for row in rows for frame in row for sample in frame), default=1)
-    return 1 << max(most - 1, 0).bit_length()
+    """The frame and the number of each group that starts, with the places of the clients that it starts."""
+    played = shown.played
+    for at, text in enumerate(played.script.events):
+        if " syncstart " in text and played.replies[at].startswith("ok"):
+            members, frame = [], played.handed(at)
+            for place, client in enumerate(shown.clients):
+                pairs = [(a, b) for a, b in zip(client.moments, client.moments[1:]) if b.event == at]
+                members += [place for a, b in pairs if b.started and not a.started]
+            yield frame, text.split(" ")[3], members

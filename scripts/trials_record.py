@@ -1,0 +1,96 @@
+"""Trials of tools/record: players, a game and recorders, as scripts."""
+import itertools
+import sys
+
+from trials_shared import FORMATS, LAYOUTS, RING, TOOLS, Device, ask, equal, noise, samples_of, tool, wave_of
+
+# a player: it asks for the settings of a wave, and writes its body as a whole
+PLAYER = """import fcntl, os, struct, sys
+sys.path.insert(0, sys.argv[1])
+from calls import wave_of
+wave = wave_of(sys.argv[2])
+fd = os.open("/dev/dsp", os.O_WRONLY)
+codes = {"u8": 8, "s16le": 0x10, "s24le": 0x10000, "s32le": 0x1000}
+for request, value in ((0xC0045005, codes[wave.format]), (0xC0045006, wave.channels), (0xC0045002, wave.rate)):
+    assert struct.unpack("i", fcntl.ioctl(fd, request, struct.pack("i", value)))[0] == value
+with open(sys.argv[2], "rb") as file:
+    body = file.read()[wave.at:wave.at + wave.size]
+assert os.write(fd, body) == len(body)
+os.close(fd)
+"""
+
+
+# a game: it maps the buffer, starts it with half of it filled, and fills the halves while the other one is taken, until all was taken once
+GAME = """import fcntl, mmap, os, struct
+fd = os.open("/dev/dsp", os.O_RDWR)
+for request, value in ((0xC0045005, 0x10), (0xC0045006, 2), (0xC0045002, 48000)):
+    assert struct.unpack("i", fcntl.ioctl(fd, request, struct.pack("i", value)))[0] == value
+_, total, size, _ = struct.unpack("iiii", fcntl.ioctl(fd, 0x8010500C, bytes(16)))
+area, half = mmap.mmap(fd, total * size, mmap.MAP_SHARED, mmap.PROT_WRITE | mmap.PROT_READ), total * size // 2
+frames = lambda begin: b"".join(struct.pack("<hh", begin + k, -begin - k) for k in range(half // 4))
+area[:half] = frames(1)
+fcntl.ioctl(fd, 0x40045010, struct.pack("i", 2))
+area[half:] = frames(5001)
+passed = 0
+while passed < total * size:
+    before, (passed, blocks, at) = passed, struct.unpack("iii", fcntl.ioctl(fd, 0x800C5012, bytes(12)))
+    assert at == passed % (total * size)
+    if before < half <= passed:
+        area[:half] = frames(10001)
+fcntl.ioctl(fd, 0x40045010, struct.pack("i", 0))
+area.close()
+os.close(fd)
+"""
+# a recorder: it asks for settings, and reads until it has so many bytes
+RECORDER = """import fcntl, os, struct, sys
+fd = os.open("/dev/dsp", os.O_RDONLY)
+code, channels, rate, count = map(int, sys.argv[1:])
+for request, value in ((0xC0045005, code), (0xC0045006, channels), (0xC0045002, rate)):
+    assert struct.unpack("i", fcntl.ioctl(fd, request, struct.pack("i", value)))[0] == value
+while count > 0:
+    count -= len(os.read(fd, min(count, 3000)))
+os.close(fd)
+"""
+
+
+def try_record_others(program, folder):
+    """A buffer that is mapped is heard as it stood when it was taken, and the reads of a recorder get all that they ask for."""
+    (folder / "game").write_text(GAME)
+    words = ["--out", folder / "mapped", "--", sys.executable, folder / "game"]
+    equal("record a game", tool("record", *words), (0, "record: a buffer is mapped: mapped runs with mapped.toml\n"))
+    replies = ask(program, "run", folder / "mapped", folder / "heard", folder / "mapped.toml").splitlines()
+    # getospace is nothing that is asked of a mapped channel
+    equal("a game's replies", [line for line in replies if ": ok" not in line], ["5: refused inval"])
+    # the ring of 16384 bytes has 4096 frames; the interrupt behind the last place takes 256 more
+    wanted = [begin + k for begin, count in ((1, 2048), (5001, 2048), (10001, 256)) for k in range(count)]
+    heard = samples_of((folder / "heard").read_bytes(), Device("s16le", 2, 48000, 0, 0))[RING:]
+    equal("a game is heard", heard[:len(wanted)] == [(it, -it) for it in wanted], True)
+    equal("no more of a game is heard", any(map(any, heard[len(wanted):])), False)
+    (folder / "recorder").write_text(RECORDER)
+    for code, channels, rate in ((8, 1, 8000), (0x10, 2, 44100), (0x10000, 6, 96000), (0x2000, 8, 48000)):
+        words = ["--out", folder / "recorded", "--", sys.executable, folder / "recorder", code, channels, rate, 9000]
+        equal(f"record a recorder at {rate}", tool("record", *words), (0, ""))
+        replies = ask(program, "run", folder / "recorded", folder / "heard").splitlines()
+        equal(f"a recorder's replies at {rate}", [line for line in replies if ": ok" not in line], [])
+        reads = [line.split() for line in replies if len(line.split()) == 4]
+        equal(f"what a recorder gets at {rate}", [int(words[2]) for words in reads], [3000] * 3)
+
+
+def try_record(program, folder):
+    """What a player writes is heard as its wave is converted, with no answer but ok."""
+    (folder / "player").write_text(PLAYER)
+    rates = itertools.cycle((8000, 44100, 96000))
+    for form, channels in itertools.product(FORMATS.values(), LAYOUTS):
+        wave, script = noise(folder, form, channels, next(rates)), folder / "recorded"
+        words = ["--out", script, "--", sys.executable, folder / "player", TOOLS, wave]
+        equal(f"record {wave.name}", tool("record", *words), (0, ""))
+        replies = ask(program, "run", script, folder / "heard").splitlines()
+        equal(f"record {wave.name}", [line for line in replies if ": ok" not in line], [])
+        ask(program, "convert", wave, folder / "converted", 48000, "s16le", 2)
+        wanted, heard = wave_of(folder / "converted"), (folder / "heard").read_bytes()[RING * 4:]
+        body = (folder / "converted").read_bytes()[wanted.at:wanted.at + wanted.size]
+        equal(f"what {wave.name} is heard as", (heard[:len(body)] == body, any(heard[len(body):])), (True, False))
+    equal("no player", tool("record", "--out", folder / "none", "--", "true"), (1, "record: true ended with 0, and opened no /dev/dsp\n"))
+
+
+TRIALS = (try_record, try_record_others)
