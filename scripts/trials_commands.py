@@ -1,6 +1,5 @@
 """Trials of the tools as commands: words, faults, streams, ends, where the program is, and progress."""
 import os
-import pathlib
 import pty
 import select
 import shutil

@@ -2,7 +2,7 @@
 import itertools
 import subprocess
 
-from trials_shared import DEVICE_FORMATS, LAYOUTS, ROOT, TOOLS, ask, called, device, equal, tool
+from trials_shared import DEVICE_FORMATS, LAYOUTS, ROOT, ask, called, device, equal, tool
 
 SCRIPT = """# what is answered stands behind each line
 

@@ -1,7 +1,8 @@
 """Trials of tools/explain: sums, runs, lines and bytes, recordings, areas, groups, and clicks."""
 import struct
 
-from trials_shared import HALF, LOUD, ROOT, called, config_of, device_of, equal, put_wave, tool
+from trials_shared import HALF, LOUD, ROOT, called, config_of, equal, put_wave, tool
+from scripts import device_of
 
 # the sums of the second example, as its page works them out
 SUMS = """frame 1024 is 22767 22767

@@ -4,7 +4,8 @@ import itertools
 import math
 import os
 
-from trials_shared import FORMATS, LAYOUTS, RATES, TOOLS, WIDTHS, ask, called, equal, frames_of, noise, put_wave, tool
+from trials_shared import LAYOUTS, RATES, TOOLS, WIDTHS, ask, called, equal, frames_of, noise, put_wave, tool
+from calls import FORMATS
 
 FOLDS = "mix: {}: from {} to {} by lines, so tones above {} Hz fold down; --filter stops them\n"
 
@@ -46,7 +47,7 @@ def try_mix_together(program, folder):
         parts.append([(0, 0)] * start + frames_of(folder / "part.wav"))
     equal("the sum of three", frames_of(folder / "three.wav") == list(summed(parts)), True)
     # a sample is limited where a sum in the order of the slots is
-    count = sum(any(abs(it) > 32767 for it in sums) for at in range(len(parts[0])) for sums in partial(parts, at))
+    count = sum(any(abs(it) > 32767 for it in sums) for at in range(max(map(len, parts))) for sums in partial(parts, at))
     equal("limited samples", f"mix: {count} samples were limited: " in errors, True)
 
 

@@ -2,7 +2,8 @@
 import itertools
 import sys
 
-from trials_shared import FORMATS, LAYOUTS, RING, TOOLS, Device, ask, equal, noise, samples_of, tool, wave_of
+from trials_shared import LAYOUTS, TOOLS, Device, ask, equal, noise, samples_of, tool, wave_of
+from calls import FORMATS, RING
 
 # a player: it asks for the settings of a wave, and writes its body as a whole
 PLAYER = """import fcntl, os, struct, sys

@@ -11,8 +11,7 @@ TOOLS = pathlib.Path(os.environ.get("TOOLS", ROOT / "tools"))
 sys.path.insert(0, str(ROOT / "tools"))
 sys.dont_write_bytecode = True
 
-from calls import FORMATS, RING, WIDTHS, put_wave, wave_of  # noqa: E402
-from scripts import device_of  # noqa: E402
+from calls import WIDTHS, put_wave, wave_of  # noqa: E402
 from sounds import Device, samples_of  # noqa: E402
 
 LAYOUTS = (1, 2, 4, 6, 8)

@@ -106,7 +106,7 @@ class Clicks:
             rows = clipped_rows(sound, 0, self.of_mix(total))
             limited += [Click(self.of_device(begin), "is limited", max(map(abs, self.given[slot].frame(begin))), (slot, end - begin)) for begin, end in rows]
         quiet = list(silences(out, total))
-        taken = {it.at for it in (*quiet, *limited)}
+        taken = {it.at for it in quiet}
         every = [*quiet, *(it for it in jumps(out, total, most) if it.at not in taken), *(it for it in limited if it.at < total)]
         return sorted(every, key=lambda it: (-it.size, it.at))[:most]
 

@@ -283,8 +283,3 @@ def bounds(counts):
     """Where each of some counts begins and ends in their sum."""
     ends = list(itertools.accumulate(counts))
     return zip([0, *ends], ends)
-
-
-def runs_of(moments):
-    """The runs of an opening, each as its first moment: where it is in Setup no more."""
-    return [moment for before, moment in zip(moments, moments[1:]) if before.setup and not moment.setup]

@@ -15,7 +15,7 @@ except ImportError:  # before python 3.11
 
 from calls import call, judge
 from commands import fail
-from sounds import WIDTH, Device, Sound, size_of, sound_of
+from sounds import WIDTH, Device, size_of, sound_of
 
 # one opening of a channel: the events that opened it and closed it, or None, its way, slot and descriptor, the events that ask something
 # of it, these two with them, and whether it was in a group
