@@ -157,4 +157,23 @@ def try_progress(program, folder):
     equal("no terminal", called("explain", *words[1:])[2], "")
 
 
-TRIALS = (try_progress, try_faults, try_interrupt, try_words, try_streams, try_unbuilt, try_pipes)
+# what roff makes of signs that have a meaning there
+SIGNS = (("\\-", "-"), ("\\(aq", "'"), ("\\(ha", "^"), ("\\(ti", "~"), ("\\(ga", "`"), ("\\e", "\\"), ("\\&", ""), ("\\fB", ""), ("\\fI", ""), ("\\fR", ""))
+
+
+def try_man_page(program, folder):
+    """No line of the page that is set as it stands passes 80 columns with its margin of 11, and the heads of a table are no entry."""
+    ran = subprocess.run([ROOT / "scripts" / "man-page", "0.1.0", "2026-11-28"], stdout=subprocess.PIPE, universal_newlines=True, check=False)
+    wide, entries, is_set, before = [], [], False, ""
+    for line in ran.stdout.splitlines():
+        is_set = (is_set or line == ".EX") and line != ".EE"
+        plain = line
+        for sign, stands_for in SIGNS:
+            plain = plain.replace(sign, stands_for)
+        wide += [plain] * (is_set and len(plain) > 69)
+        entries += [line] * (before == ".TP" and line.startswith("\\fI"))
+        before = line
+    equal("the page for man", (ran.returncode, wide, entries), (0, [], []))
+
+
+TRIALS = (try_man_page, try_progress, try_faults, try_interrupt, try_words, try_streams, try_unbuilt, try_pipes)
