@@ -93,7 +93,9 @@ def try_interrupt(program, folder):
     config = ROOT / "examples" / "10-an-equaliser" / "an_equaliser.toml"
     (folder / "expects").write_text("intr 1 # ok 1\n")
     calls = (("mix", wave, folder / "x.wav"), ("picture", SHORT, "--out", folder / "x.svg"), ("explain", SHORT, 0), ("compare", "--expected", folder / "expects"), ("sweep", config))
-    ran = [subprocess.Popen([str(TOOLS / name), *map(str, words), "--program", waits], stdout=subprocess.PIPE, stderr=subprocess.PIPE, env={**os.environ, "TMPDIR": str(folder)}) for name, *words in calls]
+    how = {"stdout": subprocess.PIPE, "stderr": subprocess.PIPE, "env": {**os.environ, "TMPDIR": str(folder)},
+           "preexec_fn": lambda: signal.signal(signal.SIGINT, signal.SIG_DFL)}
+    ran = [subprocess.Popen([str(TOOLS / name), *map(str, words), "--program", waits], **how) for name, *words in calls]
     time.sleep(2)
     for it in ran:
         it.send_signal(signal.SIGINT)

@@ -3,6 +3,7 @@ import bisect
 import collections
 import operator
 
+from commands import told
 from facts import around, clipped, clipped_rows, cuts_at, is_clipped, turn_event
 from origins import Poked, Written, drops_all, named
 from scripts import value_of
@@ -20,7 +21,7 @@ READ, QUIET, SILENT = 1 << 14, 16, 32
 def jumps(out, total, most):
     """The jumps that stand out of the block around them, those that are among the greatest so far."""
     channels, least, sizes = out.device.channels, max(full_scale(out.device) // PART_OF, 1), []
-    for begin, end in out.parts(0, total, READ):
+    for begin, end in told(out.parts(0, total, READ), "jumps are looked for", total):
         samples = out.samples(begin - 1, end)
         steps = list(map(operator.sub, samples[channels:], samples))
         for at in range(0, len(steps), BLOCK * channels):

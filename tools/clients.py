@@ -4,7 +4,7 @@ import copy
 import heapq
 import itertools
 
-from scripts import device_of, keys_of, on_the_mix, parts_of, rates_of, value_of
+from scripts import EVENTS, count_of, device_of, keys_of, on_the_mix, parts_of, rates_of, value_of
 from sounds import Device, size_of
 
 CODES = {0x40: "s8", 8: "u8", 0x10: "s16le", 0x20: "s16be", 0x80: "u16le", 0x100: "u16be", 0x10000: "s24le", 0x20000: "s24be",
@@ -17,8 +17,11 @@ QUESTIONS = {"play": ("getospace", "getodelay", "getoptr"), "map": ("getoptr",),
 OF_ALL = ("geterror", "setfmt 0", "channels 0", "speed 0")
 # the descriptors that a script can have
 DESCRIPTORS = 64
-# up to so many places are asked at once; into so many columns the frames are cut to choose them; and so often it is looked closer
-MOST, COLUMNS, TIMES = 3000, 1000, 5
+# up to so many places are asked at once; into so many columns the frames are cut to choose them; and so often it is looked closer, where
+# something happens between so many of them at most
+MOST, COLUMNS, TIMES, SPANS = 3000, 1000, 5, 200
+# so many lines a place has at most, its questions and interrupts, where a script is full of events
+QUESTIONED = 11
 # in so many pieces an interrupt is cut at once
 PIECES = 32
 
@@ -64,7 +67,7 @@ class Solo:
 
     def new_slot(self):
         """The slot that the clients have where they are alone."""
-        return self.slot if self.is_whole or self.way == "rec" else int(keys_of(self.played.room.config).get("vchans.play", 4)) if self.way == "map" else 0
+        return self.slot if self.is_whole or self.way == "rec" else count_of(keys_of(self.played.room.config), "vchans.play", "4") if self.way == "map" else 0
 
     def mixer_line(self, words):
         """What the mixer is asked of the slot; the others stay muted, and the master is left at one."""
@@ -230,11 +233,12 @@ def until_gone(opening, moments):
 
 def thinned(played, script, every):
     """The places that are asked first: all, or of each column the last of the clients' own events, and the last interrupt."""
-    if len(every) <= MOST:
+    room = (EVENTS - len(script.events)) // QUESTIONED
+    if len(every) <= min(MOST, room):
         return set(every)
-    found = {}
+    found, columns = {}, min(COLUMNS, room // 3)
     for at in every:
-        column = played.handed(at) * COLUMNS // max(played.total, 1)
+        column = played.handed(at) * columns // max(played.total, 1)
         found[column, script.events[at].startswith("intr")] = at
     return {*found.values(), *every[:2]}
 
@@ -243,7 +247,7 @@ def closer(found, every, places):
     """The places between two at which something other is told, as many as can be asked at once."""
     spans = [(a.event, b.event) for moments in found for a, b in zip(moments, moments[1:]) if has_changed(a, b)]
     more, at = [], 0
-    for begin, end in spans:
+    for begin, end in spans if len(spans) <= SPANS else ():
         while at < len(every) and every[at] <= begin:
             at += 1
         while at < len(every) and every[at] < end:

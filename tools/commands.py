@@ -14,7 +14,7 @@ import time
 
 from places import PLACES, ROOT, built, tried
 
-INTERRUPTED, UNREAD, WRONG = 130, 141, 2
+UNREAD, WRONG = 141, 2
 # the words of a call: its options by their names, the other words, and both in their order, where those have no name
 Words = collections.namedtuple("Words", "options others both")
 
@@ -31,11 +31,14 @@ def fail(text):
     raise Fault(text)
 
 
-def stop(*_):
-    sys.exit(INTERRUPTED)
+def stop(number, _):
+    sys.exit(128 + number)
 
 
-signal.signal(signal.SIGINT, stop)
+# what ends a tool lets it clear up first, unless whoever called it wants that ignored
+for ends in (signal.SIGINT, signal.SIGTERM, signal.SIGHUP):
+    if signal.getsignal(ends) is not signal.SIG_IGN:
+        signal.signal(ends, stop)
 
 
 def name():
@@ -204,3 +207,12 @@ class Progress:
     def end(self):
         if self.told:
             print("\r\033[K", end="", file=sys.stderr, flush=True)
+
+
+def told(parts, what, total):
+    """Parts of a whole, each with where it begins and ends, while it is told how far they are."""
+    progress = Progress(what)
+    for begin, end in parts:
+        progress.at(begin, total)
+        yield begin, end
+    progress.end()

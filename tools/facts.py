@@ -1,8 +1,8 @@
 """What the clients are told around some frames, each of which is mixed and handed over by a cut of its interrupt."""
 import collections
 
-from scripts import device_of, has_entries, keys_of, on_the_mix, rates_of, with_device
-from sounds import joined
+from scripts import BYTES, count_of, device_of, has_entries, keys_of, on_the_mix, rates_of, with_device
+from sounds import joined, size_of
 
 # the least and the greatest sample of 32 bits, and how many frames are looked at in one go
 ENDS, CLOSE = (-(1 << 31), (1 << 31) - 1), 4096
@@ -58,12 +58,14 @@ def wide(config):
 
 def clipped(solo):
     """The frames of the mix with 32 bits, at full volume, in which a client's own stages limit a sample where it has the least or
-    the greatest number; or None where they can't."""
+    the greatest number; or None where they can't, or where that would be too long."""
     config = solo.played.room.config
-    if not may_limit(solo, config):
-        return None
     counts = solo.played.mixed() if rates_of(config) else None
-    return solo.at_full_volume().sound(wide(config), counts)
+    frames = sum(counts) if counts else solo.played.total
+    wanted = wide(config) if may_limit(solo, config) else config
+    if wanted == config or (frames + device_of(wanted).ring) * size_of(device_of(wanted)) > BYTES:
+        return None
+    return solo.at_full_volume().sound(wanted, counts)
 
 
 def is_clipped(sound, begin, end):
@@ -83,5 +85,5 @@ def clipped_rows(sound, begin, end):
 
 def lookahead(config):
     """How many frames behind the one under an output are used, without a filter; or None with one."""
-    quality = int(keys_of(config).get("vchans.quality", 1))
+    quality = count_of(keys_of(config), "vchans.quality", "1")
     return None if quality > 1 and has_entries(config, "tables") else min(quality, 1)

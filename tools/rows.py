@@ -1,4 +1,5 @@
 """The lanes of a picture's rows, and which stretches of its axis are left out."""
+from commands import told
 
 # what stands between rows
 GAP = 20
@@ -16,7 +17,8 @@ class Lanes:
 
 def bounds_of(lanes, axis):
     """The least and the greatest sample of each channel in each column, with 0 among them."""
-    return [[column_of(lanes, begin, min(end, lanes.end)) for begin, end in zip(columns, columns[1:])] for columns in axis.columns()]
+    pairs = [list(zip(columns, columns[1:])) for columns in axis.columns()]
+    return [[column_of(lanes, begin, min(end, lanes.end)) for begin, end in told(it, "sound is read", axis.end)] for it in pairs]
 
 
 def column_of(lanes, begin, end):

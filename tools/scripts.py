@@ -25,6 +25,8 @@ Opening = collections.namedtuple("Opening", "at closed way slot descriptor event
 GREATEST_RING = 0x20010
 FEW = 1024
 AHEAD = 34
+# the events of a script, and the bytes of its OUT, at most
+EVENTS, BYTES = 1 << 20, 1 << 28
 # texts up to so long are kept once, however often they come
 SHORT = 24
 # the numbers of a device whose configuration names none
@@ -200,7 +202,7 @@ def write_lines(path, events):
 
 class Played:
     """A script that was run: its replies, what its interrupts hand over, and its openings; and the frames of OUT, behind which stands
-    what the device's ring holds at the end."""
+    what the device's ring holds at the end, unless the script is as long as one can be."""
 
     def __init__(self, room, script):
         self.room, self.script, self.device = room, script, room.device
@@ -208,8 +210,9 @@ class Played:
         self.ends = array.array("q", itertools.accumulate(map(self.count, self.turns)))
         self.total = self.ends[-1] if self.ends else 0
         size = (self.total + self.device.ring) * size_of(self.device)
-        self.replies, self.out = room.run([*script.events, f"intr {self.device.ring}"], size=size)
-        if self.out.frames != self.total + self.device.ring:
+        more = self.device.ring if len(script.events) < EVENTS and size <= BYTES else 0
+        self.replies, self.out = room.run([*script.events, *[f"intr {more}"] * (more > 0)], size=size)
+        if self.out.frames != self.total + more:
             fail(UNREADABLE)
         self.openings, self.known = openings_of(script, self.replies), {}
 

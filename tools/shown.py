@@ -13,7 +13,7 @@ from sums import limits_of, solos_of
 # an opening with what it is told, the clients of its slot, and its place among these
 Client = collections.namedtuple("Client", "opening moments solo which")
 # so many interrupts that find a client short are looked at frame by frame; of more it is told from which to which they are
-CLOSELY = 400
+CLOSELY = 100
 
 
 class Along:

@@ -4,6 +4,7 @@ import itertools
 import operator
 
 from clients import Solo
+from commands import told
 from sounds import full_scale, joined
 
 # the samples that were limited, by their number; the rows of frames that have one; and how far the sum would go without a limit
@@ -48,8 +49,7 @@ def limits_of(given, frames):
     """Where the sum of what the slots give is limited, of so many frames."""
     sounds, count, rows, peak = list(given.values()), 0, [], 0
     full, channels = (full_scale(sounds[0].device), sounds[0].device.channels) if sounds else (1, 1)
-    for begin in range(0, frames if len(sounds) > 1 else 0, PART):
-        end = min(begin + PART, frames)
+    for begin, end in told(sounds[0].parts(0, frames, PART) if len(sounds) > 1 else (), "limits are looked for", frames):
         if may_pass(sounds, begin, end, full):
             found = list(limited_at(sounds, begin, end, full))
             samples = sorted(set(itertools.chain.from_iterable(places for _, places, _ in found)))
