@@ -116,7 +116,7 @@ def try_pipes(program, folder):
 
 def try_unbuilt(program, folder):
     """Tools without a program say so, and take what scripts/try keeps."""
-    shutil.copytree(ROOT / "tools", folder / "tools", ignore=shutil.ignore_patterns("__pycache__"))
+    shutil.copytree(TOOLS, folder / "tools", ignore=shutil.ignore_patterns("__pycache__"))
     words = [folder / "tools" / "explain", SHORT, "1024"]
     def run():
         ran = subprocess.run(words, stdout=subprocess.PIPE, stderr=subprocess.PIPE, universal_newlines=True, check=False)

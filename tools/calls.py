@@ -32,7 +32,8 @@ def call(program, *words, out=None, size=0, does="the program runs"):
         except BaseException:
             ran.kill()
             raise
-    progress.end()
+        finally:
+            progress.end()
     return (ran.returncode, *(it.decode("utf-8", "surrogateescape") for it in printed))
 
 

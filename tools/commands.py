@@ -212,7 +212,9 @@ class Progress:
 def told(parts, what, total):
     """Parts of a whole, each with where it begins and ends, while it is told how far they are."""
     progress = Progress(what)
-    for begin, end in parts:
-        progress.at(begin, total)
-        yield begin, end
-    progress.end()
+    try:
+        for begin, end in parts:
+            progress.at(begin, total)
+            yield begin, end
+    finally:
+        progress.end()
