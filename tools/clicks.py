@@ -12,34 +12,39 @@ from sums import given_by, limits_of, solos_of
 
 # a place: its frame, what happens there, how large that is, and, once it is known, why
 Click = collections.namedtuple("Click", "at does size why")
-# the frames among which one that jumps stands out, how many times their mean, and which part of full scale it is at least
-BLOCK, TIMES, PART_OF = 256, 8, 256
+# the frames among which one that jumps stands out, of which every so many are looked at for their mean, how many times that, and which part
+# of full scale it is at least
+BLOCK, EVERY, TIMES, PART_OF = 1024, 8, 8, 256
 # the frames that are looked at in one go; those of a block that is silent or isn't; and of a silence at least
 READ, QUIET, SILENT = 1 << 14, 16, 32
 
 
 def jumps(out, total, most):
     """The jumps that stand out of the block around them, those that are among the greatest so far."""
-    channels, least, sizes = out.device.channels, max(full_scale(out.device) // PART_OF, 1), []
-    for begin, end in told(out.parts(0, total, READ), "jumps are looked for", total):
+    least, sizes = max(full_scale(out.device) // PART_OF, 1), []
+    for begin, end in told(out.parts(0, total, BLOCK), "jumps are looked for", total):
         samples = out.samples(begin - 1, end)
-        steps = list(map(operator.sub, samples[channels:], samples))
-        for at in range(0, len(steps), BLOCK * channels):
-            block = steps[at:at + BLOCK * channels]
-            if max(max(block), -min(block)) >= least:
-                for frame, size in standing_out(block, channels, least).items():
-                    yield Click(begin + at // channels + frame, "jumps", size, None)
-                    bisect.insort(sizes, size)
-                    least = max(least, sizes[-most] if len(sizes) >= most else 0)
+        enough = max(least, TIMES * mean_step(samples, out.device.channels))
+        for frame, size in standing_out(samples, out.device.channels, enough) if out.jumps_by(begin, end, enough) else ():
+            yield Click(begin + frame, "jumps", size, None)
+            bisect.insort(sizes, size)
+            least = max(least, sizes[-most] if len(sizes) >= most else 0)
 
 
-def standing_out(block, channels, least):
-    """The jumps of a block that are so many times its mean and so large at least, by their frames."""
-    least, found = max(least, -(-TIMES * sum(map(abs, block)) // len(block))), {}
-    for at, step in enumerate(block):
+def mean_step(samples, channels):
+    """The mean difference of every eighth frame to the one before, rounded up."""
+    pairs = [(samples[channels + k::EVERY * channels], samples[k::EVERY * channels]) for k in range(channels)]
+    total = sum(sum(map(abs, map(operator.sub, behind, before))) for behind, before in pairs)
+    return -(-total // sum(len(behind) for behind, _ in pairs))
+
+
+def standing_out(samples, channels, least):
+    """The frames that differ by so much at least from the one before, and by how much."""
+    found = {}
+    for at, step in enumerate(map(operator.sub, samples[channels:], samples)):
         if not -least < step < least:
             found[at // channels] = max(found.get(at // channels, 0), abs(step))
-    return found
+    return found.items()
 
 
 def silent_blocks(out, total):

@@ -1,6 +1,7 @@
 """Frames of files: any of them can be asked for, and none is kept. All samples are whole numbers with a sign."""
 import array
 import collections
+import functools
 import operator
 import os
 import sys
@@ -85,6 +86,15 @@ class Sound:
         """The same frames from one of them on."""
         return Sound(self.file.name, self.device, self.begin + at * self.frame_size)
 
+    def jumps_by(self, begin, end, least):
+        """Whether a sample among frames may differ by so much from that of the frame before: all are looked at together, as the digits
+        of a large number, by their highest 16 bits."""
+        highest = highest_of(self.data(begin - 1 if begin else 0, end), self.device.format)
+        count = len(highest) // 2 - self.device.channels
+        least = max((least >> 8 * WIDTH[self.device.format] - 16 if WIDTH[self.device.format] > 1 else least << 8) - 1, 1)
+        every = int.from_bytes(highest, "little")
+        return any(any_apart(every >> shift, every >> shift + 16 * self.device.channels, (count + 1 - shift // 16) // 2, least) for shift in (0, 16))
+
     def extremes(self, begin, end):
         """The least and the greatest sample of each channel among frames, of which there is one at least."""
         device, width = self.device, WIDTH[self.device.format]
@@ -96,6 +106,30 @@ class Sound:
         tops = tops if device.format.startswith("u") else tops.translate(TURNED)
         return [(extreme(samples[k::device.channels], tops[k::device.channels], min),
                  extreme(samples[k::device.channels], tops[k::device.channels], max)) for k in range(device.channels)]
+
+
+def highest_of(data, form):
+    """The highest 16 bits of each sample, without a sign, the lowest byte first."""
+    width, is_big = WIDTH[form], form.endswith("be")
+    found = bytearray(2 * (len(data) // width))
+    top = data[0 if is_big else width - 1::width]
+    found[1::2] = top if form.startswith("u") else top.translate(TURNED)
+    if width > 1:
+        found[0::2] = data[1 if is_big else width - 2::width]
+    return bytes(found)
+
+
+@functools.lru_cache(8)
+def digits(value, count):
+    """A number of so many digits of 32 bits, each the same."""
+    return int.from_bytes(value.to_bytes(4, "little") * count, "little")
+
+
+def any_apart(one, other, count, least):
+    """Whether one of the lower halves of the digits of two numbers differs by so much. A bit above them is left where it does."""
+    one, other = (it & digits(0xFFFF, count) for it in (one, other))
+    far, least = digits(1 << 17, count), digits(least, count)
+    return bool(((one | far) - other - least) & far or ((other | far) - one - least) & far)
 
 
 def extreme(samples, tops, which):
