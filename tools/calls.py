@@ -6,6 +6,7 @@ import pathlib
 import shlex
 import subprocess
 import sys
+import tempfile
 
 from commands import Progress, fail
 
@@ -16,32 +17,44 @@ FORMATS = {1: "u8", 2: "s16le", 3: "s24le", 4: "s32le"}
 WIDTHS = {name: width for width, name in FORMATS.items()}
 # the codings of a wave, by their numbers, that are no whole numbers; and the one that tells its coding further on
 CODINGS, INTEGER, EXTENSIBLE = {2: "ADPCM", 3: "floats", 6: "A-law", 7: "mu-law", 85: "MP3"}, 1, 0xFFFE
-# how often it is looked how far a run is, in seconds
-LOOK = 0.1
+# how often it is looked how far a run is, in seconds; and how many bytes are read of what a fault is told by
+LOOK, MOST_SAID = 0.1, 2000
 
 # a wave's settings, and where its body lies in the file
 Wave = collections.namedtuple("Wave", "path format channels rate at size")
 
 
-def call(program, *words, out=None, size=0, does="the program runs"):
-    """Calls the program, which writes a file of some size. Answers its status and what it printed on both outputs."""
+def call(program, *words):
+    """Calls the program. Answers its status and what it printed on both outputs."""
+    with tempfile.TemporaryFile() as printed:
+        status, _, errors = call_into(printed, program, *words)
+        printed.seek(0)
+        return status, printed.read().decode("utf-8", "surrogateescape"), errors
+
+
+def call_into(printed, program, *words, out=None, size=0, does="the program runs"):
+    """Calls the program, which prints into a file, and writes another one of some size. Answers its status, the last line that it printed,
+    and what it said on the error output."""
     progress = Progress(does)
-    with subprocess.Popen([str(program), *map(str, words)], stdin=subprocess.DEVNULL, stdout=subprocess.PIPE, stderr=subprocess.PIPE) as ran:
-        try:
-            printed = heard(ran, progress, out, size)
-        except BaseException:
-            ran.kill()
-            raise
-        finally:
-            progress.end()
-    return (ran.returncode, *(it.decode("utf-8", "surrogateescape") for it in printed))
+    with tempfile.TemporaryFile() as errors:
+        with subprocess.Popen([str(program), *map(str, words)], stdin=subprocess.DEVNULL, stdout=printed, stderr=errors) as ran:
+            try:
+                wait_for(ran, progress, out, size)
+            except BaseException:
+                ran.kill()
+                raise
+            finally:
+                progress.end()
+        for file in (errors, printed):
+            file.seek(max(0, file.seek(0, os.SEEK_END) - MOST_SAID))
+        return (ran.returncode, *(it.read().decode("utf-8", "replace") for it in (printed, errors)))
 
 
-def heard(ran, progress, out, size):
-    """What a program prints until it ends, while it is told how much it has written."""
+def wait_for(ran, progress, out, size):
+    """Waits for a program to end, while it is told how much it has written."""
     while True:
         try:
-            return ran.communicate(timeout=LOOK)
+            return ran.wait(timeout=LOOK)
         except subprocess.TimeoutExpired:
             progress.at(os.path.getsize(out) if out and os.path.exists(out) else 0, size)
 

@@ -90,7 +90,7 @@ class Clicks:
         self.solos = solos_of(played)
         self.given = given_by(self.solos)
         self.rate = next(iter(self.given.values())).device.rate if self.given else played.device.rate
-        self.limits = limits_of(self.given, self.of_mix(played.total)).rows
+        self.limits = limits_of(self.given, [(0, self.of_mix(played.total))]).rows
         self.clipped = {slot: clipped(it) for slot, it in self.solos.items()}
         self.places = self.found(most)
         frames = [it.at - self.ring for it in self.places]

@@ -1,7 +1,7 @@
 """What the clients of a slot give and are told: the script is run with them alone, and questions stand between its lines."""
+import array
 import collections
 import copy
-import heapq
 import itertools
 
 from scripts import EVENTS, count_of, device_of, keys_of, on_the_mix, parts_of, rates_of, value_of
@@ -44,18 +44,18 @@ class Solo:
         used = {it.descriptor for it in played.openings} if self.is_whole else set()
         self.free = next((k for k in range(DESCRIPTORS) if k not in used), None) if self.is_whole else None
         self.has_sync = self.way == "play" and not (self.is_whole and self.free is None)
-        self.last, self.is_plain = len(self.script.events), False
+        self.last, self.is_plain, self.known, self.changes = len(self.script.events), False, None, {}
 
     def until(self, event):
         """The same, up to an event."""
         other = copy.copy(self)
-        other.last = event
+        other.last, other.known = event, None
         return other
 
     def at_full_volume(self):
         """The same, without a volume of the clients or of their slot."""
         other = copy.copy(self)
-        other.is_plain = True
+        other.is_plain, other.known = True, None
         return other
 
     def walk(self):
@@ -63,7 +63,7 @@ class Solo:
         if self.is_whole:
             return range(min(self.last + 1, len(self.script.events)))
         own = (at for it in self.openings for at in it.events)
-        return itertools.takewhile(lambda at: at <= self.last, heapq.merge(own, self.played.turns, self.played.mixers()))
+        return [at for at in sorted([*own, *self.played.turns, *self.played.mixers()]) if at <= self.last]
 
     def new_slot(self):
         """The slot that the clients have where they are alone."""
@@ -81,37 +81,61 @@ class Solo:
         if at == opening.closed and self.has_sync:
             return f"ioctl {descriptor} sync"
         words = self.script.events[at].split(" ", 2)
-        return " ".join([words[0], str(descriptor), *words[2:]])
+        return self.script.events[at] if self.free is None else " ".join([words[0], str(descriptor), *words[2:]])
 
     def muted(self):
         """The lines that mute all others."""
         others = [it for it in self.played.slots() if it != self.slot] if self.is_whole and self.way != "rec" else []
         return [f"mixer mute {it} 1" for it in others]
 
-    def events(self, places=(), cuts=None, counts=None, ring=None):
-        """The events, each with what its reply answers: the place and the question; or None. Interrupts are joined up to a place or a
-        line of the clients; a cut one has a place before it and behind each of its pieces."""
-        cuts, ring, turns, waits, now, rate = cuts or {}, ring or self.played.device.ring, iter(counts or ()), 0, -1, None
-        yield from ((it, None) for it in self.muted())
-        for at in self.walk():
-            text = self.script.events[at]
-            is_turn = text.startswith("intr")
-            begins = now + 1 < len(self.openings) and at == self.openings[now + 1].at
-            line = None if is_turn else self.line(at, now + begins)
-            if is_turn and at not in cuts:
-                waits += next(turns) if counts else self.played.count(at)
-            if line is not None or at in places or at in cuts:
-                yield from ((f"intr {it}", None) for it in parts_of(waits, ring))
+    def steps(self):
+        """What is run: where each event stands, and its line, or None of an interrupt."""
+        if self.known is None:
+            now, places, lines = -1, array.array("l"), []
+            for at in self.walk():
+                is_turn = self.script.events[at].startswith("intr")
+                now += now + 1 < len(self.openings) and at == self.openings[now + 1].at
+                line = None if is_turn else self.line(at, now)
+                if is_turn or line is not None:
+                    places.append(at)
+                    lines.append(line)
+            self.known = places, lines
+        return self.known
+
+    def lines(self, places=(), cuts=None, counts=None, ring=None, is_heard=True):
+        """The lines that are run, and by the numbers of those that are questions whom, where and what each asks. Interrupts are joined
+        up to a place or a line of the clients; a cut one has a place before it and behind each of its pieces. Where nothing is to be
+        heard it ends behind the last place."""
+        cuts, ring, turns = cuts or {}, ring or self.played.device.ring, iter(counts or self.played.counts)
+        waits, now, lines, keys, begins = 0, -1, self.muted(), {}, {it.at for it in self.openings}
+        special, last = {*places, *cuts, *begins}, None if is_heard else max([*places, *cuts], default=-1)
+        for at, line in zip(*self.steps()):
+            count = next(turns) if line is None else 0
+            if line is None and at not in special:
+                waits += count
+                continue
+            waits += 0 if at in cuts else count
+            if waits:
+                lines.extend(turned(waits, ring))
                 waits = 0
-            if begins:
-                yield from self.ended(now)
+            if at in begins:
+                lines.extend(self.ended(now))
                 now += 1
-            yield from ((line, None) for _ in range(line is not None))
-            rate = self.rate_behind(at, now, rate)
-            for piece, part in enumerate((0, *cuts[at]) if at in cuts else (0,) if at in places else ()):
-                yield from ((f"intr {part}", None) for _ in range(part > 0))
-                yield from self.asked(at, piece, now, rate)
-        yield from ((f"intr {it}", None) for it in parts_of(waits, ring))
+            if line is not None:
+                lines.append(line)
+            if at in special:
+                self.ask(lines, keys, at, now, (0, *cuts[at]) if at in cuts else (0,) if at in places else ())
+            if at == last:
+                break
+        return lines + turned(waits, ring), keys
+
+    def ask(self, lines, keys, at, now, pieces):
+        """Adds the questions at a place, or behind each piece of a cut interrupt."""
+        for piece, part in enumerate(pieces):
+            lines.extend(turned(part, part))
+            for question, text in self.questions(at, now):
+                keys[len(lines)] = now, at, piece, question
+                lines.append(text)
 
     def is_own(self, at):
         return not self.script.events[at].startswith(("intr", "mixer")) if self.own is None else at in self.own
@@ -121,34 +145,35 @@ class Solo:
         text = self.script.events[at]
         if self.is_plain and (" setplayvol " in text or text.startswith("mixer slot")):
             return None
+        if self.own is None and not text.startswith("mixer") and at != self.openings[now].closed:
+            return text
         if self.is_own(at):
             return self.own_line(at, self.openings[now])
         return self.mixer_line(text.split(" ")) if text.startswith("mixer") else text
 
-    def ended(self, current):
+    def ended(self, now):
         """Closes a client that was kept open, as the next one opens."""
-        if current >= 0 and self.has_sync and self.openings[current].closed is not None:
-            opening = self.openings[current]
-            yield f"close {opening.descriptor if self.free is None else self.free}", None
+        if now < 0 or not self.has_sync or self.openings[now].closed is None:
+            return []
+        return [f"close {self.openings[now].descriptor if self.free is None else self.free}"]
 
-    def rate_behind(self, at, now, rate):
+    def rates(self, at, now):
         """The rate of a client behind an event."""
-        if now < 0 or not self.is_own(at):
-            return rate
-        words, reply = self.script.words(at), self.played.replies[at]
-        if words[0] == "open":
-            return words[5] if len(words) > 5 else "8000"
-        return reply.split()[1] if words[2:3] == ["speed"] and reply.startswith("ok") else rate
+        if now not in self.changes:
+            opening, replies = self.openings[now], self.played.replies
+            words = self.script.words(opening.at)
+            sets = [it for it in opening.events if " speed " in self.script.events[it] and replies[it].startswith("ok")]
+            self.changes[now] = [(opening.at, words[5] if len(words) > 5 else "8000"), *((it, replies[it].split()[1]) for it in sets)]
+        return [rate for change, rate in self.changes[now] if change <= at][-1]
 
-    def asked(self, at, piece, current, rate):
-        """The questions at a place."""
-        opening = self.openings[current] if current >= 0 else None
+    def questions(self, at, now):
+        """What is asked at a place, by names."""
+        opening = self.openings[now] if now >= 0 else None
         if opening is None or opening.closed is not None and at >= opening.closed and not self.has_sync:
-            return
+            return []
         descriptor = opening.descriptor if self.free is None else self.free
-        for question in (*QUESTIONS[self.way], *OF_ALL):
-            yield f"ioctl {descriptor} {question}", (current, at, piece, question)
-        yield f"ioctl {descriptor} speed {rate}", (current, at, piece, "set")
+        every = [(it, f"ioctl {descriptor} {it}") for it in (*QUESTIONS[self.way], *OF_ALL)]
+        return [*every, ("set", f"ioctl {descriptor} speed {self.rates(at, now)}")]
 
     def given(self):
         """The frames that the clients give to the mix, from the first one that is mixed on."""
@@ -159,29 +184,28 @@ class Solo:
     def sound(self, config, counts=None):
         """The frames that come of the clients with a configuration, from the first one that is mixed on."""
         device = device_of(config)
-        lines = (text for text, _ in self.events(counts=counts, ring=device.ring))
+        lines, _ = self.lines(counts=counts, ring=device.ring)
         size = (sum(counts) if counts else self.played.total) * size_of(device)
         _, sound = self.played.room.run([*lines, f"intr {device.ring}"], config, size=size, does=f"slot {self.slot} alone")
         return sound.from_frame(device.ring)
 
     def told(self, places, cuts=None):
         """What each client is told at places, in their order."""
-        every, sound = self.told_and_heard(places, cuts)
+        every, sound = self.told_and_heard(places, cuts, False)
         self.played.room.forget(sound)
         return every
 
-    def told_and_heard(self, places, cuts=None):
+    def told_and_heard(self, places, cuts=None, is_heard=True):
         """The same, and the frames of OUT up to the last event."""
-        texts, keys = zip(*self.events(places, cuts), (f"intr {self.played.device.ring}", None))
+        lines, keys = self.lines(places, cuts, is_heard=is_heard)
         size = self.played.total * size_of(self.played.device)
-        replies, sound = self.played.room.run(texts, size=size, does=f"slot {self.slot} is asked")
+        replies, sound = self.played.room.run([*lines, f"intr {self.played.device.ring}"], size=size, does=f"slot {self.slot} is asked", wanted=keys)
         answers = {}
-        for key, reply in zip(keys, replies):
-            if key:
-                answers.setdefault(key[:3], {})[key[3]] = reply
+        for key, reply in zip(keys.values(), replies):
+            answers.setdefault(key[:3], {})[key[3]] = reply
         every = [[] for _ in self.openings]
-        for (current, at, piece), found in answers.items():
-            every[current].append(self.moment(at, self.place_of(at, piece, cuts), found))
+        for (now, at, piece), found in answers.items():
+            every[now].append(self.moment(at, self.place_of(at, piece, cuts), found))
         return [until_gone(it, moments) for it, moments in zip(self.openings, every)], sound
 
     def place_of(self, at, piece, cuts):
@@ -221,6 +245,11 @@ class Solo:
             places |= more
             found = self.told(places)
         return found, sound
+
+
+def turned(count, ring):
+    """The interrupts of so many frames."""
+    return [f"intr {count}"] if 0 < count <= ring else [f"intr {it}" for it in parts_of(count, max(ring, 1))]
 
 
 def until_gone(opening, moments):

@@ -1,5 +1,7 @@
 """The lanes of a picture's rows, and which stretches of its axis are left out."""
 from commands import told
+from sounds import full_scale
+from sums import merged
 
 # what stands between rows
 GAP = 20
@@ -34,6 +36,17 @@ def peak_of(every):
     """The least power of two that no sample passes."""
     most = max((max(-low, high) for lanes in every for bounds in lanes.bounds for column in bounds for low, high in column), default=1)
     return 1 << max(most - 1, 0).bit_length()
+
+
+def may_limit(axis, every, along):
+    """The rows of frames of the mix in whose columns a sum of slots can be limited, by what each slot reaches there."""
+    full, found = full_scale(every[0].sources[0][0].device) if every else 1, []
+    for at, columns in enumerate(axis.columns()):
+        for k, (begin, end) in enumerate(zip(columns, columns[1:])):
+            reached = [[sum(extremes) for extremes in zip(*(lanes.bounds[at][k][channel] for lanes in every))] for channel in range(every[0].channels)] if every else []
+            frames = along.frames(begin, min(end, every[0].end)) if any(low < -full or high >= full for low, high in reached) else None
+            found += [frames] if frames else []
+    return merged(found)
 
 
 def events_of(shown):

@@ -13,7 +13,7 @@ try:
 except ImportError:  # before python 3.11
     tomllib = None
 
-from calls import call, judge
+from calls import call_into, judge
 from commands import fail
 from sounds import WIDTH, Device, size_of, sound_of
 
@@ -29,6 +29,8 @@ AHEAD = 34
 EVENTS, BYTES = 1 << 20, 1 << 28
 # texts up to so long are kept once, however often they come
 SHORT = 24
+# so many lines are written at once
+AT_ONCE = 1 << 13
 # the numbers of a device whose configuration names none
 USUAL = {"channels": "2", "rate": "48000", "hw_block": "256", "hw_blocks": "4"}
 COMMENT = re.compile(r"(?:^|[ \t])#")
@@ -176,19 +178,18 @@ class Room:
         self.program, self.config, self.device = program, config, device_of(config)
         self.folder, self.count = tempfile.TemporaryDirectory(), 0
 
-    def run(self, events, config=None, size=0, does="the program runs"):
-        """Runs a script of these events. Answers its replies in their order, and the frames of OUT."""
+    def run(self, events, config=None, size=0, does="the program runs", wanted=None):
+        """Runs a script of these events. Answers its replies in their order, or those to events of wanted numbers, from 0 on; and the
+        frames of OUT."""
         config = self.config if config is None else config
         self.count += 1
         script, out, toml = (pathlib.Path(self.folder.name) / f"{self.count}.{end}" for end in ("script", "out", "toml"))
         write_lines(script, events)
         toml.write_text(config, "utf-8", "surrogateescape")
-        told = call(self.program, "run", script, out, *([toml] if config else []), out=out, size=size, does=does)
-        judge(*told)
-        os.remove(script)
-        known = {}
-        replies = [known.setdefault(it, it) for it in (line.partition(": ")[2] for line in told[1].splitlines())]
-        return replies, sound_of(out, device_of(config))
+        with tempfile.TemporaryFile(dir=self.folder.name) as printed:
+            judge(*call_into(printed, self.program, "run", script, out, *([toml] if config else []), out=out, size=size, does=does))
+            os.remove(script)
+            return replies_of(printed, wanted), sound_of(out, device_of(config))
 
     def forget(self, sound):
         """Removes frames that nobody asks for any more."""
@@ -196,8 +197,25 @@ class Room:
 
 
 def write_lines(path, events):
+    """Writes lines into a file, many at once."""
     with open(path, "w", encoding="utf-8", errors="surrogateescape", newline="\n") as file:
-        file.writelines(f"{it}\n" for it in events)
+        for at in range(0, len(events), AT_ONCE):
+            file.write("\n".join(events[at:at + AT_ONCE]) + "\n")
+
+
+def replies_of(printed, wanted):
+    """The replies of a run, each kept once, or those to some events, whose numbers grow."""
+    printed.seek(0)
+    known, found = {}, []
+    if wanted is None:
+        lines = (line.decode().rstrip("\n").partition(": ")[2] for line in printed)
+        return [known.setdefault(it, it) if len(it) < SHORT else it for it in lines]
+    numbered, at = iter(printed), -1
+    for number in wanted:
+        line = next(itertools.islice(numbered, number - at - 1, None))
+        found.append(line.decode().rstrip("\n").partition(": ")[2])
+        at = number
+    return found
 
 
 class Played:
@@ -207,7 +225,8 @@ class Played:
     def __init__(self, room, script):
         self.room, self.script, self.device = room, script, room.device
         self.turns = array.array("l", (at for at, text in enumerate(script.events) if text.startswith("intr") and text[4:5] in ("", " ")))
-        self.ends = array.array("q", itertools.accumulate(map(self.count, self.turns)))
+        self.counts = array.array("l", map(self.count, self.turns))
+        self.ends = array.array("q", itertools.accumulate(self.counts))
         self.total = self.ends[-1] if self.ends else 0
         size = (self.total + self.device.ring) * size_of(self.device)
         more = self.device.ring if len(script.events) < EVENTS and size <= BYTES else 0
@@ -223,7 +242,7 @@ class Played:
     def mixed(self):
         """How many frames each interrupt mixes."""
         if "mixed" not in self.known:
-            self.known["mixed"] = mixed_turns(self.room, map(self.count, self.turns))
+            self.known["mixed"] = mixed_turns(self.room, self.counts)
         return self.known["mixed"]
 
     def count(self, at):
@@ -284,7 +303,7 @@ def mixed_turns(room, counts):
     counts, rates = list(counts), rates_of(room.config)
     if "rate" not in rates or not counts:
         return counts
-    replies, sound = room.run(with_a_gauge(counts, rates["rate"], room.device.rate), does="the program tells what is mixed")
+    replies, sound = room.run(list(with_a_gauge(counts, rates["rate"], room.device.rate)), does="the program tells what is mixed")
     room.forget(sound)
     if "underruns=0" not in replies[-1]:
         fail("how many frames are mixed could not be told: a client at the rate of the mix was short")

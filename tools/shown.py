@@ -8,7 +8,7 @@ from facts import clipped, clipped_rows
 from origins import files_of
 from scripts import Played, Room, Script, device_of, on_the_mix, parts_of, rates_of
 from sounds import Sound, size_of
-from sums import limits_of, solos_of
+from sums import solos_of
 
 # an opening with what it is told, the clients of its slot, and its place among these
 Client = collections.namedtuple("Client", "opening moments solo which")
@@ -64,7 +64,6 @@ class Shown:
         self.clients.sort(key=lambda it: it.opening.at)
         self.mix = self.mixed() if self.own else self.out.from_frame(self.device.ring)
         self.along = Along(self.segments())
-        self.limited = limits_of(self.given, sum(self.played.mixed()) if self.own else self.total).rows
         self.clipped = {slot: clipped_rows(clipped(it), 0, self.total) for slot, it in self.solos.items()}
 
     def slots(self):

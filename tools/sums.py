@@ -45,11 +45,12 @@ def limited_at(given, begin, end, full):
             total = [min(max(it, -full), full - 1) for it in total]
 
 
-def limits_of(given, frames):
-    """Where the sum of what the slots give is limited, of so many frames."""
+def limits_of(given, ranges):
+    """Where the sum of what the slots give is limited, in rows of frames."""
     sounds, count, rows, peak = list(given.values()), 0, [], 0
     full, channels = (full_scale(sounds[0].device), sounds[0].device.channels) if sounds else (1, 1)
-    for begin, end in told(sounds[0].parts(0, frames, PART) if len(sounds) > 1 else (), "limits are looked for", frames):
+    parts = (part for begin, end in ranges for part in sounds[0].parts(begin, end, PART)) if len(sounds) > 1 else ()
+    for begin, end in told(parts, "limits are looked for", ranges[-1][1] if ranges else 1):
         if may_pass(sounds, begin, end, full):
             found = list(limited_at(sounds, begin, end, full))
             samples = sorted(set(itertools.chain.from_iterable(places for _, places, _ in found)))
@@ -59,10 +60,10 @@ def limits_of(given, frames):
 
 
 def merged(rows):
-    """Rows of frames, those that touch as one."""
+    """Rows of frames, those that touch or overlap as one."""
     found = []
     for begin, end in rows:
-        if found and found[-1][1] == begin:
-            begin = found.pop()[0]
+        if found and found[-1][1] >= begin:
+            begin, end = found[-1][0], max(end, found.pop()[1])
         found.append((begin, end))
     return found
