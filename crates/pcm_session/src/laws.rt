@@ -1,5 +1,7 @@
-//! What holds of every session: the function here has no work, and its contract is the law.
+//! What holds of every session: the functions here have no work, and their contracts are the laws.
 
+ghost use Rattle.std.specs.Prelude.{◌≡◌};
+ghost use Rattle.pcm_engine.specs.declared.limits.TheConstants.{STEPS};
 ghost use Rattle.pcm_session.specs.Runs.{RunScripts};
 
 use pcm_feeder::Feeder;
@@ -8,4 +10,9 @@ use pcm_feeder::Feeder;
 /// are the device's bytes.
 pub fn sessions_run_scripts<B: Feeder>()
     ensures { RunScripts B.kept }
+{}
+
+/// How many steps an engine takes.
+pub fn steps_of_a_session()
+    ensures { STEPS ≡ 2147483648 }
 {}

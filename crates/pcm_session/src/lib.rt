@@ -9,5 +9,5 @@ mod laws;
 mod session;
 
 pub use calls::{ask_mixer, close, interrupt, ioctl, join, open, poke, read, start, write};
-pub use laws::sessions_run_scripts;
+pub use laws::{sessions_run_scripts, steps_of_a_session};
 pub use session::{SessionOf, WrongArgument};

@@ -1,6 +1,6 @@
 //! The session, and its calls.
 
-ghost use Rattle.std.specs.Prelude.{◌≡◌, true, false, IfOk, IsErr, IsOk, OnErr, [], length, take, drop};
+ghost use Rattle.std.specs.Prelude.{◌≡◌, true, false, IfOk, IsErr, IsOk, Ok, OnErr, [], length, take, drop};
 ghost use Rattle.pcm_desk.specs.Device.{seen, IsInLimits};
 ghost use Rattle.pcm_desk.specs.Events.{bytes_handed};
 ghost use Rattle.pcm_engine.specs.Engines.{device_of, AreReady, Stands};
@@ -43,6 +43,7 @@ impl<B: Feeder> SessionOf<B> {
         ensures steps { IfOk result (λ session. session.engine.steps ≡ 0) }
         ensures ready { IfOk result (λ session. AreReady B.kind B.kept session.engine) }
         ensures stands { IfOk result (λ session. (pool : Pool) → Stands B.kept session.engine pool []) }
+        ensures reply { IfOk result (λ session. session.reply ≡ record { result = Ok Answer.Done; bytes = [] }) }
     {
         let engine = EngineOf::new(alloc, device, tables, racks)?;
         let reply = ReplyBuf::new(alloc)?;
