@@ -2,11 +2,11 @@
 //! Numbers, lengths and references come from C; that these are what C says they are is trusted.
 #![tactic(auto)]
 
-ghost use Rattle.std.specs.Prelude.{◌≡◌, None, [], length, drop};
+ghost use Rattle.std.specs.Prelude.{◌≡◌, None, [], length, drop, true};
 ghost use Rattle.pcm_engine_c.specs.Calls.{On};
-ghost use Rattle.pcm_engine_c.specs.Sessions.{IsMade};
+ghost use Rattle.pcm_engine_c.specs.Sessions.{IsMade, is_possible};
 ghost use Rattle.pcm_numbers.specs.Answers.{fault_number};
-ghost use Rattle.pcm_numbers.specs.declared.fault.NumbersFault.TheVariants.{Argument};
+ghost use Rattle.pcm_numbers.specs.declared.fault.NumbersFault.TheVariants.{Argument, Memory};
 ghost use Rattle.pcm_session.specs.Calls.{Interrupts, MakesCall, beside, call_number, count_number, done_number, handed_count, handed_number, read_into};
 ghost use Rattle.pcm_session.specs.Events.{event_for_close, event_for_ioctl, event_for_join, event_for_mixer, event_for_open, event_for_poke, event_for_read, event_for_start, event_for_write};
 
@@ -32,8 +32,10 @@ pub extern "C" fn dsp_raw_new(
     coefs: &[i32],
     sections: &[SectionNumbers],
 ) -> i32
-    ensures { IsMade (λ session. session.of.engine) ⟦<Stage as Feeder>⟧.kept device.now filters.now coefs.now sections.now
+    ensures made { IsMade (λ session. session.of.engine) ⟦<Stage as Feeder>⟧.kept device.now filters.now coefs.now sections.now
         engine.old.slot.session engine.new.slot.session result }
+    ensures memory { result ≡ fault_number Memory
+        → (engine.old.slot.session ≡ None) × (is_possible device.now filters.now coefs.now sections.now ≡ true) }
 {
     if engine.is_there() {
         return WRONG_ARGUMENT;
