@@ -94,3 +94,15 @@ mix_channels_row device = layouts VchansChannels device
 
 abbrev pub mapped_row : ConfigRow ℤ ℕ
 mapped_row = numbers VchansMapped 0 16 0
+
+-- the least and the greatest number that may stand at a place, where all between them may too
+abbrev pub range_at : ConfigPlace → Option (ℕ × ℕ)
+range_at DeviceRate = Some (4000, 192000)
+range_at VchansRate = Some (4000, 192000)
+range_at DeviceHwBlock = Some (1, 4096)
+range_at DeviceHwBlocks = Some (2, 64)
+range_at VchansPlay = Some (1, 16)
+range_at VchansRecord = Some (0, 16)
+range_at VchansQuality = Some (0, 4)
+range_at VchansMapped = Some (0, 16)
+range_at place = None
