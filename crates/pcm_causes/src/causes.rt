@@ -22,7 +22,7 @@ pub fn cause_of<R: rt::Files>(
         3 => unread_cause(rt, alloc, line),
         4 => config_cause(rt, alloc, words, line),
         5 => script_cause(rt, alloc, words, line),
-        6 => wave_cause(rt, alloc, line),
+        6 => wave_cause(rt, alloc, words, line),
         _ => None,
     }
 }

@@ -1,11 +1,13 @@
 //! Where a configuration has its fault.
 
 use crate::again::{content, reopened};
+use crate::config_reason::config_reason;
 use crate::definition::definition_at;
+use crate::judged::judged_text;
 use crate::lines::{column_behind, line_from, number_behind};
 use crate::shown::shown;
 use crate::wrong_key::wrong_key_at;
-use pcm_config::{ConfigFault, ConfigKind, ConfigPlace, ConfigRefusal, config_of};
+use pcm_config::{CONFIG_BYTES, ConfigFault, ConfigKind, ConfigPlace, ConfigRefusal, config_of};
 use std::alloc::Global;
 use std::rt;
 
@@ -19,8 +21,7 @@ pub(crate) fn config_cause<R: rt::Files>(
     let name = words.last()?.as_str();
     let told = line.strip_prefix("bad configuration: ")?;
     if told == "long top" {
-        let (_, size) = reopened(rt, name)?;
-        return format!(in alloc; "configuration of {size} bytes, which are too many").ok();
+        return long_configuration(rt, alloc, name);
     }
     let text = content(rt, alloc, name)?;
     match config_of(alloc, &text) {
@@ -29,6 +30,12 @@ pub(crate) fn config_cause<R: rt::Files>(
         }
         _ => None,
     }
+}
+
+fn long_configuration<R: rt::Files>(rt: &R, alloc: Global, name: &str) -> Option<String> {
+    let (_, size) = reopened(rt, name)?;
+    let most = CONFIG_BYTES;
+    format!(in alloc; "configuration of {size} bytes: a configuration has {most} at most").ok()
 }
 
 // Whether a refusal is told by these words.
@@ -56,12 +63,16 @@ fn syntax_fault(alloc: Global, text: &[u8]) -> Option<String> {
     format!(in alloc; "configuration line {line}, column {column}: {said}").ok()
 }
 
-// The first line of the definition that brings a fault.
+// The first line of the definition that brings a fault, and why that is one.
 fn definition_fault(alloc: Global, text: &[u8], refusal: ConfigRefusal) -> Option<String> {
     let place = place_of(alloc, text, refusal)?;
     let line = number_behind(text.get(..place)?);
     let wrong = shown(alloc, line_from(text, place)?).ok()?;
-    format!(in alloc; "configuration line {line}: {wrong}").ok()
+    let judged = judged_text(alloc, text, place, refusal);
+    match judged.and_then(|judged| config_reason(alloc, judged, refusal)) {
+        Some(reason) => format!(in alloc; "configuration line {line}: {wrong}: {reason}").ok(),
+        None => format!(in alloc; "configuration line {line}: {wrong}").ok(),
+    }
 }
 
 // Where the definition begins that brings a fault: of a filter or a section that of the wrong key, if there is one.

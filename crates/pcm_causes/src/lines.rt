@@ -69,9 +69,14 @@ pub(crate) fn line_from(text: &[u8], begun: usize) -> Option<&[u8]> {
 
 // The line of a number, from 1 on.
 pub(crate) fn line_at(text: &[u8], number: usize) -> Option<&[u8]> {
+    line_from(text, place_of_line(text, number))
+}
+
+// Where the line of a number begins.
+pub(crate) fn place_of_line(text: &[u8], number: usize) -> usize {
     let mut place = 0;
     for _ in 1..number {
         place = line_end(text, place);
     }
-    line_from(text, place)
+    place
 }

@@ -1,12 +1,14 @@
-//! Which line of a script is wrong.
+//! Which line of a script is wrong, and why.
 
 use crate::again::{content, reopened};
-use crate::lines::line_at;
+use crate::line_reason::line_reason;
+use crate::lines::{line_at, place_of_line};
 use crate::shown::shown;
+use pcm_script::TEXT_BYTES;
 use std::alloc::Global;
 use std::rt;
 
-/// The text of the wrong line.
+/// The text of the wrong line, and why it is wrong.
 pub(crate) fn script_cause<R: rt::Files>(
     rt: &R,
     alloc: Global,
@@ -14,13 +16,23 @@ pub(crate) fn script_cause<R: rt::Files>(
     line: &str,
 ) -> Option<String> {
     let script = words.get(1)?.as_str();
-    let (number, _) = line.strip_prefix("bad script: line ")?.split_once(": ")?;
+    let (number, kind) = line.strip_prefix("bad script: line ")?.split_once(": ")?;
     let number = number.parse::<usize>().ok()?;
     if number == 0 {
-        let (_, size) = reopened(rt, script)?;
-        return format!(in alloc; "script of {size} bytes, which are too many").ok();
+        return long_script(rt, alloc, script);
     }
     let text = content(rt, alloc, script)?;
-    let wrong = shown(alloc, line_at(&text, number)?).ok()?;
-    format!(in alloc; "script line {number}: {wrong}").ok()
+    let wrong = line_at(&text, number)?;
+    let before = text.get(..place_of_line(&text, number))?;
+    let said = shown(alloc, wrong).ok()?;
+    match line_reason(rt, alloc, words, kind, before, wrong) {
+        Some(reason) => format!(in alloc; "script line {number}: {said}: {reason}").ok(),
+        None => format!(in alloc; "script line {number}: {said}").ok(),
+    }
+}
+
+fn long_script<R: rt::Files>(rt: &R, alloc: Global, script: &str) -> Option<String> {
+    let (_, size) = reopened(rt, script)?;
+    let most = TEXT_BYTES;
+    format!(in alloc; "script of {size} bytes: a script has {most} at most").ok()
 }

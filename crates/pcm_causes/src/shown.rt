@@ -2,8 +2,10 @@
 
 use std::alloc::{AllocError, Global};
 
-// The bytes that are shown of a line.
+// The bytes that are shown of a line, and of a word.
 const SHOWN: usize = 80;
+
+const SHOWN_OF_A_WORD: usize = 40;
 
 const DIGITS: [char; 16] = [
     '0', '1', '2', '3', '4', '5', '6', '7', '8', '9', 'a', 'b', 'c', 'd', 'e', 'f',
@@ -12,13 +14,39 @@ const DIGITS: [char; 16] = [
 /// A line as it can be shown: what isn't a plain character of ASCII is told by its number, and a long line is cut.
 pub(crate) fn shown(alloc: Global, line: &[u8]) -> Result<String, AllocError> {
     let mut text = String::new(alloc);
-    for byte in line.iter().take(SHOWN) {
-        show_byte(&mut text, *byte)?;
-    }
+    show(&mut text, line, SHOWN)?;
     if line.len() > SHOWN {
         text.push_str(" ..")?;
     }
     Ok(text)
+}
+
+/// A word in quotes, shown as a line is, and cut earlier.
+pub(crate) fn quoted(alloc: Global, word: &[u8]) -> Result<String, AllocError> {
+    let mut text = String::new(alloc);
+    text.push('"')?;
+    show(&mut text, word, SHOWN_OF_A_WORD)?;
+    text.push('"')?;
+    if word.len() > SHOWN_OF_A_WORD {
+        text.push_str(" ..")?;
+    }
+    Ok(text)
+}
+
+/// Shows the first bytes behind a text.
+fn show(text: &mut String, bytes: &[u8], most: usize) -> Result<(), AllocError> {
+    for byte in bytes.iter().take(most) {
+        show_byte(text, *byte)?;
+    }
+    Ok(())
+}
+
+/// Puts a word behind those that a list has.
+pub(crate) fn list(text: &mut String, word: &[u8]) -> Result<(), AllocError> {
+    if !text.as_str().is_empty() {
+        text.push_str(", ")?;
+    }
+    show(text, word, SHOWN_OF_A_WORD)
 }
 
 fn show_byte(text: &mut String, byte: u8) -> Result<(), AllocError> {

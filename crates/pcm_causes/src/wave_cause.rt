@@ -3,20 +3,30 @@
 use crate::again::reopened;
 use crate::chunk::{chunk_named, fills};
 use crate::said::{Said, said_of};
+use crate::settled::settled;
 use crate::shown::shown;
-use crate::wave_format::{FORMAT_BYTES, format_fault, shape_told};
+use crate::wave_format::{FORMAT_BYTES, format_fault, shape_of};
+use pcm_wave::DATA_BYTES;
 use std::alloc::Global;
 use std::io::{Read, Seek};
 use std::rt;
 
 /// What is refused of the wave that a line names.
-pub(crate) fn wave_cause<R: rt::Files>(rt: &R, alloc: Global, line: &str) -> Option<String> {
+pub(crate) fn wave_cause<R: rt::Files>(
+    rt: &R,
+    alloc: Global,
+    words: &[String],
+    line: &str,
+) -> Option<String> {
     let (name, kind) = line.strip_prefix("bad wave: ")?.rsplit_once(": ")?;
     let (mut file, size) = reopened(rt, name)?;
-    if kind == "notriff" && size >= 12 {
-        other_form(alloc, name, &mut file)
-    } else {
-        said_of(alloc, name, kind_said(kind, &mut file, size)?)
+    match kind {
+        "notriff" if size >= 12 => other_form(alloc, name, &mut file),
+        "shape" => {
+            let format = format_in(&mut file)?;
+            shape_said(rt, alloc, words, name, shape_of(&format.bytes))
+        }
+        _ => said_of(alloc, name, kind_said(kind, &mut file, size)?),
     }
 }
 
@@ -42,9 +52,11 @@ fn kind_said<F: Read + Seek>(kind: &str, file: &mut F, size: u64) -> Option<Said
         "noformat" => Some(Said::Words("no \"fmt \" chunk stands before its sound")),
         "nodata" => Some(Said::Words("it has no \"data\" chunk")),
         "truncated" => cut_short(file, size),
-        "unsupported" => format_said(file, true),
-        "shape" => format_said(file, false),
-        "long" => Some(Said::One("too long, with its ", size, " bytes")),
+        "unsupported" => {
+            let format = format_in(file)?;
+            Some(format_fault(&format.bytes, format.size))
+        }
+        "long" => Some(long_said(size)),
         _ => None,
     }
 }
@@ -63,16 +75,55 @@ fn cut_short<F: Read + Seek>(file: &mut F, size: u64) -> Option<Said> {
     Some(Said::Two("", there, words, sound.size.into(), ""))
 }
 
-// What of the format isn't supported, or what shape it tells.
-fn format_said<F: Read + Seek>(file: &mut F, is_unsupported: bool) -> Option<Said> {
+fn long_said(size: u64) -> Said {
+    let words = " bytes; all data files together have ";
+    Said::Two(
+        "too long, with its ",
+        size,
+        words,
+        DATA_BYTES as u64,
+        " at most",
+    )
+}
+
+// The first bytes of a format, and how many its chunk tells.
+#[derive(Drop)]
+struct FormatBytes {
+    bytes: [u8; FORMAT_BYTES],
+    size: u32,
+}
+
+fn format_in<F: Read + Seek>(file: &mut F) -> Option<FormatBytes> {
     let chunk = chunk_named(file, *b"fmt ")?;
-    let mut format = [0; FORMAT_BYTES];
-    let there = FORMAT_BYTES.min(chunk.size as usize);
-    if !fills(file, chunk.body, &mut format[..there]) {
-        None
-    } else if is_unsupported {
-        Some(format_fault(&format, chunk.size))
+    let size = chunk.size;
+    let mut bytes = [0; FORMAT_BYTES];
+    let there = FORMAT_BYTES.min(size as usize);
+    if fills(file, chunk.body, &mut bytes[..there]) {
+        Some(FormatBytes { bytes, size })
     } else {
-        Some(shape_told(&format))
+        None
+    }
+}
+
+// The rate and the channels of a wave, and those of the device.
+fn shape_said<R: rt::Files>(
+    rt: &R,
+    alloc: Global,
+    words: &[String],
+    name: &str,
+    told: (u32, u32),
+) -> Option<String> {
+    let (rate, channels) = told;
+    match settled(rt, alloc, words) {
+        Some(config) => {
+            let settings = config.device.settings;
+            let (right, many) = (settings.rate, settings.layout.channels());
+            format!(in alloc;
+                "{name}: rate {rate} and channels {channels}; the device has {right} and {many}"
+            ).ok()
+        }
+        None => format!(in alloc;
+            "{name}: rate {rate} and channels {channels}, which aren't those of the device"
+        ).ok(),
     }
 }

@@ -6,8 +6,11 @@ use crate::numbers::{four_at, two_at};
 use crate::said::Said;
 use pcm_format::{RATE_LEAST, RATE_MOST};
 
-// The bytes of a format that are looked at.
+// The bytes of a format that are looked at, which an extensible one has.
 pub(crate) const FORMAT_BYTES: usize = 40;
+
+// The bytes that each has.
+const PLAIN_BYTES: u32 = 16;
 
 // The tag of integer samples, and that of an extensible format, which names a tag further down.
 const PCM_TAG: u32 = 1;
@@ -19,10 +22,24 @@ pub(crate) fn format_fault(format: &[u8], size: u32) -> Said
     requires { length format.now ≡ FORMAT_BYTES }
 {
     let tag = two_at(format, 0);
-    if size < 16 {
-        Said::One("a \"fmt \" chunk of ", size.into(), " bytes")
-    } else if tag == EXTENSIBLE_TAG && size < 40 {
-        Said::One("an extensible \"fmt \" chunk of ", size.into(), " bytes")
+    if size < PLAIN_BYTES {
+        let words = " bytes; it has at least ";
+        Said::Two(
+            "a \"fmt \" chunk of ",
+            size.into(),
+            words,
+            PLAIN_BYTES.into(),
+            "",
+        )
+    } else if tag == EXTENSIBLE_TAG && size < FORMAT_BYTES as u32 {
+        let words = " bytes; it has at least ";
+        Said::Two(
+            "an extensible \"fmt \" chunk of ",
+            size.into(),
+            words,
+            FORMAT_BYTES as u64,
+            "",
+        )
     } else if tag == EXTENSIBLE_TAG {
         tag_fault(format, two_at(format, 24))
     } else {
@@ -36,20 +53,27 @@ fn tag_fault(format: &[u8], tag: u32) -> Said
     if tag == PCM_TAG {
         number_fault(format)
     } else {
-        Said::One("format tag ", tag.into(), coding(tag))
+        let words = ") or extensible with PCM is read";
+        Said::Two(
+            "format tag ",
+            tag.into(),
+            coding(tag),
+            PCM_TAG.into(),
+            words,
+        )
     }
 }
 
-// The names of codings that are often met.
+// The names of codings that are often met, and what is read.
 fn coding(tag: u32) -> &'static str {
     match tag {
-        2 => " (Microsoft ADPCM)",
-        3 => " (floating point)",
-        6 => " (A-law)",
-        7 => " (mu-law)",
-        17 => " (IMA ADPCM)",
-        85 => " (MP3)",
-        _ => "",
+        2 => " (Microsoft ADPCM); PCM (",
+        3 => " (floating point); PCM (",
+        6 => " (A-law); PCM (",
+        7 => " (mu-law); PCM (",
+        17 => " (IMA ADPCM); PCM (",
+        85 => " (MP3); PCM (",
+        _ => "; PCM (",
     }
 }
 
@@ -61,34 +85,44 @@ fn number_fault(format: &[u8]) -> Said
     let frame = two_at(format, 12);
     let bits = two_at(format, 14);
     if !matches!(bits, 8 | 16 | 24 | 32) {
-        Said::One("", bits.into(), " bits")
+        Said::One("", bits.into(), " bits; 8, 16, 24 and 32 are read")
     } else if !matches!(channels, 1 | 2 | 4 | 6 | 8) {
-        Said::One("", channels.into(), " channels")
+        Said::One("", channels.into(), " channels; 1, 2, 4, 6 and 8 are read")
     } else if rate < RATE_LEAST || rate > RATE_MOST {
-        Said::One("rate ", rate.into(), "")
+        rate_said(rate)
     } else {
-        Said::Two(
-            "",
-            bits.into(),
-            " bits in frames of ",
-            frame.into(),
-            " bytes",
-        )
+        frame_said(bits, frame, channels)
     }
 }
 
-// The rate and the channels of a format.
-pub(crate) fn shape_told(format: &[u8]) -> Said
-    requires { length format.now ≡ FORMAT_BYTES }
-{
-    let rate = four_at(format, 4);
-    let channels = two_at(format, 2);
-    let other = ", which aren't those of the device";
-    Said::Two(
+fn rate_said(rate: u32) -> Said {
+    Said::Three(
         "rate ",
         rate.into(),
-        " and channels ",
-        channels.into(),
-        other,
+        "; ",
+        RATE_LEAST.into(),
+        " to ",
+        RATE_MOST.into(),
+        " are read",
     )
+}
+
+// A frame has the bytes of its samples, and no others.
+fn frame_said(bits: u32, frame: u32, channels: u32) -> Said {
+    Said::Three(
+        "",
+        bits.into(),
+        " bits in frames of ",
+        frame.into(),
+        " bytes; frames of ",
+        u64::from(bits / 8).saturating_mul(u64::from(channels)),
+        " are read",
+    )
+}
+
+// The rate and the channels that a format tells.
+pub(crate) fn shape_of(format: &[u8]) -> (u32, u32)
+    requires { length format.now ≡ FORMAT_BYTES }
+{
+    (four_at(format, 4), two_at(format, 2))
 }
