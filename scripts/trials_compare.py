@@ -40,7 +40,8 @@ def try_compare(program, folder):
         wanted = ["  mixed by line 9: intr 16", "  handed over by line 11: intr 16", *(f"  {HEARD[it]} is heard there" for it in heard)]
         equal(f"compare {form} {channels}", lines[3:], wanted + [f"{HEARD[it]} is heard in 1 of 1 places" for it in heard])
         most = int(lines[1].split()[-1])
-        equal(f"tolerance {form}", tool("compare", "--tolerance", most, one, two, script, config), (0, ""))
+        if channels < 4:
+            equal(f"tolerance {form}", tool("compare", "--tolerance", most, one, two, script, config), (0, ""))
 
 
 # an example with a line left out, or with another before its first: the first frame that differs, which events that comes of, and who is heard
