@@ -1,4 +1,5 @@
 """Trials of the tools as commands: words, faults, streams, ends, where the program is, and progress."""
+import itertools
 import os
 import pty
 import select
@@ -27,9 +28,9 @@ def try_words(program, folder):
         equal(f"{name} --version", (status, said.startswith(f"{name}, of dsp_replay "), errors), (0, True, ""))
         status, said, errors = called(name)
         equal(f"{name} without words", (status, said, errors.startswith(f"usage:\n  tools/{name} ")), (2, "", True))
-        for words in (["--nonsense"], ["x", "--program"], ["x", "--frm=1"]):
-            status, said, errors = called(name, *words)
-            equal(f"{name} {words}", (status, said, is_a_line(name, errors)), (2, "", True))
+    for name, words in zip(itertools.cycle(TOOL_NAMES), [["--nonsense"], ["x", "--program"], ["x", "--frm=1"]] * 3):
+        status, said, errors = called(name, *words)
+        equal(f"{name} {words}", (status, said, is_a_line(name, errors)), (2, "", True))
     for name, words in (("picture", ["--from", "x", SHORT]), ("explain", [SHORT, "-3"]), ("explain", ["--most", "0", "--clicks", SHORT]), ("filter", ["1", "2", "3", "x"]),
                         ("equaliser", ["48000", "peek", "3"]), ("equaliser", ["48000", "peak", "x", "1", "1"]), ("sweep", ["--rate", "1", "x"]),
                         ("compare", ["--tolerance", "-1", "a", "b"]), ("mix", ["--format", "mp3", "a", "b"])):

@@ -28,7 +28,7 @@ def tool(name, *words, folder=ROOT, stdin=""):
 
 def called(name, *words, folder=ROOT, stdin=""):
     """The same, with what it printed on each output."""
-    ran = subprocess.run([str(TOOLS / name), *map(str, words)], cwd=folder, input=stdin, stdout=subprocess.PIPE, stderr=subprocess.PIPE,
+    ran = subprocess.run([sys.executable, str(TOOLS / name), *map(str, words)], cwd=folder, input=stdin, stdout=subprocess.PIPE, stderr=subprocess.PIPE,
                          universal_newlines=True, check=False)
     return ran.returncode, ran.stdout, ran.stderr
 

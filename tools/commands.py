@@ -46,9 +46,10 @@ def name():
 
 
 def say(text):
-    """Prints a line on standard error, if somebody is there to read it."""
+    """Prints a line on standard error, if somebody is there to read it. What would end the line is told by its number."""
+    text = re.sub(r"[\x00-\x1f\x7f]", lambda it: f"\\x{ord(it[0]):02x}", str(text))
     try:
-        print(f"{name()}: {text}", file=sys.stderr, flush=True)
+        print(f"{name()}: {text}", file=sys.stderr or open(os.devnull, "w", encoding="utf-8"), flush=True)
     except OSError:
         pass
 
@@ -150,7 +151,7 @@ def asked(act, doc, options, words):
         print(f"{name()}, of dsp_replay {version()}")
         return 0
     if not words:
-        print(f"usage:\n{usage(doc)}", file=sys.stderr)
+        print(f"usage:\n{usage(doc)}", file=sys.stderr or open(os.devnull, "w", encoding="utf-8"))
         return WRONG
     return act(read_words(words, options)) or 0
 
@@ -165,7 +166,8 @@ def ended(act, doc, options, words, faulty):
     """The status of a call, with a line on standard error where it has a fault."""
     try:
         status = asked(act, doc, options, words)
-        sys.stdout.flush()
+        if sys.stdout:
+            sys.stdout.flush()
         return status
     except WrongWords as fault:
         say(f"{fault}; {name()} --help tells more")
@@ -198,7 +200,7 @@ class Progress:
     def at(self, done, of):
         """Tells that so much is done, if it is time to."""
         spent = time.monotonic() - self.begun
-        if not sys.stderr.isatty() or spent < 1 or spent - self.told < 0.2:
+        if not sys.stderr or not sys.stderr.isatty() or spent < 1 or spent - self.told < 0.2:
             return
         left = f", {spent * (of - done) / done:.0f} s still" if done else ""
         print(f"\r{name()}: {self.what}: {100 * done // max(of, 1)} %{left}\033[K", end="", file=sys.stderr, flush=True)
