@@ -21,7 +21,7 @@ DESCRIPTORS = 64
 # something happens between so many of them at most
 MOST, COLUMNS, TIMES, SPANS = 3000, 1000, 5, 200
 # so many lines a place has at most, its questions and interrupts, where a script is full of events
-QUESTIONED = 11
+QUESTIONED, SPARE = 11, 64
 # in so many pieces an interrupt is cut at once
 PIECES = 32
 
@@ -235,11 +235,11 @@ class Solo:
 
     def moments_and_sound(self):
         """What each client is told, as closely as something happens; and the frames of OUT."""
-        every = self.candidates()
-        places = thinned(self.played, self.script, every)
+        every, room = self.candidates(), max((EVENTS - len(self.steps()[0]) - SPARE) // QUESTIONED, 1)
+        places = thinned(self.played, self.script, every, min(MOST, room))
         found, sound = self.told_and_heard(places)
         for _ in range(TIMES if len(places) < len(every) else 0):
-            more = closer(found, every, places)
+            more = closer(found, every, places, min(MOST, room - len(places)))
             if not more:
                 break
             places |= more
@@ -260,19 +260,18 @@ def until_gone(opening, moments):
     return moments
 
 
-def thinned(played, script, every):
+def thinned(played, script, every, most):
     """The places that are asked first: all, or of each column the last of the clients' own events, and the last interrupt."""
-    room = (EVENTS - len(script.events)) // QUESTIONED
-    if len(every) <= min(MOST, room):
+    if len(every) <= most:
         return set(every)
-    found, columns = {}, min(COLUMNS, room // 3)
+    found, columns = {}, min(COLUMNS, most // 3)
     for at in every:
         column = played.handed(at) * columns // max(played.total, 1)
         found[column, script.events[at].startswith("intr")] = at
-    return {*found.values(), *every[:2]}
+    return {*every[:2], *sorted(found.values())[-max(most - 2, 0):]} if most > 1 else {every[0]}
 
 
-def closer(found, every, places):
+def closer(found, every, places, most):
     """The places between two at which something other is told, as many as can be asked at once."""
     spans = [(a.event, b.event) for moments in found for a, b in zip(moments, moments[1:]) if has_changed(a, b)]
     more, at = [], 0
@@ -283,7 +282,7 @@ def closer(found, every, places):
             more.append(every[at])
             at += 1
     more = [it for it in more if it not in places]
-    return set(more[::-(-len(more) // MOST)] if more else ())
+    return set(more[::-(-len(more) // most)] if more and most > 0 else ())
 
 
 def has_changed(before, after):

@@ -182,6 +182,8 @@ class Room:
         """Runs a script of these events. Answers its replies in their order, or those to events of wanted numbers, from 0 on; and the
         frames of OUT."""
         config = self.config if config is None else config
+        if len(events) > EVENTS:
+            fail(f"the script is too long: with what is asked of the program it has {len(events)} events, and {EVENTS} are the most")
         self.count += 1
         script, out, toml = (pathlib.Path(self.folder.name) / f"{self.count}.{end}" for end in ("script", "out", "toml"))
         write_lines(script, events)
