@@ -233,10 +233,10 @@ class Solo:
         starts = (at for at in range(first, len(script.events)) if " syncstart " in script.events[at]) if self.is_whole else ()
         return [at for at in sorted({*own, *played.turns, *starts}) if first <= at <= last]
 
-    def moments_and_sound(self):
-        """What each client is told, as closely as something happens; and the frames of OUT."""
+    def moments_and_sound(self, window=None):
+        """What each client is told, as closely as something happens, and most closely in a window of frames; and the frames of OUT."""
         every, room = self.candidates(), max((EVENTS - len(self.steps()[0]) - SPARE) // QUESTIONED, 1)
-        places = thinned(self.played, self.script, every, min(MOST, room))
+        places = thinned(self.played, self.script, every, min(MOST, room), window)
         found, sound = self.told_and_heard(places)
         for _ in range(TIMES if len(places) < len(every) else 0):
             more = closer(found, every, places, min(MOST, room - len(places)))
@@ -260,14 +260,18 @@ def until_gone(opening, moments):
     return moments
 
 
-def thinned(played, script, every, most):
-    """The places that are asked first: all, or of each column the last of the clients' own events, and the last interrupt."""
+def thinned(played, script, every, most, window):
+    """The places that are asked first: all, or of each column the last of the clients' own events, and the last interrupt. A window of
+    the frames has half of the columns."""
     if len(every) <= most:
         return set(every)
     found, columns = {}, min(COLUMNS, most // 3)
+    begin, end = window or (0, 0)
     for at in every:
-        column = played.handed(at) * columns // max(played.total, 1)
-        found[column, script.events[at].startswith("intr")] = at
+        handed = played.handed(at)
+        inside = begin <= handed < end and end - begin < played.total
+        column = (handed - begin) * columns // (2 * (end - begin)) if inside else handed * columns // (2 * max(played.total, 1))
+        found[inside, column, script.events[at].startswith("intr")] = at
     return {*every[:2], *sorted(found.values())[-max(most - 2, 0):]} if most > 1 else {every[0]}
 
 

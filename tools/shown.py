@@ -4,6 +4,7 @@ import collections
 import pathlib
 
 from clients import Solo, first_missing
+from commands import fail
 from facts import clipped, clipped_rows
 from origins import files_of
 from scripts import Played, Room, Script, device_of, on_the_mix, parts_of, rates_of
@@ -51,13 +52,14 @@ class Along:
 class Shown:
     """A script with all that the program says of it."""
 
-    def __init__(self, program, text, config):
+    def __init__(self, program, text, config, bounds=(None, None)):
         self.played = Played(Room(program, config), Script(text))
         self.device, self.total, self.out = self.played.device, self.played.total, self.played.out
         self.own, self.config = bool(rates_of(config)), config
+        self.begin, self.end = self.window(*bounds)
         self.solos, self.given, self.clients = solos_of(self.played), {}, []
         for slot, solo in self.solos.items():
-            moments, sound = solo.moments_and_sound()
+            moments, sound = solo.moments_and_sound(self.around())
             self.given[slot] = solo.given() if self.own else sound.from_frame(self.device.ring)
             self.clients += [Client(*it, solo, which) for which, it in enumerate(zip(solo.openings, moments))]
         self.clients += self.recorders()
@@ -65,6 +67,18 @@ class Shown:
         self.mix = self.mixed() if self.own else self.out.from_frame(self.device.ring)
         self.along = Along(self.segments())
         self.clipped = {slot: clipped_rows(clipped(it), 0, self.total) for slot, it in self.solos.items()}
+
+    def window(self, first, last):
+        """The frames that are shown: from one position to another, or all."""
+        whole = self.total + self.device.ring
+        begin, end = (min(at(self.device.rate), whole) if at else usual for at, usual in ((first, 0), (last, whole)))
+        if begin >= end:
+            fail(f"nothing is from frame {begin} to {end}: {whole} frames are there, and --from is before --to")
+        return begin, end
+
+    def around(self):
+        """The frames that are shown, with those of an interrupt before and behind them."""
+        return max(self.begin - self.device.ring, 0), self.end + self.device.ring
 
     def slots(self):
         """The slots that are heard."""
@@ -75,7 +89,7 @@ class Shown:
         slots = sorted({it.slot for it in self.played.openings if it.way == "rec"})
         for slot in slots:
             solo = Solo(self.played, [it for it in self.played.openings if it.way == "rec" and it.slot == slot])
-            for which, it in enumerate(zip(solo.openings, solo.moments_and_sound()[0])):
+            for which, it in enumerate(zip(solo.openings, solo.moments_and_sound(self.around())[0])):
                 yield Client(*it, solo, which)
 
     def of_slot(self, slot):
