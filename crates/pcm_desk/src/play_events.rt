@@ -116,10 +116,7 @@ impl PlayBook {
     fn takes_none(&self) -> bool
         ensures { result ≡ takes_none self.now.state }
     {
-        matches!(
-            self.state,
-            PlayState::Free | PlayState::Draining { .. }
-        )
+        matches!(self.state, PlayState::Free | PlayState::Draining { .. })
     }
 
     // The book after `accepted` more bytes, where so many frames were mixed.

@@ -21,9 +21,7 @@ mod words;
 pub use fault::{Refusal, ScriptFault, ScriptKind};
 pub use limits::TEXT_BYTES;
 pub use line_event::LineEvent;
-pub use names::{
-    Command, Control, join_name, request_name, start_group_name, way_name, way_named,
-};
+pub use names::{Command, Control, join_name, request_name, start_group_name, way_name, way_named};
 pub use number::{DECIMAL_DIGITS, HEXADECIMAL_DIGITS, decimal_in, number_in};
 pub use reader::script_of;
 pub use request::{Named, REQUESTS, Setter, request_named};
