@@ -3,6 +3,7 @@ import array
 import bisect
 import collections
 import itertools
+import json
 import os
 import pathlib
 import re
@@ -74,10 +75,18 @@ def settled(text):
     table = ""
     for line in text.splitlines():
         head = re.match(r"\s*\[+\s*([\w.]+)\s*\]+", line)
-        pair = re.match(r"\s*([\w.]+)\s*=\s*\"?([\w]+)", line)
+        pair = re.match(r"""\s*([\w.]+)\s*=\s*("(?:\\.|[^"\\])*"|'[^']*'|[\w.+-]+)""", line)
         if head:
             table = head.group(1) + "."
-        yield (line, table + pair.group(1), pair.group(2)) if pair and not head else (line, "", "")
+        yield (line, table + pair.group(1), unquoted(pair.group(2))) if pair and not head else (line, "", "")
+
+
+def unquoted(value):
+    """A value of TOML as it is without its quotes."""
+    try:
+        return json.loads(value) if value.startswith('"') else value.strip("'")
+    except ValueError:
+        return value.strip('"')
 
 
 def keys_of(text):
