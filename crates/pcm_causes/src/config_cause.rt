@@ -5,6 +5,7 @@ use crate::config_reason::config_reason;
 use crate::definition::definition_at;
 use crate::judged::judged_text;
 use crate::lines::{column_behind, line_from, number_behind};
+use crate::said::said_of_line;
 use crate::shown::shown;
 use crate::wrong_key::wrong_key_at;
 use pcm_config::{CONFIG_BYTES, ConfigFault, ConfigKind, ConfigPlace, ConfigRefusal, config_of};
@@ -69,10 +70,10 @@ fn definition_fault(alloc: Global, text: &[u8], refusal: ConfigRefusal) -> Optio
     let line = number_behind(text.get(..place)?);
     let wrong = shown(alloc, line_from(text, place)?).ok()?;
     let judged = judged_text(alloc, text, place, refusal);
-    match judged.and_then(|judged| config_reason(alloc, judged, refusal)) {
-        Some(reason) => format!(in alloc; "configuration line {line}: {wrong}: {reason}").ok(),
-        None => format!(in alloc; "configuration line {line}: {wrong}").ok(),
-    }
+    let place = format!(in alloc; "configuration line {line}").ok()?;
+    let reason = judged.and_then(|judged| config_reason(alloc, judged, refusal));
+    let reason = reason.as_ref().map(String::as_str);
+    said_of_line(alloc, place.as_str(), wrong.as_str(), reason).ok()
 }
 
 // Where the definition begins that brings a fault: of a filter or a section that of the wrong key, if there is one.

@@ -3,6 +3,7 @@
 use crate::again::{content, reopened};
 use crate::line_reason::line_reason;
 use crate::lines::{line_at, place_of_line};
+use crate::said::said_of_line;
 use crate::shown::shown;
 use pcm_script::TEXT_BYTES;
 use std::alloc::Global;
@@ -25,10 +26,10 @@ pub(crate) fn script_cause<R: rt::Files>(
     let wrong = line_at(&text, number)?;
     let before = text.get(..place_of_line(&text, number))?;
     let said = shown(alloc, wrong).ok()?;
-    match line_reason(rt, alloc, words, kind, before, wrong) {
-        Some(reason) => format!(in alloc; "script line {number}: {said}: {reason}").ok(),
-        None => format!(in alloc; "script line {number}: {said}").ok(),
-    }
+    let place = format!(in alloc; "script line {number}").ok()?;
+    let reason = line_reason(rt, alloc, words, kind, before, wrong);
+    let reason = reason.as_ref().map(String::as_str);
+    said_of_line(alloc, place.as_str(), said.as_str(), reason).ok()
 }
 
 fn long_script<R: rt::Files>(rt: &R, alloc: Global, script: &str) -> Option<String> {
