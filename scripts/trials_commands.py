@@ -10,7 +10,7 @@ import time
 
 from trials_shared import ROOT, TOOLS, called, equal, noise
 
-TOOL_NAMES = ("compare", "equaliser", "explain", "filter", "mix", "picture", "sweep")
+TOOL_NAMES = ("compare", "equaliser", "explain", "filter", "mix", "picture", "record", "sweep")
 SHORT = ROOT / "examples" / "03-a-shortage" / "a_shortage.script"
 
 
@@ -33,7 +33,8 @@ def try_words(program, folder):
         equal(f"{name} {words}", (status, said, is_a_line(name, errors)), (2, "", True))
     for name, words in (("picture", ["--from", "x", SHORT]), ("explain", [SHORT, "-3"]), ("explain", ["--most", "0", "--clicks", SHORT]), ("filter", ["1", "2", "3", "x"]),
                         ("equaliser", ["48000", "peek", "3"]), ("equaliser", ["48000", "peak", "x", "1", "1"]), ("sweep", ["--rate", "1", "x"]),
-                        ("compare", ["--tolerance", "-1", "a", "b"]), ("mix", ["--format", "mp3", "a", "b"])):
+                        ("compare", ["--tolerance", "-1", "a", "b"]), ("mix", ["--format", "mp3", "a", "b"]),
+                        ("record", ["--"]), ("record", ["true"]), ("record", ["x", "--", "true"]), ("record", ["--out", "--", "true"])):
         status, said, errors = called(name, *words)
         equal(f"{name} {words}", (status, said, is_a_line(name, errors)), (2, "", True))
 

@@ -1,8 +1,13 @@
 """Trials of tools/record: players, a game and recorders, as scripts."""
 import itertools
+import os
+import signal
+import subprocess
 import sys
+import tempfile
+import time
 
-from trials_shared import LAYOUTS, TOOLS, Device, ask, equal, noise, samples_of, tool, wave_of
+from trials_shared import LAYOUTS, TOOLS, Device, ask, called, equal, noise, samples_of, tool, wave_of
 from calls import FORMATS, RING
 
 # a player: it asks for the settings of a wave, and writes its body as a whole
@@ -94,4 +99,58 @@ def try_record(program, folder):
     equal("no player", tool("record", "--out", folder / "none", "--", "true"), (1, "record: true ended with 0, and opened no /dev/dsp\n"))
 
 
-TRIALS = (try_record, try_record_others)
+# a player that writes a sound of two blocks, and then does what its words say
+ENDS = """import os, resource, signal, sys, time
+if sys.argv[1] == "full":
+    resource.setrlimit(resource.RLIMIT_FSIZE, (5000, 5000))
+fd = os.open("/dev/dsp", os.O_WRONLY)
+print("it plays", flush=True)
+for _ in range(10):
+    os.write(fd, bytes(3000))
+if sys.argv[1] == "wait":
+    signal.signal(signal.SIGINT, signal.SIG_DFL)
+    open(sys.argv[2], "w").close()
+    time.sleep(60)
+"""
+
+
+def end_by(number, is_group, words, waits):
+    """Ends a recording by a signal, to all as a terminal does or to the tool alone, once a program waits. Answers what comes of it."""
+    ran = subprocess.Popen([str(it) for it in (TOOLS / "record", *words, waits)], stdout=subprocess.PIPE, stderr=subprocess.PIPE, start_new_session=True,
+                           preexec_fn=lambda: signal.signal(signal.SIGINT, signal.SIG_DFL))
+    for _ in range(200):
+        if waits.exists():
+            break
+        time.sleep(0.1)
+    (os.killpg if is_group else os.kill)(ran.pid, number)
+    said, errors = ran.communicate(timeout=30)
+    waits.unlink()
+    return ran.returncode, said, errors
+
+
+def try_record_ends(program, folder):
+    """However a recording ends, its script has whole lines, or is what it was, and a line tells of a fault."""
+    (folder / "player").write_text(ENDS)
+    words, script = ["--", sys.executable, folder / "player"], folder / "recorded"
+    for number, is_group, status in ((signal.SIGINT, True, 130), (signal.SIGTERM, False, 143)):
+        equal(f"record and signal {number}", end_by(number, is_group, ["--out", script, *words, "wait"], folder / "waits"), (status, b"it plays\n", b""))
+        text = script.read_text()
+        equal(f"a script by signal {number}", (text.startswith("open 0 play\nwrite 0 00"), text.endswith("\n")), (True, True))
+        ask(program, "check", script)
+    status, said, errors = called("record", "--out", "-", *words, "end", folder=folder)
+    equal("record into a pipe", (status, said.startswith("open 0 play\nwrite 0 00"), "plays" in said, errors), (0, True, False, "it plays\n"))
+    equal("a status", tool("record", "--out", script, "--", "sh", "-c", f"{sys.executable} {folder / 'player'} end; exit 3"), (3, "it plays\n"))
+    text = script.read_text()
+    (folder / "text").write_text("no program\n")
+    for what, out, more, fault in (
+            ("nothing played", script, ["--", "true"], "true ended with 0, and opened no /dev/dsp"), ("no program", script, ["--", folder / "none"], f"{folder / 'none'}: No such file or directory"),
+            ("a text", script, ["--", folder / "text"], f"{folder / 'text'}: Permission denied"), ("no room", script, [*words, "full"], f"no room for the script in {tempfile.gettempdir()}"),
+            ("a folder", folder, [*words, "end"], f"{folder}: a folder"), ("a folder that isn't there", folder / "none" / "x", [*words, "end"], f"{folder / 'none' / 'x'}: there is no such folder"),
+            ("a full disk", "/dev/full", [*words, "end"], "/dev/full: No space left on device")):
+        status, _, errors = called("record", "--out", out, *more, folder=folder)
+        equal(f"record: {what}", (status, errors), (1, f"record: {fault}\n"))
+    equal("what was recorded before", script.read_text() == text, True)
+    equal("files", sorted(it.name for it in folder.iterdir()), ["player", "recorded", "text"])
+
+
+TRIALS = (try_record, try_record_others, try_record_ends)

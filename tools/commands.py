@@ -98,7 +98,7 @@ def wrong(text):
 def value_of(option, kind, words):
     """The value of an option, which is a part of its word or the next word."""
     title, equals, value = option.partition("=")
-    if not equals and not words:
+    if not equals and words[:1] in ([], ["--"]):
         wrong(f"{title} wants a value")
     value = value if equals else words.pop(0)
     try:

@@ -13,6 +13,7 @@
 #include <stdbool.h>
 #include <stdint.h>
 #include <stdio.h>
+#include <stdio_ext.h>
 #include <stdlib.h>
 #include <string.h>
 #include <sys/ioctl.h>
@@ -38,6 +39,7 @@ typedef struct {
 
 static Client clients[OPEN];
 static FILE *script;
+static bool lost;
 static uint64_t device_frames;
 static struct timespec begun;
 static int areas;
@@ -75,8 +77,16 @@ static Client *client_of(int fd) {
 
 static int number_of(const Client *c) { return (int)(c - clients); }
 
+/* A script that has no room is emptied, which tells so, and nothing more is written. */
+static void look(void) {
+  if (!ferror(script)) return;
+  __fpurge(script);
+  lost = !ftruncate(fileno(script), 0);
+}
+
 static void line(const char *form, ...) {
   va_list words;
+  if (lost) return;
   if (!script) {
     const char *name = getenv("DSP_RECORD");
     script = fopen(name ? name : "recorded.script", "we");
@@ -87,6 +97,7 @@ static void line(const char *form, ...) {
   vfprintf(script, form, words);
   va_end(words);
   fputc('\n', script);
+  look();
 }
 
 static unsigned width(const Client *c) {
@@ -448,7 +459,7 @@ static void *map_area(Client *c, size_t length) {
   c->area = area;
   c->maps = true;
   areas++;
-  if (script && !fseek(script, c->opened_at, SEEK_SET)) fputs("map ", script), fseek(script, 0, SEEK_END);
+  if (script && !lost && !fseek(script, c->opened_at, SEEK_SET)) fputs("map ", script), fseek(script, 0, SEEK_END);
   return area;
 }
 
@@ -506,5 +517,6 @@ int close(int fd) {
 __attribute__((destructor)) static void end(void) {
   for (Client *c = clients; c < clients + OPEN; c++)
     if (c->used) finish(c, true);
-  if (script) fclose(script);
+  if (script && !fflush(script)) fclose(script);
+  else if (script) look();
 }
