@@ -157,4 +157,15 @@ def try_transcripts(program, folder):
     equal("no replies", tool("compare", "--replies", first, first)[0], 3)
 
 
-TRIALS = (try_compare, try_compare_examples, try_places, try_answers, try_transcripts)
+def try_compare_cut(program, folder):
+    """Of files that were cut within a frame what is left of it counts, too."""
+    for name, data in (("one", b"abcdefgh"), ("two", b"abcdefghi"), ("three", b"abcdefghj"), ("four", b"abcd")):
+        (folder / name).write_bytes(data)
+    for first, second, told in (
+            ("one", "one", ""), ("two", "two", ""), ("one", "two", "behind the last frames stand 0 and 1 bytes of another, which differ\n"),
+            ("two", "three", "behind the last frames stand 1 and 1 bytes of another, which differ\n"),
+            ("four", "two", "1 and 2 frames\nall frames that both have are equal\nbehind the last frames stand 0 and 1 bytes of another, which differ\n")):
+        equal(f"compare {first} {second}", tool("compare", folder / first, folder / second), (int(first != second), told))
+
+
+TRIALS = (try_compare, try_compare_examples, try_places, try_answers, try_transcripts, try_compare_cut)

@@ -60,12 +60,16 @@ class Sound:
     def __init__(self, path, device, begin=0, size=None):
         self.file, self.device, self.begin, self.frame_size = open(path, "rb"), device, begin, size_of(device)
         left = os.fstat(self.file.fileno()).st_size - begin
-        self.frames = max(0, left if size is None else min(left, size)) // self.frame_size
+        self.frames, self.rest = divmod(max(0, left if size is None else min(left, size)), self.frame_size)
 
     def data(self, begin, end):
         """The bytes of frames, as far as there are some."""
         begin, end = max(begin, 0), min(end, self.frames)
         return os.pread(self.file.fileno(), max(0, end - begin) * self.frame_size, self.begin + begin * self.frame_size)
+
+    def part(self):
+        """The bytes behind the last frame, of a file that was cut within one."""
+        return os.pread(self.file.fileno(), self.rest, self.begin + self.frames * self.frame_size)
 
     def samples(self, begin, end):
         """The samples of frames one after another, channel by channel, silent where there are none."""
