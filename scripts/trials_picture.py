@@ -126,8 +126,12 @@ def try_picture_events(program, folder):
     # 788 for 28 frames: on both sides of slot 0 frames 0 to 3 and 8 to 11
     equal("a mute", [re.match(r"M\S+", path)[0] for path in paths_of(root, "slot")][:4], ["M190", "M415.1"] * 2)
     words = [sys.executable, TOOLS / "picture", script, "--out", folder / "drawn.png", "--program", program]
-    ran = subprocess.run(list(map(str, words)), env={"PATH": ""}, stderr=subprocess.PIPE, universal_newlines=True, check=False)
-    equal("no converter", (ran.returncode, ran.stderr), (1, "picture: a PNG needs rsvg-convert, inkscape or ImageMagick in the path\n"))
+    for words[4] in (folder / "drawn.png", folder / "drawn.PNG"):
+        ran = subprocess.run(list(map(str, words)), env={"PATH": ""}, stderr=subprocess.PIPE, universal_newlines=True, check=False)
+        equal("no converter", (ran.returncode, ran.stderr), (1, "picture: a PNG needs rsvg-convert, inkscape or ImageMagick in the path\n"))
+    for out in ("drawn.jpg", "drawn.PDF"):
+        equal(out, (tool("picture", script, "--out", folder / out, "--program", program), (folder / out).exists()), (
+            (2, f"picture: --out is FILE.svg or FILE.png: '{folder / out}' isn't; picture --help tells more\n"), False))
 
 
 def try_kept_frames(program, folder):
