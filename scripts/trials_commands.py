@@ -58,6 +58,11 @@ def try_faults(program, folder):
     for named in (gone, folder, SHORT):
         status, said, errors = called("explain", SHORT, 0, "--program", named)
         equal(f"no program, {named}", (status, said, is_a_line("explain", errors), str(named) in errors), (1, "", True, True))
+    for ends, fault in (("exit 7", "7: no room for what it writes"), ("echo dsp_replay: cannot write OUT >&2; exit 7", "7: cannot write OUT"),
+                        ("exit 8", "8: out of memory"), ("exit 1", "1: it says nothing")):
+        (folder / "ends").write_text(f"#!/bin/sh\n{'echo 1: ok 0' * ('7' in ends)}\n{ends}\n")
+        (folder / "ends").chmod(0o755)
+        equal(f"a program that ends: {ends}", called("explain", SHORT, 0, "--program", folder / "ends"), (1, "", f"explain: the program ended with {fault}\n"))
     with open("/dev/full", "w", encoding="utf-8") as full:
         for name, *words in (("filter", 44100, 48000, 160, 32), ("explain", SHORT, 1024, "--program", program), ("picture", SHORT, "--out", "-", "--program", program), ("mix", "--help")):
             ran = subprocess.run([TOOLS / name, *map(str, words)], stdout=full, stderr=subprocess.PIPE, universal_newlines=True, check=False)

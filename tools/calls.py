@@ -19,6 +19,8 @@ WIDTHS = {name: width for width, name in FORMATS.items()}
 CODINGS, INTEGER, EXTENSIBLE = {2: "ADPCM", 3: "floats", 6: "A-law", 7: "mu-law", 85: "MP3"}, 1, 0xFFFE
 # how often it is looked how far a run is, in seconds; and how many bytes are read of what a fault is told by
 LOOK, MOST_SAID = 0.1, 2000
+# the status of a program that couldn't write; and what a status means of which nothing is said
+UNWRITTEN, SILENT = 7, {7: "no room for what it writes", 8: "out of memory"}
 
 # a wave's settings, and where its body lies in the file
 Wave = collections.namedtuple("Wave", "path format channels rate at size")
@@ -64,8 +66,10 @@ def judge(status, printed, errors):
     if status < 0:
         fail(f"the program was stopped by signal {-status}")
     if status:
-        said = [it.strip().replace("dsp_replay: ", "", 1) for it in (printed.strip().split("\n")[-1], errors)]
-        fail(f"the program ended with {status}: {': '.join(filter(None, said)) or 'out of memory'}")
+        # what was printed is cut where there is no room, and tells no reason
+        lines = [printed.strip().split("\n")[-1] if status != UNWRITTEN else "", errors]
+        said = ": ".join(filter(None, (it.strip().replace("dsp_replay: ", "", 1) for it in lines)))
+        fail(f"the program ended with {status}: {said or SILENT.get(status, 'it says nothing')}")
 
 
 def number(data, at, size):
