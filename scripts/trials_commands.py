@@ -54,7 +54,8 @@ def try_faults(program, folder):
         equal(f"{name} {words}", (status, said, is_a_line(name, errors), "Traceback" in errors), (2 if name == "compare" else 1, "", True, False))
     equal("what is gone", called("picture", gone, "--program", program)[2], f"picture: {gone}: No such file or directory\n")
     equal("a fault of a script", called("explain", folder / "fault", 0, "--program", program)[2], (
-        "explain: the program ended with 5: bad script: line 2: word: script line 2: opne 1\n"))
+        'explain: the program ended with 5: bad script: line 2: word: script line 2: opne 1: "opne" is no command: '
+        "open, write, send, poke, read, ioctl, close, mixer, intr\n"))
     for named in (gone, folder, SHORT):
         status, said, errors = called("explain", SHORT, 0, "--program", named)
         equal(f"no program, {named}", (status, said, is_a_line("explain", errors), str(named) in errors), (1, "", True, True))
