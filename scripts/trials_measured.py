@@ -1,9 +1,11 @@
 """Trials of tools/filter, tools/equaliser and tools/sweep."""
 import random
 import re
+import subprocess
+import sys
 import xml.etree.ElementTree
 
-from trials_shared import ROOT, Device, ask, called, equal, put_wave, samples_of, tool
+from trials_shared import ROOT, TOOLS, Device, ask, called, equal, put_wave, samples_of, tool
 
 CONSTANT = """open 0 play s16le 1 8000
 send 0 constant 0 4000
@@ -47,6 +49,13 @@ def try_sweep_filters(program, folder):
     equal("the first of two", tone_of(said, 1999) != "-1.374", True)
     status, said, errors = called("sweep", table, "--table", 2, "--program", program)
     equal("the second of two", (status, tone_of(said, 1999), errors), (0, "-1.374", ""))
+    for out, status, fault in (("x.jpg", 2, f"--picture is FILE.svg or FILE.png: '{folder / 'x.jpg'}' isn't; sweep --help tells more"),
+                               ("x.png", 1, "a PNG needs rsvg-convert, inkscape or ImageMagick in the path")):
+        words = [sys.executable, TOOLS / "sweep", table, "--picture", folder / out, "--program", program]
+        ran = subprocess.run(list(map(str, words)), env={"PATH": ""}, stdout=subprocess.PIPE, stderr=subprocess.PIPE, universal_newlines=True, check=False)
+        equal(out, (ran.returncode, ran.stdout, ran.stderr), (status, "", f"sweep: {fault}\n"))
+    (folder / "sections").write_text(tool("equaliser", 8000, "peak", 1000, 6, 1)[1])
+    equal("no filter", called("sweep", folder / "sections", "--table", 2, "--program", program), (1, "", "sweep: filter 2: 0 are there\n"))
     equal("no third", called("sweep", table, "--table", 3, "--program", program), (1, "", "sweep: filter 3: 2 are there\n"))
 
 
