@@ -44,3 +44,18 @@ returns g c =
           })
           c.requires.soaked);
     }
+
+-- the bytes that are heard are there
+pub slice_bounds-hear-end : goal.slice_bounds-hear-end
+slice_bounds-hear-end g c =
+    let soak = c.args.self.now in
+    let pool = c.args.pool.now in
+    let xs = c.args.events.now in
+    let step = c.step-count.ensures in
+    let block : c.deref.result.now ≡ c.step-count.new.out =
+    c.deref.ensures.value ∙ front _ c.step-count.new.out _ (c.step-count.auto.out ∙ c.deref_mut.ensures.len) in
+    let is : device_of soak.engine ≡ usual_device = c.requires.soaked.engine.device_is in
+    let count : c.step-count.result ≤ ring_room usual_device = handed-on (device_of soak.engine) pool xs c.args.at c.step-count.result _ is c.requires.events.fits c.requires.there step.count in
+    let room : length c.step-count.new.out ≡ ring_room usual_device = c.step-count.auto.out ∙ c.deref_mut.ensures.len ∙ c.requires.soaked.room in
+    let size : length (take c.step-count.result c.step-count.new.out) ≡ c.step-count.result = length-take-le c.step-count.result c.step-count.new.out (omega (arith, count, room)) in
+    sym (ap (λ (bytes : List ℕ). length (take c.step-count.result bytes)) block ∙ size)
