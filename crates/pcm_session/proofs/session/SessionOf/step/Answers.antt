@@ -17,3 +17,8 @@ pub step_with-count-requires-clause-count : goal.step_with-count-requires-clause
 step_with-count-requires-clause-count g c =
     let engine = c.args.self.now.engine in
     (can-take (device_of engine) engine.steps c.args.event.now (length c.args.bytes.now) (length c.args.samples.now) (length c.args.out.now) (sym c.if-not-takes.ensures)).left
+
+pub step_with-count-requires-clause-bytes : goal.step_with-count-requires-clause-bytes
+step_with-count-requires-clause-bytes g c =
+    let engine = c.args.self.now.engine in
+    (can-take (device_of engine) engine.steps c.args.event.now (length c.args.bytes.now) (length c.args.samples.now) (length c.args.out.now) (sym c.if-not-takes.ensures)).bytes_are
