@@ -69,7 +69,7 @@ pub unfailing : (call : Call) (ending : Ending) (status : ℕ) → status ≡ en
 unfailing call ending status named ends = λ told quiet.
     ends-unfailing (verdict_of call) status
     (subst (λ (s : ℕ). MayEnd (verdict_of call) s) (sym named) (may-end call ending ends told))
-    (λ three. quiet (inl (ended-as call ending CannotRead status named three ends).read.rose))
+    (λ three. quiet (inl (ended-as call ending CannotRead status named three ends).read.read.rose))
     (λ seven. quiet (inr (cut-rose call (ended-as call ending CannotWrite status named seven ends))))
 
 -- what came to its end
