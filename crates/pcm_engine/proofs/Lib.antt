@@ -4,6 +4,7 @@ pub mod Desks
 pub mod Buses
 pub mod InOrder
 pub mod Turning
+pub mod Opening
 pub mod Answering
 pub mod Grouping
 pub mod Blocks

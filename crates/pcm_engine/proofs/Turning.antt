@@ -1,5 +1,5 @@
 -- What becomes of a desk whose parent lent one channel.
-use Rattle.std.proofs.Common.{Ok, Err, ◌≡◌, ◌+◌, ℕ, ◌<◌, false, cond, eqb, List, length, set, get_or, min, take, drop, Option, Some, None, Result, refl, sym, ap, ◌∙◌, subst, arith}
+use Rattle.std.proofs.Common.{Ok, Err, ◌≡◌, ◌+◌, ◌-◌, ℕ, ◌<◌, ◌≤◌, false, cond, eqb, List, length, set, get_or, min, take, drop, Option, Some, None, Result, refl, sym, ap, ◌∙◌, subst, arith}
 use Rattle.std.specs.Prelude.{IsOk, is_some}
 use Rattle.std.proofs.lemmas.List.{length-map}
 use Rattle.pcm_oss.specs.declared.event.Way.{Way}
@@ -18,8 +18,9 @@ use Rattle.pcm_desk.specs.declared.record_book.RecordBook.{RecordBook}
 use Rattle.pcm_desk.specs.Device.{DeviceSeen}
 use Rattle.pcm_desk.specs.declared.turn.Turn.{Turn}
 use Rattle.pcm_desk.specs.declared.map_book.MapBook.{MapBook}
-use Rattle.pcm_desk.specs.MapBooks.{is_map_free, map_closed}
-use Rattle.pcm_desk.specs.RecordBooks.{closed, record_fill_of}
+use Rattle.pcm_desk.specs.MapBooks.{is_map_free, map_begun, map_closed}
+use Rattle.pcm_desk.specs.PlayBooks.{play_begun}
+use Rattle.pcm_desk.specs.RecordBooks.{closed, record_begun, record_fill_of}
 use Rattle.pcm_desk.specs.Desk.{Desk, DeskTurn, play_at, by_way, close_map, close_on, close_play, close_record, closing, desk_here, held_by, least_free_map, least_free_play, least_free_record, map_at, map_turn, map_unopened, open_map, open_play, open_record, open_turn, play_turn, record_at, record_turn, record_unopened, refusing, slot_number, turning, play_unopened, with_map, with_play, with_descriptor, with_record}
 use Rattle.pcm_desk.specs.Own.{HoldApart, Mapped, MayBeHeld, Playing, Recording, slots_of}
 use Rattle.pcm_sound.specs.Areas.{holds_map}
@@ -28,7 +29,7 @@ use Rattle.pcm_record.specs.declared.channel.RecordChannelOf.{RecordChannelOf}
 use Rattle.pcm_map.specs.declared.channel.MapChannelOf.{MapChannelOf}
 use Rattle.pcm_vchan.specs.declared.parent.ParentOf.{ParentOf}
 use Rattle.pcm_bus.specs.Slots.{MapAreOf, PlayAreOf}
-use Rattle.pcm_vchan.specs.Slots.{RecordAreOf}
+use Rattle.pcm_vchan.specs.Slots.{slot_place, RecordAreOf}
 use Rattle.pcm_vchan.specs.Parents.{map_books, map_channels, play_books, play_channels, record_channels, record_books, slot_or_busy}
 use Rattle.pcm_vchan.specs.Lending.{with_channel, with_map_channel, with_recorder}
 use Rattle.pcm_bus.proofs.Channels.{map_at-channel, play_at-channel}
@@ -203,10 +204,38 @@ pub shut-none : (found : Option Held) → IsOk (shut found) → found ≡ None
 shut-none None ok = refl
 shut-none (Some held) ok = cc
 
--- the slot that is taken is the least free one
-pub slot-found : (least : Option ℕ) (slot : ℕ) → slot_or_busy least ≡ Ok slot → least ≡ Some slot
-slot-found None slot e = cc
-slot-found (Some least) slot e = ap (λ (r : Result ℕ Errno). Some (slot_in r)) e
+-- the slot that is taken is the least free one, and what is told is its number
+pub slot-found : (way : Way) (slots : ℕ) (least : Option ℕ) (told : ℕ) → slot_or_busy (slot_number slots way) least ≡ Ok told
+    → (least ≡ Some (slot_place slots way told)) × (slot_number slots way (slot_place slots way told) ≡ told)
+slot-found way slots None told e = cc
+slot-found Play slots (Some place) told e = (ap (λ (r : Result ℕ Errno). Some (slot_in r)) e, refl)
+slot-found Record slots (Some place) told e = (ap (λ (r : Result ℕ Errno). Some (slot_in r)) e, refl)
+slot-found Map slots (Some place) told e =
+    let same : slots + place ≡ told = ap slot_in e in
+    let back : place ≡ told - slots = omega arith in
+    (ap Some back, omega (arith, same))
+
+-- it is told behind those that play, where it is mapped
+pub told-behind : (way : Way) (slots : ℕ) (least : Option ℕ) (told : ℕ) → slot_or_busy (slot_number slots way) least ≡ Ok told → way ≡ Map → slots ≤ told
+told-behind way slots None told e is = cc
+told-behind Play slots (Some place) told e is = cc
+told-behind Record slots (Some place) told e is = cc
+told-behind Map slots (Some place) told e is = let same : slots + place ≡ told = ap slot_in e in omega arith
+
+-- what an open makes of a desk
+pub opened-desk : (way : Way) (desk : Desk) (fd : ℕ) (settings : Settings) (slot : ℕ) → held_by desk fd ≡ None
+    → by_way way (least_free_play desk.play) (least_free_record desk.recording) (least_free_map desk.mapped) ≡ Some slot
+    → with_descriptor (by_way way (with_play desk slot (play_begun settings)) (with_record desk slot (record_begun settings)) (with_map desk slot (map_begun settings))) fd (Some (record { way = way; slot = slot }))
+    ≡ (open_turn desk fd way settings).desk
+opened-desk way desk fd settings slot none least =
+    at way least ∙ sym (ap (λ (found : Option Held). (cond {A = DeskTurn} (is_some found) (refusing desk Exist) (by_way way (open_play (least_free_play desk.play) desk fd settings) (open_record (least_free_record desk.recording) desk fd settings) (open_map (least_free_map desk.mapped) desk fd settings))).desk) none)
+  where
+    at : (w : Way) → by_way w (least_free_play desk.play) (least_free_record desk.recording) (least_free_map desk.mapped) ≡ Some slot
+        → with_descriptor (by_way w (with_play desk slot (play_begun settings)) (with_record desk slot (record_begun settings)) (with_map desk slot (map_begun settings))) fd (Some (record { way = w; slot = slot }))
+        ≡ (by_way w (open_play (least_free_play desk.play) desk fd settings) (open_record (least_free_record desk.recording) desk fd settings) (open_map (least_free_map desk.mapped) desk fd settings)).desk
+    at Play e = sym (ap (λ (found : Option ℕ). (open_play found desk fd settings).desk) e)
+    at Record e = sym (ap (λ (found : Option ℕ). (open_record found desk fd settings).desk) e)
+    at Map e = sym (ap (λ (found : Option ℕ). (open_map found desk fd settings).desk) e)
 
 -- its number is told
 pub opened-number : (way : Way) (desk : Desk) (fd : ℕ) (settings : Settings) (slots slot : ℕ) → held_by desk fd ≡ None → slots ≡ length desk.play

@@ -1,6 +1,7 @@
 //! What clients ask by their descriptors.
 
-ghost use Rattle.std.specs.Prelude.{◌≡◌, ◌+◌, ◌^◌, ◌<◌, ◌≤◌, [], length, All, IsErr, OnErr};
+ghost use Rattle.std.specs.Borrow.{sem};
+ghost use Rattle.std.specs.Prelude.{◌≡◌, ◌+◌, ◌^◌, ◌<◌, ◌≤◌, [], length, All, IsErr, OnErr, slice_index_or};
 ghost use Rattle.pcm_fixed.specs.Fixed.{fixed_len};
 ghost use Rattle.pcm_feeder.specs.Filters.{Filters};
 ghost use Rattle.pcm_feeder.specs.Limits.{IsRate};
@@ -11,6 +12,7 @@ ghost use Rattle.pcm_desk.specs.declared.limits.TheConstants.{DESCRIPTORS, READ_
 ghost use Rattle.pcm_desk.specs.Own.{HoldApart};
 ghost use Rattle.pcm_bus.specs.Slots.{MapAreOf, PlayAreOf};
 ghost use Rattle.pcm_vchan.specs.Slots.{RecordAreOf};
+ghost use Rattle.pcm_vchan.specs.Lending.{LendsMapAt};
 ghost use Rattle.pcm_vchan.specs.Parents.{map_channels, play_channels, record_channels, AreClosable, AreServed, EachMapKeeps, EachPlayMoves, EachRecordMoves, KeepsOutput, TotalsFit};
 ghost use Rattle.pcm_engine.specs.Answered.{AnswersBy, CanBeAsked, LeavesClosed};
 ghost use Rattle.pcm_engine.specs.Desks.{front_due, close_call, desk_with, ioctl_call, open_call, poke_call, read_call, write_call, Closes, ClosesHeld, ReadsKept, Replies, TakesTurn, TakesTurnAt};
@@ -20,6 +22,7 @@ use crate::descriptors::Descriptors;
 use pcm_desk::{Held, Here};
 use pcm_feeder::{Feeder, Tables};
 use pcm_format::Settings;
+use pcm_map::MapChannelOf;
 use pcm_oss::{Answer, Errno, ReplyBuf, Request, Way};
 use pcm_vchan::ParentOf;
 
@@ -39,9 +42,10 @@ pub fn open<B: Feeder>(
         parent.old descriptors.old parent.new descriptors.new result }
 {
     descriptors.shut(fd)?;
-    let slot = parent.open_slot(tables, way, settings)?;
+    let number = parent.open_slot(tables, way, settings)?;
+    let slot = parent.place_of(way, number);
     descriptors.set(fd, Some(Held { way, slot }));
-    Ok(Answer::Number(parent.number_of(way, slot)))
+    Ok(Answer::Number(number as u32))
 }
 
 /// Writes to the channel that a descriptor holds, where the mix and the device are. One that records takes no bytes.
@@ -91,7 +95,7 @@ pub fn poke<B: Feeder>(
         (poked_by fd offset bytes.now (desk_with parent.old descriptors.now)) parent.old parent.new }
 {
     let slot = descriptors.slot_of(fd, Way::Map)?;
-    parent.mapped(slot).poke(offset, bytes)
+    mapped(parent, slot).poke(offset, bytes)
 }
 
 // Reads from the channel that a descriptor holds, into the front of `out`. One that plays has nothing to read.
@@ -166,7 +170,7 @@ pub fn ask<B: Feeder>(
     match held.way {
         Way::Play => parent.play(held.slot).ioctl(tables, request, here),
         Way::Record => parent.recorder(held.slot).ioctl(tables, request),
-        Way::Map => parent.mapped(held.slot).ioctl(tables, request),
+        Way::Map => mapped(parent, held.slot).ioctl(tables, request),
     }
 }
 
@@ -215,8 +219,18 @@ fn close_channel<B: Feeder>(parent: &mut ParentOf<B>, held: Held, here: Here) ->
             Answer::Done
         }
         Way::Map => {
-            parent.mapped(held.slot).close();
+            mapped(parent, held.slot).close();
             Answer::Done
         }
     }
+}
+
+// Lends a mapped channel by its place among these, which is what a descriptor holds.
+fn mapped<B: Feeder>(parent: &mut ParentOf<B>, place: usize) -> &mut MapChannelOf<B>
+    requires { place < fixed_len parent.old.maps }
+    ensures* writes_back { sem 𝓛 (LendsMapAt B.row parent.entry place result) }
+    ensures value { result.now ≡ slice_index_or (map_channels parent.old) place result.now }
+{
+    let number = parent.number_of(Way::Map, place);
+    parent.mapped(number)
 }

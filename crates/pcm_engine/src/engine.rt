@@ -39,7 +39,7 @@ pub struct EngineOf<B> {
     descriptors: Descriptors,
     captured: Fixed<i32>,
     answered: Fixed<u8>,
-    steps: u32,
+    steps: u64,
     ghost own: { PlayAreOf parent.device (play_channels parent) },
     ghost recorders_own: { RecordAreOf parent.device (record_channels parent) },
     ghost maps_own: { MapAreOf parent.device (map_channels parent) },
@@ -189,7 +189,7 @@ impl<B: Feeder> EngineOf<B> {
     }
 
     /// How many steps it has taken.
-    pub fn steps(&self) -> u32
+    pub fn steps(&self) -> u64
         ensures { result ≡ self.now.steps }
     {
         self.steps

@@ -1,5 +1,5 @@
 -- What becomes of a parent whose channel was lent.
-use Rattle.std.specs.Prelude.{ℕ}
+use Rattle.std.specs.Prelude.{ℕ, ◌-◌}
 use Rattle.std.specs.Borrow.{Lends, MutBor, Fml, RattleType}
 use Rattle.pcm_fixed.specs.Fixed.{with_fixed_item}
 use Rattle.pcm_play.specs.declared.channel.PlayChannelOf.{PlayChannelOf}
@@ -29,13 +29,21 @@ with_recorder parent slot channel = record parent { recorders = with_fixed_item 
 abbrev pub LendsRecorder : (R : RattleType) → MutBor (ParentOf R.Denot) → ℕ → MutBor (RecordChannelOf R.Denot) → Fml
 LendsRecorder R parent slot channel = Lends (the_row R) (recorder_row R) parent channel (λ last. with_recorder parent.now slot last)
 
--- a parent with another mapped channel in a slot
-abbrev pub with_map_channel : {B : Type 0} → ParentOf B → ℕ → MapChannelOf B → ParentOf B
-with_map_channel parent slot channel = record parent { maps = with_fixed_item parent.maps slot channel }
+-- where the mapped channel of a slot stands among these, which are numbered behind those that play
+abbrev pub map_place : {B : Type 0} → ParentOf B → ℕ → ℕ
+map_place parent number = number - parent.device.play_slots
 
--- the parent ends with the mapped channel as its borrower left it
+-- a parent with another mapped channel at such a place
+abbrev pub with_map_channel : {B : Type 0} → ParentOf B → ℕ → MapChannelOf B → ParentOf B
+with_map_channel parent place channel = record parent { maps = with_fixed_item parent.maps place channel }
+
+-- the parent ends with the mapped channel there as its borrower left it
+abbrev pub LendsMapAt : (R : RattleType) → MutBor (ParentOf R.Denot) → ℕ → MutBor (MapChannelOf R.Denot) → Fml
+LendsMapAt R parent place channel = Lends (the_row R) (map_row R) parent channel (λ last. with_map_channel parent.now place last)
+
+-- and with that of a slot, by its number
 abbrev pub LendsMap : (R : RattleType) → MutBor (ParentOf R.Denot) → ℕ → MutBor (MapChannelOf R.Denot) → Fml
-LendsMap R parent slot channel = Lends (the_row R) (map_row R) parent channel (λ last. with_map_channel parent.now slot last)
+LendsMap R parent number channel = LendsMapAt R parent (map_place parent.now number) channel
 
 -- a parent with other volumes and mutes
 abbrev pub with_mixer : {B : Type 0} → ParentOf B → Levels → ParentOf B

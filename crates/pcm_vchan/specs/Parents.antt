@@ -11,6 +11,7 @@ use Rattle.pcm_chain.specs.Chains.{boxes_in, marks_in}
 use Rattle.pcm_desk.specs.declared.device.Device.{Device}
 use Rattle.pcm_desk.specs.declared.limits.TheConstants.{MIX_FRAMES, RING_FRAMES}
 use Rattle.pcm_oss.specs.declared.event.TheConstants.{SLOTS}
+use Rattle.pcm_oss.specs.declared.event.Way.TheVariants.{Play, Record, Map}
 use Rattle.pcm_desk.specs.declared.here.Here.{Here}
 use Rattle.pcm_desk.specs.Device.{DeviceSeen, HasRates, mix_frames, mixed_for, mixed_slots, passed_for, seen, unfiltered}
 use Rattle.pcm_desk.specs.declared.play_book.PlayBook.{PlayBook}
@@ -22,7 +23,7 @@ use Rattle.pcm_feeder.specs.Kept.{Kept}
 use Rattle.pcm_desk.specs.PlayBooks.{play_begun}
 use Rattle.pcm_desk.specs.RecordBooks.{record_begun}
 use Rattle.pcm_desk.specs.MapBooks.{map_begun, taken_of}
-use Rattle.pcm_desk.specs.Desk.{least_free_map, least_free_play, least_free_record, mixed_by}
+use Rattle.pcm_desk.specs.Desk.{least_free_map, least_free_play, least_free_record, mixed_by, slot_number}
 use Rattle.pcm_play.specs.declared.channel.PlayChannelOf.{PlayChannelOf}
 use Rattle.pcm_play.specs.Channels.{IsPlayReady, IsPlayUnopened, PlayMoves}
 use Rattle.pcm_record.specs.declared.channel.RecordChannelOf.{RecordChannelOf}
@@ -175,21 +176,21 @@ BusTurns kept filters n old new = TurnsBus kept (seen filters old.device) old.ha
 
 -- ---- opening a slot
 
--- the slot that an open takes, where one is free
-abbrev pub slot_or_busy : Option ℕ → Result ℕ Errno
-slot_or_busy None = Err Busy
-slot_or_busy (Some slot) = Ok slot
+-- the number of the slot that an open takes, where one is free: these are the numbers of places
+abbrev pub slot_or_busy : (ℕ → ℕ) → Option ℕ → Result ℕ Errno
+slot_or_busy number None = Err Busy
+slot_or_busy number (Some place) = Ok (number place)
 
 -- the books of a way once an opening began in that slot, whose book is this one
 abbrev pub books_begun : {Book : Type 0} → Option ℕ → Book → List Book → List Book
 books_begun None begun books = books
 books_begun (Some slot) begun books = slice_set books slot begun
 
--- an open of a way with so many slots: the least free one of them begins, if there is one
-pub record Begins {Book : Type 0} (slots : ℕ) (least : Option ℕ) (begun : Book) (old new : List Book) (result : Result ℕ Errno) : Type 0 where
-  pub found : result ≡ slot_or_busy least
+-- an open of a way with so many slots, whose places have these numbers: the least free one of them begins, if there is one
+pub record Begins {Book : Type 0} (number : ℕ → ℕ) (slots : ℕ) (least : Option ℕ) (begun : Book) (old new : List Book) (result : Result ℕ Errno) : Type 0 where
+  pub found : result ≡ slot_or_busy number least
   pub books : new ≡ books_begun least begun old
-  pub there : IfOk result (λ slot. slot < slots)
+  pub there : IfOk result (λ told. told < number slots)
 
 -- all but the channels is as before: the device, its mixer device, its bus, its ring and its counts, and how many channels there are of each way
 pub record KeepsOutput {B : Type 0} (old new : ParentOf B) : Type 0 where
@@ -205,7 +206,7 @@ pub record KeepsOutput {B : Type 0} (old new : ParentOf B) : Type 0 where
 
 -- an open of a channel that plays
 pub record OpensPlay {B : Type 0} (kind : B → Kind) (kept : B → Kept) (filters : Filters) (settings : Settings) (old new : ParentOf B) (result : Result ℕ Errno) : Type 0 where
-  pub begins : Begins (length (play_channels old)) (least_free_play (play_books old)) (play_begun settings) (play_books old) (play_books new) result
+  pub begins : Begins (slot_number old.device.play_slots Play) (length (play_channels old)) (least_free_play (play_books old)) (play_begun settings) (play_books old) (play_books new) result
   pub own : PlayAreOf new.device (play_channels new)
   pub moves : EachPlayMoves kind kept filters [] 0 old new
   pub others : new.recorders ≡ old.recorders
@@ -213,7 +214,7 @@ pub record OpensPlay {B : Type 0} (kind : B → Kind) (kept : B → Kept) (filte
 
 -- an open of a channel that records
 pub record OpensRecord {B : Type 0} (kind : B → Kind) (kept : B → Kept) (filters : Filters) (settings : Settings) (old new : ParentOf B) (result : Result ℕ Errno) : Type 0 where
-  pub begins : Begins (length (record_channels old)) (least_free_record (record_books old)) (record_begun settings) (record_books old) (record_books new) result
+  pub begins : Begins (slot_number old.device.play_slots Record) (length (record_channels old)) (least_free_record (record_books old)) (record_begun settings) (record_books old) (record_books new) result
   pub own : RecordAreOf new.device (record_channels new)
   pub moves : EachRecordMoves kind kept filters [] 0 old new
   pub others : new.channels ≡ old.channels
@@ -221,7 +222,7 @@ pub record OpensRecord {B : Type 0} (kind : B → Kind) (kept : B → Kept) (fil
 
 -- an open of a mapped channel
 pub record OpensMap {B : Type 0} (kind : B → Kind) (kept : B → Kept) (filters : Filters) (settings : Settings) (old new : ParentOf B) (result : Result ℕ Errno) : Type 0 where
-  pub begins : Begins (length (map_channels old)) (least_free_map (map_books old)) (map_begun settings) (map_books old) (map_books new) result
+  pub begins : Begins (slot_number old.device.play_slots Map) (length (map_channels old)) (least_free_map (map_books old)) (map_begun settings) (map_books old) (map_books new) result
   pub own : MapAreOf new.device (map_channels new)
   pub keeps : EachMapKeeps kind kept filters untouched old new
   pub others : new.channels ≡ old.channels

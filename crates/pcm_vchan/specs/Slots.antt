@@ -1,13 +1,14 @@
 -- The channels of a device, by slot.
-use Rattle.std.specs.Prelude.{◌≡◌, ℕ, ◌+◌, ◌^◌, ◌<◌, if◌then◌else◌, List, [], length, map, slice_index_or, All}
+use Rattle.std.specs.Prelude.{◌≡◌, ℕ, ◌+◌, ◌-◌, ◌^◌, ◌<◌, if◌then◌else◌, List, [], length, map, slice_index_or, All}
 use Rattle.pcm_feeder.specs.declared.kind.Kind.{Kind}
 use Rattle.pcm_feeder.specs.Filters.{Filters}
 use Rattle.pcm_feeder.specs.Kept.{Kept}
 use Rattle.pcm_format.specs.Frames.{Frame}
+use Rattle.pcm_oss.specs.declared.event.Way.{Way}
 use Rattle.pcm_desk.specs.declared.record_book.RecordBook.{RecordBook}
 use Rattle.pcm_desk.specs.declared.device.Device.{Device}
 use Rattle.pcm_desk.specs.declared.here.Here.{Here}
-use Rattle.pcm_desk.specs.Desk.{play_passing}
+use Rattle.pcm_desk.specs.Desk.{by_way, play_passing}
 use Rattle.pcm_desk.specs.Device.{DeviceSeen}
 use Rattle.pcm_play.specs.declared.channel.PlayChannelOf.{PlayChannelOf}
 use Rattle.pcm_oss.specs.declared.fragments.TheConstants.{RING_BYTES}
@@ -17,6 +18,10 @@ use Rattle.pcm_record.specs.Channels.{CaptureFits, IsRecordReady, RecordStands}
 use Rattle.pcm_map.specs.declared.channel.MapChannelOf.{MapChannelOf}
 use Rattle.pcm_map.specs.Channels.{MapMoves, area_of}
 use Rattle.pcm_sound.specs.Areas.{silences, silent_area}
+
+-- the place of a slot among those of its way, by its number, beside so many that play: `slot_number` backwards
+abbrev pub slot_place : ℕ → Way → ℕ → ℕ
+slot_place slots way number = by_way way number number (number - slots)
 
 -- the book of a channel after an interrupt of n frames, where so many were handed over before
 abbrev pub Passes : {B : Type 0} → DeviceSeen → ℕ → ℕ → PlayChannelOf B → PlayChannelOf B → Type 0

@@ -19,7 +19,7 @@ ghost use Rattle.pcm_desk.specs.RecordBooks.{is_record_free};
 ghost use Rattle.pcm_desk.specs.MapBooks.{is_map_free};
 ghost use Rattle.pcm_map.specs.Channels.{IsMapReady, IsMapUnopened};
 ghost use Rattle.pcm_bus.specs.Slots.{Each, MapAreOf, PlayAreOf};
-ghost use Rattle.pcm_vchan.specs.Slots.{RecordAreOf, Settles};
+ghost use Rattle.pcm_vchan.specs.Slots.{slot_place, RecordAreOf, Settles};
 ghost use Rattle.pcm_play.specs.Channels.{IsPlayHere, IsPlayReady, IsPlayUnopened, MayEndRun};
 ghost use Rattle.pcm_record.specs.Channels.{IsRecordReady, IsRecordUnopened};
 ghost use Rattle.pcm_vchan.specs.Starts.{EachAt, MayRecord, MayStart, Records, Starts, is_in};
@@ -74,7 +74,7 @@ pub struct ParentOf<B> {
 impl<B: Feeder> ParentOf<B> {
     ghost use Rattle.pcm_oss.specs.declared.event.Way.TheVariants.{Play, Record, Map};
     ghost use Rattle.pcm_vchan.specs.Parents.{map_channels, play_books, play_channels, record_books, record_channels, mixed_in, AreDue, AreMapUnopened, ArePlayUnopened, AreRecordUnopened, AreServed, EachCaptures, EachMapPlays, EachPasses, EachPlayMoves, EachRecordMoves, HasBus, HasLimits, HasRoomFor, KeepsOutput, OpensMap, OpensPlay, OpensRecord, BusTurns, HasRacks, TotalsFit, here_of};
-    ghost use Rattle.pcm_vchan.specs.Lending.{LendsChannel, LendsMap, LendsMixer, LendsRecorder};
+    ghost use Rattle.pcm_vchan.specs.Lending.{map_place, LendsChannel, LendsMap, LendsMixer, LendsRecorder};
 
     /// A device that nobody has opened, whose ring is full of silence. Each slot gets a rack: those that play the first ones, mapped ones
     /// those behind them, those that record the ones from the seventeenth on, and the bus the last one.
@@ -123,7 +123,7 @@ impl<B: Feeder> ParentOf<B> {
         })
     }
 
-    /// An opening begins in the least free slot of its way, counted among those of this way.
+    /// An opening begins in the least free slot of its way. Answers the number of this slot: mapped ones are numbered behind those that play.
     pub fn open_slot(
         &mut self,
         tables: &Tables,
@@ -190,17 +190,28 @@ impl<B: Feeder> ParentOf<B> {
             return Err(Errno::Busy);
         };
         self.maps[slot].begin(tables, settings);
-        Ok(slot)
+        Ok(self.device.play_slots as usize + slot)
     }
 
-    /// The number of a slot, as a client is told it: mapped ones are numbered behind those that play.
-    pub fn number_of(&self, way: Way, slot: usize) -> u32
-        requires { slot < SLOTS }
-        ensures { result ≡ slot_number (length (play_channels self.now)) way slot }
+    /// The number of a slot that stands at such a place among those of its way.
+    pub fn number_of(&self, way: Way, place: usize) -> usize
+        requires { place < SLOTS }
+        ensures { result ≡ slot_number self.now.device.play_slots way place }
     {
         match way {
-            Way::Play | Way::Record => slot as u32,
-            Way::Map => self.device.play_slots + slot as u32,
+            Way::Play | Way::Record => place,
+            Way::Map => self.device.play_slots as usize + place,
+        }
+    }
+
+    /// The place of a slot among those of its way, by its number.
+    pub fn place_of(&self, way: Way, number: usize) -> usize
+        requires { way ≡ Map → self.now.device.play_slots ≤ number }
+        ensures { result ≡ slot_place self.now.device.play_slots way number }
+    {
+        match way {
+            Way::Play | Way::Record => number,
+            Way::Map => number - self.device.play_slots as usize,
         }
     }
 
@@ -222,13 +233,15 @@ impl<B: Feeder> ParentOf<B> {
         &mut self.recorders[slot]
     }
 
-    /// Lends the mapped channel of a slot, counted among mapped ones.
-    pub fn mapped(&mut self, slot: usize) -> &mut MapChannelOf<B>
-        requires { slot < fixed_len self.old.maps }
-        ensures* writes_back { sem 𝓛 (LendsMap B.row self.entry slot result) }
-        ensures value { result.now ≡ slice_index_or (map_channels self.old) slot result.now }
+    /// Lends the mapped channel of a slot, by its number.
+    pub fn mapped(&mut self, number: usize) -> &mut MapChannelOf<B>
+        requires behind { self.old.device.play_slots ≤ number }
+        requires within { number < self.old.device.play_slots + fixed_len self.old.maps }
+        ensures* writes_back { sem 𝓛 (LendsMap B.row self.entry number result) }
+        ensures value { result.now ≡ slice_index_or (map_channels self.old) (map_place self.old number) result.now }
     {
-        &mut self.maps[slot]
+        let place = number - self.device.play_slots as usize;
+        &mut self.maps[place]
     }
 
     /// Lends the mixer device.

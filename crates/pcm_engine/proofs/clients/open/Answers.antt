@@ -1,16 +1,15 @@
-use Rattle.std.proofs.Common.{rules, ℕ, [], List, get_or, Some, Ok, ◌≡◌, refl, sym, ap, ◌∙◌, subst}
-use Rattle.std.specs.Prelude.{IsOk}
-use Rattle.std.proofs.lemmas.List.{length-map}
+use Rattle.std.proofs.Common.{rules, ℕ, [], List, get_or, Some, Ok, ◌≡◌, ◌≤◌, refl, sym, ap, ◌∙◌, subst}
+use Rattle.std.specs.Prelude.{slice_set, IsOk}
 use Rattle.pcm_fixed.specs.declared.fixed.Fixed.{Fixed}
 use Rattle.pcm_fixed.specs.Fixed.{fixed_items}
 use Rattle.pcm_oss.specs.declared.event.Way.{Way}
 use Rattle.pcm_oss.specs.declared.reply.Answer.TheVariants.{Number}
 use Rattle.pcm_desk.specs.declared.device.Device.{Device}
-use Rattle.pcm_desk.specs.Desk.{by_way, held_by, least_free_map, least_free_play, least_free_record}
+use Rattle.pcm_desk.specs.Desk.{held_by}
 use Rattle.pcm_bus.specs.Slots.{Each, MapAreOf, PlayAreOf}
-use Rattle.pcm_vchan.specs.Slots.{MapKeeps}
+use Rattle.pcm_vchan.specs.Slots.{slot_place, MapKeeps, RecordAreOf}
 use Rattle.pcm_vchan.specs.Starts.{EachAt}
-use Rattle.pcm_vchan.specs.Parents.{map_books, map_channels, play_books, play_channels, record_books, record_channels, untouched}
+use Rattle.pcm_vchan.specs.Parents.{map_channels, play_channels, record_channels, untouched}
 use Rattle.pcm_engine.specs.Desks.{desk_with, open_call}
 use Rattle.pcm_play.specs.declared.channel.PlayChannelOf.{PlayChannelOf}
 use Rattle.pcm_play.specs.Channels.{PlayMoves}
@@ -21,15 +20,16 @@ use Rattle.pcm_record.proofs.Moving as recorders
 use Rattle.pcm_map.specs.declared.channel.MapChannelOf.{MapChannelOf}
 use Rattle.pcm_vchan.proofs.Channels.{map-keeps-nothing}
 use Rattle.pcm_engine.proofs.Answering.{answers-nothing}
-use Rattle.pcm_engine.proofs.Turning.{either-way, opened-number, shut-none, slot-found}
+use Rattle.pcm_engine.proofs.Opening.{opened-behind, opened-reply, opened-turn, Opens}
+use Rattle.pcm_engine.proofs.Turning.{either-way, shut-none}
 use Rattle.pcm_engine.proofs.clients.open.Goals as goal
 
 pub returns-in_err-shut : goal.returns-in_err-shut
 returns-in_err-shut g c =
     answers-nothing g.B.Feeder.kind g.B.Feeder.kept c.args.tables.now (open_call c.args.fd c.args.way c.args.settings) c.args.parent.now c.args.descriptors.now _ c.requires.served (search rules) (search rules) (search rules)
 
-pub returns-in_err-slot : goal.returns-in_err-slot
-returns-in_err-slot g c =
+pub returns-in_err-number : goal.returns-in_err-number
+returns-in_err-number g c =
     record {
       silent = search rules;
       own =
@@ -72,11 +72,30 @@ returns-in_err-slot g c =
           (λ is. (c.open_slot.ensures.mapped is).keeps);
     }
 
+pub place_of-slot-requires : goal.place_of-slot-requires
+place_of-slot-requires g c = λ is.
+    let opens : Opens g.B.Feeder.kind g.B.Feeder.kept c.args.tables.now c.args.settings c.args.way c.args.parent.now c.open_slot.new.self c.open_slot.result = record {
+      play = c.open_slot.ensures.play;
+      recording = c.open_slot.ensures.recording;
+      mapped = c.open_slot.ensures.mapped;
+      output = c.open_slot.ensures.output;
+    } in
+    subst (λ (d : Device). d.play_slots ≤ c.in_ok-number.number) (sym c.open_slot.ensures.output.device_same)
+    (opened-behind g.B.Feeder.kind g.B.Feeder.kept c.args.tables.now c.args.settings c.args.way c.args.parent.now c.open_slot.new.self c.open_slot.result c.in_ok-number.number opens c.in_ok-number.was is)
+
 pub returns : goal.returns
 returns g c =
     let parent = c.args.parent.now in
     let desk = desk_with parent c.args.descriptors.now in
-    let least : Way → Type 0 = λ way. by_way way (least_free_play (play_books parent)) (least_free_record (record_books parent)) (least_free_map (map_books parent)) ≡ Some c.in_ok-slot.slot in
+    let told = c.in_ok-number.number in
+    let opens : Opens g.B.Feeder.kind g.B.Feeder.kept c.args.tables.now c.args.settings c.args.way parent c.open_slot.new.self c.open_slot.result = record {
+      play = c.open_slot.ensures.play;
+      recording = c.open_slot.ensures.recording;
+      mapped = c.open_slot.ensures.mapped;
+      output = c.open_slot.ensures.output;
+    } in
+    let none = shut-none (held_by desk c.args.fd) (subst IsOk (sym c.in_ok-shut.was ∙ c.shut.ensures) refl) in
+    let place = c.place_of-slot.ensures ∙ ap (λ (d : Device). slot_place d.play_slots c.args.way told) c.open_slot.ensures.output.device_same in
     record {
       silent = search rules;
       own =
@@ -85,7 +104,13 @@ returns g c =
           (subst (λ (d : Device). PlayAreOf d (play_channels c.args.parent.now)) (sym c.open_slot.ensures.output.device_same) c.requires.served.own))
           (λ is. subst (λ (v : Fixed (PlayChannelOf _)). PlayAreOf c.open_slot.new.self.device (fixed_items v)) (sym (c.open_slot.ensures.mapped is).others)
           (subst (λ (d : Device). PlayAreOf d (play_channels c.args.parent.now)) (sym c.open_slot.ensures.output.device_same) c.requires.served.own));
-      recorders_own = search rules;
+      recorders_own =
+          either-way c.args.way
+          (λ is. subst (λ (v : Fixed (RecordChannelOf _)). RecordAreOf c.open_slot.new.self.device (fixed_items v)) (sym (c.open_slot.ensures.play is).others)
+          (subst (λ (d : Device). RecordAreOf d (record_channels c.args.parent.now)) (sym c.open_slot.ensures.output.device_same) c.requires.served.recorders_own))
+          (λ is. (c.open_slot.ensures.recording is).own)
+          (λ is. subst (λ (v : Fixed (RecordChannelOf _)). RecordAreOf c.open_slot.new.self.device (fixed_items v)) (sym (c.open_slot.ensures.mapped is).recording)
+          (subst (λ (d : Device). RecordAreOf d (record_channels c.args.parent.now)) (sym c.open_slot.ensures.output.device_same) c.requires.served.recorders_own));
       maps_own =
           either-way c.args.way
           (λ is. subst (λ (v : Fixed (MapChannelOf _)). MapAreOf c.open_slot.new.self.device (fixed_items v)) (sym (c.open_slot.ensures.play is).mapped)
@@ -95,16 +120,10 @@ returns g c =
           (λ is. (c.open_slot.ensures.mapped is).own);
       output = search rules;
       refused = search rules;
-      desk = search rules;
+      desk = opened-turn g.B.Feeder.kind g.B.Feeder.kept c.args.tables.now c.args.settings c.args.way parent c.open_slot.new.self c.open_slot.result told c.args.fd c.args.descriptors.now c.set.new.self
+          opens c.in_ok-number.was none (c.set.ensures ∙ ap (λ (slot : ℕ). record c.args.descriptors.now { held = slice_set c.args.descriptors.now.held c.args.fd (Some (record { way = c.args.way; slot = slot })) }) place);
       reply =
-          ap (λ (n : ℕ). Ok (Number n)) c.number_of.ensures
-          ∙ opened-number c.args.way desk c.args.fd c.args.settings _ c.in_ok-slot.slot
-          (shut-none (held_by desk c.args.fd) (subst IsOk (sym c.in_ok-shut.was ∙ c.shut.ensures) refl))
-          (c.open_slot.ensures.output.slots_same ∙ sym (length-map (play_channels parent) (λ (channel : PlayChannelOf _). channel.book)))
-          (either-way c.args.way
-          (λ is. subst least (sym is) (slot-found (least_free_play (play_books parent)) c.in_ok-slot.slot (sym (c.open_slot.ensures.play is).begins.found ∙ c.in_ok-slot.was)))
-          (λ is. subst least (sym is) (slot-found (least_free_record (record_books parent)) c.in_ok-slot.slot (sym (c.open_slot.ensures.recording is).begins.found ∙ c.in_ok-slot.was)))
-          (λ is. subst least (sym is) (slot-found (least_free_map (map_books parent)) c.in_ok-slot.slot (sym (c.open_slot.ensures.mapped is).begins.found ∙ c.in_ok-slot.was))));
+          opened-reply g.B.Feeder.kind g.B.Feeder.kept c.args.tables.now c.args.settings c.args.way parent c.open_slot.new.self c.open_slot.result told c.args.fd c.args.descriptors.now opens c.in_ok-number.was none;
       channels =
           either-way c.args.way (λ is. (c.open_slot.ensures.play is).moves)
           (λ is. subst (λ (list : List (PlayChannelOf _)). Each (PlayMoves g.B.Feeder.kind g.B.Feeder.kept c.args.tables.now [] 0) (play_channels c.args.parent.now) list)

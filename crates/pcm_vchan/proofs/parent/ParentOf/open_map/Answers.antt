@@ -9,6 +9,8 @@ use Rattle.pcm_desk.specs.MapBooks.{is_map_free, map_begun}
 use Rattle.pcm_sound.specs.Areas.{is_recut, silences, silent_area}
 use Rattle.pcm_bus.specs.Slots.{map_books_of}
 use Rattle.pcm_vchan.specs.Slots.{MapKeeps}
+use Rattle.pcm_oss.specs.declared.event.Way.TheVariants.{Map}
+use Rattle.pcm_desk.specs.Desk.{slot_number}
 use Rattle.pcm_vchan.specs.Parents.{map_channels, slot_or_busy, books_begun}
 use Rattle.pcm_vchan.proofs.Channels.{least_free_map-books, each_set, own_set, map-keeps-nothing}
 use Rattle.pcm_vchan.proofs.parent.ParentOf.open_map.Goals as goal
@@ -38,7 +40,7 @@ returns-in_default-clause-opens g c =
     let none = least_free_map-books (map_channels old) ∙ sym c.least_free_map.ensures.slot ∙ c.in_default.is in
     record {
       begins = record {
-        found = sym (ap slot_or_busy none);
+        found = sym (ap (slot_or_busy (slot_number old.device.play_slots Map)) none);
         books = sym (ap (λ (found : Option ℕ). books_begun found (map_begun c.args.settings) (map_books_of (map_channels old))) none);
         there = tt;
       };
@@ -68,11 +70,11 @@ returns-clause-opens g c =
     } in
     record {
       begins = record {
-        found = sym (ap slot_or_busy found);
+        found = sym (ap (slot_or_busy (slot_number old.device.play_slots Map)) found);
         books = map-set (λ (channel : MapChannelOf _). channel.book) (map_channels old) slot new
             ∙ ap (set (map_books_of (map_channels old)) slot) c.begin.ensures.book
             ∙ sym (ap (λ (found : Option ℕ). books_begun found (map_begun c.args.settings) (map_books_of (map_channels old))) found);
-        there = there;
+        there = omega arith;
       };
       own = own_set (λ (channel : MapChannelOf _). channel.path.device) old.device (map_channels old) slot held new there c.index_mut.ensures.value c.begin.ensures.device c.requires.own;
       keeps = each_set (MapKeeps g.B.Feeder.kind g.B.Feeder.kept c.args.tables.now (λ area. area)) (map_channels old) slot held new there c.index_mut.ensures.value keeps

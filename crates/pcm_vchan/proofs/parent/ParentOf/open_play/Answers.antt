@@ -5,6 +5,8 @@ use Rattle.pcm_play.specs.declared.channel.PlayChannelOf.{PlayChannelOf}
 use Rattle.pcm_play.specs.Channels.{PlayMoves}
 use Rattle.pcm_desk.specs.PlayBooks.{play_begun}
 use Rattle.pcm_bus.specs.Slots.{play_books_of}
+use Rattle.pcm_oss.specs.declared.event.Way.TheVariants.{Play}
+use Rattle.pcm_desk.specs.Desk.{slot_number}
 use Rattle.pcm_vchan.specs.Parents.{play_channels, slot_or_busy, books_begun}
 use Rattle.pcm_vchan.proofs.Channels.{least_free_play-books, each_set, own_set}
 use Rattle.pcm_play.proofs.Moving.{moves-nothing}
@@ -35,7 +37,7 @@ returns-in_default-clause-opens g c =
     let none = least_free_play-books (play_channels old) ∙ sym c.least_free_play.ensures.slot ∙ c.in_default.is in
     record {
       begins = record {
-        found = sym (ap slot_or_busy none);
+        found = sym (ap (slot_or_busy (slot_number old.device.play_slots Play)) none);
         books = sym (ap (λ (found : Option ℕ). books_begun found (play_begun c.args.settings) (play_books_of (play_channels old))) none);
         there = tt;
       };
@@ -53,7 +55,7 @@ returns-clause-opens g c =
     let there : c.in-Some.slot < length (play_channels old) = omega (arith, items-count old.channels) in
     record {
       begins = record {
-        found = sym (ap slot_or_busy found);
+        found = sym (ap (slot_or_busy (slot_number old.device.play_slots Play)) found);
         books = map-set (λ (channel : PlayChannelOf _). channel.book) (play_channels old) c.in-Some.slot c.begin.new.self
             ∙ ap (set (play_books_of (play_channels old)) c.in-Some.slot) c.begin.ensures.book
             ∙ sym (ap (λ (found : Option ℕ). books_begun found (play_begun c.args.settings) (play_books_of (play_channels old))) found);

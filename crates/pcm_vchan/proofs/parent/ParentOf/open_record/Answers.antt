@@ -5,6 +5,8 @@ use Rattle.pcm_record.specs.declared.channel.RecordChannelOf.{RecordChannelOf}
 use Rattle.pcm_record.specs.Channels.{RecordMoves}
 use Rattle.pcm_desk.specs.RecordBooks.{record_begun}
 use Rattle.pcm_vchan.specs.Slots.{record_books_of}
+use Rattle.pcm_oss.specs.declared.event.Way.TheVariants.{Record}
+use Rattle.pcm_desk.specs.Desk.{slot_number}
 use Rattle.pcm_vchan.specs.Parents.{record_channels, slot_or_busy, books_begun}
 use Rattle.pcm_vchan.proofs.Channels.{least_free_play-records, each_set, own_set}
 use Rattle.pcm_record.proofs.Moving.{moves-nothing}
@@ -35,7 +37,7 @@ returns-in_default-clause-opens g c =
     let none = least_free_play-records (record_channels old) ∙ sym c.least_free_record.ensures.slot ∙ c.in_default.is in
     record {
       begins = record {
-        found = sym (ap slot_or_busy none);
+        found = sym (ap (slot_or_busy (slot_number old.device.play_slots Record)) none);
         books = sym (ap (λ (found : Option ℕ). books_begun found (record_begun c.args.settings) (record_books_of (record_channels old))) none);
         there = tt;
       };
@@ -53,7 +55,7 @@ returns-clause-opens g c =
     let there : c.in-Some.slot < length (record_channels old) = omega (arith, items-count old.recorders) in
     record {
       begins = record {
-        found = sym (ap slot_or_busy found);
+        found = sym (ap (slot_or_busy (slot_number old.device.play_slots Record)) found);
         books = map-set (λ (channel : RecordChannelOf _). channel.book) (record_channels old) c.in-Some.slot c.begin.new.self
             ∙ ap (set (record_books_of (record_channels old)) c.in-Some.slot) c.begin.ensures.book
             ∙ sym (ap (λ (found : Option ℕ). books_begun found (record_begun c.args.settings) (record_books_of (record_channels old))) found);
