@@ -101,7 +101,7 @@ fn sink(alloc: Global, room: usize, put: u32) -> Result<MemSink, AllocError> {
 
 // How many steps the engine has taken that a call leaves: one for each line of a run, and those of a soak's script. A call that
 // ends with another status than 0 leaves none, and so do the other commands.
-fn steps_of(words: &[&str], printed: &[u8], status: u8) -> Option<u32> {
+fn steps_of(words: &[&str], printed: &[u8], status: u8) -> Option<u64> {
     if status != 0 {
         None
     } else if words.first() == Some(&"run") {
@@ -114,8 +114,8 @@ fn steps_of(words: &[&str], printed: &[u8], status: u8) -> Option<u32> {
 }
 
 // How many lines are printed.
-fn lines_in(printed: &[u8]) -> u32 {
-    let mut lines = 0u32;
+fn lines_in(printed: &[u8]) -> u64 {
+    let mut lines = 0u64;
     for byte in printed {
         if *byte == b'\n' {
             lines = lines.saturating_add(1);
@@ -131,7 +131,7 @@ fn ends_with(
     files: &mut MemFiles,
     out: &mut MemSink,
     status: u8,
-    steps: Option<u32>,
+    steps: Option<u64>,
 ) -> Result<bool, AllocError> {
     let Ok(racks) = Racks::of_boxes(alloc, boxes(alloc)?) else {
         return Ok(false);

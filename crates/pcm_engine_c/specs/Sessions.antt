@@ -11,7 +11,8 @@ use Rattle.pcm_numbers.specs.declared.device.DeviceNumbers.{DeviceNumbers}
 use Rattle.pcm_numbers.specs.declared.filters.FilterNumbers.{FilterNumbers}
 use Rattle.pcm_numbers.specs.declared.sections.SectionNumbers.{SectionNumbers}
 use Rattle.pcm_numbers.specs.declared.fault.NumbersFault.TheVariants.{Memory, Argument}
-use Rattle.pcm_numbers.specs.Answers.{fault_number}
+use Rattle.pcm_numbers.specs.declared.call_fault.CallFault.TheVariants.{Engine}
+use Rattle.pcm_numbers.specs.Answers.{call_fault_number, fault_number}
 use Rattle.pcm_numbers.specs.Devices.{device_from}
 use Rattle.pcm_numbers.specs.Tables.{tables_from}
 use Rattle.pcm_engine_c.specs.declared.session.Session.{Session}
@@ -30,10 +31,10 @@ pub record IsNew {B : Type 0} (kept : B → Kept) (device : DeviceNumbers) (filt
 abbrev pub is_possible : DeviceNumbers → List FilterNumbers → List ℤ → List SectionNumbers → Bool
 is_possible device filters coefs sections = is_some (device_from device) && is_some (tables_from filters coefs sections)
 
--- What making an engine comes to. Where there is one already, nothing is made. Else 0 says that there is one of these numbers now; that of a wrong
--- argument, that there can be none; and that of want of memory, the only other, that there could be one.
+-- What making an engine comes to. Where there is one already, nothing is made, and that is told. Else 0 says that there is one of these numbers now;
+-- that of a wrong argument, that there can be none; and that of want of memory, the only other, that there could be one.
 pub record IsMade {B : Type 0} (engine_in : Session → EngineOf B) (kept : B → Kept) (device : DeviceNumbers) (filters : List FilterNumbers) (coefs : List ℤ) (sections : List SectionNumbers) (old new : Option Session) (result : ℤ) : Type 0 where
-  pub there : IsSome old → (new ≡ old) × (result ≡ fault_number Argument)
+  pub there : IsSome old → (new ≡ old) × (result ≡ call_fault_number Engine)
   pub made : old ≡ None → result ≡ pos 0 → IfSome new (λ session. IsNew kept device filters coefs sections (engine_in session))
   pub none : old ≡ None → result ≢ pos 0 → new ≡ None
   pub cause : old ≡ None → result ≡ fault_number Argument → is_possible device filters coefs sections ≡ false

@@ -2,12 +2,14 @@
 //! Numbers, lengths and references come from C; that these are what C says they are is trusted.
 #![tactic(auto)]
 
-ghost use Rattle.std.specs.Prelude.{◌≡◌, None, [], length, drop, true};
+ghost use Rattle.std.specs.Prelude.{◌≡◌, IfSome, None, [], length, drop, true};
 ghost use Rattle.pcm_engine_c.specs.Calls.{On};
 ghost use Rattle.pcm_engine_c.specs.Sessions.{IsMade, is_possible};
-ghost use Rattle.pcm_numbers.specs.Answers.{fault_number};
-ghost use Rattle.pcm_numbers.specs.declared.fault.NumbersFault.TheVariants.{Argument, Memory};
-ghost use Rattle.pcm_session.specs.Calls.{Interrupts, MakesCall, beside, call_number, count_number, done_number, handed_count, handed_number, read_into};
+ghost use Rattle.pcm_numbers.specs.Answers.{call_fault_number, fault_number};
+ghost use Rattle.pcm_numbers.specs.declared.call_fault.CallFault.TheVariants.{Engine};
+ghost use Rattle.pcm_numbers.specs.declared.fault.NumbersFault.TheVariants.{Memory};
+ghost use Rattle.pcm_session.specs.Calls.{Interrupts, MakesCall, beside, call_number, count_number, done_number, handed_count, handed_number, open_number, read_into};
+ghost use Rattle.pcm_session.specs.Taken.{steps_left};
 ghost use Rattle.pcm_session.specs.Events.{event_for_close, event_for_ioctl, event_for_join, event_for_mixer, event_for_open, event_for_poke, event_for_read, event_for_start, event_for_write};
 
 mod handle;
@@ -17,7 +19,7 @@ use feed_stages::Stage;
 use handle::Handle;
 use pcm_feeder::Feeder;
 use pcm_numbers::{
-    AnswerNumbers, DeviceNumbers, FilterNumbers, SectionNumbers, WRONG_ARGUMENT, fault_number,
+    AnswerNumbers, DeviceNumbers, FilterNumbers, NOT_AN_ENGINE, SectionNumbers, fault_number,
 };
 use session::session_from;
 use std::alloc::Global;
@@ -38,7 +40,7 @@ pub extern "C" fn dsp_raw_new(
         → (engine.old.slot.session ≡ None) × (is_possible device.now filters.now coefs.now sections.now ≡ true) }
 {
     if engine.is_there() {
-        return WRONG_ARGUMENT;
+        return NOT_AN_ENGINE;
     }
     match session_from(alloc, device, filters, coefs, sections) {
         Ok(session) => {
@@ -71,12 +73,12 @@ pub extern "C" fn dsp_raw_open(
     ensures makes { On engine.old engine.new (λ old new.
         MakesCall ⟦<Stage as Feeder>⟧.kept (event_for_open fd way format channels rate) [] old.of new.of) }
     ensures number { On engine.old engine.new (λ old new.
-        result ≡ call_number count_number (event_for_open fd way format channels rate) [] old.of new.of) }
+        result ≡ open_number fd way format channels rate old.of new.of) }
     ensures none { engine.old.slot.session ≡ None
-        → result ≡ fault_number Argument }
+        → result ≡ call_fault_number Engine }
 {
     let Some(mut session) = engine.take(alloc) else {
-        return WRONG_ARGUMENT;
+        return NOT_AN_ENGINE;
     };
     let number = pcm_session::open(&mut session.of, fd, way, format, channels, rate);
     engine.put(session);
@@ -91,10 +93,10 @@ pub extern "C" fn dsp_raw_write(alloc: Global, engine: &mut Handle, fd: u32, byt
     ensures number { On engine.old engine.new (λ old new.
         result ≡ call_number count_number (event_for_write fd (length bytes.now)) bytes.now old.of new.of) }
     ensures none { engine.old.slot.session ≡ None
-        → result ≡ fault_number Argument }
+        → result ≡ call_fault_number Engine }
 {
     let Some(mut session) = engine.take(alloc) else {
-        return WRONG_ARGUMENT;
+        return NOT_AN_ENGINE;
     };
     let number = pcm_session::write(&mut session.of, fd, bytes);
     engine.put(session);
@@ -115,10 +117,10 @@ pub extern "C" fn dsp_raw_poke(
     ensures number { On engine.old engine.new (λ old new.
         result ≡ call_number count_number (event_for_poke fd offset (length bytes.now)) bytes.now old.of new.of) }
     ensures none { engine.old.slot.session ≡ None
-        → result ≡ fault_number Argument }
+        → result ≡ call_fault_number Engine }
 {
     let Some(mut session) = engine.take(alloc) else {
-        return WRONG_ARGUMENT;
+        return NOT_AN_ENGINE;
     };
     let number = pcm_session::poke(&mut session.of, fd, offset, bytes);
     engine.put(session);
@@ -135,10 +137,10 @@ pub extern "C" fn dsp_raw_read(alloc: Global, engine: &mut Handle, fd: u32, out:
     ensures out { On engine.old engine.new (λ old new.
         out.new ≡ read_into (event_for_read fd (length out.old)) old.of new.of out.old) }
     ensures none { engine.old.slot.session ≡ None
-        → (result ≡ fault_number Argument) × (out.new ≡ out.old) }
+        → (result ≡ call_fault_number Engine) × (out.new ≡ out.old) }
 {
     let Some(mut session) = engine.take(alloc) else {
-        return WRONG_ARGUMENT;
+        return NOT_AN_ENGINE;
     };
     let number = pcm_session::read(&mut session.of, fd, out);
     engine.put(session);
@@ -162,10 +164,10 @@ pub extern "C" fn dsp_raw_ioctl(
     ensures answer { On engine.old engine.new (λ old new.
         answer.new ≡ beside (event_for_ioctl fd request argument) old.of new.of answer.old) }
     ensures none { engine.old.slot.session ≡ None
-        → (result ≡ fault_number Argument) × (answer.new ≡ answer.old) }
+        → (result ≡ call_fault_number Engine) × (answer.new ≡ answer.old) }
 {
     let Some(mut session) = engine.take(alloc) else {
-        return WRONG_ARGUMENT;
+        return NOT_AN_ENGINE;
     };
     let number = pcm_session::ioctl(&mut session.of, fd, request, argument, answer);
     engine.put(session);
@@ -188,10 +190,10 @@ pub extern "C" fn dsp_raw_join(
     ensures answer { On engine.old engine.new (λ old new.
         answer.new ≡ beside (event_for_join fd group) old.of new.of answer.old) }
     ensures none { engine.old.slot.session ≡ None
-        → (result ≡ fault_number Argument) × (answer.new ≡ answer.old) }
+        → (result ≡ call_fault_number Engine) × (answer.new ≡ answer.old) }
 {
     let Some(mut session) = engine.take(alloc) else {
-        return WRONG_ARGUMENT;
+        return NOT_AN_ENGINE;
     };
     let number = pcm_session::join(&mut session.of, fd, group, answer);
     engine.put(session);
@@ -206,10 +208,10 @@ pub extern "C" fn dsp_raw_start(alloc: Global, engine: &mut Handle, fd: u32, gro
     ensures number { On engine.old engine.new (λ old new.
         result ≡ call_number count_number (event_for_start fd group) [] old.of new.of) }
     ensures none { engine.old.slot.session ≡ None
-        → result ≡ fault_number Argument }
+        → result ≡ call_fault_number Engine }
 {
     let Some(mut session) = engine.take(alloc) else {
-        return WRONG_ARGUMENT;
+        return NOT_AN_ENGINE;
     };
     let number = pcm_session::start(&mut session.of, fd, group);
     engine.put(session);
@@ -224,10 +226,10 @@ pub extern "C" fn dsp_raw_close(alloc: Global, engine: &mut Handle, fd: u32) -> 
     ensures number { On engine.old engine.new (λ old new.
         result ≡ call_number count_number (event_for_close fd) [] old.of new.of) }
     ensures none { engine.old.slot.session ≡ None
-        → result ≡ fault_number Argument }
+        → result ≡ call_fault_number Engine }
 {
     let Some(mut session) = engine.take(alloc) else {
-        return WRONG_ARGUMENT;
+        return NOT_AN_ENGINE;
     };
     let number = pcm_session::close(&mut session.of, fd);
     engine.put(session);
@@ -251,10 +253,10 @@ pub extern "C" fn dsp_raw_mixer(
     ensures answer { On engine.old engine.new (λ old new.
         answer.new ≡ beside (event_for_mixer request slot value) old.of new.of answer.old) }
     ensures none { engine.old.slot.session ≡ None
-        → (result ≡ fault_number Argument) × (answer.new ≡ answer.old) }
+        → (result ≡ call_fault_number Engine) × (answer.new ≡ answer.old) }
 {
     let Some(mut session) = engine.take(alloc) else {
-        return WRONG_ARGUMENT;
+        return NOT_AN_ENGINE;
     };
     let number = pcm_session::ask_mixer(&mut session.of, request, slot, value, answer);
     engine.put(session);
@@ -278,12 +280,27 @@ pub extern "C" fn dsp_raw_interrupt(
         drop (handed_count old.of frames (length samples.now) (length out.old)) out.new
         ≡ drop (handed_count old.of frames (length samples.now) (length out.old)) out.old) }
     ensures none { engine.old.slot.session ≡ None
-        → (result ≡ fault_number Argument) × (out.new ≡ out.old) }
+        → (result ≡ call_fault_number Engine) × (out.new ≡ out.old) }
 {
     let Some(mut session) = engine.take(alloc) else {
-        return WRONG_ARGUMENT;
+        return NOT_AN_ENGINE;
     };
     let number = pcm_session::interrupt(&mut session.of, frames, samples, out);
     engine.put(session);
     number
+}
+
+/// Answers how many steps are left for other calls than closes: none without an engine.
+#[unsafe(no_mangle)]
+pub extern "C" fn dsp_raw_steps_left(alloc: Global, engine: &mut Handle) -> u64
+    ensures same { engine.new.slot.session ≡ engine.old.slot.session }
+    ensures left { IfSome engine.old.slot.session (λ session. result ≡ steps_left session.of.engine.steps) }
+    ensures none { engine.old.slot.session ≡ None → result ≡ 0 }
+{
+    let Some(session) = engine.take(alloc) else {
+        return 0;
+    };
+    let left = session.of.steps_left();
+    engine.put(session);
+    left
 }

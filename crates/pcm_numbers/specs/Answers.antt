@@ -5,8 +5,11 @@ use Rattle.pcm_oss.specs.declared.reply.Answer.TheVariants.{Done, Number, Space,
 use Rattle.pcm_oss.specs.declared.reply.Errno.{Errno}
 use Rattle.pcm_oss.specs.declared.reply.Errno.TheVariants.{Again, Busy, Inval, BadF, Exist}
 use Rattle.pcm_numbers.specs.declared.answers.AnswerNumbers.{AnswerNumbers}
+use Rattle.pcm_numbers.specs.declared.call_fault.CallFault.{CallFault}
+use Rattle.pcm_numbers.specs.declared.call_fault.CallFault.TheVariants.{Argument, Engine, Room, Worn}
 use Rattle.pcm_numbers.specs.declared.fault.NumbersFault.{NumbersFault}
-use Rattle.pcm_numbers.specs.declared.fault.NumbersFault.TheVariants.{Memory, Argument}
+use Rattle.pcm_numbers.specs.declared.fault.NumbersFault.TheVariants as faults
+use Rattle.pcm_numbers.specs.declared.fault.NumbersFault.TheVariants.{Memory}
 
 -- four numbers
 abbrev pub four : ℕ → ℕ → ℕ → ℕ → AnswerNumbers
@@ -29,7 +32,14 @@ refusal_number Inval = neg_ℤ (pos 3)
 refusal_number BadF = neg_ℤ (pos 4)
 refusal_number Exist = neg_ℤ (pos 5)
 
+-- the number of a call that no engine takes
+abbrev pub call_fault_number : CallFault → ℤ
+call_fault_number Argument = neg_ℤ (pos 7)
+call_fault_number Engine = neg_ℤ (pos 9)
+call_fault_number Room = neg_ℤ (pos 10)
+call_fault_number Worn = neg_ℤ (pos 11)
+
 -- the number of a fault
 abbrev pub fault_number : NumbersFault → ℤ
 fault_number Memory = neg_ℤ (pos 6)
-fault_number Argument = neg_ℤ (pos 7)
+fault_number faults.Argument = neg_ℤ (pos 7)

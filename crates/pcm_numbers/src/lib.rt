@@ -3,6 +3,7 @@
 #![tactic(auto)]
 
 mod answers;
+mod call_fault;
 mod device;
 mod fault;
 mod filters;
@@ -12,10 +13,14 @@ mod sections;
 mod tables;
 
 pub use answers::{AnswerNumbers, numbers_of, refusal_number};
+pub use call_fault::{CallFault, call_fault_number};
 pub use device::{DeviceNumbers, device_from, is_rate, settings_from, way_from};
 pub use fault::{NumbersFault, fault_number};
 pub use filters::FilterNumbers;
-pub use refusals::{AGAIN, BAD_DESCRIPTOR, BUSY, EXISTS, INVALID, NO_MEMORY, WRONG_ARGUMENT};
+pub use refusals::{
+    AGAIN, BAD_DESCRIPTOR, BUSY, EXISTS, INVALID, NO_MEMORY, NOT_AN_ENGINE, SHORT_ROOM, WORN_OUT,
+    WRONG_ARGUMENT,
+};
 pub use requests::{mix_request_from, request_from};
 pub use sections::SectionNumbers;
 pub use tables::tables_from;

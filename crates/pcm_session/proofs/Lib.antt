@@ -1,3 +1,4 @@
 pub mod Taken
 pub mod Runs
 pub mod Reading
+pub mod Opens

@@ -1,5 +1,5 @@
 -- A call that a session takes is one that its engine can take.
-use Rattle.std.proofs.Common.{◌≡◌, ℕ, ◌<◌, ◌≤◌, true, arith}
+use Rattle.std.proofs.Common.{◌≡◌, ℕ, ◌%◌, ◌<◌, ◌≤◌, true, arith}
 use Rattle.std.specs.Prelude.{◌&&◌, ◌==◌, nat_le, nat_lt}
 use Rattle.std.proofs.lemmas.Bool.{and_parts, eqb-true}
 use Rattle.std.proofs.lemmas.Bool.Decides.{nat_tests}
@@ -12,7 +12,9 @@ use Rattle.pcm_engine.specs.declared.limits.TheConstants.{STEPS}
 use Rattle.pcm_engine.specs.Brought.{IsAllowed, bytes_asked, samples_asked}
 use Rattle.pcm_numbers.specs.Devices.{is_rate}
 use Rattle.pcm_numbers.proofs.Judging.{rate-is}
-use Rattle.pcm_session.specs.Taken.{is_descriptor, is_taken, is_allowed}
+use Rattle.pcm_format.specs.Layouts.{channels_of}
+use Rattle.pcm_session.specs.declared.limits.TheConstants.{LIFE}
+use Rattle.pcm_session.specs.Taken.{has_right, is_descriptor, is_left, is_taken, is_allowed}
 
 descriptor_is : (fd : ℕ) → is_descriptor fd ≡ true → fd < DESCRIPTORS
 descriptor_is fd is = grind (arith, nat_tests)
@@ -49,20 +51,36 @@ pub record CanTake (device : DeviceSeen) (steps : ℕ) (event : Event) (bytes sa
   pub room_is : bytes_handed device event ≤ room
   pub left : steps < STEPS
 
+-- a step that is left is one that the engine has
+left_is : (steps : ℕ) (event : Event) → is_left steps event ≡ true → steps < STEPS
+left_is steps (Open fd way settings) is = omega (arith, below steps LIFE is)
+left_is steps (Write fd source at count) is = omega (arith, below steps LIFE is)
+left_is steps (Poke fd offset at count) is = omega (arith, below steps LIFE is)
+left_is steps (Read fd count) is = omega (arith, below steps LIFE is)
+left_is steps (Ioctl fd request) is = omega (arith, below steps LIFE is)
+left_is steps (Join fd group) is = omega (arith, below steps LIFE is)
+left_is steps (StartGroup fd group) is = omega (arith, below steps LIFE is)
+left_is steps (Close fd) is = below steps STEPS is
+left_is steps (Mixer request) is = omega (arith, below steps LIFE is)
+left_is steps (Intr frames) is = omega (arith, below steps LIFE is)
+
 pub can-take : (device : DeviceSeen) (steps : ℕ) (event : Event) (bytes samples room : ℕ) → is_taken device steps event bytes samples room ≡ true → CanTake device steps event bytes samples room
 can-take device steps event bytes samples room is =
-    let fits = nat_le samples (samples_asked (device_settings device).layout event) in
-    let holds = nat_le (bytes_handed device event) room in
-    let same = bytes == bytes_asked event in
+    let layout = (device_settings device).layout in
     let within = is_allowed device event in
-    let fourth = and_parts (within && same && fits && holds) (nat_lt steps STEPS) is in
-    let third = and_parts (within && same && fits) holds fourth.0 in
-    let second = and_parts (within && same) fits third.0 in
-    let first = and_parts within same second.0 in
+    let same = bytes == bytes_asked event in
+    let fits = nat_le samples (samples_asked layout event) in
+    let whole = samples % channels_of layout == 0 in
+    let holds = nat_le (bytes_handed device event) room in
+    let all = and_parts (has_right device event bytes samples && is_left steps event) holds is in
+    let most = and_parts (has_right device event bytes samples) (is_left steps event) all.0 in
+    let right = and_parts (within && same && fits) whole most.0 in
+    let some = and_parts (within && same) fits right.0 in
+    let first = and_parts within same some.0 in
     record {
       within = allowed_is device event first.0;
       bytes_are = eqb-true bytes (bytes_asked event) first.1;
-      samples_fit = at_most samples (samples_asked (device_settings device).layout event) second.1;
-      room_is = at_most (bytes_handed device event) room third.1;
-      left = below steps STEPS fourth.1;
+      samples_fit = at_most samples (samples_asked layout event) some.1;
+      room_is = at_most (bytes_handed device event) room all.1;
+      left = left_is steps event most.1;
     }

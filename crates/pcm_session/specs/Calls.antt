@@ -1,22 +1,26 @@
 -- What a call in numbers comes to: a step, and a number for its reply.
-use Rattle.std.specs.Prelude.{◌≡◌, ℕ, ℤ, pos, if◌then◌else◌, Bool, true, false, List, [], ◌++◌, length, take, drop, min, Option, Some, None, Result, Ok, Err}
+use Rattle.std.specs.Prelude.{◌≡◌, ℕ, ℤ, pos, if◌then◌else◌, Bool, true, false, List, [], ◌++◌, length, take, drop, min, Option, Some, None, is_some, Result, Ok, Err}
 use Rattle.std.specs.Bool.{OnTrue, OnFalse}
 use Rattle.pcm_oss.specs.declared.event.Event.{Event}
 use Rattle.pcm_oss.specs.declared.event.Event.TheVariants.{Intr}
 use Rattle.pcm_oss.specs.declared.reply.Answer.{Answer}
 use Rattle.pcm_oss.specs.declared.reply.Answer.TheVariants.{Number}
 use Rattle.pcm_oss.specs.declared.reply.Errno.{Errno}
+use Rattle.pcm_oss.specs.declared.reply.Errno.TheVariants.{Inval}
 use Rattle.pcm_oss.specs.Replies.{Reply, bytes_due}
 use Rattle.pcm_feeder.specs.Kept.{Kept}
-use Rattle.pcm_numbers.specs.Answers.{answer_numbers, fault_number, refusal_number}
+use Rattle.pcm_numbers.specs.Answers.{answer_numbers, call_fault_number, refusal_number}
 use Rattle.pcm_numbers.specs.declared.answers.AnswerNumbers.{AnswerNumbers}
-use Rattle.pcm_numbers.specs.declared.fault.NumbersFault.TheVariants.{Argument}
+use Rattle.pcm_numbers.specs.declared.call_fault.CallFault.{CallFault}
+use Rattle.pcm_numbers.specs.declared.call_fault.CallFault.TheVariants.{Argument}
+use Rattle.pcm_numbers.specs.Devices.{stream_settings}
 use Rattle.pcm_desk.specs.Events.{bytes_handed}
 use Rattle.pcm_engine.specs.declared.engine.EngineOf.{EngineOf}
 use Rattle.pcm_engine.specs.Engines.{device_of}
 use Rattle.pcm_session.specs.declared.session.SessionOf.{SessionOf}
 use Rattle.pcm_session.specs.Steps.{IsCallStep}
-use Rattle.pcm_session.specs.Taken.{is_taken}
+use Rattle.pcm_session.specs.Events.{event_for_open}
+use Rattle.pcm_session.specs.Taken.{fault_of, is_taken}
 
 -- the greatest number that a call answers
 abbrev pub most : ℕ
@@ -47,6 +51,11 @@ abbrev pub is_asked : {B : Type 0} → EngineOf B → Option Event → ℕ → �
 is_asked engine None bytes samples room = false
 is_asked engine (Some event) bytes samples room = is_taken (device_of engine) engine.steps event bytes samples room
 
+-- and why it doesn't, where it doesn't
+abbrev pub asked_fault : {B : Type 0} → EngineOf B → Option Event → ℕ → ℕ → CallFault
+asked_fault engine None bytes samples = Argument
+asked_fault engine (Some event) bytes samples = fault_of (device_of engine) engine.steps event bytes samples
+
 -- the step on the event that there is
 abbrev pub IsStepOf : {B : Type 0} → (B → Kept) → Option Event → List ℕ → List ℤ → EngineOf B → EngineOf B → Reply → List ℕ → Type 0
 IsStepOf kept None bytes samples old new told handed = ⊥
@@ -70,20 +79,27 @@ handed_count session frames samples room =
 -- the number that it answers
 abbrev pub handed_number : {B : Type 0} → SessionOf B → ℕ → ℕ → ℕ → ℤ
 handed_number session frames samples room =
-    if is_asked session.engine (Some (Intr frames)) 0 samples room then call_count (bytes_handed (device_of session.engine) (Intr frames)) else fault_number Argument
+    if is_asked session.engine (Some (Intr frames)) 0 samples room then call_count (bytes_handed (device_of session.engine) (Intr frames))
+    else call_fault_number (asked_fault session.engine (Some (Intr frames)) 0 samples)
 
 -- an interrupt with these samples, which leaves these bytes in its room
 abbrev pub Interrupts : {B : Type 0} → (B → Kept) → ℕ → List ℤ → List ℕ → SessionOf B → SessionOf B → Type 0
 Interrupts kept frames samples out old new =
     Takes kept (Some (Intr frames)) [] samples (length out) (take (handed_count old frames (length samples) (length out)) out) old new
 
--- the number that a call answers: that of its result, where it is a step, and else that of a wrong argument
-abbrev pub number_where : Bool → (Result Answer Errno → ℤ) → Result Answer Errno → ℤ
-number_where true number result = number result
-number_where false number result = fault_number Argument
+-- the number that a call answers: that of its result, where it is a step, and else that of its fault
+abbrev pub number_where : Bool → (Result Answer Errno → ℤ) → CallFault → Result Answer Errno → ℤ
+number_where true number fault result = number result
+number_where false number fault result = call_fault_number fault
 
 abbrev pub call_number : {B : Type 0} → (Result Answer Errno → ℤ) → Option Event → List ℕ → SessionOf B → SessionOf B → ℤ
-call_number number event bytes old new = number_where (is_asked old.engine event (length bytes) 0 0) number new.reply.result
+call_number number event bytes old new =
+    number_where (is_asked old.engine event (length bytes) 0 0) number (asked_fault old.engine event (length bytes) 0) new.reply.result
+
+-- An opening's: frames that no channel can have are refused as the requests for them are.
+abbrev pub open_number : {B : Type 0} → ℕ → ℕ → ℕ → ℕ → ℕ → SessionOf B → SessionOf B → ℤ
+open_number fd way format channels rate old new =
+    if is_some (stream_settings format channels rate) then call_number count_number (event_for_open fd way format channels rate) [] old new else refusal_number Inval
 
 -- the numbers beside an answer, where a call is a step
 abbrev pub beside_where : Bool → Result Answer Errno → AnswerNumbers → AnswerNumbers

@@ -1,22 +1,24 @@
 //! Calls in numbers, as programs of other languages make them. Each makes an event of its numbers, takes the step on it, and answers a number: 0
-//! or more, or the number of a refusal or of a wrong argument. A call that answers a number below 0 has changed nothing.
+//! or more, or the number of a refusal or of a fault. A call that answers a number below 0 has changed nothing.
 
-ghost use Rattle.std.specs.Prelude.{◌≡◌, ◌≤◌, [], length, drop};
-ghost use Rattle.std.specs.Bool.{OnTrue, OnFalse};
+ghost use Rattle.std.specs.Prelude.{◌≡◌, ◌≤◌, [], length, drop, IfErr, IsOk, OnErr};
+ghost use Rattle.std.specs.Result.{is_ok};
 ghost use Rattle.pcm_engine.specs.Engines.{AreReady};
-ghost use Rattle.pcm_session.specs.Calls.{Interrupts, IsStepOf, MakesCall, beside, call_count, call_number, count_number, done_number, front_put, handed_count, handed_number, is_asked, read_into};
+ghost use Rattle.pcm_session.specs.Calls.{Interrupts, IsStepOf, MakesCall, asked_fault, beside, call_count, call_number, count_number, done_number, front_put, handed_count, handed_number, is_asked, open_number, read_into};
 ghost use Rattle.pcm_session.specs.Events.{event_for_close, event_for_ioctl, event_for_join, event_for_mixer, event_for_open, event_for_poke, event_for_read, event_for_start, event_for_write};
 
 use crate::events::{
     event_for_close, event_for_ioctl, event_for_join, event_for_mixer, event_for_open,
     event_for_poke, event_for_read, event_for_start, event_for_write,
 };
-use crate::session::{SessionOf, WrongArgument};
+use crate::session::SessionOf;
 use pcm_feeder::Feeder;
-use pcm_numbers::{AnswerNumbers, WRONG_ARGUMENT, numbers_of, refusal_number};
+use pcm_numbers::{
+    AnswerNumbers, CallFault, call_fault_number, numbers_of, refusal_number, settings_from,
+};
 use pcm_oss::{Answer, Errno, Event};
 
-/// Opens a descriptor with such frames. Answers the number of its slot.
+/// Opens a descriptor with such frames. Answers the number of its slot. Frames that no channel can have are refused as the requests for them are.
 pub fn open<B: Feeder>(
     session: &mut SessionOf<B>,
     fd: u32,
@@ -29,9 +31,11 @@ pub fn open<B: Feeder>(
     ensures ready { AreReady B.kind B.kept session.new.engine }
     ensures makes { MakesCall B.kept (event_for_open fd way format channels rate) []
         session.old session.new }
-    ensures number { result ≡ call_number count_number
-        (event_for_open fd way format channels rate) [] session.old session.new }
+    ensures number { result ≡ open_number fd way format channels rate session.old session.new }
 {
+    if settings_from(format, channels, rate).is_none() {
+        return refusal_number(Errno::Inval);
+    }
     count_of(
         session,
         event_for_open(fd, way, format, channels, rate),
@@ -154,11 +158,13 @@ pub fn read<B: Feeder>(session: &mut SessionOf<B>, fd: u32, out: &mut [u8]) -> i
     ensures out { out.new
         ≡ read_into (event_for_read fd (length out.old)) session.old session.new out.old }
 {
-    if !takes(session, event_for_read(fd, out.len()), &[]) {
-        return WRONG_ARGUMENT;
+    match takes(session, event_for_read(fd, out.len()), &[]) {
+        Ok(()) => {
+            put_front(session.bytes(), out);
+            count_number(session.result())
+        }
+        Err(fault) => call_fault_number(fault),
     }
-    put_front(session.bytes(), out);
-    count_number(session.result())
 }
 
 /// The device takes so many frames, and brings what it captured meanwhile: samples at 32 bits, behind which is silence. Answers how many
@@ -178,26 +184,29 @@ pub fn interrupt<B: Feeder>(
 {
     match session.step(&Event::Intr { frames }, &[], samples, out) {
         Ok(count) => call_count(count),
-        Err(WrongArgument) => WRONG_ARGUMENT,
+        Err(fault) => call_fault_number(fault),
     }
 }
 
-// Takes the step on an event, if there is one and the engine takes it. Whether that is so.
-fn takes<B: Feeder>(session: &mut SessionOf<B>, event: Option<Event>, bytes: &[u8]) -> bool
+// Takes the step on an event, if there is one and the engine takes it.
+fn takes<B: Feeder>(
+    session: &mut SessionOf<B>,
+    event: Option<Event>,
+    bytes: &[u8],
+) -> Result<(), CallFault>
     requires ready { AreReady B.kind B.kept session.old.engine }
     ensures ready { AreReady B.kind B.kept session.new.engine }
-    ensures asked { result ≡ is_asked session.old.engine event (length bytes.now) 0 0 }
-    ensures step { OnTrue result (IsStepOf B.kept event bytes.now []
-        session.old.engine session.new.engine session.new.reply []) }
-    ensures same { OnFalse result (session.new ≡ session.old) }
+    ensures asked { is_ok result ≡ is_asked session.old.engine event (length bytes.now) 0 0 }
+    ensures fault { IfErr result (λ fault. fault ≡ asked_fault session.old.engine event (length bytes.now) 0) }
+    ensures step { IsOk result → IsStepOf B.kept event bytes.now []
+        session.old.engine session.new.engine session.new.reply [] }
+    ensures same { OnErr result (session.new ≡ session.old) }
 {
-    match event {
-        Some(event) => match session.step(&event, bytes, &[], &mut []) {
-            Ok(_) => true,
-            Err(WrongArgument) => false,
-        },
-        None => false,
-    }
+    let Some(event) = event else {
+        return Err(CallFault::Argument);
+    };
+    session.step(&event, bytes, &[], &mut [])?;
+    Ok(())
 }
 
 // The step on an event, and what its reply counts.
@@ -208,10 +217,9 @@ fn count_of<B: Feeder>(session: &mut SessionOf<B>, event: Option<Event>, bytes: 
     ensures number { result ≡ call_number count_number
         event bytes.now session.old session.new }
 {
-    if takes(session, event, bytes) {
-        count_number(session.result())
-    } else {
-        WRONG_ARGUMENT
+    match takes(session, event, bytes) {
+        Ok(()) => count_number(session.result()),
+        Err(fault) => call_fault_number(fault),
     }
 }
 
@@ -227,8 +235,8 @@ fn done_beside<B: Feeder>(
     ensures number { result ≡ call_number done_number event [] session.old session.new }
     ensures answer { answer.new ≡ beside event session.old session.new answer.old }
 {
-    if !takes(session, event, &[]) {
-        return WRONG_ARGUMENT;
+    if let Err(fault) = takes(session, event, &[]) {
+        return call_fault_number(fault);
     }
     match session.result() {
         Ok(told) => {

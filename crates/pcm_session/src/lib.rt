@@ -6,8 +6,10 @@ mod calls;
 mod events;
 mod judge;
 mod laws;
+mod limits;
 mod session;
 
 pub use calls::{ask_mixer, close, interrupt, ioctl, join, open, poke, read, start, write};
 pub use laws::{sessions_run_scripts, steps_of_a_session};
-pub use session::{SessionOf, WrongArgument};
+pub use limits::LIFE;
+pub use session::SessionOf;

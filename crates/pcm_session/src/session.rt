@@ -1,25 +1,22 @@
 //! The session, and its calls.
 
-ghost use Rattle.std.specs.Prelude.{◌≡◌, true, false, IfOk, IsErr, IsOk, Ok, OnErr, [], length, take, drop};
+ghost use Rattle.std.specs.Prelude.{◌≡◌, true, false, IfErr, IfOk, IsErr, IsOk, Ok, OnErr, [], length, take, drop};
 ghost use Rattle.pcm_desk.specs.Device.{seen, IsInLimits};
 ghost use Rattle.pcm_desk.specs.Events.{bytes_handed};
 ghost use Rattle.pcm_engine.specs.Engines.{device_of, AreReady, Stands};
 ghost use Rattle.pcm_feeder.specs.Racks.{AreRacks, list_of};
 ghost use Rattle.pcm_session.specs.Steps.{IsCallStep};
-ghost use Rattle.pcm_session.specs.Taken.{is_taken};
+ghost use Rattle.pcm_session.specs.Taken.{fault_of, has_right, is_left, is_taken, steps_left};
 ghost use Rattle.pcm_wave.specs.declared.pool.Pool.{Pool};
 
 use crate::judge::is_allowed;
+use crate::limits::LIFE;
 use pcm_desk::Device;
 use pcm_engine::{EngineOf, STEPS, bytes_asked, bytes_handed, samples_asked};
 use pcm_feeder::{Feeder, RacksOf, Tables};
+use pcm_numbers::CallFault;
 use pcm_oss::{Answer, Errno, Event, ReplyBuf};
 use std::alloc::{AllocError, Global};
-
-/// What a call is told that no engine takes: a number is outside its limits, or it came with other bytes, more samples or less room than
-/// its event has. Nothing has changed then.
-#[derive(Clone, Copy, Debug, PartialEq, Eq)]
-pub struct WrongArgument;
 
 /// An engine, with the reply to its last call.
 #[derive(Drop)]
@@ -53,19 +50,26 @@ impl<B: Feeder> SessionOf<B> {
     /// Takes one step on an event: with its bytes, if it is a write or a poke, and with what is captured, if it is an interrupt: samples at 32 bits,
     /// channel by channel, frame by frame, behind which is silence. Returns how many device bytes it handed over: they stand at the front of
     /// `out`, and the rest of `out` stays. Takes no memory.
+    ///
+    /// # Errors
+    ///
+    /// `Argument` where a number is outside its limits, or the event came with other bytes than it names, or with more samples than it captures
+    /// or a part of a frame. `Worn` where the engine has no step left for it, and `Room` where `out` is too small. Nothing has changed then.
     pub fn step(
         &mut self,
         event: &Event,
         bytes: &[u8],
         samples: &[i32],
         out: &mut [u8],
-    ) -> Result<usize, WrongArgument>
+    ) -> Result<usize, CallFault>
         requires ready { AreReady B.kind B.kept self.old.engine }
         ensures ready { AreReady B.kind B.kept self.new.engine }
         ensures taken { IsOk result → is_taken (device_of self.old.engine) self.old.engine.steps event.now
             (length bytes.now) (length samples.now) (length out.old) ≡ true }
         ensures refused { IsErr result → is_taken (device_of self.old.engine) self.old.engine.steps event.now
             (length bytes.now) (length samples.now) (length out.old) ≡ false }
+        ensures fault { IfErr result (λ fault. fault ≡ fault_of (device_of self.old.engine) self.old.engine.steps event.now
+            (length bytes.now) (length samples.now)) }
         ensures count { IfOk result (λ count. count ≡ bytes_handed (device_of self.old.engine) event.now) }
         ensures wrong { OnErr result ((self.new ≡ self.old) × (out.new ≡ out.old)) }
         ensures step { IfOk result (λ count. IsCallStep B.kept event.now bytes.now samples.now
@@ -73,7 +77,7 @@ impl<B: Feeder> SessionOf<B> {
         ensures rest { IfOk result (λ count. drop count out.new ≡ drop count out.old) }
     {
         if !self.takes(event, bytes.len(), samples.len(), out.len()) {
-            return Err(WrongArgument);
+            return Err(self.fault_of(event, bytes.len(), samples.len()));
         }
         let count = self
             .engine
@@ -99,11 +103,49 @@ impl<B: Feeder> SessionOf<B> {
     fn takes(&self, event: &Event, bytes: usize, samples: usize, room: usize) -> bool
         ensures { result ≡ is_taken (device_of self.now.engine) self.now.engine.steps event.now bytes samples room }
     {
+        self.has_right(event, bytes, samples)
+            && is_left(self.engine.steps(), event)
+            && bytes_handed(self.engine.device(), event) <= room
+    }
+
+    // Why it can't, where it can't.
+    fn fault_of(&self, event: &Event, bytes: usize, samples: usize) -> CallFault
+        ensures { result ≡ fault_of (device_of self.now.engine) self.now.engine.steps event.now bytes samples }
+    {
+        if !self.has_right(event, bytes, samples) {
+            CallFault::Argument
+        } else if !is_left(self.engine.steps(), event) {
+            CallFault::Worn
+        } else {
+            CallFault::Room
+        }
+    }
+
+    // Whether an event keeps the limits of the device, and came with what it brings.
+    fn has_right(&self, event: &Event, bytes: usize, samples: usize) -> bool
+        ensures { result ≡ has_right (device_of self.now.engine) event.now bytes samples }
+    {
         let device = self.engine.device();
         is_allowed(device, event)
             && bytes == bytes_asked(event)
             && samples <= samples_asked(device.settings.layout, event)
-            && bytes_handed(device, event) <= room
-            && self.engine.steps() < STEPS
+            && samples % device.settings.layout.channels() == 0
+    }
+
+    /// How many steps are left for other calls than closes.
+    pub fn steps_left(&self) -> u64
+        ensures { result ≡ steps_left self.now.engine.steps }
+    {
+        LIFE.saturating_sub(self.engine.steps())
+    }
+}
+
+// Whether there is a step left for an event after so many.
+fn is_left(steps: u64, event: &Event) -> bool
+    ensures { result ≡ is_left steps event.now }
+{
+    match event {
+        Event::Close { .. } => steps < STEPS,
+        _ => steps < LIFE,
     }
 }
