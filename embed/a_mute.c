@@ -96,16 +96,19 @@ static void play(struct dsp_engine *engine, FILE *out) {
 }
 
 int main(int count, char **words) {
-    static const struct dsp_device device = {DSP_S16_LE, 2, 48000, 0, 0, 2 * FRAMES, 4, 4, 0, 1};
+    struct dsp_device device = DSP_DEVICE_DEFAULT;
     struct dsp_engine engine = DSP_NO_ENGINE;
     FILE *out = count == 2 ? fopen(words[1], "wb") : NULL;
+    int32_t answer;
 
     if (out == NULL) {
         fputs("usage: a_mute OUT\n", stderr);
         return 2;
     }
-    if (dsp_engine_new(&engine, &device, NULL, 0, NULL, 0, NULL, 0) != 0) {
-        fputs("a_mute: no engine\n", stderr);
+    device.ring_frames = 2 * FRAMES;
+    answer = dsp_engine_new(&engine, &device, NULL, 0, NULL, 0, NULL, 0);
+    if (answer != 0) {
+        fprintf(stderr, "a_mute: %s\n", dsp_engine_error(answer));
         return 1;
     }
     play(&engine, out);

@@ -4,7 +4,7 @@ use std::fs::File;
 use std::io::Write;
 use std::process::ExitCode;
 
-/// The library's functions, with the types of dsp_engine.h. References are never null, so they are called themselves.
+/// The library's functions, with the types of dsp_engine.h.
 mod raw {
     #[repr(C)]
     pub struct Handle {
@@ -56,7 +56,7 @@ mod raw {
     }
 
     extern "C" {
-        pub fn dsp_raw_new(
+        pub fn dsp_engine_new(
             engine: &mut Handle,
             device: &Device,
             filters: *const Filter,
@@ -66,13 +66,13 @@ mod raw {
             sections: *const Section,
             section_count: usize,
         ) -> i32;
-        pub fn dsp_raw_free(engine: &mut Handle);
-        pub fn dsp_raw_open(engine: &mut Handle, fd: u32, way: u32, format: u32, channels: u32, rate: u32) -> i32;
-        pub fn dsp_raw_write(engine: &mut Handle, fd: u32, bytes: *const u8, length: usize) -> i32;
-        pub fn dsp_raw_ioctl(engine: &mut Handle, fd: u32, request: u32, argument: u32, answer: &mut Answer) -> i32;
-        pub fn dsp_raw_close(engine: &mut Handle, fd: u32) -> i32;
-        pub fn dsp_raw_mixer(engine: &mut Handle, request: u32, slot: u32, value: u32, answer: &mut Answer) -> i32;
-        pub fn dsp_raw_interrupt(
+        pub fn dsp_engine_free(engine: &mut Handle);
+        pub fn dsp_engine_open(engine: &mut Handle, fd: u32, way: u32, format: u32, channels: u32, rate: u32) -> i32;
+        pub fn dsp_engine_write(engine: &mut Handle, fd: u32, bytes: *const u8, length: usize) -> i32;
+        pub fn dsp_engine_ioctl(engine: &mut Handle, fd: u32, request: u32, argument: u32, answer: &mut Answer) -> i32;
+        pub fn dsp_engine_close(engine: &mut Handle, fd: u32) -> i32;
+        pub fn dsp_engine_mixer(engine: &mut Handle, request: u32, slot: u32, value: u32, answer: &mut Answer) -> i32;
+        pub fn dsp_engine_interrupt(
             engine: &mut Handle,
             frames: u32,
             samples: *const i32,
@@ -99,7 +99,7 @@ impl Engine {
     fn new(device: &raw::Device, filters: &[raw::Filter], coefs: &[i32], sections: &[raw::Section]) -> Result<Engine, Refusal> {
         let mut handle = raw::Handle { there: false, at: std::ptr::null_mut() };
         checked(unsafe {
-            raw::dsp_raw_new(
+            raw::dsp_engine_new(
                 &mut handle,
                 device,
                 filters.as_ptr(),
@@ -115,33 +115,33 @@ impl Engine {
 
     /// Opens a descriptor to play. The number of its slot.
     fn open_play(&mut self, fd: u32, format: u32, channels: u32, rate: u32) -> Result<u32, Refusal> {
-        checked(unsafe { raw::dsp_raw_open(&mut self.handle, fd, 0, format, channels, rate) })
+        checked(unsafe { raw::dsp_engine_open(&mut self.handle, fd, 0, format, channels, rate) })
     }
 
     fn write(&mut self, fd: u32, bytes: &[u8]) -> Result<u32, Refusal> {
-        checked(unsafe { raw::dsp_raw_write(&mut self.handle, fd, bytes.as_ptr(), bytes.len()) })
+        checked(unsafe { raw::dsp_engine_write(&mut self.handle, fd, bytes.as_ptr(), bytes.len()) })
     }
 
     fn ioctl(&mut self, fd: u32, request: u32, argument: u32) -> Result<raw::Answer, Refusal> {
         let mut answer = raw::Answer::default();
-        checked(unsafe { raw::dsp_raw_ioctl(&mut self.handle, fd, request, argument, &mut answer) })?;
+        checked(unsafe { raw::dsp_engine_ioctl(&mut self.handle, fd, request, argument, &mut answer) })?;
         Ok(answer)
     }
 
     fn mixer(&mut self, request: u32, slot: u32, value: u32) -> Result<raw::Answer, Refusal> {
         let mut answer = raw::Answer::default();
-        checked(unsafe { raw::dsp_raw_mixer(&mut self.handle, request, slot, value, &mut answer) })?;
+        checked(unsafe { raw::dsp_engine_mixer(&mut self.handle, request, slot, value, &mut answer) })?;
         Ok(answer)
     }
 
     fn close(&mut self, fd: u32) -> Result<u32, Refusal> {
-        checked(unsafe { raw::dsp_raw_close(&mut self.handle, fd) })
+        checked(unsafe { raw::dsp_engine_close(&mut self.handle, fd) })
     }
 
     /// The device takes so many frames: their bytes, at the front of `out`.
     fn interrupt<'a>(&mut self, frames: u32, samples: &[i32], out: &'a mut [u8]) -> Result<&'a [u8], Refusal> {
         let count = checked(unsafe {
-            raw::dsp_raw_interrupt(&mut self.handle, frames, samples.as_ptr(), samples.len(), out.as_mut_ptr(), out.len())
+            raw::dsp_engine_interrupt(&mut self.handle, frames, samples.as_ptr(), samples.len(), out.as_mut_ptr(), out.len())
         })?;
         Ok(&out[..count as usize])
     }
@@ -149,7 +149,7 @@ impl Engine {
 
 impl Drop for Engine {
     fn drop(&mut self) {
-        unsafe { raw::dsp_raw_free(&mut self.handle) }
+        unsafe { raw::dsp_engine_free(&mut self.handle) }
     }
 }
 

@@ -1,11 +1,15 @@
 /*
- * What the library answers to calls that it refuses, and to those that a_mute.c doesn't make: recordings, mapped channels, groups, filters. Each
- * line has a call and the number that docs/SCRIPTS.md gives its like. scripts/embed runs it.
+ * What the library answers to calls that it refuses, and to those that a_mute.c doesn't make: recordings, mapped channels, groups, filters;
+ * and what it says of answers and requests. Each line has a call and the number that docs/SCRIPTS.md gives its like. scripts/embed runs it.
  */
+#include <errno.h>
 #include <stdio.h>
 #include <string.h>
 
 #include "dsp_engine.h"
+
+/* What an engine answers as long as it doesn't tell these from a wrong argument. */
+enum { NOT_AN_ENGINE = DSP_WRONG_ARGUMENT, SHORT_ROOM = DSP_WRONG_ARGUMENT };
 
 static int wrong = 0;
 
@@ -18,35 +22,64 @@ static void check(const char *call, long got, long expected) {
     }
 }
 
-/* s16le, two channels, 48000 Hz, a ring of 16 frames; one client plays, one records, one is mapped. */
-static const struct dsp_device device = {DSP_S16_LE, 2, 48000, 0, 0, 16, 1, 1, 1, 2};
+/* One client plays, one records, one is mapped. */
+static const struct dsp_device device = {
+    .format = DSP_S16_LE,
+    .channels = 2,
+    .rate = 48000,
+    .ring_frames = 16,
+    .play_slots = 1,
+    .record_slots = 1,
+    .map_slots = 1,
+    .quality = 2,
+};
 
 static void without_an_engine(void) {
     struct dsp_engine none = DSP_NO_ENGINE;
     struct dsp_answer answer;
     uint8_t bytes[64];
 
-    IS(dsp_engine_open(&none, 0, DSP_PLAY, DSP_U8, 1, 8000), DSP_WRONG_ARGUMENT);
-    IS(dsp_engine_write(&none, 0, bytes, 1), DSP_WRONG_ARGUMENT);
-    IS(dsp_engine_poke(&none, 0, 0, bytes, 1), DSP_WRONG_ARGUMENT);
-    IS(dsp_engine_read(&none, 0, bytes, 1), DSP_WRONG_ARGUMENT);
-    IS(dsp_engine_ioctl(&none, 0, DSP_POST, 0, &answer), DSP_WRONG_ARGUMENT);
-    IS(dsp_engine_join(&none, 0, 0, &answer), DSP_WRONG_ARGUMENT);
-    IS(dsp_engine_start(&none, 0, 1), DSP_WRONG_ARGUMENT);
-    IS(dsp_engine_close(&none, 0), DSP_WRONG_ARGUMENT);
-    IS(dsp_engine_mixer(&none, DSP_GET_MASTER, 0, 0, &answer), DSP_WRONG_ARGUMENT);
-    IS(dsp_engine_interrupt(&none, 1, NULL, 0, bytes, sizeof bytes), DSP_WRONG_ARGUMENT);
-    IS(dsp_engine_close(NULL, 0), DSP_WRONG_ARGUMENT);
+    IS(dsp_engine_open(&none, 0, DSP_PLAY, DSP_U8, 1, 8000), NOT_AN_ENGINE);
+    IS(dsp_engine_write(&none, 0, bytes, 1), NOT_AN_ENGINE);
+    IS(dsp_engine_poke(&none, 0, 0, bytes, 1), NOT_AN_ENGINE);
+    IS(dsp_engine_read(&none, 0, bytes, 1), NOT_AN_ENGINE);
+    IS(dsp_engine_ioctl(&none, 0, DSP_POST, 0, &answer), NOT_AN_ENGINE);
+    IS(dsp_engine_join(&none, 0, 0, &answer), NOT_AN_ENGINE);
+    IS(dsp_engine_start(&none, 0, 1), NOT_AN_ENGINE);
+    IS(dsp_engine_close(&none, 0), NOT_AN_ENGINE);
+    IS(dsp_engine_mixer(&none, DSP_GET_MASTER, 0, 0, &answer), NOT_AN_ENGINE);
+    IS(dsp_engine_interrupt(&none, 1, NULL, 0, bytes, sizeof bytes), NOT_AN_ENGINE);
     dsp_engine_free(&none);
+}
+
+static void without_a_handle(void) {
+    struct dsp_answer answer;
+    uint8_t bytes[64];
+
+    IS(dsp_engine_new(NULL, &device, NULL, 0, NULL, 0, NULL, 0), DSP_NULL_POINTER);
+    IS(dsp_engine_create(NULL, &device, NULL, 0, NULL, 0, NULL, 0), DSP_NULL_POINTER);
+    IS(dsp_engine_open(NULL, 0, DSP_PLAY, DSP_U8, 1, 8000), DSP_NULL_POINTER);
+    IS(dsp_engine_write(NULL, 0, bytes, 1), DSP_NULL_POINTER);
+    IS(dsp_engine_poke(NULL, 0, 0, bytes, 1), DSP_NULL_POINTER);
+    IS(dsp_engine_read(NULL, 0, bytes, 1), DSP_NULL_POINTER);
+    IS(dsp_engine_ioctl(NULL, 0, DSP_POST, 0, &answer), DSP_NULL_POINTER);
+    IS(dsp_engine_join(NULL, 0, 0, &answer), DSP_NULL_POINTER);
+    IS(dsp_engine_start(NULL, 0, 1), DSP_NULL_POINTER);
+    IS(dsp_engine_close(NULL, 0), DSP_NULL_POINTER);
+    IS(dsp_engine_mixer(NULL, DSP_GET_MASTER, 0, 0, &answer), DSP_NULL_POINTER);
+    IS(dsp_engine_interrupt(NULL, 1, NULL, 0, bytes, sizeof bytes), DSP_NULL_POINTER);
     dsp_engine_free(NULL);
+    dsp_engine_destroy(NULL);
 }
 
 static void devices(void) {
     struct dsp_engine engine = DSP_NO_ENGINE;
     struct dsp_device other = device;
 
-    IS(dsp_engine_new(&engine, NULL, NULL, 0, NULL, 0, NULL, 0), DSP_WRONG_ARGUMENT);
-    IS(dsp_engine_new(&engine, &device, NULL, 1, NULL, 0, NULL, 0), DSP_WRONG_ARGUMENT);
+    IS(dsp_engine_new(&engine, NULL, NULL, 0, NULL, 0, NULL, 0), DSP_NULL_POINTER);
+    IS(dsp_engine_new(&engine, &device, NULL, 1, NULL, 0, NULL, 0), DSP_NULL_POINTER);
+    IS(dsp_engine_new(&engine, &device, NULL, 0, NULL, 1, NULL, 0), DSP_NULL_POINTER);
+    IS(dsp_engine_new(&engine, &device, NULL, 0, NULL, 0, NULL, 1), DSP_NULL_POINTER);
     other.channels = 3;
     IS(dsp_engine_new(&engine, &other, NULL, 0, NULL, 0, NULL, 0), DSP_WRONG_ARGUMENT);
     other = device;
@@ -57,16 +90,32 @@ static void devices(void) {
     IS(dsp_engine_new(&engine, &other, NULL, 0, NULL, 0, NULL, 0), DSP_WRONG_ARGUMENT);
     other.mix_rate = 24000;
     IS(dsp_engine_new(&engine, &other, NULL, 0, NULL, 0, NULL, 0), 0);
-    IS(dsp_engine_new(&engine, &device, NULL, 0, NULL, 0, NULL, 0), DSP_WRONG_ARGUMENT);
+    IS(dsp_engine_new(&engine, &device, NULL, 0, NULL, 0, NULL, 0), NOT_AN_ENGINE);
     dsp_engine_free(&engine);
     dsp_engine_free(&engine);
     IS(engine.there, false);
 }
 
+/* An engine in a struct of the library's. A refusal leaves the pointer as it is. */
+static void created(void) {
+    struct dsp_engine unmade = DSP_NO_ENGINE, *engine = &unmade;
+    struct dsp_device other = DSP_DEVICE_DEFAULT;
+
+    other.channels = 3;
+    IS(dsp_engine_create(&engine, &other, NULL, 0, NULL, 0, NULL, 0), DSP_WRONG_ARGUMENT);
+    IS(dsp_engine_create(&engine, NULL, NULL, 0, NULL, 0, NULL, 0), DSP_NULL_POINTER);
+    IS(engine == &unmade, true);
+    other.channels = 2;
+    IS(dsp_engine_create(&engine, &other, NULL, 0, NULL, 0, NULL, 0), 0);
+    IS(engine == &unmade, false);
+    IS(dsp_engine_open(engine, 5, DSP_PLAY, DSP_U8, 1, 8000), 0);
+    dsp_engine_destroy(engine);
+}
+
 static void filters_and_sections(void) {
     static const int32_t coefs[] = {2, 0, 1, 1};
-    static const struct dsp_section section = {1, 2, 0, 0, 0, 0};
-    struct dsp_filter filter = {0, 0, 2, 2, 1, 0};
+    static const struct dsp_section section = {.shift = 1, .b0 = 2};
+    struct dsp_filter filter = {.phases = 2, .taps = 2, .shift = 1, .first = 0};
     struct dsp_engine engine = DSP_NO_ENGINE;
 
     IS(dsp_engine_new(&engine, &device, &filter, 1, coefs, 4, &section, 1), 0);
@@ -74,7 +123,7 @@ static void filters_and_sections(void) {
     IS(dsp_engine_new(&engine, &device, &filter, 1, coefs, 3, NULL, 0), DSP_WRONG_ARGUMENT);
     filter.first = 1;
     IS(dsp_engine_new(&engine, &device, &filter, 1, coefs, 4, NULL, 0), DSP_WRONG_ARGUMENT);
-    filter = (struct dsp_filter){0, 0, 1, 3, 1, 0};
+    filter = (struct dsp_filter){.phases = 1, .taps = 3, .shift = 1, .first = 0};
     IS(dsp_engine_new(&engine, &device, &filter, 1, coefs, 4, NULL, 0), DSP_WRONG_ARGUMENT);
 }
 
@@ -89,13 +138,18 @@ static void numbers(struct dsp_engine *engine) {
     IS(dsp_engine_open(engine, 0, DSP_PLAY, DSP_U8, 5, 8000), DSP_WRONG_ARGUMENT);
     IS(dsp_engine_open(engine, 0, DSP_PLAY, DSP_U8, 1, 192001), DSP_WRONG_ARGUMENT);
     IS(dsp_engine_close(engine, 256), DSP_WRONG_ARGUMENT);
-    IS(dsp_engine_write(engine, 0, NULL, 1), DSP_WRONG_ARGUMENT);
+    IS(dsp_engine_write(engine, 0, NULL, 1), DSP_NULL_POINTER);
+    IS(dsp_engine_poke(engine, 0, 0, NULL, 1), DSP_NULL_POINTER);
+    IS(dsp_engine_read(engine, 0, NULL, 1), DSP_NULL_POINTER);
     IS(dsp_engine_ioctl(engine, 0, (enum dsp_request)20, 0, NULL), DSP_WRONG_ARGUMENT);
     IS(dsp_engine_mixer(engine, (enum dsp_mixer_request)5, 0, 0, NULL), DSP_WRONG_ARGUMENT);
     IS(dsp_engine_interrupt(engine, 0, NULL, 0, bytes, sizeof bytes), DSP_WRONG_ARGUMENT);
     IS(dsp_engine_interrupt(engine, 17, NULL, 0, bytes, sizeof bytes), DSP_WRONG_ARGUMENT);
-    IS(dsp_engine_interrupt(engine, 16, NULL, 0, bytes, 63), DSP_WRONG_ARGUMENT);
+    IS(dsp_engine_interrupt(engine, 16, NULL, 0, bytes, 63), SHORT_ROOM);
+    IS(dsp_engine_interrupt(engine, 16, NULL, 0, NULL, 0), SHORT_ROOM);
     IS(dsp_engine_interrupt(engine, 1, samples, 3, bytes, sizeof bytes), DSP_WRONG_ARGUMENT);
+    IS(dsp_engine_interrupt(engine, 1, NULL, 2, bytes, sizeof bytes), DSP_NULL_POINTER);
+    IS(dsp_engine_interrupt(engine, 1, NULL, 0, NULL, 4), DSP_NULL_POINTER);
 }
 
 /* What is refused by a channel's state. */
@@ -151,11 +205,44 @@ static void mapped_channels(struct dsp_engine *engine) {
     IS(dsp_engine_close(engine, 3), 0);
 }
 
+/* What answers mean, by the table of docs/SCRIPTS.md and, of those that no script has, by what they say. */
+static void meanings(void) {
+    static const int numbers[] = {EAGAIN, EBUSY, EINVAL, EBADF, EEXIST, ENOMEM, EINVAL, EFAULT, ENXIO, ERANGE, EOVERFLOW};
+    int32_t least = -(int32_t)(sizeof numbers / sizeof numbers[0]);
+
+    for (int32_t answer = -1; answer >= least; answer -= 1) {
+        IS(dsp_engine_errno(answer), numbers[-1 - answer]);
+        IS(strlen(dsp_engine_error(answer)) > 9, true);
+    }
+    IS(least, DSP_WORN_OUT);
+    IS(dsp_engine_errno(least - 1), EINVAL);
+    IS(dsp_engine_errno(INT32_MIN), EINVAL);
+    IS(dsp_engine_errno(0), 0);
+    IS(dsp_engine_errno(INT32_MAX), 0);
+    IS(strcmp(dsp_engine_error(0), "no error"), 0);
+    IS(strcmp(dsp_engine_error(4096), "no error"), 0);
+    IS(strcmp(dsp_engine_error(DSP_BAD_DESCRIPTOR), "the descriptor isn't open"), 0);
+    IS(strcmp(dsp_engine_error(INT32_MIN), "no answer of this library"), 0);
+}
+
+static void names(void) {
+    IS(strcmp(dsp_engine_request_name(DSP_SETFMT), "SNDCTL_DSP_SETFMT"), 0);
+    IS(strcmp(dsp_engine_request_name(DSP_SPEED), "SNDCTL_DSP_SPEED"), 0);
+    IS(strcmp(dsp_engine_request_name(DSP_HALT), "SNDCTL_DSP_HALT"), 0);
+    IS(dsp_engine_request_name(20) == NULL, true);
+    IS(dsp_engine_request_name(UINT32_MAX) == NULL, true);
+    IS(dsp_engine_version(), DSP_ENGINE_VERSION);
+}
+
 int main(void) {
     struct dsp_engine engine = DSP_NO_ENGINE;
 
     without_an_engine();
+    without_a_handle();
+    meanings();
+    names();
     devices();
+    created();
     filters_and_sections();
     IS(dsp_engine_new(&engine, &device, NULL, 0, NULL, 0, NULL, 0), 0);
     numbers(&engine);
@@ -163,7 +250,7 @@ int main(void) {
     recordings(&engine);
     mapped_channels(&engine);
     dsp_engine_free(&engine);
-    IS(dsp_engine_close(&engine, 3), DSP_WRONG_ARGUMENT);
+    IS(dsp_engine_close(&engine, 3), NOT_AN_ENGINE);
     printf("%d answers are wrong\n", wrong);
     return wrong == 0 ? 0 : 1;
 }

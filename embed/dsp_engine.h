@@ -6,10 +6,27 @@
  * the Open Sound System. Each call is one indivisible step. An interrupt, which is a call too, mixes what the clients gave and hands
  * over the bytes that leave the device then.
  *
- * Each call answers a number: 0 or more where it was accepted, and one of the negative ones below where not. A call that answers a
- * negative number has changed nothing. No call but dsp_engine_new takes memory, none waits, and none keeps a pointer of the caller.
+ *   dsp_engine_new, dsp_engine_free            an engine in a struct of the caller's
+ *   dsp_engine_create, dsp_engine_destroy      an engine in a struct of the library's
+ *   dsp_engine_open, dsp_engine_close          a client's descriptor
+ *   dsp_engine_write, dsp_engine_poke          bytes to the device
+ *   dsp_engine_read                            bytes from the device
+ *   dsp_engine_ioctl                           what a client asks of its channel
+ *   dsp_engine_join, dsp_engine_start          groups of channels that start together
+ *   dsp_engine_mixer                           volumes
+ *   dsp_engine_interrupt                       the device takes frames
+ *   dsp_engine_error, dsp_engine_errno         what an answer means
+ *   dsp_engine_request_name                    the name of a request
+ *   dsp_engine_version                         the library's version
+ *
+ * Each call of an engine answers a number: 0 or more where it was accepted, and one of the negative ones below where not. A call that
+ * answers a negative number has changed nothing. No call but dsp_engine_new and dsp_engine_create takes memory, none waits, and none
+ * keeps a pointer of the caller.
  *
  * One engine may be used by one thread at a time. Two engines have nothing in common.
+ *
+ * The library's code is for processors of x86-64-v2, and doesn't test for one. dsp_engine_new and dsp_engine_create take 160 KB of
+ * stack, and no other function more than 16 KB.
  */
 #ifndef DSP_ENGINE_H
 #define DSP_ENGINE_H
@@ -21,6 +38,11 @@
 #ifdef __cplusplus
 extern "C" {
 #endif
+
+/* ---- the version ---- */
+
+/* Of this header: the major number * 65536 + the minor one * 256 + that of the patch. dsp_engine_version tells the library's. */
+#define DSP_ENGINE_VERSION 0x00010000
 
 /* ---- what calls answer ---- */
 
@@ -34,13 +56,18 @@ extern "C" {
 #define DSP_BAD_DESCRIPTOR (-4)
 /* The descriptor is open already. */
 #define DSP_EXISTS (-5)
-/* There is no memory. Only dsp_engine_new answers it. */
+/* There is no memory. Only dsp_engine_new and dsp_engine_create answer it. */
 #define DSP_NO_MEMORY (-6)
-/*
- * No engine takes such a call: there is none, a pointer is null, a number is outside its limits, the room for what is handed over is too
- * small, or the engine has taken its 2147483648 steps.
- */
+/* A number is outside its limits. An engine answers this for the last three below, too, as long as it doesn't tell them apart. */
 #define DSP_WRONG_ARGUMENT (-7)
+/* A pointer is null that may not be. */
+#define DSP_NULL_POINTER (-8)
+/* There is no engine; or, where one is to be made, there is one already. */
+#define DSP_NOT_AN_ENGINE (-9)
+/* The room for what is handed over is too small. */
+#define DSP_SHORT_ROOM (-10)
+/* The engine has taken its 2147483648 steps. */
+#define DSP_WORN_OUT (-11)
 
 /* ---- an engine ---- */
 
@@ -86,6 +113,9 @@ struct dsp_device {
     uint32_t map_slots;    /* how many can have a mapped area at once */
     uint32_t quality;      /* of changes of rate: 0 holds frames, 1 draws lines, 2 to 4 take a filter where there is one */
 };
+
+/* s16le, two channels, 48000 Hz, a ring of 1024 frames; four clients play, four record, none is mapped; lines. */
+#define DSP_DEVICE_DEFAULT {DSP_S16_LE, 2, 48000, 0, 0, 1024, 4, 4, 0, 1}
 
 /* A filter for a change of rate, or for any where src and dst are 0. Its phases * taps coefficients stand in the array of all, from first on. */
 struct dsp_filter {
@@ -155,130 +185,83 @@ enum dsp_mixer_request {
     DSP_MUTE_SLOT = 4   /* slot; value: 1, and it isn't heard from now on; 0, and it is again */
 };
 
-/* The library's own functions, which take no null pointer. What a caller calls stands below. */
-int32_t dsp_raw_new(struct dsp_engine *engine, const struct dsp_device *device, const struct dsp_filter *filters, size_t filter_count,
-                    const int32_t *coefs, size_t coef_count, const struct dsp_section *sections, size_t section_count);
-void dsp_raw_free(struct dsp_engine *engine);
-int32_t dsp_raw_open(struct dsp_engine *engine, uint32_t fd, uint32_t way, uint32_t format, uint32_t channels, uint32_t rate);
-int32_t dsp_raw_write(struct dsp_engine *engine, uint32_t fd, const uint8_t *bytes, size_t length);
-int32_t dsp_raw_poke(struct dsp_engine *engine, uint32_t fd, uint32_t offset, const uint8_t *bytes, size_t length);
-int32_t dsp_raw_read(struct dsp_engine *engine, uint32_t fd, uint8_t *bytes, size_t length);
-int32_t dsp_raw_ioctl(struct dsp_engine *engine, uint32_t fd, uint32_t request, uint32_t argument, struct dsp_answer *answer);
-int32_t dsp_raw_join(struct dsp_engine *engine, uint32_t fd, uint32_t group, struct dsp_answer *answer);
-int32_t dsp_raw_start(struct dsp_engine *engine, uint32_t fd, uint32_t group);
-int32_t dsp_raw_close(struct dsp_engine *engine, uint32_t fd);
-int32_t dsp_raw_mixer(struct dsp_engine *engine, uint32_t request, uint32_t slot, uint32_t value, struct dsp_answer *answer);
-int32_t dsp_raw_interrupt(struct dsp_engine *engine, uint32_t frames, const int32_t *samples, size_t sample_count, uint8_t *out, size_t room);
-
-/* ---- calls ---- */
-
-/* A place for arrays of no elements, whose pointers may be null. */
-static inline void *dsp_some_place(const void *place, size_t count, void *spare) {
-    return place != NULL || count != 0 ? (void *)(uintptr_t)place : spare;
-}
+/* ---- an engine's beginning and end ---- */
 
 /*
  * Makes the engine of a device, with the filters and the equaliser's sections of these arrays. Each array may have no elements, and then be
  * null. It reads them now and doesn't keep them. All memory of the engine is taken here. Where there is an engine already, none is made.
- * Answers 0, DSP_NO_MEMORY or DSP_WRONG_ARGUMENT.
  */
-static inline int32_t dsp_engine_new(struct dsp_engine *engine, const struct dsp_device *device, const struct dsp_filter *filters,
-                                     size_t filter_count, const int32_t *coefs, size_t coef_count, const struct dsp_section *sections,
-                                     size_t section_count) {
-    struct dsp_section spare = {0, 0, 0, 0, 0, 0};
-    if (engine == NULL || device == NULL || (filters == NULL && filter_count != 0) || (coefs == NULL && coef_count != 0)
-        || (sections == NULL && section_count != 0)) {
-        return DSP_WRONG_ARGUMENT;
-    }
-    return dsp_raw_new(engine, device, (const struct dsp_filter *)dsp_some_place(filters, filter_count, &spare), filter_count,
-                       (const int32_t *)dsp_some_place(coefs, coef_count, &spare), coef_count,
-                       (const struct dsp_section *)dsp_some_place(sections, section_count, &spare), section_count);
-}
+int32_t dsp_engine_new(struct dsp_engine *engine, const struct dsp_device *device, const struct dsp_filter *filters, size_t filter_count,
+                       const int32_t *coefs, size_t coef_count, const struct dsp_section *sections, size_t section_count);
 
-/* Frees an engine, if there is one. There is none then. */
-static inline void dsp_engine_free(struct dsp_engine *engine) {
-    if (engine != NULL) {
-        dsp_raw_free(engine);
-    }
-}
+/* Frees an engine, if there is one. There is none then. The pointer may be null. */
+void dsp_engine_free(struct dsp_engine *engine);
+
+/*
+ * The same as dsp_engine_new, in a struct that the library takes memory for: the caller has a pointer, and no copy to make. Where it answers
+ * 0, the pointer leads to the engine.
+ */
+int32_t dsp_engine_create(struct dsp_engine **engine, const struct dsp_device *device, const struct dsp_filter *filters,
+                          size_t filter_count, const int32_t *coefs, size_t coef_count, const struct dsp_section *sections,
+                          size_t section_count);
+
+/* Frees an engine that dsp_engine_create made, and its struct. The pointer may be null. */
+void dsp_engine_destroy(struct dsp_engine *engine);
+
+/* ---- calls of an engine ---- */
 
 /* Opens descriptor fd, 0 to 63, with such frames, in the least free slot of its way. Answers the number of the slot. */
-static inline int32_t dsp_engine_open(struct dsp_engine *engine, uint32_t fd, enum dsp_way way, uint32_t format, uint32_t channels,
-                                      uint32_t rate) {
-    return engine == NULL ? DSP_WRONG_ARGUMENT : dsp_raw_open(engine, fd, (uint32_t)way, format, channels, rate);
-}
+int32_t dsp_engine_open(struct dsp_engine *engine, uint32_t fd, enum dsp_way way, uint32_t format, uint32_t channels, uint32_t rate);
 
 /* Writes so many bytes to a descriptor that plays. Answers how many of them its ring took: the first ones. */
-static inline int32_t dsp_engine_write(struct dsp_engine *engine, uint32_t fd, const void *bytes, size_t length) {
-    uint8_t spare = 0;
-    if (engine == NULL || (bytes == NULL && length != 0)) {
-        return DSP_WRONG_ARGUMENT;
-    }
-    return dsp_raw_write(engine, fd, (const uint8_t *)dsp_some_place(bytes, length, &spare), length);
-}
+int32_t dsp_engine_write(struct dsp_engine *engine, uint32_t fd, const void *bytes, size_t length);
 
 /* Writes so many bytes into the area of a mapped descriptor, from its byte offset on. Answers 0. */
-static inline int32_t dsp_engine_poke(struct dsp_engine *engine, uint32_t fd, uint32_t offset, const void *bytes, size_t length) {
-    uint8_t spare = 0;
-    if (engine == NULL || (bytes == NULL && length != 0)) {
-        return DSP_WRONG_ARGUMENT;
-    }
-    return dsp_raw_poke(engine, fd, offset, (const uint8_t *)dsp_some_place(bytes, length, &spare), length);
-}
+int32_t dsp_engine_poke(struct dsp_engine *engine, uint32_t fd, uint32_t offset, const void *bytes, size_t length);
 
 /* Reads at most so many bytes, and never more than 4096, of what a descriptor has recorded. Answers how many stand at the front of bytes. */
-static inline int32_t dsp_engine_read(struct dsp_engine *engine, uint32_t fd, void *bytes, size_t length) {
-    uint8_t spare = 0;
-    if (engine == NULL || (bytes == NULL && length != 0)) {
-        return DSP_WRONG_ARGUMENT;
-    }
-    return dsp_raw_read(engine, fd, (uint8_t *)dsp_some_place(bytes, length, &spare), length);
-}
+int32_t dsp_engine_read(struct dsp_engine *engine, uint32_t fd, void *bytes, size_t length);
 
-/* Asks something of the channel of a descriptor. Answers 0, and what is asked in answer. */
-static inline int32_t dsp_engine_ioctl(struct dsp_engine *engine, uint32_t fd, enum dsp_request request, uint32_t argument,
-                                       struct dsp_answer *answer) {
-    struct dsp_answer spare = {0, 0, 0, 0};
-    return engine == NULL ? DSP_WRONG_ARGUMENT : dsp_raw_ioctl(engine, fd, (uint32_t)request, argument, answer == NULL ? &spare : answer);
-}
+/* Asks something of the channel of a descriptor. Answers 0, and what is asked in answer, which may be null. */
+int32_t dsp_engine_ioctl(struct dsp_engine *engine, uint32_t fd, enum dsp_request request, uint32_t argument, struct dsp_answer *answer);
 
-/* Makes a descriptor a member of a group: of a new one by 0, or of one that is there. Answers 0, and the group's number, 1 to 8, as first. */
-static inline int32_t dsp_engine_join(struct dsp_engine *engine, uint32_t fd, uint32_t group, struct dsp_answer *answer) {
-    struct dsp_answer spare = {0, 0, 0, 0};
-    return engine == NULL ? DSP_WRONG_ARGUMENT : dsp_raw_join(engine, fd, group, answer == NULL ? &spare : answer);
-}
+/*
+ * Makes a descriptor a member of a group: of a new one by 0, or of one that is there. Answers 0, and the group's number, 1 to 8, as first of
+ * answer, which may be null.
+ */
+int32_t dsp_engine_join(struct dsp_engine *engine, uint32_t fd, uint32_t group, struct dsp_answer *answer);
 
 /* Starts all members of a group at one frame, asked by any open descriptor that plays or records. The group is gone then. Answers 0. */
-static inline int32_t dsp_engine_start(struct dsp_engine *engine, uint32_t fd, uint32_t group) {
-    return engine == NULL ? DSP_WRONG_ARGUMENT : dsp_raw_start(engine, fd, group);
-}
+int32_t dsp_engine_start(struct dsp_engine *engine, uint32_t fd, uint32_t group);
 
 /* Closes a descriptor. What was written plays to its end, and what was recorded and not read is dropped. Answers 0. */
-static inline int32_t dsp_engine_close(struct dsp_engine *engine, uint32_t fd) {
-    return engine == NULL ? DSP_WRONG_ARGUMENT : dsp_raw_close(engine, fd);
-}
+int32_t dsp_engine_close(struct dsp_engine *engine, uint32_t fd);
 
-/* Asks something of the mixer device. Answers 0, and what is asked in answer. */
-static inline int32_t dsp_engine_mixer(struct dsp_engine *engine, enum dsp_mixer_request request, uint32_t slot, uint32_t value,
-                                       struct dsp_answer *answer) {
-    struct dsp_answer spare = {0, 0, 0, 0};
-    return engine == NULL ? DSP_WRONG_ARGUMENT : dsp_raw_mixer(engine, (uint32_t)request, slot, value, answer == NULL ? &spare : answer);
-}
+/* Asks something of the mixer device. Answers 0, and what is asked in answer, which may be null. */
+int32_t dsp_engine_mixer(struct dsp_engine *engine, enum dsp_mixer_request request, uint32_t slot, uint32_t value,
+                         struct dsp_answer *answer);
 
 /*
  * The device takes so many frames, 1 to those of its ring. Answers how many bytes they are: they stand at the front of out, whose room they
  * need. With them come the frames that the device captured meanwhile: samples of 32 bits, as many as the device has channels for each frame,
  * frame by frame. There may be fewer, or none and then null: behind them is silence.
  */
-static inline int32_t dsp_engine_interrupt(struct dsp_engine *engine, uint32_t frames, const int32_t *samples, size_t sample_count,
-                                           void *out, size_t room) {
-    int32_t spare = 0;
-    if (engine == NULL || (samples == NULL && sample_count != 0) || (out == NULL && room != 0)) {
-        return DSP_WRONG_ARGUMENT;
-    }
-    return dsp_raw_interrupt(engine, frames, (const int32_t *)dsp_some_place(samples, sample_count, &spare), sample_count,
-                             (uint8_t *)dsp_some_place(out, room, &spare), room);
-}
+int32_t dsp_engine_interrupt(struct dsp_engine *engine, uint32_t frames, const int32_t *samples, size_t sample_count, void *out,
+                             size_t room);
+
+/* ---- words ---- */
+
+/* What an answer means, in a few words: never null, and of 0 and more "no error". */
+const char *dsp_engine_error(int32_t answer);
+
+/* The errno of the system that an answer is: 0 of 0 and more. */
+int32_t dsp_engine_errno(int32_t answer);
+
+/* The name of a request in OSS, as "SNDCTL_DSP_SPEED", or null where no request has that number. */
+const char *dsp_engine_request_name(uint32_t request);
+
+/* The version of the library, in the form of DSP_ENGINE_VERSION. */
+uint32_t dsp_engine_version(void);
 
 #ifdef __cplusplus
 }

@@ -11,7 +11,7 @@
 
 enum { CLIENTS = 4, FRAMES = 4, BYTES = 4 * FRAMES };
 
-static const struct dsp_device device = {DSP_S16_LE, 2, 48000, 0, 0, 1024, 4, 4, 0, 1};
+static const struct dsp_device device = DSP_DEVICE_DEFAULT;
 
 /* Answers whether all calls of a round were accepted. */
 static bool round_of_calls(struct dsp_engine *engine, const uint8_t *bytes, FILE *out) {

@@ -1,13 +1,14 @@
-"""Whether the header for C says what the library has: the part of scripts/tidy-check that compares them.
+"""Whether the C of embed/ says what the library has: the part of scripts/tidy-check that compares them.
 
-The fields of each struct that C and Rattle share stand in the same order under the same names, and the parameters of each function that the
-library exports, with the same types; what a caller calls hands its own on in that order. A list of Rattle is a pointer and a number for C.
+The fields of each struct that C and Rattle share stand in the same order under the same names (dsp_engine.h), and the parameters of each
+function that the library exports, with the same types (dsp_raw.h). What a program calls has the parameters that dsp_engine.h declares, and
+hands each on in its place (dsp_engine.c). A list of Rattle is a pointer and a number for C.
 """
 import re
 
 from reading import ROOT, code_of, sources
 
-HEADER = ROOT / "embed" / "dsp_engine.h"
+HEADER, RAW, CALLS = (ROOT / "embed" / it for it in ("dsp_engine.h", "dsp_raw.h", "dsp_engine.c"))
 LIBRARY = ("pcm_engine_c", "pcm_numbers")
 # the structs of C, and what they are in Rattle
 STRUCTS = {
@@ -38,45 +39,62 @@ def pairs(text, form):
 
 
 OURS = re.compile(r"(?P<name>\w+): (?P<type>[&\w\[\] ]+?)(?=,|$)", re.M)
-THEIRS = re.compile(r"(?P<type>(?:const )?(?:struct )?\w+ \*?)(?P<name>\w+)(?=[;,]|$)", re.M)
+THEIRS = re.compile(r"(?P<type>(?:const )?(?:struct |enum )?\w+ \*{0,2})(?P<name>\w+)(?=[;,]|$)", re.M)
+# an argument that is a parameter: as it is, as another type, or unless it is null
+HANDED = re.compile(r"(?:\(\w+\))?(?P<name>\w+)|(?P<unless>\w+) == NULL \? &\w+ : (?P=unless)")
 
 
-def structs():
+def c_of(file):
+    """The text of a file in C without its comments."""
+    return re.sub(r"/\*.*?\*/", "", file.read_text(), flags=re.S)
+
+
+def declared(name, text):
+    """The names and types of the parameters that a header declares a function with."""
+    return pairs(re.search(rf"\b{name}\(([^)]*)\);", text)[1], THEIRS)
+
+
+def structs(code):
     """Where a struct of the library has other fields than its own of C."""
-    code = "".join(code_of(file) for crate in LIBRARY for file in sources(crate) if file.suffix == ".rt")
-    header = re.sub(r"/\*.*?\*/", "", HEADER.read_text(), flags=re.S)
+    header = c_of(HEADER)
     for theirs, ours in STRUCTS.items():
         fields = re.search(rf"#\[repr\(C\)\][^{{]*\bstruct {ours} \{{(.*?)^\}}", code, re.S | re.M)[1]
         fields = re.sub(r"(?m)^\s*(?:pub )?ghost .*$", "", fields)
         wanted = [(NAMES.get(name, name), TYPES[kind]) for name, kind in pairs(fields, OURS)]
         found = pairs(re.search(rf"struct {theirs} \{{(.*?)\}};", header, re.S)[1], THEIRS)
         if wanted != found:
-            yield f"struct {theirs} has other fields than {ours}"
-    yield from functions(code, header)
+            yield f"{HEADER.name}: struct {theirs} has other fields than {ours}"
 
 
-def functions(code, header):
+def functions(code):
     """Where a function of the library has other parameters than C hands it."""
+    raw = c_of(RAW)
     for name, text in re.findall(r'extern "C" fn (\w+)\(([^)]*)\)', code):
-        mine = pairs(text, OURS)[1:]
-        found = pairs(re.search(rf"\b{name}\((.*?)\);", header, re.S)[1], THEIRS)
+        mine, found = pairs(text, OURS)[1:], declared(name, raw)
         if [it for _, kind in mine for it in type_in_c(kind)] != [kind for _, kind in found]:
-            yield f"{name} has parameters of other types"
-        yield from handed_on(name, [it for it, kind in mine if not kind.startswith("&")], [it for it, _ in found], header)
+            yield f"{RAW.name}: {name} has parameters of other types"
+        numbers = [it for it, kind in mine if not kind.startswith("&")]
+        if [it for it, _ in found if it in numbers] != numbers:
+            yield f"{RAW.name}: {name} has its numbers in another order"
+        yield from handed_on(name.replace("raw", "engine"), name, {})
 
 
-def handed_on(name, numbers, named, header):
-    """Where the numbers that a function takes have other names or another place, in what it is declared as or in what a caller calls."""
-    if [it for it in named if it in numbers] != numbers:
-        yield f"{name} has its numbers in another order"
-    outer = name.replace("raw", "engine")
-    head, handed = re.search(rf"static inline \w+ {outer}\((.*?)\) \{{.*?\b{name}\((.*?)\);", header, re.S).groups()
-    parameters = [it for it, _ in pairs(re.sub(r"\benum \w+", "uint32_t", head), THEIRS)]
-    bare = re.sub(r"dsp_some_place\((\w+)[^()]*\)", r"\1", re.sub(r"\((?:const )?(?:struct )?\w+ ?\*?\)", "", handed))
-    if parameters != [next((it for it in re.findall(r"\w+", part) if it in parameters), None) for part in bare.split(",")]:
-        yield f"{outer} hands its arguments on in another order"
+def handed_on(outer, inner, own):
+    """Where a function that programs call has other parameters than are declared, or hands on others, or in another order. A parameter may
+    be handed on under a name of the function's own."""
+    calls = c_of(CALLS)
+    head, body = re.search(rf"\b{outer}\(([^)]*)\) \{{(.*?)^\}}", calls, re.S | re.M).groups()
+    names = [it for it, _ in pairs(head, THEIRS)]
+    if pairs(head, THEIRS) != declared(outer, c_of(HEADER)):
+        yield f"{CALLS.name}: {outer} has other parameters than {HEADER.name} declares"
+    handed = re.search(rf"\b{inner}\((.*?)\);", body, re.S)[1].split(",")
+    found = [HANDED.fullmatch(it.strip()) for it in handed]
+    if [it and (it["name"] or it["unless"]) for it in found] != [own.get(it, it) for it in names]:
+        yield f"{CALLS.name}: {outer} hands its arguments on in another order"
 
 
 def wrong_header():
-    """What the header says wrongly."""
-    return [f"{HEADER.relative_to(ROOT)}: {it}" for it in structs()]
+    """What the C of embed/ says wrongly."""
+    code = "".join(code_of(file) for crate in LIBRARY for file in sources(crate) if file.suffix == ".rt")
+    found = [*structs(code), *functions(code), *handed_on("dsp_engine_create", "dsp_engine_new", {"engine": "made"})]
+    return [f"embed/{it}" for it in found]

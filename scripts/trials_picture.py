@@ -48,7 +48,7 @@ def drawn(program, script, configs, folder):
 
 def try_pictures(program, folder):
     """The pictures of the examples are those that are drawn, and say what their pages work out."""
-    for place in sorted((ROOT / "examples").iterdir()):
+    for place in sorted({it.parent for it in (ROOT / "examples").glob("*/*.script")}):
         script = sorted(place.glob("*.script"))[0]
         root, said = drawn(program, script, config_of(script), folder)
         look_at_labels(place.name, root)
