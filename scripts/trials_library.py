@@ -208,7 +208,7 @@ def plays_examples(room):
         how = {"cwd": place, "env": {**os.environ, "LD_LIBRARY_PATH": str(pc.parent.parent)}}
         status, said = played([*watched(), place / file.stem, *(["out.wav"] if file.stem == "emulator" else [])], **how)
         right &= told(f"{file.name}{under()}", ((f"{said.strip()}, status {status}", status != 0),), said.strip())
-    return right & sounds_right(place / "out.wav")
+    return right and sounds_right(place / "out.wav")
 
 
 def sounds_right(wave):
