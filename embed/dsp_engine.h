@@ -190,6 +190,7 @@ enum dsp_mixer_request {
 /*
  * Makes the engine of a device, with the filters and the equaliser's sections of these arrays. Each array may have no elements, and then be
  * null. It reads them now and doesn't keep them. All memory of the engine is taken here. Where there is an engine already, none is made.
+ * Answers 0, or why there is no new engine.
  */
 int32_t dsp_engine_new(struct dsp_engine *engine, const struct dsp_device *device, const struct dsp_filter *filters, size_t filter_count,
                        const int32_t *coefs, size_t coef_count, const struct dsp_section *sections, size_t section_count);
@@ -198,8 +199,8 @@ int32_t dsp_engine_new(struct dsp_engine *engine, const struct dsp_device *devic
 void dsp_engine_free(struct dsp_engine *engine);
 
 /*
- * The same as dsp_engine_new, in a struct that the library takes memory for: the caller has a pointer, and no copy to make. Where it answers
- * 0, the pointer leads to the engine.
+ * The same in a struct that the library takes memory for: the caller has a pointer to it, and no copy to make. Where it answers 0, *engine
+ * is that pointer.
  */
 int32_t dsp_engine_create(struct dsp_engine **engine, const struct dsp_device *device, const struct dsp_filter *filters,
                           size_t filter_count, const int32_t *coefs, size_t coef_count, const struct dsp_section *sections,

@@ -1,6 +1,7 @@
 /*
  * A program that brings the library its own memory: a test. It is linked with a copy of the archive in which objcopy has put own_malloc,
- * own_realloc and own_free in the place of malloc, realloc and free, as docs/EMBEDDING.md tells it. They take from a pool and count.
+ * own_realloc and own_free in the place of malloc, realloc and free, as docs/EMBEDDING.md tells it. They take from a pool, count, and refuse
+ * one request after another.
  */
 #include <stdio.h>
 #include <string.h>
@@ -16,8 +17,9 @@ static union {
 } pool;
 
 static size_t used = 0;
-static size_t limit = POOL;
 static long blocks = 0;
+static long requests = 0;
+static long refused = -1; /* the request that is refused, or none */
 
 void *own_malloc(size_t size);
 void *own_realloc(void *block, size_t size);
@@ -26,7 +28,8 @@ void own_free(void *block);
 void *own_malloc(size_t size) {
     size_t whole = (HEAD + size + 15) / 16 * 16;
     uint8_t *at = pool.bytes + used;
-    if (size > limit || whole > limit - used) {
+    requests += 1;
+    if (requests - 1 == refused || size > POOL || whole > POOL - used) {
         return NULL;
     }
     memcpy(at, &size, sizeof size);
@@ -50,31 +53,44 @@ void own_free(void *block) {
     blocks -= block != NULL;
 }
 
-/* Makes an engine out of what is left of the pool, and plays a frame. Answers what the making was answered. */
-static int32_t try_engine(void) {
+/* Calls of all kinds. Answers whether none asked for memory or gave some back. */
+static bool asks_for_nothing(struct dsp_engine *engine) {
+    uint8_t bytes[64] = {0};
+    long before = requests, there = blocks;
+    bool is_right = dsp_engine_open(engine, 0, DSP_PLAY, DSP_U8, 1, 8000) == 0 && dsp_engine_open(engine, 1, DSP_RECORD, DSP_U8, 1, 8000) == 0
+                    && dsp_engine_write(engine, 0, bytes, sizeof bytes) == (int32_t)sizeof bytes
+                    && dsp_engine_ioctl(engine, 0, DSP_POST, 0, NULL) == 0 && dsp_engine_ioctl(engine, 1, DSP_SETTRIGGER, 1, NULL) == 0
+                    && dsp_engine_interrupt(engine, 16, NULL, 0, bytes, sizeof bytes) == (int32_t)sizeof bytes
+                    && dsp_engine_read(engine, 1, bytes, 2) == 2 && dsp_engine_mixer(engine, DSP_SET_MASTER, 0, 50, NULL) == 0
+                    && dsp_engine_close(engine, 0) == 0 && dsp_engine_close(engine, 0) == DSP_BAD_DESCRIPTOR;
+    return is_right && requests == before && blocks == there;
+}
+
+/* Makes an engine in the empty pool, uses and frees it. Answers what its making was answered, or 1 where something else was wrong. */
+static int32_t try_engine(long refuse) {
     static const struct dsp_device device = DSP_DEVICE_DEFAULT;
     struct dsp_engine *engine = NULL;
-    uint8_t bytes[4] = {1, 2, 3, 4};
-    int32_t answer = dsp_engine_create(&engine, &device, NULL, 0, NULL, 0, NULL, 0);
-    if (answer == 0) {
-        size_t before = used;
-        dsp_engine_open(engine, 0, DSP_PLAY, DSP_S16_LE, 2, 48000);
-        answer = dsp_engine_write(engine, 0, bytes, sizeof bytes) == 4 && used == before ? 0 : 1;
-        dsp_engine_interrupt(engine, 1, NULL, 0, bytes, sizeof bytes);
+    int32_t answer;
+    used = 0;
+    requests = 0;
+    refused = refuse;
+    answer = dsp_engine_create(&engine, &device, NULL, 0, NULL, 0, NULL, 0);
+    if (answer == 0 && !asks_for_nothing(engine)) {
+        answer = 1;
     }
     dsp_engine_destroy(engine);
-    return answer;
+    return blocks == 0 ? answer : 1;
 }
 
 int main(void) {
-    int32_t made, refused;
-    size_t whole;
+    bool is_right = try_engine(-1) == 0;
+    long count = requests;
+    size_t whole = used;
 
-    made = try_engine();
-    whole = used;
-    used = 0;
-    limit = whole - 1;
-    refused = try_engine();
-    printf("an engine takes %lu KiB of the program's own memory; %ld blocks are left\n", (unsigned long)(whole / 1024), blocks);
-    return made == 0 && whole > 0 && refused == DSP_NO_MEMORY && blocks == 0 ? 0 : 1;
+    for (long each = 0; each < count; each += 1) {
+        is_right = try_engine(each) == DSP_NO_MEMORY && is_right;
+    }
+    printf("an engine asks the program %ld times for %lu KiB; %s\n", count, (unsigned long)(whole / 1024),
+           is_right ? "refused once each, it gives back all that it had" : "something is wrong");
+    return is_right && count > 0 ? 0 : 1;
 }
