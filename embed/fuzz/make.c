@@ -1,0 +1,101 @@
+/* How a call is made, and what it is given to bring and to fill. */
+#include "make.h"
+
+#include <stdlib.h>
+#include <string.h>
+
+static const uint64_t answer_mark = 0xa5a5a5a5a5a5a5a5u;
+
+static size_t greater(size_t one, size_t other) {
+    return one > other ? one : other;
+}
+
+bool begin_brought(struct brought *brought, const struct calls *calls) {
+    brought->sample_room = (size_t)calls->frames_left * calls->device->channels + 1;
+    brought->bytes = malloc(WRITTEN_MOST);
+    brought->samples = malloc(brought->sample_room * sizeof *brought->samples);
+    return brought->bytes != NULL && brought->samples != NULL;
+}
+
+bool begin_got(struct got *got, const struct calls *calls) {
+    got->out_room = greater((size_t)calls->frames_left * frame_bytes(calls->device) + GUARD, ROOM_MOST);
+    got->out = malloc(got->out_room + GUARD);
+    return got->out != NULL;
+}
+
+void bring(struct brought *brought, const struct call *call, const struct dsp_device *device) {
+    if (call->kind == CALL_WRITE || call->kind == CALL_POKE) {
+        fill_bytes(brought->bytes, call->length, call->seed);
+    }
+    if (call->kind == CALL_INTERRUPT) {
+        size_t whole = (size_t)call->numbers[FRAMES] * device->channels;
+        fill_samples(brought->samples, call->length, call->seed);
+        if (call->length < whole && whole <= brought->sample_room) {
+            memset(brought->samples + call->length, 0, (whole - call->length) * sizeof *brought->samples);
+        }
+    }
+}
+
+int32_t make_engine(struct dsp_engine *engine, const struct setup *setup) {
+    return dsp_engine_new(engine, &setup->device, setup->filters, setup->filter_count, setup->coefs, setup->coef_count, setup->sections,
+                          setup->section_count);
+}
+
+static void mark(struct got *got, const struct call *call) {
+    const struct dsp_answer marked = {answer_mark, answer_mark, answer_mark, answer_mark};
+    got->answer = marked;
+    memset(got->out, MARK, call->room + GUARD);
+}
+
+bool is_marked(const struct got *got, const struct call *call, size_t from) {
+    for (size_t i = from; i < call->room + GUARD; i += 1) {
+        if (got->out[i] != MARK) {
+            return false;
+        }
+    }
+    return true;
+}
+
+bool is_answer_marked(const struct got *got) {
+    const struct dsp_answer *answer = &got->answer;
+    return answer->first == answer_mark && answer->second == answer_mark && answer->third == answer_mark && answer->fourth == answer_mark;
+}
+
+static int32_t number_of(struct dsp_engine *engine, const struct setup *setup, const struct call *call, const struct brought *brought,
+                         struct got *got) {
+    const uint32_t *numbers = call->numbers;
+    const uint8_t *bytes = call->is_null ? NULL : brought->bytes;
+    uint8_t *out = call->is_null ? NULL : got->out;
+    struct dsp_answer *answer = call->is_null ? NULL : &got->answer;
+
+    switch (call->kind) {
+    case CALL_OPEN:
+        return dsp_engine_open(engine, numbers[FD], (enum dsp_way)numbers[WAY], numbers[FORMAT], numbers[CHANNELS], numbers[RATE]);
+    case CALL_WRITE:
+        return dsp_engine_write(engine, numbers[FD], bytes, call->length);
+    case CALL_POKE:
+        return dsp_engine_poke(engine, numbers[FD], numbers[OFFSET], bytes, call->length);
+    case CALL_READ:
+        return dsp_engine_read(engine, numbers[FD], out, call->room);
+    case CALL_IOCTL:
+        return dsp_engine_ioctl(engine, numbers[FD], (enum dsp_request)numbers[REQUEST], numbers[ARGUMENT], answer);
+    case CALL_JOIN:
+        return dsp_engine_join(engine, numbers[FD], numbers[GROUP], answer);
+    case CALL_START:
+        return dsp_engine_start(engine, numbers[FD], numbers[GROUP]);
+    case CALL_CLOSE:
+        return dsp_engine_close(engine, numbers[FD]);
+    case CALL_MIXER:
+        return dsp_engine_mixer(engine, (enum dsp_mixer_request)numbers[MIXER_REQUEST], numbers[MIXER_SLOT], numbers[MIXER_VALUE], answer);
+    case CALL_INTERRUPT:
+        return dsp_engine_interrupt(engine, numbers[FRAMES], brought->samples, call->length, out, call->room);
+    default:
+        return make_engine(engine, setup);
+    }
+}
+
+void make_call(struct dsp_engine *engine, const struct setup *setup, const struct call *call, const struct brought *brought,
+               struct got *got) {
+    mark(got, call);
+    got->number = number_of(engine, setup, call, brought, got);
+}

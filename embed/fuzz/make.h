@@ -1,0 +1,44 @@
+/* Makes a call on an engine. */
+#ifndef FUZZ_MAKE_H
+#define FUZZ_MAKE_H
+
+#include "call.h"
+
+/* What a call brings: so many bytes, or samples and behind them silence. */
+struct brought {
+    uint8_t *bytes;
+    int32_t *samples;
+    size_t sample_room;
+};
+
+/* What a call came to. Before it all of it that the call could reach is marked. */
+struct got {
+    int32_t number;
+    struct dsp_answer answer;
+    uint8_t *out;
+    size_t out_room; /* of all calls; GUARD bytes stand behind it */
+};
+
+enum { GUARD = 32, MARK = 0xa5 };
+
+/* Makes the buffers of what a sequence of calls brings and gets. Answers whether there was memory for them. */
+bool begin_brought(struct brought *brought, const struct calls *calls);
+bool begin_got(struct got *got, const struct calls *calls);
+
+/* Puts there what a call brings. */
+void bring(struct brought *brought, const struct call *call, const struct dsp_device *device);
+
+/* Makes an engine of a setup. */
+int32_t make_engine(struct dsp_engine *engine, const struct setup *setup);
+
+/* Makes a call, and keeps what it came to. */
+void make_call(struct dsp_engine *engine, const struct setup *setup, const struct call *call, const struct brought *brought,
+               struct got *got);
+
+/* Whether the bytes of the room of a call, from one on, are still marked, and those behind the room. */
+bool is_marked(const struct got *got, const struct call *call, size_t from);
+
+/* Whether the answer is still marked. */
+bool is_answer_marked(const struct got *got);
+
+#endif

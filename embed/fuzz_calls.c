@@ -1,0 +1,242 @@
+/*
+ * Tries sequences of calls: the bytes of an input are an engine and calls of it, right and wrong ones. scripts/fuzz-calls builds and runs it.
+ *
+ * One engine gets all calls. Another gets those that the first accepted, and no more of each than was taken: the bytes that the ring took, room for
+ * just what is handed over, captured silence written out. Both answer alike and hand over the same bytes, and at the end both are asked for all that
+ * they tell: so what was refused has changed nothing. A call is answered as one that no engine takes exactly where a number is outside the limits of dsp_engine.h. And some sequences
+ * are run as scripts by the program, which replies and hands over the same.
+ */
+#include <stdio.h>
+#include <stdlib.h>
+#include <string.h>
+
+#include "fuzz/limits.h"
+#include "fuzz/script.h"
+#include "fuzz/tally.h"
+#include "fuzz/told.h"
+
+/* The engines of a sequence, and what its last call was. */
+struct run {
+    const struct setup *setup;
+    struct dsp_engine places[2]; /* the first engine is in one of them, and is moved to the other now and then */
+    struct dsp_engine *first;
+    struct dsp_engine *second;
+    struct brought brought;
+    struct got of_first;
+    struct got of_second;
+    struct script script;
+    bool is_scripted;
+    bool is_ending; /* behind the calls of the input: the second engine gets all calls, too */
+    unsigned made;
+};
+
+/* Ends the process where something is wrong: what, at which call. */
+static void must(bool is_right, const struct run *run, const struct call *call, const char *what) {
+    if (is_right) {
+        return;
+    }
+    fprintf(stderr, "fuzz_calls: call %u: ", run->made);
+    tell_call(stderr, call);
+    fprintf(stderr, ": %s; the answers are %ld and %ld\n", what, (long)run->of_first.number, (long)run->of_second.number);
+    tell_counts();
+    abort();
+}
+
+/* What the first engine answers is within what the call can be answered, and is no refusal of another kind. */
+static void check_number(const struct run *run, const struct call *call) {
+    const struct dsp_device *device = &run->setup->device;
+    int64_t number = run->of_first.number;
+    must((number <= DSP_WRONG_ARGUMENT) == !call_is_right(call, device), run, call, "its numbers are judged otherwise");
+    must(number != DSP_NO_MEMORY, run, call, "it takes memory");
+    must(dsp_engine_error((int32_t)number) != NULL, run, call, "its answer has no text");
+    must((dsp_engine_errno((int32_t)number) == 0) == (number >= 0), run, call, "its answer has no errno");
+    if (number < 0) {
+        return;
+    }
+    switch (call->kind) {
+    case CALL_OPEN:
+        must(number < 16, run, call, "there is no such slot");
+        break;
+    case CALL_WRITE:
+        must((uint64_t)number <= call->length && (number > 0 || call->length == 0), run, call, "it takes another number of bytes");
+        break;
+    case CALL_READ:
+        must((uint64_t)number <= call->room && number <= READ_MOST && (number > 0 || call->room == 0), run, call,
+             "it reads another number of bytes");
+        break;
+    case CALL_INTERRUPT:
+        must(number == (int64_t)call->numbers[FRAMES] * frame_bytes(device), run, call, "it hands over another number of bytes");
+        break;
+    default:
+        must(number == 0, run, call, "it is answered a number");
+        break;
+    }
+}
+
+/* A call writes where it says, and nowhere where it was refused. */
+static void check_room(const struct run *run, const struct call *call) {
+    const struct got *got = &run->of_first;
+    bool fills = got->number >= 0 && (call->kind == CALL_READ || call->kind == CALL_INTERRUPT);
+    bool tells = got->number >= 0 && !call->is_null && (call->kind == CALL_IOCTL || call->kind == CALL_JOIN || call->kind == CALL_MIXER);
+    must(is_marked(got, call, fills ? (size_t)got->number : 0), run, call, "it wrote where it must not");
+    must(is_answer_marked(got) != tells, run, call, "what is told beside its number isn't right");
+}
+
+/* A call that was accepted, with no more than was taken of it; one that was refused, as it is. */
+static struct call taken_of(const struct call *call, int32_t number, const struct dsp_device *device) {
+    struct call taken = *call;
+    if (number < 0) {
+        return taken;
+    }
+    taken.is_null = false;
+    if (call->kind == CALL_WRITE) {
+        taken.length = (size_t)number;
+    }
+    if (call->kind == CALL_READ || call->kind == CALL_INTERRUPT) {
+        taken.room = (size_t)number;
+    }
+    if (call->kind == CALL_INTERRUPT) {
+        taken.length = (size_t)call->numbers[FRAMES] * device->channels;
+    }
+    return taken;
+}
+
+/* The second engine answers and hands over the same. */
+static void check_second(struct run *run, const struct call *call) {
+    struct got *first = &run->of_first, *second = &run->of_second;
+    struct call taken = taken_of(call, first->number, &run->setup->device);
+    bool fills = call->kind == CALL_READ || call->kind == CALL_INTERRUPT;
+
+    make_call(run->second, run->setup, &taken, &run->brought, second);
+    must(first->number == second->number, run, call, "the engines answer other numbers");
+    must(call->is_null || memcmp(&first->answer, &second->answer, sizeof first->answer) == 0, run, call, "the engines tell other numbers");
+    must(!fills || first->number < 0 || memcmp(first->out, second->out, (size_t)first->number) == 0, run, call, "the engines hand over other bytes");
+}
+
+/* Moves the first engine to its other place, as a program may. */
+static void move_first(struct run *run) {
+    const struct dsp_engine none = DSP_NO_ENGINE;
+    struct dsp_engine *other = run->first == &run->places[0] ? &run->places[1] : &run->places[0];
+    *other = *run->first;
+    *run->first = none;
+    run->first = other;
+}
+
+static void try_call(struct run *run, const struct call *call) {
+    run->made += 1;
+    if (call->kind == CALL_NEW) {
+        move_first(run);
+    }
+    bring(&run->brought, call, &run->setup->device);
+    make_call(run->first, run->setup, call, &run->brought, &run->of_first);
+    count_call(call, run->of_first.number);
+    check_number(run, call);
+    check_room(run, call);
+    if (run->of_first.number >= 0 || run->is_ending) {
+        check_second(run, call);
+    }
+    if (run->is_scripted) {
+        put_call(&run->script, call, run->of_first.number, &run->brought, &run->of_second);
+    }
+}
+
+/* No engine is there: each call says so, and writes nowhere. */
+static void try_without(struct run *run, const struct call *call) {
+    run->made += 1;
+    bring(&run->brought, call, &run->setup->device);
+    if (call->kind != CALL_NEW) {
+        make_call(run->first, run->setup, call, &run->brought, &run->of_first);
+        must(run->of_first.number <= DSP_WRONG_ARGUMENT, run, call, "there is no engine, and it is answered");
+        check_room(run, call);
+    }
+}
+
+/* Makes all calls of an input, one way or the other. */
+static void try_all(struct run *run, struct calls *calls, void (*try_one)(struct run *, const struct call *)) {
+    struct call call;
+    while (next_call(calls, &call)) {
+        run->is_ending = calls->asked > 0;
+        try_one(run, &call);
+    }
+}
+
+/* Whether an input is one of every so many that are run as scripts, by its bytes. */
+static bool is_chosen(const uint8_t *bytes, size_t length) {
+    const char *every = getenv("FUZZ_CALLS_EVERY");
+    unsigned long number = every == NULL ? 0 : strtoul(every, NULL, 10);
+    uint32_t sum = 2166136261u;
+    for (size_t i = 0; i < length; i += 1) {
+        sum = (sum ^ bytes[i]) * 16777619u;
+    }
+    return number != 0 && sum % number == 0;
+}
+
+/* Makes both engines and all calls, where there is memory for them. */
+static void try_sequence(struct run *run, struct calls *calls, bool is_chosen) {
+    const struct call last = {CALL_CLOSE, {0, 0, 0, 0, 0}, 0, 0, 0, false};
+    const struct setup *setup = run->setup;
+    int32_t number = make_engine(run->first, setup);
+
+    must((number == 0) == run->first->there, run, &last, "there is an engine where none was made, or none");
+    if (number == DSP_NO_MEMORY) {
+        return;
+    }
+    must(number == 0, run, &last, "no engine is made");
+    number = dsp_engine_create(&run->second, &setup->device, setup->filters, setup->filter_count, setup->coefs, setup->coef_count,
+                               setup->sections, setup->section_count);
+    if (number == 0) {
+        run->is_scripted = is_chosen && begin_script(&run->script, setup);
+        try_all(run, calls, try_call);
+        dsp_engine_destroy(run->second);
+    }
+    dsp_engine_free(run->first);
+    must(!run->first->there, run, &last, "a freed engine is there");
+    if (run->is_scripted) {
+        must(end_script(&run->script), run, &last, "the program does otherwise");
+    }
+    if (run->is_scripted && run->script.is_whole) {
+        count_one(COUNT_REPLAYED);
+    }
+}
+
+/* A setup that no engine can have makes none, and the calls are made without one. */
+static void try_wrong(struct run *run, struct calls *calls, const struct setup *wrong) {
+    const struct call first = {CALL_NEW, {0, 0, 0, 0, 0}, 0, 0, 0, false};
+    must(make_engine(run->first, wrong) <= DSP_WRONG_ARGUMENT && !run->first->there, run, &first, "an engine of wrong numbers is made");
+    try_all(run, calls, try_without);
+    dsp_engine_free(run->first);
+}
+
+int LLVMFuzzerInitialize(int *count, char ***words) {
+    (void)count;
+    (void)words;
+    return atexit(tell_counts);
+}
+
+int LLVMFuzzerTestOneInput(const uint8_t *bytes, size_t length) {
+    static const struct setup usual = {.device = {DSP_S16_LE, 2, 48000, 0, 0, 1024, 4, 4, 0, 1}};
+    struct run run = {.places = {DSP_NO_ENGINE, DSP_NO_ENGINE}};
+    struct input input = {bytes, length};
+    struct setup setup;
+    struct calls calls;
+    bool is_right = false;
+
+    take_setup(&input, &setup);
+    is_right = setup_is_right(&setup);
+    run.setup = is_right ? &setup : &usual;
+    run.first = &run.places[0];
+    begin_calls(&calls, input, run.setup);
+    if (begin_brought(&run.brought, &calls) && begin_got(&run.of_first, &calls) && begin_got(&run.of_second, &calls)) {
+        if (is_right) {
+            try_sequence(&run, &calls, is_chosen(bytes, length));
+        } else {
+            try_wrong(&run, &calls, &setup);
+        }
+        count_one(COUNT_SEQUENCES);
+    }
+    free(run.brought.bytes);
+    free(run.brought.samples);
+    free(run.of_first.out);
+    free(run.of_second.out);
+    return 0;
+}
