@@ -1,0 +1,122 @@
+"""The shared library: where it is, and its functions with their types."""
+import ctypes
+import ctypes.util
+import functools
+import os
+import pathlib
+from typing import Iterator
+
+from .refusals import refused
+
+VARIABLE = "DSP_ENGINE_LIBRARY"
+NAMES = ("libdsp_engine.so.1", "libdsp_engine.so", "libdsp_engine.dylib")
+MAJOR = 1  # of the versions of the library that this package fits
+
+Handle = ctypes.c_void_p
+U32 = ctypes.c_uint32
+SIZE = ctypes.c_size_t
+
+
+class DeviceStruct(ctypes.Structure):
+    """struct dsp_device"""
+
+    _fields_ = [
+        (name, U32)
+        for name in "format channels rate mix_channels mix_rate ring_frames play_slots record_slots map_slots quality".split()
+    ]
+
+
+class FilterStruct(ctypes.Structure):
+    """struct dsp_filter"""
+
+    _fields_ = [(name, U32) for name in "src dst phases taps shift first".split()]
+
+
+class SectionStruct(ctypes.Structure):
+    """struct dsp_section"""
+
+    _fields_ = [("shift", U32), *((name, ctypes.c_int32) for name in "b0 b1 b2 a1 a2".split())]
+
+
+class AnswerStruct(ctypes.Structure):
+    """struct dsp_answer"""
+
+    _fields_ = [(name, ctypes.c_uint64) for name in "first second third fourth".split()]
+
+
+# what each function takes; all answer a number of 32 bits but those of RESULTS
+PARAMETERS = {
+    "create": [
+        ctypes.POINTER(Handle),
+        ctypes.POINTER(DeviceStruct),
+        ctypes.POINTER(FilterStruct),
+        SIZE,
+        ctypes.POINTER(ctypes.c_int32),
+        SIZE,
+        ctypes.POINTER(SectionStruct),
+        SIZE,
+    ],
+    "destroy": [Handle],
+    "open": [Handle, U32, U32, U32, U32, U32],
+    "write": [Handle, U32, ctypes.c_char_p, SIZE],
+    "poke": [Handle, U32, U32, ctypes.c_char_p, SIZE],
+    "read": [Handle, U32, ctypes.c_void_p, SIZE],
+    "ioctl": [Handle, U32, U32, U32, ctypes.POINTER(AnswerStruct)],
+    "join": [Handle, U32, U32, ctypes.POINTER(AnswerStruct)],
+    "start": [Handle, U32, U32],
+    "close": [Handle, U32],
+    "mixer": [Handle, U32, U32, U32, ctypes.POINTER(AnswerStruct)],
+    "interrupt": [Handle, U32, ctypes.POINTER(ctypes.c_int32), SIZE, ctypes.c_void_p, SIZE],
+    "version": [],
+    "error": [ctypes.c_int32],
+    "errno": [ctypes.c_int32],
+}
+RESULTS = {"destroy": None, "version": U32, "error": ctypes.c_char_p}
+
+
+def places() -> Iterator[str]:
+    """Where the library may be, the first place first: the one that the variable names alone, else beside this package or the system's."""
+    named = os.environ.get(VARIABLE)
+    if named:
+        yield named
+        return
+    package = pathlib.Path(__file__).resolve().parent
+    for folder in (package, package.parent):
+        yield from (str(folder / name) for name in NAMES if (folder / name).is_file())
+    yield NAMES[0]
+    found = ctypes.util.find_library("dsp_engine")
+    if found:
+        yield found
+
+
+def loaded() -> ctypes.CDLL:
+    """The library as the system loads it."""
+    faults = []
+    for place in places():
+        try:
+            return ctypes.CDLL(place)
+        except OSError as fault:
+            faults.append(str(fault))
+    raise ImportError(f"dsp_engine: the shared library isn't there ({'; '.join(faults)}): name it in {VARIABLE}")
+
+
+@functools.lru_cache(maxsize=None)
+def library() -> ctypes.CDLL:
+    """The library, loaded once, with the types of its functions."""
+    found = loaded()
+    for name, parameters in PARAMETERS.items():
+        function = getattr(found, f"dsp_engine_{name}")
+        function.argtypes = parameters
+        function.restype = RESULTS.get(name, ctypes.c_int32)
+    version: int = found.dsp_engine_version()
+    if version >> 16 != MAJOR:
+        raise ImportError(f"dsp_engine: the library is of version {version >> 16}.{version >> 8 & 255}.{version & 255}, and not of {MAJOR}")
+    return found
+
+
+def accepted(number: int) -> int:
+    """What a call answered, or its refusal raised."""
+    if number >= 0:
+        return number
+    found = library()
+    raise refused(number, found.dsp_engine_errno(number), found.dsp_engine_error(number).decode())
