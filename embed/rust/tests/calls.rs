@@ -1,0 +1,140 @@
+//! What calls are answered, by docs/SCRIPTS.md and by hand.
+
+use dsp_engine::{
+    Device, Engine, Errors, Filter, Format, Fragments, MixerRequest, Position, Refusal, Request, Section, Space, Trigger, Volume,
+    Way,
+};
+
+/// One client plays, one records, one is mapped; the ring has 16 frames.
+fn small() -> Device {
+    Device { ring_frames: 16, play_slots: 1, record_slots: 1, map_slots: 1, quality: 2, ..Device::default() }
+}
+
+fn engine() -> Engine {
+    Engine::new(&small(), &[], &[]).unwrap()
+}
+
+#[test]
+fn requests_of_an_opening() {
+    let mut engine = engine();
+    assert_eq!(engine.open(5, Way::Play, Format::U8, 1, 8000), Ok(0));
+    assert_eq!((engine.format(5), engine.channels(5), engine.rate(5)), (Ok(8), Ok(1), Ok(8000)));
+    assert_eq!(engine.set_format(5, Format::S24Be), Ok(()));
+    assert_eq!(engine.set_channels(5, 6), Ok(()));
+    assert_eq!(engine.set_rate(5, 44100), Ok(()));
+    assert_eq!((engine.format(5), engine.channels(5), engine.rate(5)), (Ok(0x20000), Ok(6), Ok(44100)));
+    assert_eq!(engine.formats(5), Ok(Format::ALL.iter().map(|it| it.code()).sum()));
+    assert_eq!((engine.capabilities(5), engine.fragment_bytes(5)), (Ok(0x1200), Ok(4096)));
+    assert_eq!(engine.trigger(5), Ok(Trigger { record: false, play: true }));
+}
+
+#[test]
+fn room_and_delay() {
+    let mut engine = engine();
+    let cut = Fragments { count: 2, power: 4 };
+    let space = Space { fragments: 1, fragments_in_all: 2, fragment_bytes: 16, bytes: 20 };
+    engine.open(0, Way::Play, Format::S16Le, 2, 48000).unwrap();
+    assert_eq!(engine.set_fragments(0, cut), Ok(cut));
+    assert_eq!(engine.write(0, &[0; 12]), Ok(12));
+    assert_eq!((engine.output_space(0), engine.output_delay(0)), (Ok(space), Ok(12)));
+    assert_eq!(engine.write(0, &[0; 100]), Ok(20));
+    assert_eq!(engine.write(0, &[0; 100]), Err(Refusal::Again));
+    assert_eq!(engine.write(0, &[]), Ok(0));
+    assert_eq!(engine.halt(0), Ok(()));
+    assert_eq!(engine.errors(0), Ok(Errors { underruns: 0, overruns: 0 }));
+}
+
+#[test]
+fn volumes() {
+    let mut engine = engine();
+    let half = Volume { left: 100, right: 50 };
+    engine.open(0, Way::Play, Format::S16Le, 2, 48000).unwrap();
+    assert_eq!((engine.set_volume(0, half), engine.volume(0)), (Ok(()), Ok(half)));
+    assert_eq!((engine.set_master(half), engine.master()), (Ok(()), Ok(half)));
+    assert_eq!((engine.set_slot(1, half), engine.slot(1)), (Ok(()), Ok(half)));
+    assert_eq!(engine.set_master(Volume { left: 101, right: 0 }), Err(Refusal::Invalid));
+    assert_eq!(engine.mixer(MixerRequest::GetMaster, 0, 0).map(|it| it.first), Ok(0x3264));
+}
+
+#[test]
+fn three_frames_come_of_four_that_are_captured() {
+    let mut engine = engine();
+    let samples: Vec<i32> = [1, -1, 2, -2, 3, -3].iter().map(|it| it << 16).collect();
+    let (mut out, mut room) = ([9; 16], [9; 4096]);
+    engine.open(2, Way::Record, Format::S16Le, 2, 48000).unwrap();
+    assert_eq!(engine.read(2, &mut room), Err(Refusal::Again));
+    engine.set_trigger(2, Trigger { record: true, play: false }).unwrap();
+    assert_eq!(engine.interrupt(4, &samples, &mut out).map(|it| it.to_vec()), Ok(vec![0; 16]));
+    assert_eq!(engine.input_space(2).map(|it| it.bytes), Ok(16));
+    assert_eq!(engine.input_position(2), Ok(Position { bytes: 16, blocks: 0, place: 16 }));
+    assert_eq!(engine.read(2, &mut room).unwrap(), [1, 0, 255, 255, 2, 0, 254, 255, 3, 0, 253, 255, 0, 0, 0, 0]);
+    assert_eq!(room[16], 9);
+    assert_eq!(engine.read(2, &mut []).map(|it| it.len()), Ok(0));
+}
+
+#[test]
+fn a_mapped_channel_and_a_group() {
+    let mut engine = engine();
+    assert_eq!(engine.open(3, Way::Map, Format::S16Le, 2, 48000), Ok(1));
+    assert_eq!(engine.poke(3, 16380, &[1, 2, 3, 4]), Ok(()));
+    assert_eq!(engine.poke(3, 16381, &[1, 2, 3, 4]), Err(Refusal::Invalid));
+    assert_eq!(engine.join(3, 0), Err(Refusal::Invalid));
+    engine.open(0, Way::Play, Format::S16Le, 2, 48000).unwrap();
+    assert_eq!(engine.join(0, 0), Ok(1));
+    assert_eq!(engine.start(0, 1), Err(Refusal::Busy));
+    assert_eq!(engine.write(0, &[0; 4]), Ok(4));
+    assert_eq!(engine.start(0, 1), Ok(()));
+    assert_eq!(engine.start(0, 1), Err(Refusal::Invalid));
+    assert_eq!((engine.sync(0), engine.close(0), engine.close(0)), (Ok(()), Ok(()), Err(Refusal::BadDescriptor)));
+}
+
+/// A filter from 24000 to 48000 gives each frame, and then the mean of it and the next; the section halves.
+#[test]
+fn filters_and_sections() {
+    let filter = Filter { src: 24000, dst: 48000, phases: 2, taps: 2, shift: 1, coefs: &[2, 0, 1, 1] };
+    let half = Section { shift: 1, b0: 1, b1: 0, b2: 0, a1: 0, a2: 0 };
+    let mut engine = Engine::new(&small(), &[filter], &[half]).unwrap();
+    let mut out = [0; 64];
+    engine.open(0, Way::Play, Format::S16Le, 2, 24000).unwrap();
+    engine.write(0, &[0, 0, 0, 0, 200, 0, 200, 0]).unwrap();
+    engine.close(0).unwrap();
+    engine.interrupt(16, &[], &mut out).unwrap();
+    let heard = engine.interrupt(4, &[], &mut out).unwrap();
+    assert_eq!(heard, [0, 0, 0, 0, 50, 0, 50, 0, 100, 0, 100, 0, 50, 0, 50, 0]);
+    let short = Filter { coefs: &[2, 0, 1], ..filter };
+    assert_eq!(Engine::new(&small(), &[short], &[]).err(), Some(Refusal::WrongArgument));
+}
+
+#[test]
+fn numbers_outside_their_limits() {
+    let mut engine = engine();
+    let mut out = [9; 64];
+    let no_device = Device { channels: 3, ..small() };
+    assert_eq!(Engine::new(&no_device, &[], &[]).err(), Some(Refusal::WrongArgument));
+    assert_eq!(engine.close(64), Err(Refusal::WrongArgument));
+    assert_eq!(engine.open(0, Way::Play, Format::U8, 5, 8000), Err(Refusal::WrongArgument));
+    assert_eq!(engine.interrupt(0, &[], &mut out), Err(Refusal::WrongArgument));
+    assert_eq!(engine.interrupt(17, &[], &mut out), Err(Refusal::WrongArgument));
+    assert_eq!(engine.interrupt(1, &[0; 3], &mut out), Err(Refusal::WrongArgument));
+    assert!(engine.interrupt(16, &[], &mut out[..63]).is_err());
+    assert_eq!(out, [9; 64]);
+}
+
+#[test]
+fn refusals_have_numbers_texts_and_errnos() {
+    let mut engine = engine();
+    let refusal = engine.ioctl(0, Request::Post, 0).unwrap_err();
+    assert_eq!((refusal, refusal.number()), (Refusal::BadDescriptor, -4));
+    assert!(!refusal.to_string().is_empty());
+    let system = std::io::Error::from(Refusal::Again);
+    assert_eq!(system.kind(), std::io::ErrorKind::WouldBlock);
+    assert_eq!(Engine::version().0, 1);
+}
+
+#[test]
+fn an_engine_may_be_used_by_another_thread() {
+    let mut engine = engine();
+    engine.open(0, Way::Play, Format::S16Le, 2, 48000).unwrap();
+    let taken = std::thread::spawn(move || engine.write(0, &[0; 12])).join().unwrap();
+    assert_eq!(taken, Ok(12));
+}
