@@ -89,7 +89,7 @@ class Declared:
 def words():
     """All words that stand somewhere in the crates or in what is built with them, and the names of files."""
     found = {it for file in sources() for it in WORD.findall(code_of(file))}
-    for part in ("embed", "scripts", "tools"):
+    for part in ("embed", "embed/*", "embed/python/dsp_engine", "embed/rust/src", "scripts", "tools"):
         found |= {it for file in ROOT.glob(f"{part}/*") if file.is_file() for it in WORD.findall(file.read_text())}
     return found | {it.name for it in ROOT.glob("crates/*")} | {it.stem for it in ROOT.rglob("*.*") if ".git" not in it.parts}
 
