@@ -57,7 +57,7 @@ def names_are_hidden(_):
 
     archive, shared = BIN / ARCHIVE, BIN / shared_names()[0]
     shown = [("archive", listed("-g", "--defined-only", archive)), ("shared library", listed("-D", "--defined-only", shared))]
-    other = [(f"the {what} shows {' '.join(sorted(names ^ set(exported())))}", names != set(exported())) for what, names in shown]
+    other = [(f"the {what} and the headers differ in {' '.join(sorted(names ^ set(exported())))}", names != set(exported())) for what, names in shown]
     asked = listed("-u", archive)
     other.append((f"it asks for {' '.join(sorted(asked - OF_SYSTEM))}", bool(asked - OF_SYSTEM)))
     return told("names", other, f"the {len(exported())} functions of the headers are shown, and {' '.join(sorted(asked))} asked for")
