@@ -8,9 +8,6 @@
 
 #include "dsp_engine.h"
 
-/* What an engine answers as long as it doesn't tell these from a wrong argument. */
-enum { NOT_AN_ENGINE = DSP_WRONG_ARGUMENT, SHORT_ROOM = DSP_WRONG_ARGUMENT };
-
 static int wrong = 0;
 
 #define IS(call, expected) check(#call, (long)(call), (long)(expected))
@@ -39,16 +36,17 @@ static void without_an_engine(void) {
     struct dsp_answer answer;
     uint8_t bytes[64];
 
-    IS(dsp_engine_open(&none, 0, DSP_PLAY, DSP_U8, 1, 8000), NOT_AN_ENGINE);
-    IS(dsp_engine_write(&none, 0, bytes, 1), NOT_AN_ENGINE);
-    IS(dsp_engine_poke(&none, 0, 0, bytes, 1), NOT_AN_ENGINE);
-    IS(dsp_engine_read(&none, 0, bytes, 1), NOT_AN_ENGINE);
-    IS(dsp_engine_ioctl(&none, 0, DSP_POST, 0, &answer), NOT_AN_ENGINE);
-    IS(dsp_engine_join(&none, 0, 0, &answer), NOT_AN_ENGINE);
-    IS(dsp_engine_start(&none, 0, 1), NOT_AN_ENGINE);
-    IS(dsp_engine_close(&none, 0), NOT_AN_ENGINE);
-    IS(dsp_engine_mixer(&none, DSP_GET_MASTER, 0, 0, &answer), NOT_AN_ENGINE);
-    IS(dsp_engine_interrupt(&none, 1, NULL, 0, bytes, sizeof bytes), NOT_AN_ENGINE);
+    IS(dsp_engine_open(&none, 0, DSP_PLAY, DSP_U8, 1, 8000), DSP_NOT_AN_ENGINE);
+    IS(dsp_engine_write(&none, 0, bytes, 1), DSP_NOT_AN_ENGINE);
+    IS(dsp_engine_poke(&none, 0, 0, bytes, 1), DSP_NOT_AN_ENGINE);
+    IS(dsp_engine_read(&none, 0, bytes, 1), DSP_NOT_AN_ENGINE);
+    IS(dsp_engine_ioctl(&none, 0, DSP_POST, 0, &answer), DSP_NOT_AN_ENGINE);
+    IS(dsp_engine_join(&none, 0, 0, &answer), DSP_NOT_AN_ENGINE);
+    IS(dsp_engine_start(&none, 0, 1), DSP_NOT_AN_ENGINE);
+    IS(dsp_engine_close(&none, 0), DSP_NOT_AN_ENGINE);
+    IS(dsp_engine_mixer(&none, DSP_GET_MASTER, 0, 0, &answer), DSP_NOT_AN_ENGINE);
+    IS(dsp_engine_interrupt(&none, 1, NULL, 0, bytes, sizeof bytes), DSP_NOT_AN_ENGINE);
+    IS(dsp_engine_steps_left(&none), 0);
     dsp_engine_free(&none);
 }
 
@@ -68,6 +66,7 @@ static void without_a_handle(void) {
     IS(dsp_engine_close(NULL, 0), DSP_NULL_POINTER);
     IS(dsp_engine_mixer(NULL, DSP_GET_MASTER, 0, 0, &answer), DSP_NULL_POINTER);
     IS(dsp_engine_interrupt(NULL, 1, NULL, 0, bytes, sizeof bytes), DSP_NULL_POINTER);
+    IS(dsp_engine_steps_left(NULL), 0);
     dsp_engine_free(NULL);
     dsp_engine_destroy(NULL);
 }
@@ -90,7 +89,7 @@ static void devices(void) {
     IS(dsp_engine_new(&engine, &other, NULL, 0, NULL, 0, NULL, 0), DSP_WRONG_ARGUMENT);
     other.mix_rate = 24000;
     IS(dsp_engine_new(&engine, &other, NULL, 0, NULL, 0, NULL, 0), 0);
-    IS(dsp_engine_new(&engine, &device, NULL, 0, NULL, 0, NULL, 0), NOT_AN_ENGINE);
+    IS(dsp_engine_new(&engine, &device, NULL, 0, NULL, 0, NULL, 0), DSP_NOT_AN_ENGINE);
     dsp_engine_free(&engine);
     dsp_engine_free(&engine);
     IS(engine.there, false);
@@ -127,16 +126,17 @@ static void filters_and_sections(void) {
     IS(dsp_engine_new(&engine, &device, &filter, 1, coefs, 4, NULL, 0), DSP_WRONG_ARGUMENT);
 }
 
-/* Numbers that are none of a call. */
+/* Numbers that are none of a call. None of these is a step. */
 static void numbers(struct dsp_engine *engine) {
     uint8_t bytes[64] = {0};
     int32_t samples[4] = {0};
 
     IS(dsp_engine_open(engine, 64, DSP_PLAY, DSP_U8, 1, 8000), DSP_WRONG_ARGUMENT);
     IS(dsp_engine_open(engine, 0, (enum dsp_way)3, DSP_U8, 1, 8000), DSP_WRONG_ARGUMENT);
-    IS(dsp_engine_open(engine, 0, DSP_PLAY, 1, 1, 8000), DSP_WRONG_ARGUMENT);
-    IS(dsp_engine_open(engine, 0, DSP_PLAY, DSP_U8, 5, 8000), DSP_WRONG_ARGUMENT);
-    IS(dsp_engine_open(engine, 0, DSP_PLAY, DSP_U8, 1, 192001), DSP_WRONG_ARGUMENT);
+    IS(dsp_engine_open(engine, 0, DSP_PLAY, 1, 1, 8000), DSP_INVALID);
+    IS(dsp_engine_open(engine, 0, DSP_PLAY, DSP_U8, 5, 8000), DSP_INVALID);
+    IS(dsp_engine_open(engine, 0, DSP_PLAY, DSP_U8, 1, 3999), DSP_INVALID);
+    IS(dsp_engine_open(engine, 0, DSP_PLAY, DSP_U8, 1, 192001), DSP_INVALID);
     IS(dsp_engine_close(engine, 256), DSP_WRONG_ARGUMENT);
     IS(dsp_engine_write(engine, 0, NULL, 1), DSP_NULL_POINTER);
     IS(dsp_engine_poke(engine, 0, 0, NULL, 1), DSP_NULL_POINTER);
@@ -145,9 +145,10 @@ static void numbers(struct dsp_engine *engine) {
     IS(dsp_engine_mixer(engine, (enum dsp_mixer_request)5, 0, 0, NULL), DSP_WRONG_ARGUMENT);
     IS(dsp_engine_interrupt(engine, 0, NULL, 0, bytes, sizeof bytes), DSP_WRONG_ARGUMENT);
     IS(dsp_engine_interrupt(engine, 17, NULL, 0, bytes, sizeof bytes), DSP_WRONG_ARGUMENT);
-    IS(dsp_engine_interrupt(engine, 16, NULL, 0, bytes, 63), SHORT_ROOM);
-    IS(dsp_engine_interrupt(engine, 16, NULL, 0, NULL, 0), SHORT_ROOM);
+    IS(dsp_engine_interrupt(engine, 16, NULL, 0, bytes, 63), DSP_SHORT_ROOM);
+    IS(dsp_engine_interrupt(engine, 16, NULL, 0, NULL, 0), DSP_SHORT_ROOM);
     IS(dsp_engine_interrupt(engine, 1, samples, 3, bytes, sizeof bytes), DSP_WRONG_ARGUMENT);
+    IS(dsp_engine_interrupt(engine, 2, samples, 3, bytes, sizeof bytes), DSP_WRONG_ARGUMENT);
     IS(dsp_engine_interrupt(engine, 1, NULL, 2, bytes, sizeof bytes), DSP_NULL_POINTER);
     IS(dsp_engine_interrupt(engine, 1, NULL, 0, NULL, 4), DSP_NULL_POINTER);
 }
@@ -158,6 +159,7 @@ static void refusals(struct dsp_engine *engine) {
     uint8_t bytes[4] = {0};
 
     IS(dsp_engine_write(engine, 0, bytes, 4), DSP_BAD_DESCRIPTOR);
+    IS(dsp_engine_steps_left(engine), 2130706431);
     IS(dsp_engine_open(engine, 0, DSP_PLAY, DSP_S16_LE, 2, 48000), 0);
     IS(dsp_engine_open(engine, 0, DSP_PLAY, DSP_S16_LE, 2, 48000), DSP_EXISTS);
     IS(dsp_engine_open(engine, 1, DSP_PLAY, DSP_S16_LE, 2, 48000), DSP_BUSY);
@@ -245,12 +247,14 @@ int main(void) {
     created();
     filters_and_sections();
     IS(dsp_engine_new(&engine, &device, NULL, 0, NULL, 0, NULL, 0), 0);
+    IS(dsp_engine_steps_left(&engine), 2130706432);
     numbers(&engine);
+    IS(dsp_engine_steps_left(&engine), 2130706432);
     refusals(&engine);
     recordings(&engine);
     mapped_channels(&engine);
     dsp_engine_free(&engine);
-    IS(dsp_engine_close(&engine, 3), NOT_AN_ENGINE);
+    IS(dsp_engine_close(&engine, 3), DSP_NOT_AN_ENGINE);
     printf("%d answers are wrong\n", wrong);
     return wrong == 0 ? 0 : 1;
 }

@@ -128,6 +128,10 @@ int32_t dsp_engine_interrupt(struct dsp_engine *engine, uint32_t frames, const i
     return dsp_raw_interrupt(engine, frames, samples == NULL ? &no_sample : samples, sample_count, out == NULL ? &no_byte : out, room);
 }
 
+uint64_t dsp_engine_steps_left(struct dsp_engine *engine) {
+    return engine == NULL ? 0 : dsp_raw_steps_left(engine);
+}
+
 /* ---- words ---- */
 
 struct meaning {

@@ -15,6 +15,7 @@
  *   dsp_engine_join, dsp_engine_start          groups of channels that start together
  *   dsp_engine_mixer                           volumes
  *   dsp_engine_interrupt                       the device takes frames
+ *   dsp_engine_steps_left                      how many steps an engine still takes
  *   dsp_engine_error, dsp_engine_errno         what an answer means
  *   dsp_engine_request_name                    the name of a request
  *   dsp_engine_version                         the library's version
@@ -58,7 +59,7 @@ extern "C" {
 #define DSP_EXISTS (-5)
 /* There is no memory. Only dsp_engine_new and dsp_engine_create answer it. */
 #define DSP_NO_MEMORY (-6)
-/* A number is outside its limits. An engine answers this for the last three below, too, as long as it doesn't tell them apart. */
+/* A number is outside its limits, or captured samples end with a part of a frame. */
 #define DSP_WRONG_ARGUMENT (-7)
 /* A pointer is null that may not be. */
 #define DSP_NULL_POINTER (-8)
@@ -66,7 +67,7 @@ extern "C" {
 #define DSP_NOT_AN_ENGINE (-9)
 /* The room for what is handed over is too small. */
 #define DSP_SHORT_ROOM (-10)
-/* The engine has taken its 2147483648 steps. */
+/* The engine has taken all its steps: see dsp_engine_steps_left. */
 #define DSP_WORN_OUT (-11)
 
 /* ---- an engine ---- */
@@ -249,6 +250,13 @@ int32_t dsp_engine_mixer(struct dsp_engine *engine, enum dsp_mixer_request reque
  */
 int32_t dsp_engine_interrupt(struct dsp_engine *engine, uint32_t frames, const int32_t *samples, size_t sample_count, void *out,
                              size_t room);
+
+/*
+ * How many steps an engine still takes: 2130706432 at first, and 0 without an engine. A call is a step where it is accepted, or refused by one
+ * of DSP_AGAIN to DSP_EXISTS; an open with frames that no channel can have is none. Behind them every call but dsp_engine_close answers
+ * DSP_WORN_OUT. Asking is no step.
+ */
+uint64_t dsp_engine_steps_left(struct dsp_engine *engine);
 
 /* ---- words ---- */
 

@@ -13,13 +13,10 @@
 extern "C" {
 #endif
 
-/* Answers of these functions, beside 0 and DSP_WRONG_ARGUMENT for a number outside its limits. */
-#ifndef DSP_NULL_POINTER
-#define DSP_NULL_POINTER (-8) /* a pointer is null */
-#endif
-#ifndef DSP_SHORT_ROOM
-#define DSP_SHORT_ROOM (-10) /* the array has no room for the coefficients */
-#endif
+/*
+ * These answer 0, DSP_WRONG_ARGUMENT for a number outside its limits, DSP_NULL_POINTER, and DSP_SHORT_ROOM where the array has no room for the
+ * coefficients.
+ */
 
 /* How many coefficients a filter has with so many phases and taps: at most 16384. 0 where there is no such filter. */
 size_t dsp_filter_size(uint32_t phases, uint32_t taps);

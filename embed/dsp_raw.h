@@ -20,5 +20,6 @@ int32_t dsp_raw_start(struct dsp_engine *engine, uint32_t fd, uint32_t group);
 int32_t dsp_raw_close(struct dsp_engine *engine, uint32_t fd);
 int32_t dsp_raw_mixer(struct dsp_engine *engine, uint32_t request, uint32_t slot, uint32_t value, struct dsp_answer *answer);
 int32_t dsp_raw_interrupt(struct dsp_engine *engine, uint32_t frames, const int32_t *samples, size_t sample_count, uint8_t *out, size_t room);
+uint64_t dsp_raw_steps_left(struct dsp_engine *engine);
 
 #endif

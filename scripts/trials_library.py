@@ -8,6 +8,7 @@ import re
 import shutil
 import struct
 import subprocess
+import sys
 
 from library import BIN, CFLAGS
 from sources import ROOT
@@ -102,22 +103,57 @@ def plays_in_c(room):
 def plays_in_cpp(room):
     if not shutil.which("c++"):
         return True
-    subprocess.run(["c++", *IN_CPP, "-fsyntax-only", "-x", "c++", EMBED / "dsp_engine.h"], check=True)
+    for it in ("dsp_engine.h", "dsp_oss.h", "dsp_filter.h"):
+        subprocess.run(["c++", *IN_CPP, "-fsyntax-only", "-x", "c++", EMBED / it], check=True)
     words = ["c++", *IN_CPP, "-x", "c++", EMBED / "a_mute.c", "-x", "none", BIN / ARCHIVE]
     return plays_example("a_mute.c in C++", [compiled(words, room, "in_cpp")], room)
 
 
 def plays_in_rust(room):
+    """The example of the crate for Rust, and where cargo is there the crate's own tests."""
     if not shutil.which("rustc"):
         return True
-    words = ["rustc", "--edition", "2021", "-O", "-D", "warnings", "-L", f"native={BIN}", "-l", "static=dsp_engine", EMBED / "a_mute.rs"]
-    return plays_example("a_mute.rs", [compiled(words, room, "in_rust")], room)
+    crate = EMBED / "rust"
+    how = ["rustc", "--edition", "2021", "-O", "-D", "warnings"]
+    made = compiled([*how, "--crate-type", "rlib", "--crate-name", "dsp_engine", crate / "src" / "lib.rs"], room, "libdsp_engine.rlib")
+    words = [*how, "--extern", f"dsp_engine={made}", "-L", f"native={BIN}", "-l", "static=dsp_engine", crate / "examples" / "a_mute.rs"]
+    return plays_example("a_mute.rs", [compiled(words, room, "in_rust")], room) and tests_of_rust(room, crate)
+
+
+def tests_of_rust(room, crate):
+    if not shutil.which("cargo"):
+        return True
+    env = {**os.environ, "DSP_ENGINE_LIB_DIR": str(BIN), "CARGO_TARGET_DIR": str(room / "cargo")}
+    status, said = played(["cargo", "test", "--quiet", "--offline", "--manifest-path", crate / "Cargo.toml"], env=env, stderr=subprocess.STDOUT)
+    return told("the crate for Rust", ((f"{said.strip()[-800:]}, status {status}", status != 0),), "its tests pass")
+
+
+def tests_of_python(_):
+    env = {**os.environ, "DSP_ENGINE_LIBRARY": str(BIN / shared_names()[2])}
+    words = [sys.executable, "-B", "-m", "unittest", "discover", "--quiet", EMBED / "python"]
+    status, said = played(words, env=env, stderr=subprocess.STDOUT)
+    return told("the package for Python", ((f"{said.strip()[-800:]}, status {status}", status != 0),), "its tests pass")
+
+
+# the tests in C, with what is compiled beside each
+IN_C = (("answers.c",), ("oss.c", "dsp_oss.c"), ("filters.c", "dsp_filter.c"))
 
 
 def answers_right(room):
-    """Whether the library answers all as answers.c expects it."""
-    status, said = played([*watched(), compiled(["cc", *CFLAGS, EMBED / "answers.c", BIN / ARCHIVE], room, "answers")])
-    return told(f"answers.c{under()}", ((f"{said.strip()}, status {status}", status != 0),), said.strip())
+    """Whether the library, and the helpers over it, answer all as the tests expect it."""
+    right = True
+    for sources in IN_C:
+        name = sources[0]
+        built = compiled(["cc", *CFLAGS, *[EMBED / it for it in sources], BIN / ARCHIVE, "-lm"], room, name.partition(".")[0])
+        status, said = played([*watched(), built])
+        right &= told(f"{name}{under()}", ((f"{said.strip()}, status {status}", status != 0),), said.strip())
+    return right
+
+
+def filters_agree(_):
+    """Whether filters and sections that are made in C are those of the tools."""
+    status, said = played([ROOT / "scripts" / "compare-filters"], stderr=subprocess.STDOUT)
+    return told("dsp_filter.c and the tools", ((f"{said.strip()[-800:]}, status {status}", status != 0),), said.strip().splitlines()[-1] if said.strip() else "")
 
 
 def stack_suffices(room):
@@ -221,8 +257,8 @@ def sounds_right(wave):
     return told("emulator.c's wave", ((f"{found}, and not {expected}", found != expected),), "as long and as loud as its chips")
 
 
-TRIALS = (names_are_hidden, level_is_told, plays_in_c, plays_in_cpp, plays_in_rust, answers_right, stack_suffices, takes_own_memory,
-          builds_by_the_page, plays_examples)
+TRIALS = (names_are_hidden, level_is_told, plays_in_c, plays_in_cpp, plays_in_rust, tests_of_python, answers_right, filters_agree,
+          stack_suffices, takes_own_memory, builds_by_the_page, plays_examples)
 
 
 def try_all(room):

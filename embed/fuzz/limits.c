@@ -68,10 +68,10 @@ bool setup_is_right(const struct setup *setup) {
     return is_right;
 }
 
-/* Whether an interrupt has as many frames as the ring may give, no more samples than these, and room for them. */
+/* Whether an interrupt has as many frames as the ring may give, no more samples than these and whole frames of them, and room for them. */
 static bool interrupt_is_right(const struct call *call, const struct dsp_device *device) {
     uint64_t frames = call->numbers[FRAMES];
-    return frames != 0 && frames <= device->ring_frames && call->length <= frames * device->channels
+    return frames != 0 && frames <= device->ring_frames && call->length <= frames * device->channels && call->length % device->channels == 0
            && call->room >= frames * frame_bytes(device) && !call->is_null;
 }
 
@@ -85,7 +85,8 @@ bool call_is_right(const struct call *call, const struct dsp_device *device) {
     case CALL_MIXER:
         return numbers[MIXER_REQUEST] < MIXER_REQUESTS;
     case CALL_OPEN:
-        return numbers[FD] < DESCRIPTORS && numbers[WAY] < WAYS && is_stream(numbers[FORMAT], numbers[CHANNELS], numbers[RATE]);
+        /* frames that no channel can have are refused, as the requests for them are */
+        return !is_stream(numbers[FORMAT], numbers[CHANNELS], numbers[RATE]) || (numbers[FD] < DESCRIPTORS && numbers[WAY] < WAYS);
     case CALL_IOCTL:
         return numbers[FD] < DESCRIPTORS && numbers[REQUEST] < REQUESTS;
     case CALL_WRITE:

@@ -211,12 +211,16 @@ class Refusals(unittest.TestCase):
     def test_numbers_outside_their_limits(self) -> None:
         self.refuses(Refusal.WRONG_ARGUMENT, "close", 64)
         self.refuses(Refusal.WRONG_ARGUMENT, "open", 0, 3)
-        self.refuses(Refusal.WRONG_ARGUMENT, "open", 0, Way.PLAY, Format.U8, 5)
+        self.refuses(Refusal.INVALID, "open", 0, Way.PLAY, Format.U8, 5)
         self.refuses(Refusal.WRONG_ARGUMENT, "ioctl", 0, 20)
         self.refuses(Refusal.WRONG_ARGUMENT, "mixer", 5)
         self.refuses(Refusal.WRONG_ARGUMENT, "interrupt", 0)
         self.refuses(Refusal.WRONG_ARGUMENT, "interrupt", 17)
         self.refuses(Refusal.WRONG_ARGUMENT, "interrupt", 1, [0, 0, 0])
+        self.refuses(Refusal.WRONG_ARGUMENT, "interrupt", 2, [0, 0, 0])
+        self.assertEqual(self.engine.steps_left, 2130706432)
+        self.refuses(Refusal.BAD_DESCRIPTOR, "close", 0)
+        self.assertEqual(self.engine.steps_left, 2130706431)
 
     def test_numbers_that_do_not_fit(self) -> None:
         with self.assertRaises(ValueError):

@@ -2,7 +2,6 @@
 use Rattle.std.proofs.Common.{◌≡◌, ℕ, false, Option, Some, None, refl, true≢false}
 use Rattle.std.specs.Prelude.{is_some}
 use Rattle.pcm_format.specs.declared.settings.Settings.{Settings}
-use Rattle.pcm_oss.specs.declared.event.Event.{Event}
 use Rattle.pcm_oss.specs.declared.event.Event.TheVariants.{Open}
 use Rattle.pcm_oss.specs.declared.event.Way.{Way}
 use Rattle.pcm_numbers.specs.Devices.{◌>>=◌, stream_settings, way_from}

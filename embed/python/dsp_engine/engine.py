@@ -71,6 +71,12 @@ class Engine:
         """The device of the engine."""
         return self._device
 
+    @property
+    def steps_left(self) -> int:
+        """How many steps the engine still takes: calls that are accepted, or that it refuses. Closes go on behind them."""
+        with self._lock:
+            return int(self._library.dsp_engine_steps_left(self._handle))
+
     def open(self, descriptor: int, way: Way, format: Format = Format.U8, channels: int = 1, rate: int = 8000) -> int:
         """Opens a descriptor, 0 to 63. Answers the number of its slot."""
         numbers = (descriptor, way, format, channels, rate)

@@ -67,11 +67,12 @@ PARAMETERS = {
     "close": [Handle, U32],
     "mixer": [Handle, U32, U32, U32, ctypes.POINTER(AnswerStruct)],
     "interrupt": [Handle, U32, ctypes.POINTER(ctypes.c_int32), SIZE, ctypes.c_void_p, SIZE],
+    "steps_left": [Handle],
     "version": [],
     "error": [ctypes.c_int32],
     "errno": [ctypes.c_int32],
 }
-RESULTS = {"destroy": None, "version": U32, "error": ctypes.c_char_p}
+RESULTS = {"destroy": None, "steps_left": ctypes.c_uint64, "version": U32, "error": ctypes.c_char_p}
 
 
 def places() -> Iterator[str]:

@@ -51,6 +51,7 @@ extern "C" {
         out: *mut u8,
         room: usize,
     ) -> i32;
+    pub fn dsp_engine_steps_left(engine: &mut Handle) -> u64;
     pub fn dsp_engine_version() -> u32;
     pub fn dsp_engine_error(answer: i32) -> *const c_char;
     pub fn dsp_engine_errno(answer: i32) -> i32;

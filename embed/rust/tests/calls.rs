@@ -112,11 +112,13 @@ fn numbers_outside_their_limits() {
     let no_device = Device { channels: 3, ..small() };
     assert_eq!(Engine::new(&no_device, &[], &[]).err(), Some(Refusal::WrongArgument));
     assert_eq!(engine.close(64), Err(Refusal::WrongArgument));
-    assert_eq!(engine.open(0, Way::Play, Format::U8, 5, 8000), Err(Refusal::WrongArgument));
+    assert_eq!(engine.open(0, Way::Play, Format::U8, 5, 8000), Err(Refusal::Invalid));
     assert_eq!(engine.interrupt(0, &[], &mut out), Err(Refusal::WrongArgument));
     assert_eq!(engine.interrupt(17, &[], &mut out), Err(Refusal::WrongArgument));
     assert_eq!(engine.interrupt(1, &[0; 3], &mut out), Err(Refusal::WrongArgument));
-    assert!(engine.interrupt(16, &[], &mut out[..63]).is_err());
+    assert_eq!(engine.interrupt(2, &[0; 3], &mut out), Err(Refusal::WrongArgument));
+    assert_eq!(engine.interrupt(16, &[], &mut out[..63]), Err(Refusal::ShortRoom));
+    assert_eq!(engine.steps_left(), 2130706432);
     assert_eq!(out, [9; 64]);
 }
 
