@@ -37,7 +37,8 @@ def make_shared(room, whole):
     (room / "names").write_text(f"DSP_ENGINE_{major()} {{\n    global:\n{names}    local:\n        *;\n}};\n")
     how = [*SHARED, f"-Wl,-soname,{soname}", f"-Wl,--version-script,{room / 'names'}"]
     subprocess.run(["cc", *how, whole, "-o", room / file], check=True)
-    put_shared(room / file, BIN)
+    # `rt` takes no tree with a link in it
+    put_shared(room / file, BIN, is_copied=True)
 
 
 def make(room, archives):

@@ -41,10 +41,13 @@ def put_there(made, folder, mode=0o644):
     os.replace(fresh, folder / made.name)
 
 
-def put_shared(made, folder):
-    """Puts the shared library into a folder, with the two names that lead to it."""
+def put_shared(made, folder, is_copied=False):
+    """Puts the shared library into a folder, with the two names that lead to it: links, or copies where no link may stand."""
     put_there(made, folder, 0o755)
     to, *names = shared_names()
     for name in names:
         (folder / name).unlink(missing_ok=True)
-        (folder / name).symlink_to(to)
+        if is_copied:
+            shutil.copy(made, folder / name)
+        else:
+            (folder / name).symlink_to(to)

@@ -49,6 +49,12 @@ def told(name, wrong, right):
     return not found
 
 
+def ends_right(name, words, **how):
+    """Whether a run ends with 0. What it printed last is told then, and else more of it."""
+    status, said = played(words, stderr=subprocess.STDOUT, **how)
+    return told(name, ((f"{said.strip()[-800:]}, status {status}", status != 0),), said.strip().rpartition("\n")[2])
+
+
 def names_are_hidden(_):
     """The functions that the headers declare are all that the files show, and the system's few all that they ask for."""
 
@@ -124,15 +130,12 @@ def tests_of_rust(room, crate):
     if not shutil.which("cargo"):
         return True
     env = {**os.environ, "DSP_ENGINE_LIB_DIR": str(BIN), "CARGO_TARGET_DIR": str(room / "cargo")}
-    status, said = played(["cargo", "test", "--quiet", "--offline", "--manifest-path", crate / "Cargo.toml"], env=env, stderr=subprocess.STDOUT)
-    return told("the crate for Rust", ((f"{said.strip()[-800:]}, status {status}", status != 0),), "its tests pass")
+    return ends_right("the crate for Rust", ["cargo", "test", "--quiet", "--offline", "--manifest-path", crate / "Cargo.toml"], env=env)
 
 
 def tests_of_python(_):
     env = {**os.environ, "DSP_ENGINE_LIBRARY": str(BIN / shared_names()[2])}
-    words = [sys.executable, "-B", "-m", "unittest", "discover", "--quiet", EMBED / "python"]
-    status, said = played(words, env=env, stderr=subprocess.STDOUT)
-    return told("the package for Python", ((f"{said.strip()[-800:]}, status {status}", status != 0),), "its tests pass")
+    return ends_right("the package for Python", [sys.executable, "-B", "-m", "unittest", "discover", EMBED / "python"], env=env)
 
 
 # the tests in C, with what is compiled beside each
@@ -152,8 +155,12 @@ def answers_right(room):
 
 def filters_agree(_):
     """Whether filters and sections that are made in C are those of the tools."""
-    status, said = played([ROOT / "scripts" / "compare-filters"], stderr=subprocess.STDOUT)
-    return told("dsp_filter.c and the tools", ((f"{said.strip()[-800:]}, status {status}", status != 0),), said.strip().splitlines()[-1] if said.strip() else "")
+    return ends_right("dsp_filter.c and the tools", [ROOT / "scripts" / "compare-filters"])
+
+
+def calls_at_random(_):
+    """Ten seconds of calls at random, some of them replayed by the program that is built."""
+    return ends_right("calls at random", [ROOT / "scripts" / "fuzz-calls", "--seconds", "10"])
 
 
 def stack_suffices(room):
@@ -258,7 +265,7 @@ def sounds_right(wave):
 
 
 TRIALS = (names_are_hidden, level_is_told, plays_in_c, plays_in_cpp, plays_in_rust, tests_of_python, answers_right, filters_agree,
-          stack_suffices, takes_own_memory, builds_by_the_page, plays_examples)
+          stack_suffices, takes_own_memory, builds_by_the_page, plays_examples, calls_at_random)
 
 
 def try_all(room):

@@ -240,7 +240,9 @@ static void put_accepted(struct script *script, const struct call *call, const s
 }
 
 void put_call(struct script *script, const struct call *call, int32_t number, const struct brought *brought, const struct got *got) {
-    if (number < DSP_EXISTS) {
+    /* an open is answered so for its frames alone, and no line has such */
+    bool is_no_step = call->kind == CALL_OPEN && number == DSP_INVALID;
+    if (number < DSP_EXISTS || is_no_step) {
         return;
     }
     script->is_whole &= script->data_length + script->captured <= DATA_MOST && !(call->kind == CALL_POKE && call->length > LINE_MOST);
