@@ -1,14 +1,13 @@
 //! Where a configuration has its fault.
 
 use crate::again::{content, reopened};
-use crate::config_reason::config_reason;
 use crate::definition::definition_at;
 use crate::judged::judged_text;
 use crate::lines::{column_behind, line_from, number_behind};
 use crate::said::said_of_line;
-use crate::shown::shown;
 use crate::wrong_key::wrong_key_at;
 use pcm_config::{CONFIG_BYTES, ConfigFault, ConfigKind, ConfigPlace, ConfigRefusal, config_of};
+use pcm_reasons::{config_reason, shown};
 use std::alloc::Global;
 use std::rt;
 

@@ -1,14 +1,11 @@
 //! Why a line of a script is wrong.
 
 use crate::again::content;
-use crate::forms::forms_of;
 use crate::lines::{line_end, line_from};
-use crate::listed;
 use crate::settled::settled;
-use crate::shown::quoted;
-use crate::word_reason::word_reason;
 use pcm_config::Config;
 use pcm_desk::{DEVICE_BYTES, Device, EVENTS};
+use pcm_reasons::{commands, forms_of, quoted, word_reason};
 use pcm_script::{Command, ScriptFault, ScriptKind, first_words, script_of};
 use pcm_wave::read_wave;
 use std::alloc::Global;
@@ -67,8 +64,8 @@ fn command_reason(alloc: Global, kind: ScriptKind, word: &[u8]) -> Option<String
         return None;
     }
     let word = quoted(alloc, word).ok()?;
-    let commands = listed::commands(alloc).ok()?;
-    format!(in alloc; "{word} is no command: {commands}").ok()
+    let all = commands(alloc).ok()?;
+    format!(in alloc; "{word} is no command: {all}").ok()
 }
 
 // Words are counted before all else that a device or files could decide, so the line is judged without them.

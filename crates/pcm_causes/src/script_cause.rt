@@ -4,7 +4,7 @@ use crate::again::{content, reopened};
 use crate::line_reason::line_reason;
 use crate::lines::{line_at, place_of_line};
 use crate::said::said_of_line;
-use crate::shown::shown;
+use pcm_reasons::shown;
 use pcm_script::TEXT_BYTES;
 use std::alloc::Global;
 use std::rt;

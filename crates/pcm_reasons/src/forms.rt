@@ -3,8 +3,8 @@
 use pcm_script::{Command, Control, Named, request_named};
 use std::alloc::{AllocError, Global};
 
-// The forms of a command, where its words behind it may tell more.
-pub(crate) fn forms_of(
+/// The forms of a command, where its words behind it may tell more.
+pub fn forms_of(
     alloc: Global,
     command: Command,
     arguments: &[&[u8]],

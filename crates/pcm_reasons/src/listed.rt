@@ -1,6 +1,6 @@
 //! What there is of a kind, as lists of names.
 
-use crate::shown::list;
+use crate::showing::list;
 use pcm_config::FilePaths;
 use pcm_format::{Format, Layout};
 use pcm_oss::Way;
@@ -27,7 +27,8 @@ const CONTROLS: [Control; 3] = [Control::Master, Control::Slot, Control::Mute];
 // The names that are listed of files.
 pub(crate) const FILES_LISTED: usize = 8;
 
-pub(crate) fn commands(alloc: Global) -> Result<String, AllocError> {
+/// All commands, as a list.
+pub fn commands(alloc: Global) -> Result<String, AllocError> {
     let mut text = String::new(alloc);
     for command in COMMANDS {
         list(&mut text, command.name())?;

@@ -12,7 +12,7 @@ const DIGITS: [char; 16] = [
 ];
 
 /// A line as it can be shown: what isn't a plain character of ASCII is told by its number, and a long line is cut.
-pub(crate) fn shown(alloc: Global, line: &[u8]) -> Result<String, AllocError> {
+pub fn shown(alloc: Global, line: &[u8]) -> Result<String, AllocError> {
     let mut text = String::new(alloc);
     show(&mut text, line, SHOWN)?;
     if line.len() > SHOWN {
@@ -22,7 +22,7 @@ pub(crate) fn shown(alloc: Global, line: &[u8]) -> Result<String, AllocError> {
 }
 
 /// A word in quotes, shown as a line is, and cut earlier.
-pub(crate) fn quoted(alloc: Global, word: &[u8]) -> Result<String, AllocError> {
+pub fn quoted(alloc: Global, word: &[u8]) -> Result<String, AllocError> {
     let mut text = String::new(alloc);
     text.push('"')?;
     show(&mut text, word, SHOWN_OF_A_WORD)?;

@@ -1,7 +1,7 @@
 //! Which value of a configuration is of another kind.
 
-use crate::config_reason::value_at;
-use crate::shown::quoted;
+use crate::of_config::value_at;
+use crate::showing::quoted;
 use pcm_config::{ConfigPlace, range_at};
 use std::alloc::{AllocError, Global};
 use toml::{Table, Value};

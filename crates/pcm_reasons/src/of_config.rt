@@ -9,8 +9,8 @@ use pcm_config::{ConfigKind, ConfigPlace, ConfigRefusal};
 use std::alloc::Global;
 use toml::{Table, Value};
 
-// What is wrong in a text, which is refused for this, and what would be right.
-pub(crate) fn config_reason(alloc: Global, text: &[u8], refusal: ConfigRefusal) -> Option<String> {
+/// What is wrong in a text, which is refused for this, and what would be right.
+pub fn config_reason(alloc: Global, text: &[u8], refusal: ConfigRefusal) -> Option<String> {
     let top = toml::table_from_slice(alloc, text).ok()?;
     let place = refusal.place;
     match refusal.kind {

@@ -1,7 +1,7 @@
 //! Why a word of a line is wrong.
 
 use crate::listed;
-use crate::shown::{quoted, shown};
+use crate::showing::{quoted, shown};
 use crate::wanted::{Wanted, is_wrong, set_of, wanted_of};
 use pcm_config::Config;
 use pcm_desk::WRITE_BYTES;
@@ -15,9 +15,9 @@ struct WrongWord<'a> {
     word: &'a [u8],
 }
 
-// Why the first word is wrong that is so in this way, behind a command, and what would be right. `body` is how long the file is
-// that a send names.
-pub(crate) fn word_reason(
+/// Why the first word is wrong that is so in this way, behind a command, and what would be right. `body` is how long the file is
+/// that a send names.
+pub fn word_reason(
     alloc: Global,
     config: &Config,
     kind: ScriptKind,

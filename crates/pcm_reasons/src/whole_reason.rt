@@ -1,8 +1,8 @@
 //! What of a configuration doesn't go together.
 
-use crate::config_reason::{text_at, value_at};
 use crate::listed;
-use crate::shown::{list, quoted};
+use crate::of_config::{text_at, value_at};
+use crate::showing::{list, quoted};
 use pcm_config::ConfigPlace;
 use pcm_desk::{Device, MIX_FRAMES};
 use pcm_format::Format;

@@ -1,7 +1,7 @@
 //! Which key of a configuration isn't known.
 
 use crate::listed;
-use crate::shown::{list, quoted};
+use crate::showing::{list, quoted};
 use pcm_config::{ConfigPlace, DEVICE_KEYS, FILTER_KEYS, SECTION_KEYS, TOP_KEYS, VCHANS_KEYS};
 use std::alloc::{AllocError, Global};
 use toml::{Table, Value};

@@ -1,8 +1,8 @@
 //! Which value of a configuration is outside its set.
 
-use crate::config_reason::{text_at, value_at};
 use crate::listed;
-use crate::shown::quoted;
+use crate::of_config::{text_at, value_at};
+use crate::showing::quoted;
 use crate::whole_reason::{mapped_reason, mixed_reason};
 use pcm_config::{ConfigPlace, FILE_NAME_BYTES, range_at};
 use std::alloc::{AllocError, Global};
