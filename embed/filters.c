@@ -31,7 +31,7 @@ static void sizes(void) {
     IS(dsp_filter_size(0x80000000u, 2), 0);
 }
 
-/* Of two taps the window is 0 at the second, so row 0 is one and nothing; row 1 of two lies in the middle. One is 2 to the power of 24. */
+/* Of two taps the window is 0 at the second, so the first phase is one and nothing; the second of two lies in the middle. One is 2 to the power of 24. */
 static void a_filter_by_hand(void) {
     struct dsp_filter filter = {0, 0, 2, 2, 0, 1};
     int32_t coefs[6] = {7, 7, 7, 7, 7, 7};
