@@ -12,11 +12,8 @@ enum { PICTURES_A_SECOND = 60, PICTURES = 120, DEVICE_RATE = 48000, PERIOD = DEV
 struct chip {
     uint32_t fd;
     enum dsp_format format;
-    uint32_t channels;
-    uint32_t rate;
-    uint32_t half_wave;
-    uint8_t silence[4]; /* a frame of each */
-    uint8_t level[4];
+    uint32_t channels, rate, half_wave;
+    uint8_t silence[4], level[4]; /* a frame of each */
     uint32_t frame_bytes;
 };
 
@@ -74,16 +71,13 @@ static void put_number(FILE *out, uint32_t number, int bytes) {
 }
 
 static void put_head(FILE *out, uint32_t length) {
+    static const uint32_t shape[][2] = {{16, 4}, {1, 2}, {2, 2}, {DEVICE_RATE, 4}, {DEVICE_RATE * FRAME, 4}, {FRAME, 2}, {16, 2}};
     fputs("RIFF", out);
     put_number(out, 36 + length, 4);
     fputs("WAVEfmt ", out);
-    put_number(out, 16, 4);
-    put_number(out, 1, 2);
-    put_number(out, 2, 2);
-    put_number(out, DEVICE_RATE, 4);
-    put_number(out, DEVICE_RATE * FRAME, 4);
-    put_number(out, FRAME, 2);
-    put_number(out, 16, 2);
+    for (size_t k = 0; k < sizeof shape / sizeof shape[0]; k += 1) {
+        put_number(out, shape[k][0], (int)shape[k][1]);
+    }
     fputs("data", out);
     put_number(out, length, 4);
 }
@@ -108,10 +102,18 @@ int main(int count, char **words) {
     struct dsp_device device = DSP_DEVICE_DEFAULT;
     struct dsp_engine *engine = NULL;
     FILE *out = count == 2 ? fopen(words[1], "wb") : NULL;
+    if (out == NULL) {
+        fputs("emulator: name a wave that can be written\n", stderr);
+        return 2;
+    }
     device.ring_frames = PERIOD;
-    bool is_right = out != NULL && dsp_engine_create(&engine, &device, NULL, 0, NULL, 0, NULL, 0) == 0 && run(engine, out);
+    bool is_right = dsp_engine_create(&engine, &device, NULL, 0, NULL, 0, NULL, 0) == 0 && run(engine, out);
+    bool is_lost = ferror(out) != 0;
     dsp_engine_destroy(engine);
-    is_right = (out != NULL && fclose(out) == 0) && is_right;
-    puts(is_right ? "120 pictures, no shortage" : "emulator: a call was refused, or a chip was short");
-    return is_right ? 0 : 1;
+    if (fclose(out) != 0 || is_lost || !is_right) {
+        fprintf(stderr, "emulator: %s\n", is_right || is_lost ? "the wave can't be written" : "a call was refused, or a chip was short");
+        return 1;
+    }
+    puts("120 pictures, no shortage");
+    return 0;
 }
