@@ -126,7 +126,7 @@ static void filters_and_sections(void) {
     IS(dsp_engine_new(&engine, &device, &filter, 1, coefs, 4, NULL, 0), DSP_WRONG_ARGUMENT);
 }
 
-/* Numbers that are none of a call. None of these is a step. */
+/* Numbers that are none of a call. */
 static void numbers(struct dsp_engine *engine) {
     uint8_t bytes[64] = {0};
     int32_t samples[4] = {0};
@@ -153,19 +153,21 @@ static void numbers(struct dsp_engine *engine) {
     IS(dsp_engine_interrupt(engine, 1, NULL, 0, NULL, 4), DSP_NULL_POINTER);
 }
 
-/* What is refused by a channel's state. */
+/* What is refused by a channel's state, and is no step. */
 static void refusals(struct dsp_engine *engine) {
     struct dsp_answer answer = {7, 7, 7, 7};
     uint8_t bytes[4] = {0};
 
     IS(dsp_engine_write(engine, 0, bytes, 4), DSP_BAD_DESCRIPTOR);
-    IS(dsp_engine_steps_left(engine), 2130706431);
+    IS(dsp_engine_steps_left(engine), 34342961152);
     IS(dsp_engine_open(engine, 0, DSP_PLAY, DSP_S16_LE, 2, 48000), 0);
+    IS(dsp_engine_steps_left(engine), 34342961151);
     IS(dsp_engine_open(engine, 0, DSP_PLAY, DSP_S16_LE, 2, 48000), DSP_EXISTS);
     IS(dsp_engine_open(engine, 1, DSP_PLAY, DSP_S16_LE, 2, 48000), DSP_BUSY);
     IS(dsp_engine_read(engine, 0, bytes, 4), DSP_INVALID);
     IS(dsp_engine_ioctl(engine, 0, DSP_GETISPACE, 0, &answer), DSP_INVALID);
     IS(answer.first, 7);
+    IS(dsp_engine_steps_left(engine), 34342961151);
     IS(dsp_engine_ioctl(engine, 0, DSP_SPEED, 44100, &answer), 0);
     IS(answer.first, 44100);
     IS(answer.second, 0);
@@ -247,9 +249,9 @@ int main(void) {
     created();
     filters_and_sections();
     IS(dsp_engine_new(&engine, &device, NULL, 0, NULL, 0, NULL, 0), 0);
-    IS(dsp_engine_steps_left(&engine), 2130706432);
+    IS(dsp_engine_steps_left(&engine), 34342961152);
     numbers(&engine);
-    IS(dsp_engine_steps_left(&engine), 2130706432);
+    IS(dsp_engine_steps_left(&engine), 34342961152);
     refusals(&engine);
     recordings(&engine);
     mapped_channels(&engine);

@@ -252,9 +252,8 @@ int32_t dsp_engine_interrupt(struct dsp_engine *engine, uint32_t frames, const i
                              size_t room);
 
 /*
- * How many steps an engine still takes: 2130706432 at first, and 0 without an engine. A call is a step where it is accepted, or refused by one
- * of DSP_AGAIN to DSP_EXISTS; an open with frames that no channel can have is none. Behind them every call but dsp_engine_close answers
- * DSP_WORN_OUT. Asking is no step.
+ * How many steps an engine still takes: 34342961152 at first, and 0 without an engine. A call that is accepted is a step, and one that
+ * answers a number below 0 is none. Behind them every call but dsp_engine_close answers DSP_WORN_OUT. Asking is no step.
  */
 uint64_t dsp_engine_steps_left(struct dsp_engine *engine);
 

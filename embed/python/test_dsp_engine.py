@@ -218,9 +218,10 @@ class Refusals(unittest.TestCase):
         self.refuses(Refusal.WRONG_ARGUMENT, "interrupt", 17)
         self.refuses(Refusal.WRONG_ARGUMENT, "interrupt", 1, [0, 0, 0])
         self.refuses(Refusal.WRONG_ARGUMENT, "interrupt", 2, [0, 0, 0])
-        self.assertEqual(self.engine.steps_left, 2130706432)
         self.refuses(Refusal.BAD_DESCRIPTOR, "close", 0)
-        self.assertEqual(self.engine.steps_left, 2130706431)
+        self.assertEqual(self.engine.steps_left, 34342961152)
+        self.engine.set_master((80, 80))
+        self.assertEqual(self.engine.steps_left, 34342961151)
 
     def test_numbers_that_do_not_fit(self) -> None:
         with self.assertRaises(ValueError):

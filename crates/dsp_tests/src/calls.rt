@@ -99,29 +99,29 @@ fn sink(alloc: Global, room: usize, put: u32) -> Result<MemSink, AllocError> {
     Ok(out)
 }
 
-// How many steps the engine has taken that a call leaves: one for each line of a run, and those of a soak's script. A call that
-// ends with another status than 0 leaves none, and so do the other commands.
+// How many steps the engine has taken that a call leaves: one for each line of a run that tells no refusal, and for a soak its 20,000
+// events but the 4,619 that its line tells as refused. A call that ends with another status than 0 leaves none, and so do the other commands.
 fn steps_of(words: &[&str], printed: &[u8], status: u8) -> Option<u64> {
     if status != 0 {
         None
     } else if words.first() == Some(&"run") {
-        Some(lines_in(printed))
+        Some(accepted_in(printed))
     } else if words.first() == Some(&"soak") {
-        Some(20_000)
+        Some(15_381)
     } else {
         None
     }
 }
 
-// How many lines are printed.
-fn lines_in(printed: &[u8]) -> u64 {
-    let mut lines = 0u64;
-    for byte in printed {
-        if *byte == b'\n' {
-            lines = lines.saturating_add(1);
+// How many of the lines that are printed tell no refusal.
+fn accepted_in(printed: &[u8]) -> u64 {
+    let mut accepted = 0u64;
+    for at in 0..printed.len() {
+        if printed[at..].starts_with(b": ok") {
+            accepted = accepted.saturating_add(1);
         }
     }
-    lines
+    accepted
 }
 
 // Whether a call with these words ends with that status, and leaves an engine that has taken so many steps, or none.

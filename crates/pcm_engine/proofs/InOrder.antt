@@ -32,7 +32,6 @@ use Rattle.pcm_record.proofs.Moving as recorders
 use Rattle.pcm_map.specs.declared.channel.MapChannelOf.{MapChannelOf}
 use Rattle.pcm_map.specs.Channels.{IsMapReady}
 use Rattle.pcm_map.proofs.Books as maps
-use Rattle.pcm_map.proofs.Books.{taken-few}
 use Rattle.pcm_bus.specs.Slots.{MapAreOf, PlayAreOf, map_books_of, play_books_of}
 use Rattle.pcm_vchan.specs.Slots.{RecordAreOf, record_books_of}
 use Rattle.pcm_bus.proofs.Channels.{some_channel}
@@ -40,6 +39,7 @@ use Rattle.pcm_vchan.specs.Parents.{AreClosable, AreServed, HasBus, here_of, map
 use Rattle.pcm_engine.specs.declared.engine.EngineOf.{EngineOf}
 use Rattle.pcm_engine.specs.declared.limits.TheConstants.{STEPS}
 use Rattle.pcm_engine.specs.Answered.{CanBeAsked}
+use Rattle.pcm_engine.proofs.Fitting.{taken-few}
 use Rattle.pcm_desk.specs.Own.{MembersWait}
 use Rattle.pcm_engine.specs.Engines.{AreReady, BooksAreHere, MapBooksAreSafe, RecordsAreSafe, RingsHold, desk_of, device_of}
 

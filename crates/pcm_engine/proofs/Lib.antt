@@ -2,6 +2,7 @@ pub mod Bringing
 pub mod Counted
 pub mod Desks
 pub mod Buses
+pub mod Fitting
 pub mod InOrder
 pub mod Turning
 pub mod Opening
@@ -16,3 +17,4 @@ pub mod Called
 pub mod Starting
 pub mod Pools
 pub mod Waiting
+pub mod Stepping

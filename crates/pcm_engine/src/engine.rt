@@ -12,6 +12,7 @@ ghost use Rattle.pcm_bus.specs.Slots.{MapAreOf, PlayAreOf};
 ghost use Rattle.pcm_vchan.specs.Slots.{RecordAreOf};
 ghost use Rattle.pcm_desk.proofs.Props.{hold_props};
 ghost use Rattle.pcm_engine.specs.Desks.{desk_with};
+ghost use Rattle.pcm_engine.specs.Steps.{steps_after};
 ghost use Rattle.pcm_oss.specs.Replies.{bytes_due};
 ghost use Rattle.pcm_oss.specs.declared.fragments.TheConstants.{RING_BYTES};
 ghost use Rattle.pcm_oss.specs.declared.reply.TheConstants.{REPLY_BYTES};
@@ -113,7 +114,8 @@ impl<B: Feeder> EngineOf<B> {
         requires ready { AreReady B.kind B.kept self.old }
 
         ensures device { device_of self.new ≡ device_of self.old }
-        ensures steps { self.new.steps ≡ self.old.steps + 1 }
+        // A refusal is no step.
+        ensures steps { self.new.steps ≡ steps_after reply.new.result self.old.steps }
         ensures ready { AreReady B.kind B.kept self.new }
 
         // The desk and the answer are those of the rules, the counts of every book are in order, no run gave a frame past what is mixed
@@ -188,7 +190,7 @@ impl<B: Feeder> EngineOf<B> {
         self.answer(event, bytes, out, reply)
     }
 
-    /// How many steps it has taken.
+    /// How many steps it has taken: one for each event that it accepted.
     pub fn steps(&self) -> u64
         ensures { result ≡ self.now.steps }
     {
@@ -214,10 +216,13 @@ impl<B: Feeder> EngineOf<B> {
         ensures called { StepsAsCalled B.kept event.now bytes.now (samples_at_hand self.old event.now)
             self.old self.new reply.new (take result out.new) }
     {
-        self.apply(event, bytes, out, reply)
+        let steps = self.steps;
+        let count = self.apply(event, bytes, out, reply);
+        self.steps = steps_after(reply.result(), steps);
+        count
     }
 
-    // One event on the parts. The reply, and how many device bytes stand at the front of `out`.
+    // One event on the parts, as a step. The reply, and how many device bytes stand at the front of `out`.
     fn apply(&mut self, event: &Event, bytes: &[u8], out: &mut [u8], reply: &mut ReplyBuf) -> usize
         requires within { IsAllowed (device_of self.old) event.now }
         requires bytes { length bytes.now ≡ bytes_asked event.now }
@@ -284,6 +289,17 @@ impl<B: Feeder> EngineOf<B> {
                 interrupt(parent, tables, frames, &self.captured, out)
             }
         }
+    }
+}
+
+// The count of steps after an event that is answered so: a refusal, which changes nothing, is none.
+fn steps_after(told: Result<Answer, Errno>, steps: u64) -> u64
+    requires { steps < STEPS }
+    ensures { result ≡ steps_after told steps }
+{
+    match told {
+        Ok(_) => steps + 1,
+        Err(_) => steps,
     }
 }
 

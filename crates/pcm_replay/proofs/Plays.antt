@@ -15,11 +15,13 @@ use Rattle.pcm_sound.specs.Story.{Story, story_at_start, story_of}
 use Rattle.pcm_feeder.specs.declared.kind.Kind.{Kind}
 use Rattle.pcm_feeder.specs.Kept.{Kept}
 use Rattle.pcm_engine.specs.Engines.{AreReady, Stands, device_of}
+use Rattle.pcm_engine.specs.Steps.{steps_after}
 use Rattle.pcm_report.specs.Lines.{reply_line}
 use Rattle.pcm_verdict.specs.Transcript.{lines_from, transcript}
 use Rattle.pcm_replay.specs.declared.replay.ReplayOf.{ReplayOf}
 use Rattle.pcm_replay.specs.Playback.{playback}
-use Rattle.pcm_soaking.proofs.Running.{length-push, length-replies, replies-more}
+use Rattle.pcm_soaking.specs.Running.{steps_in}
+use Rattle.pcm_soaking.proofs.Running.{length-replies, replies-more, steps-more}
 use Rattle.pcm_replay.specs.Playing.{HasPlayed, greatest_taken}
 use Rattle.pcm_replay.specs.Turns.{IsNext}
 
@@ -51,7 +53,7 @@ pub record Steps {B : Type 0} (kind : B → Kind) (kept : B → Kept) (old new :
   pub device : device_of new.engine ≡ device_of old.engine
   pub ready : AreReady kind kept new.engine
   pub stands : Stands kept old.engine pool events → Stands kept new.engine pool (events ++ event ∷ [])
-  pub steps : new.engine.steps ≡ old.engine.steps + 1
+  pub steps : new.engine.steps ≡ steps_after reply.result old.engine.steps
   pub bytes : Stands kept old.engine pool events
       → device_text (device_of old.engine) pool (events ++ event ∷ []) ≡ device_text (device_of old.engine) pool events ++ piece
   pub replied : Stands kept old.engine pool events
@@ -63,6 +65,7 @@ pub record Steps {B : Type 0} (kind : B → Kind) (kept : B → Kept) (old new :
 pub played : {B : Type 0} (kind : B → Kind) (kept : B → Kept) (old new : ReplayOf B) (pool : Pool) (events : List Event) (at : ℕ) (other : Event) (piece : List ℕ) (reply : Reply) → at < length events
     → Steps kind kept old new pool (take at events) (slice_index_or events at other) piece reply → HasPlayed kind kept old pool events at → HasPlayed kind kept new pool events (at + 1)
 played kind kept old new pool events at other piece reply there s h =
+    let device : DeviceSeen = device_of old.engine in
     let event : Event = slice_index_or events at other in
     let more : take (at + 1) events ≡ take at events ++ event ∷ [] = take_more events at other there in
     record {
@@ -70,7 +73,9 @@ played kind kept old new pool events at other piece reply there s h =
         device_is = refl;
         stands = subst (λ (list : List Event). Stands kept new.engine pool list) (sym more) (s.stands h.engine.stands);
         ready = s.ready;
-        steps = s.steps ∙ ap (λ n. n + 1) h.engine.steps ∙ length-push (take at events) event ∙ ap (λ (list : List Event). length list) (sym more);
+        steps = subst (λ (d : DeviceSeen). new.engine.steps ≡ steps_in (replies d pool (story_at_start d) (take (at + 1) events))) (sym s.device)
+            (subst (λ (list : List Event). new.engine.steps ≡ steps_in (replies device pool (story_at_start device) list)) (sym more)
+            (steps-more device pool (take at events) event reply old.engine.steps new.engine.steps h.engine.steps s.steps (s.replied h.engine.stands)));
       };
       room = s.room ∙ h.room ∙ ap (λ (d : DeviceSeen). greatest_taken events * device_frame_bytes d) (sym s.device);
       line_room = s.line_room ∙ h.line_room;

@@ -15,6 +15,6 @@ pub fn sessions_run_scripts<B: Feeder>()
 
 /// How many steps a session takes, and that its engine has some seventeen million more, which are for closes.
 pub fn steps_of_a_session()
-    ensures life { LIFE ≡ 2130706432 }
+    ensures life { LIFE ≡ 34342961152 }
     ensures steps { STEPS ≡ LIFE + 16777216 }
 {}

@@ -1,5 +1,5 @@
 //! A session: an engine for a program of others, which brings its own bytes, call by call, and may ask anything.
-//! What the engine can't take is refused here, and changes nothing; what it takes is one of its steps.
+//! What the engine can't take is refused here, and changes nothing; what it takes and accepts is one of its steps.
 #![tactic(auto)]
 
 mod calls;

@@ -73,7 +73,7 @@ class Engine:
 
     @property
     def steps_left(self) -> int:
-        """How many steps the engine still takes: calls that are accepted, or that it refuses. Closes go on behind them."""
+        """How many steps the engine still takes: calls that it accepts. Closes go on behind them."""
         with self._lock:
             return int(self._library.dsp_engine_steps_left(self._handle))
 

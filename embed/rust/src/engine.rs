@@ -267,7 +267,7 @@ impl Engine {
         Ok(&mut out[..count as usize])
     }
 
-    /// How many steps the engine still takes: calls that are accepted, or that it refuses. Closes go on behind them.
+    /// How many steps the engine still takes: calls that it accepts. Closes go on behind them.
     pub fn steps_left(&mut self) -> u64 {
         // SAFETY: see `open`.
         unsafe { raw::dsp_engine_steps_left(&mut self.handle) }

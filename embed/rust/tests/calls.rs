@@ -118,7 +118,8 @@ fn numbers_outside_their_limits() {
     assert_eq!(engine.interrupt(1, &[0; 3], &mut out), Err(Refusal::WrongArgument));
     assert_eq!(engine.interrupt(2, &[0; 3], &mut out), Err(Refusal::WrongArgument));
     assert_eq!(engine.interrupt(16, &[], &mut out[..63]), Err(Refusal::ShortRoom));
-    assert_eq!(engine.steps_left(), 2130706432);
+    assert_eq!(engine.close(0), Err(Refusal::BadDescriptor));
+    assert_eq!(engine.steps_left(), 34342961152);
     assert_eq!(out, [9; 64]);
 }
 

@@ -20,7 +20,6 @@ use Rattle.pcm_play.proofs.Moving.{moves-nothing}
 use Rattle.pcm_record.specs.Channels.{RecordMoves}
 use Rattle.pcm_record.proofs.Capturing.{capture-fits}
 use Rattle.pcm_record.proofs.Moving as recorders
-use Rattle.pcm_map.proofs.Books.{counts-fit}
 use Rattle.pcm_bus.specs.Slots.{Each, MapAreOf, PlayAreOf}
 use Rattle.pcm_vchan.specs.Slots.{MapKeeps, RecordAreOf}
 use Rattle.pcm_vchan.specs.Starts.{EachAt}
@@ -33,6 +32,7 @@ use Rattle.pcm_vchan.specs.Parents.{HasBus, map_channels, mixed_in, play_channel
 use Rattle.pcm_engine.proofs.Desks.{count-stays, count-within, desk_with-mixed}
 use Rattle.pcm_vchan.proofs.Channels.{map-keeps-nothing}
 use Rattle.pcm_engine.proofs.Buses.{bus-same, bus-stays, mixes-few}
+use Rattle.pcm_engine.proofs.Fitting.{counts-fit}
 use Rattle.pcm_engine.proofs.InOrder.{can-be-asked, closable, here-seen, served}
 use Rattle.pcm_engine.proofs.Recording.{length-captured}
 use Rattle.pcm_engine.proofs.engine.EngineOf.apply.Goals as goal

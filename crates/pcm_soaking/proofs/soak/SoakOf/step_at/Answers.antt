@@ -4,7 +4,7 @@ use Rattle.pcm_desk.specs.Usual.{usual_device}
 use Rattle.pcm_engine.specs.Engines.{device_of}
 use Rattle.pcm_soak.specs.Tallies.{total}
 use Rattle.pcm_soaking.specs.Soaking.{HasSoaked, ring_room}
-use Rattle.pcm_soaking.proofs.Running.{front}
+use Rattle.pcm_soaking.proofs.Running.{front, steps-few}
 use Rattle.pcm_soaking.proofs.Soaking.{handed-on, soaked}
 use Rattle.pcm_soaking.proofs.soak.SoakOf.step_at.Goals as goal
 
@@ -59,3 +59,10 @@ slice_bounds-hear-end g c =
     let room : length c.step-count.new.out ≡ ring_room usual_device = c.step-count.auto.out ∙ c.deref_mut.ensures.len ∙ c.requires.soaked.room in
     let size : length (take c.step-count.result c.step-count.new.out) ≡ c.step-count.result = length-take-le c.step-count.result c.step-count.new.out (omega (arith, count, room)) in
     sym (ap (λ (bytes : List ℕ). length (take c.step-count.result bytes)) block ∙ size)
+
+-- the engine has a step left for the event
+pub step-count-requires-clause-count : goal.step-count-requires-clause-count
+step-count-requires-clause-count g c =
+    let xs = c.args.events.now in
+    let few = steps-few g.B.Feeder.kind g.B.Feeder.kept c.args.self.now.engine _ c.args.pool.now (take c.args.at xs) c.requires.soaked.engine in
+    omega (arith, few, length-take-le c.args.at xs (omega (arith, c.requires.there)), c.requires.there, c.requires.events.count)
