@@ -132,6 +132,36 @@ uint64_t dsp_engine_steps_left(struct dsp_engine *engine) {
     return engine == NULL ? 0 : dsp_raw_steps_left(engine);
 }
 
+/* ---- questions ---- */
+
+int32_t dsp_engine_settings(struct dsp_engine *engine, uint32_t fd, struct dsp_settings *settings) {
+    return engine == NULL || settings == NULL ? DSP_NULL_POINTER : dsp_raw_settings(engine, fd, settings);
+}
+
+int32_t dsp_engine_peek(struct dsp_engine *engine, uint32_t fd, enum dsp_request request, uint32_t argument, struct dsp_answer *answer) {
+    struct dsp_answer unread = {0, 0, 0, 0};
+    if (engine == NULL) {
+        return DSP_NULL_POINTER;
+    }
+    return dsp_raw_peek(engine, fd, (uint32_t)request, argument, answer == NULL ? &unread : answer);
+}
+
+int32_t dsp_engine_slot(struct dsp_engine *engine, enum dsp_way way, uint32_t number, struct dsp_slot *slot) {
+    return engine == NULL || slot == NULL ? DSP_NULL_POINTER : dsp_raw_slot(engine, (uint32_t)way, number, slot);
+}
+
+int32_t dsp_engine_is_idle(struct dsp_engine *engine) {
+    return engine == NULL ? DSP_NULL_POINTER : dsp_raw_is_idle(engine);
+}
+
+int32_t dsp_engine_is_ready(struct dsp_engine *engine, uint32_t fd) {
+    return engine == NULL ? DSP_NULL_POINTER : dsp_raw_is_ready(engine, fd);
+}
+
+int64_t dsp_engine_frames_until(struct dsp_engine *engine, uint32_t fd, uint32_t bytes) {
+    return engine == NULL ? DSP_NULL_POINTER : dsp_raw_frames_until(engine, fd, bytes);
+}
+
 /* ---- words ---- */
 
 struct meaning {

@@ -16,6 +16,12 @@
  *   dsp_engine_mixer                           volumes
  *   dsp_engine_interrupt                       the device takes frames
  *   dsp_engine_steps_left                      how many steps an engine still takes
+ *   dsp_engine_settings, dsp_engine_peek       how a channel is, and what a request would be answered
+ *   dsp_engine_space, dsp_engine_position,     room, position, delay and shortages of a channel
+ *   dsp_engine_delay, dsp_engine_errors
+ *   dsp_engine_slot, dsp_engine_is_idle        who has a slot, and whether any is taken
+ *   dsp_engine_is_ready, dsp_engine_ready      who needn't wait
+ *   dsp_engine_frames_until                    and how long who does
  *   dsp_engine_error, dsp_engine_errno         what an answer means
  *   dsp_engine_request_name                    the name of a request
  *   dsp_engine_version                         the library's version
@@ -43,7 +49,7 @@ extern "C" {
 /* ---- the version ---- */
 
 /* Of this header: the major number * 65536 + the minor one * 256 + that of the patch. dsp_engine_version tells the library's. */
-#define DSP_ENGINE_VERSION 0x00010000
+#define DSP_ENGINE_VERSION 0x00010100
 
 /* ---- what calls answer ---- */
 
@@ -186,6 +192,70 @@ enum dsp_mixer_request {
     DSP_MUTE_SLOT = 4   /* slot; value: 1, and it isn't heard from now on; 0, and it is again */
 };
 
+/* Where the run of a channel stands. */
+enum dsp_state {
+    DSP_SETUP = 0,    /* nothing of a run is there */
+    DSP_PRIMED = 1,   /* written to, and not started */
+    DSP_RUNNING = 2,  /* started */
+    DSP_DRAINING = 3  /* takes nothing more until what was written has played */
+};
+
+/* How the channel of a descriptor is. */
+struct dsp_settings {
+    uint32_t way;            /* one of enum dsp_way */
+    uint32_t slot;           /* the number that its opening was told */
+    uint32_t format;         /* one of enum dsp_format */
+    uint32_t channels;       /* 1, 2, 4, 6 or 8 */
+    uint32_t rate;           /* frames per second */
+    uint32_t fragments;      /* how many its ring has */
+    uint32_t fragment_bytes; /* the bytes of one */
+    uint32_t trigger;        /* 1 where it may start by itself or by DSP_POST, else 0 */
+    uint32_t volume;         /* left + 256 * right; 0 of one that records */
+    uint32_t group;          /* 1 to 8; 0: none */
+    uint32_t state;          /* one of enum dsp_state */
+};
+
+/* How many descriptors there are, from 0 on. */
+#define DSP_DESCRIPTORS 64
+
+/* What dsp_engine_is_ready answers of a descriptor. */
+#define DSP_WRITABLE 1
+#define DSP_READABLE 2
+
+/* Who has a slot. */
+enum dsp_slot_state {
+    DSP_SLOT_FREE = 0,   /* an open may take it */
+    DSP_SLOT_HELD = 1,   /* a descriptor holds it */
+    DSP_SLOT_CLOSING = 2 /* closed: it plays what was written to its end */
+};
+
+/* How a slot is. */
+struct dsp_slot {
+    uint32_t state;  /* one of enum dsp_slot_state */
+    uint64_t frames; /* frames of the mix that it gives of what was written: 0 of one that doesn't play */
+};
+
+/* Room for a write, or what a read would get. */
+struct dsp_space {
+    uint32_t fragments;      /* whole ones */
+    uint32_t all_fragments;  /* those of the ring */
+    uint32_t fragment_bytes; /* the bytes of one */
+    uint32_t bytes;
+};
+
+/* How far a channel has come. */
+struct dsp_position {
+    uint64_t bytes;
+    uint64_t fragments; /* passed since DSP_GETOPTR or DSP_GETIPTR was answered last */
+    uint32_t place;     /* the byte in the ring */
+};
+
+/* Shortages since DSP_GETERROR was answered last. */
+struct dsp_errors {
+    uint32_t underruns; /* of playing */
+    uint32_t overruns;  /* of recording */
+};
+
 /* ---- an engine's beginning and end ---- */
 
 /*
@@ -256,6 +326,59 @@ int32_t dsp_engine_interrupt(struct dsp_engine *engine, uint32_t frames, const i
  * answers a number below 0 is none. Behind them every call but dsp_engine_close answers DSP_WORN_OUT. Asking is no step.
  */
 uint64_t dsp_engine_steps_left(struct dsp_engine *engine);
+
+/* ---- questions: none is a step, and none changes anything ---- */
+
+/*
+ * Room for writes, bytes to read and the end of a drain come by interrupts alone: between two of them a question is answered alike, but for
+ * what the client itself does.
+ */
+
+/* How the channel of a descriptor is. Answers 0. */
+int32_t dsp_engine_settings(struct dsp_engine *engine, uint32_t fd, struct dsp_settings *settings);
+
+/*
+ * What dsp_engine_ioctl would answer now, and put into answer, which may be null. Nothing is done: a position that is told so isn't the one
+ * from which the next counts fragments, and shortages stay to be told.
+ */
+int32_t dsp_engine_peek(struct dsp_engine *engine, uint32_t fd, enum dsp_request request, uint32_t argument, struct dsp_answer *answer);
+
+/* What DSP_GETOSPACE would tell of a channel that plays, and DSP_GETISPACE of one that records. Answers 0. */
+int32_t dsp_engine_space(struct dsp_engine *engine, uint32_t fd, struct dsp_space *space);
+
+/* What DSP_GETOPTR would tell of a channel that plays or is mapped, and DSP_GETIPTR of one that records. Answers 0. */
+int32_t dsp_engine_position(struct dsp_engine *engine, uint32_t fd, struct dsp_position *position);
+
+/* What DSP_GETODELAY would tell of a channel that plays. Answers 0. */
+int32_t dsp_engine_delay(struct dsp_engine *engine, uint32_t fd, uint32_t *bytes);
+
+/* What DSP_GETERROR would tell. Answers 0. */
+int32_t dsp_engine_errors(struct dsp_engine *engine, uint32_t fd, struct dsp_errors *errors);
+
+/* How a slot of a way is, by the number that openings are told. Answers 0. */
+int32_t dsp_engine_slot(struct dsp_engine *engine, enum dsp_way way, uint32_t number, struct dsp_slot *slot);
+
+/*
+ * Whether no slot of any way is taken: nothing plays, records or drains. Answers 1 where it is so, else 0. What was mixed before leaves the
+ * device's ring still.
+ */
+int32_t dsp_engine_is_idle(struct dsp_engine *engine);
+
+/*
+ * Whether a descriptor is ready. Answers DSP_WRITABLE where a write of a byte would be taken, DSP_READABLE where a read would get one, and 0
+ * where neither is so: of a mapped one and of one that isn't open, too.
+ */
+int32_t dsp_engine_is_ready(struct dsp_engine *engine, uint32_t fd);
+
+/* The same of all descriptors, by bits: that of descriptor 0 is the lowest. Each pointer may be null. Answers 0. */
+int32_t dsp_engine_ready(struct dsp_engine *engine, uint64_t *writable, uint64_t *readable);
+
+/*
+ * After how many frames that interrupts take a write of so many bytes fits whole, or so many bytes can be read, if nothing else happens
+ * meanwhile: after as many it is so, and after one fewer it isn't. Answers how many: 0 where it is so now. DSP_INVALID where the descriptor
+ * is mapped, and DSP_BUSY where it isn't so within 4294967295 frames: nothing takes or brings frames, or so many never fit.
+ */
+int64_t dsp_engine_frames_until(struct dsp_engine *engine, uint32_t fd, uint32_t bytes);
 
 /* ---- words ---- */
 

@@ -21,5 +21,11 @@ int32_t dsp_raw_close(struct dsp_engine *engine, uint32_t fd);
 int32_t dsp_raw_mixer(struct dsp_engine *engine, uint32_t request, uint32_t slot, uint32_t value, struct dsp_answer *answer);
 int32_t dsp_raw_interrupt(struct dsp_engine *engine, uint32_t frames, const int32_t *samples, size_t sample_count, uint8_t *out, size_t room);
 uint64_t dsp_raw_steps_left(struct dsp_engine *engine);
+int32_t dsp_raw_settings(struct dsp_engine *engine, uint32_t fd, struct dsp_settings *settings);
+int32_t dsp_raw_peek(struct dsp_engine *engine, uint32_t fd, uint32_t request, uint32_t argument, struct dsp_answer *answer);
+int32_t dsp_raw_slot(struct dsp_engine *engine, uint32_t way, uint32_t number, struct dsp_slot *slot);
+int32_t dsp_raw_is_idle(struct dsp_engine *engine);
+int32_t dsp_raw_is_ready(struct dsp_engine *engine, uint32_t fd);
+int64_t dsp_raw_frames_until(struct dsp_engine *engine, uint32_t fd, uint32_t bytes);
 
 #endif

@@ -9,7 +9,7 @@ import re
 from reading import ROOT, code_of, sources
 
 HEADER, RAW, CALLS = (ROOT / "embed" / it for it in ("dsp_engine.h", "dsp_raw.h", "dsp_engine.c"))
-LIBRARY = ("pcm_engine_c", "pcm_numbers")
+LIBRARY = ("pcm_engine_c", "pcm_session", "pcm_numbers")
 # the structs of C, and what they are in Rattle
 STRUCTS = {
     "dsp_engine": "Handle",
@@ -17,11 +17,13 @@ STRUCTS = {
     "dsp_filter": "FilterNumbers",
     "dsp_section": "SectionNumbers",
     "dsp_answer": "AnswerNumbers",
+    "dsp_settings": "SettingsNumbers",
+    "dsp_slot": "SlotNumbers",
 }
-TYPES = {"bool": "bool", "u8": "uint8_t", "i32": "int32_t", "u32": "uint32_t", "u64": "uint64_t", "Slot": "void *"}
+TYPES = {"bool": "bool", "u8": "uint8_t", "i32": "int32_t", "u32": "uint32_t", "u64": "uint64_t", "i64": "int64_t", "Slot": "void *"}
 TYPES.update({ours: f"struct {theirs}" for theirs, ours in STRUCTS.items()})
 # fields that have a name of their own on each side
-NAMES = {"slot": "at"}
+NAMES = {("Handle", "slot"): "at"}
 
 
 def type_in_c(text):
@@ -60,7 +62,7 @@ def structs(code):
     for theirs, ours in STRUCTS.items():
         fields = re.search(rf"#\[repr\(C\)\][^{{]*\bstruct {ours} \{{(.*?)^\}}", code, re.S | re.M)[1]
         fields = re.sub(r"(?m)^\s*(?:pub )?ghost .*$", "", fields)
-        wanted = [(NAMES.get(name, name), TYPES[kind]) for name, kind in pairs(fields, OURS)]
+        wanted = [(NAMES.get((ours, name), name), TYPES[kind]) for name, kind in pairs(fields, OURS)]
         found = pairs(re.search(rf"struct {theirs} \{{(.*?)\}};", header, re.S)[1], THEIRS)
         if wanted != found:
             yield f"{HEADER.name}: struct {theirs} has other fields than {ours}"

@@ -10,7 +10,7 @@ from sources import ROOT
 from surface import ARCHIVE, EMBED, exported, major, put_shared, put_there, shared_names
 
 BIN = ROOT / "bin"
-SOURCES = ("dsp_engine.c",)
+SOURCES = ("dsp_engine.c", "dsp_answers.c")
 CFLAGS = ["-std=c99", "-O2", "-Wall", "-Wextra", "-Werror", "-pedantic"]
 SHARED = ["-shared", "-Wl,-z,defs", "-Wl,-z,text", "-Wl,-z,relro", "-Wl,-z,now"]
 

@@ -10,6 +10,7 @@ import unittest
 from typing import Iterator, List
 
 from dsp_engine import (
+    Answer,
     Device,
     Engine,
     Errors,
@@ -22,7 +23,11 @@ from dsp_engine import (
     Refused,
     Request,
     Section,
+    Settings,
+    Slot,
+    SlotState,
     Space,
+    State,
     Trigger,
     Volume,
     Way,
@@ -169,6 +174,54 @@ class Calls(unittest.TestCase):
             engine.close(0)
             engine.interrupt(16)
             self.assertEqual(engine.interrupt(4), struct.pack("<8h", 0, 0, 50, 50, 100, 100, 50, 50))
+
+
+class Questions(unittest.TestCase):
+    """Questions, which change nothing. The device takes four bytes a frame, and a ring holds four fragments of 4096 bytes."""
+
+    def setUp(self) -> None:
+        self.engine = Engine(Device(play_slots=2, record_slots=1, map_slots=1))
+        self.engine.open(MUSIC, Way.PLAY, Format.S16_LE, 2, 48000)
+
+    def tearDown(self) -> None:
+        self.engine.free()
+
+    def test_how_a_channel_is(self) -> None:
+        opened = Settings(Way.PLAY, 0, Format.S16_LE, 2, 48000, 4, 4096, True, Volume(100, 100), 0, State.SETUP)
+        self.assertEqual(self.engine.settings(MUSIC), opened)
+        with self.assertRaises(Refused) as caught:
+            self.engine.settings(VOICE)
+        self.assertEqual(caught.exception.number, Refusal.BAD_DESCRIPTOR)
+
+    def test_no_question_tells_a_position(self) -> None:
+        self.engine.write(MUSIC, bytes(16384))
+        for _ in range(4):
+            self.engine.interrupt(256)
+        left = self.engine.steps_left
+        for _ in range(2):
+            self.assertEqual(self.engine.peek(MUSIC, Request.GETOPTR), Answer(4096, 1, 4096, 0))
+        self.assertEqual(self.engine.steps_left, left)
+        self.assertEqual(self.engine.output_position(MUSIC), Position(4096, 1, 4096))
+        self.assertEqual(self.engine.peek(MUSIC, Request.GETOPTR).second, 0)
+
+    def test_who_waits_and_how_long(self) -> None:
+        self.assertEqual(self.engine.ready(), ({MUSIC}, set()))
+        self.engine.write(MUSIC, bytes(16384))
+        self.assertEqual(self.engine.ready(), (set(), set()))
+        self.assertEqual(self.engine.frames_until(MUSIC, 4096), 1024)
+        with self.assertRaises(Refused) as caught:
+            self.engine.frames_until(MUSIC, 16385)
+        self.assertEqual(caught.exception.number, Refusal.BUSY)
+
+    def test_slots(self) -> None:
+        self.engine.write(MUSIC, bytes(400))
+        self.engine.close(MUSIC)
+        self.assertEqual(self.engine.slot_status(Way.PLAY, 0), Slot(SlotState.CLOSING, 100))
+        self.assertEqual(self.engine.slot_status(Way.MAP, 2), Slot(SlotState.FREE, 0))
+        self.assertFalse(self.engine.is_idle)
+        self.engine.interrupt(1024)
+        self.engine.interrupt(100)
+        self.assertTrue(self.engine.is_idle)
 
 
 class Refusals(unittest.TestCase):

@@ -1,5 +1,5 @@
 -- The books of a ready engine are in order, and no ring passes its size: its channels and its parent carry it.
-use Rattle.std.proofs.Common.{◌≡◌, ℕ, ◌<◌, List, length, get_or, inl, inr, refl, sym, ap, ◌∙◌, subst, arith}
+use Rattle.std.proofs.Common.{◌≡◌, ℕ, ◌<◌, ◌≤◌, ◌^◌, List, length, get_or, inl, inr, refl, sym, ap, ◌∙◌, subst, arith}
 use Rattle.std.specs.Prelude.{All}
 use Rattle.std.proofs.lemmas.Bool.{cases_lt}
 use Rattle.std.proofs.lemmas.List.{get_or-map, get_or_past, length-map}
@@ -16,6 +16,7 @@ use Rattle.pcm_desk.specs.declared.here.Here.{Here}
 use Rattle.pcm_desk.specs.Here.{IsHere}
 use Rattle.pcm_desk.specs.Device.{DeviceSeen, IsDevice, IsInLimits, passed_for, seen}
 use Rattle.pcm_desk.specs.Desk.{Desk, desk_here, map_rate_at, map_unopened, play_at, play_rate_at, record_rate_at, record_unopened, play_unopened}
+use Rattle.pcm_desk.specs.MapBooks.{taken_of}
 use Rattle.pcm_desk.specs.PlaySafe.{PlayIsHere, PlayIsSafe}
 use Rattle.pcm_desk.specs.RecordSafe.{RecordIsSafe}
 use Rattle.pcm_desk.specs.MapSafe.{MapIsSafe}
@@ -86,7 +87,7 @@ pub here-seen : {B : Type 0} (kept : B → Kept) (engine : EngineOf B) → HasBu
 here-seen kept engine has = ap (λ (mixed : ℕ). record { mixed = mixed; passed = passed_for (device_of engine) engine.parent.handed }) has.level
 
 -- is within the limits, since few steps were taken
-pub here-within : {B : Type 0} (kept : B → Kept) (engine : EngineOf B) → IsInLimits (device_of engine) → HasBus kept (device_of engine) engine.parent → engine.steps < STEPS → IsHere (here_of engine.parent)
+pub here-within : {B : Type 0} (kept : B → Kept) (engine : EngineOf B) → IsInLimits (device_of engine) → HasBus kept (device_of engine) engine.parent → engine.steps ≤ STEPS → IsHere (here_of engine.parent)
 here-within kept engine limits has few =
     let level = has.level in
     let most = engine.mixed_within in
@@ -209,17 +210,22 @@ closable kind kept engine ready = record {
   maps_kinds = λ slot other there. (ready.mapped slot other there).kinds;
 }
 
+-- and what a mapped one has taken fits, since few steps were taken
+pub maps-taken : {B : Type 0} (kind : B → Kind) (kept : B → Kept) (engine : EngineOf B) → AreReady kind kept engine → engine.steps ≤ STEPS
+    → All (λ (channel : MapChannelOf B). taken_of channel.book < 2 ^ 64) (map_channels engine.parent)
+maps-taken kind kept engine ready few slot other there =
+    let channel = get_or (map_channels engine.parent) slot other in
+    let given = engine.maps_given slot other there in
+    let device = subst (λ (d : Device). IsDevice (seen engine.tables d)) (sym (engine.maps_own slot other there)) ready.bus.planned.limits in
+    taken-few engine.tables channel device (ready.mapped slot other there).planned (omega (arith, given, few))
+
 -- and may be asked where the mix and the device are, since few steps were taken
 pub can-be-asked : {B : Type 0} (kind : B → Kind) (kept : B → Kept) (engine : EngineOf B) (here : Here) → AreReady kind kept engine → engine.steps < STEPS → here ≡ here_of engine.parent → CanBeAsked kind kept engine.tables here engine.parent
 can-be-asked kind kept engine here ready few is = record {
   served = served kind kept engine ready;
-  here = subst IsHere (sym is) (here-within kept engine ready.limits ready.bus few);
+  here = subst IsHere (sym is) (here-within kept engine ready.limits ready.bus (omega (arith, few)));
   at = is ∙ here-seen kept engine ready.bus;
   places = subst (λ (place : Here). All (IsPlayHere engine.tables place) (play_channels engine.parent)) (sym is) (channels-here kept engine ready.bus ready.places);
   count = λ slot other there. (let counted = engine.counted slot other there in omega (arith, counted, few));
-  taken = λ slot other there.
-      let channel = get_or (map_channels engine.parent) slot other in
-      let given = engine.maps_given slot other there in
-      let device = subst (λ (d : Device). IsDevice (seen engine.tables d)) (sym (engine.maps_own slot other there)) ready.bus.planned.limits in
-      taken-few engine.tables channel device (ready.mapped slot other there).planned (omega (arith, given, few));
+  taken = maps-taken kind kept engine ready (omega (arith, few));
 }

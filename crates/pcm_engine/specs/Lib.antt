@@ -5,3 +5,4 @@ pub mod Brought
 pub mod Steps
 pub mod Stands
 pub mod Engines
+pub mod Views

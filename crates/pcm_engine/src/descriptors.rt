@@ -42,6 +42,14 @@ impl Descriptors {
         }
     }
 
+    /// The channel that a descriptor holds, if it is open.
+    pub fn held(&self, fd: u8) -> Option<Held>
+        requires { fd < DESCRIPTORS }
+        ensures { result ≡ slice_index_or self.now.held fd None }
+    {
+        self.held[usize::from(fd)]
+    }
+
     /// The channel that a descriptor holds, which is open.
     pub fn holding(&self, fd: u8) -> Result<Held, Errno>
         requires { fd < DESCRIPTORS }

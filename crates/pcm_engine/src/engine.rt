@@ -35,9 +35,9 @@ use std::alloc::{AllocError, Global};
 /// The descriptors of clients, and the parent whose channels they hold.
 #[derive(Drop)]
 pub struct EngineOf<B> {
-    parent: ParentOf<B>,
+    pub(crate) parent: ParentOf<B>,
     tables: Tables,
-    descriptors: Descriptors,
+    pub(crate) descriptors: Descriptors,
     captured: Fixed<i32>,
     answered: Fixed<u8>,
     steps: u64,

@@ -11,6 +11,7 @@ mod interrupts;
 mod laws;
 mod limits;
 mod mixer_calls;
+mod views;
 
 pub use brought::{bytes_asked, bytes_handed, samples_asked};
 pub use engine::{Engine, EngineOf};

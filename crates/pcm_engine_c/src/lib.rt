@@ -2,14 +2,18 @@
 //! Numbers, lengths and references come from C; that these are what C says they are is trusted.
 #![tactic(auto)]
 
-ghost use Rattle.std.specs.Prelude.{◌≡◌, IfSome, None, [], length, drop, true};
+ghost use Rattle.std.specs.Prelude.{◌≡◌, IfSome, None, [], length, drop, true, pos, if◌then◌else◌};
+ghost use Rattle.pcm_engine.specs.Engines.{desk_of, device_of};
+ghost use Rattle.pcm_engine.specs.Views.{is_idle};
 ghost use Rattle.pcm_engine_c.specs.Calls.{On};
 ghost use Rattle.pcm_engine_c.specs.Sessions.{IsMade, is_possible};
 ghost use Rattle.pcm_numbers.specs.Answers.{call_fault_number, fault_number};
 ghost use Rattle.pcm_numbers.specs.declared.call_fault.CallFault.TheVariants.{Engine};
 ghost use Rattle.pcm_numbers.specs.declared.fault.NumbersFault.TheVariants.{Memory};
 ghost use Rattle.pcm_session.specs.Calls.{Interrupts, MakesCall, beside, call_number, count_number, done_number, handed_count, handed_number, open_number, read_into};
+ghost use Rattle.pcm_session.specs.Questions.{peek_told, ready_told, settings_told, slot_told};
 ghost use Rattle.pcm_session.specs.Taken.{steps_left};
+ghost use Rattle.pcm_engine_c.specs.Told.{IsTold, IsWait, told_number};
 ghost use Rattle.pcm_session.specs.Events.{event_for_close, event_for_ioctl, event_for_join, event_for_mixer, event_for_open, event_for_poke, event_for_read, event_for_start, event_for_write};
 
 mod handle;
@@ -21,6 +25,7 @@ use pcm_feeder::Feeder;
 use pcm_numbers::{
     AnswerNumbers, DeviceNumbers, FilterNumbers, NOT_AN_ENGINE, SectionNumbers, fault_number,
 };
+use pcm_session::{SettingsNumbers, SlotNumbers};
 use session::session_from;
 use std::alloc::Global;
 
@@ -303,4 +308,145 @@ pub extern "C" fn dsp_raw_steps_left(alloc: Global, engine: &mut Handle) -> u64
     let left = session.of.steps_left();
     engine.put(session);
     left
+}
+
+/// How the channel of a descriptor is.
+#[unsafe(no_mangle)]
+pub extern "C" fn dsp_raw_settings(
+    alloc: Global,
+    engine: &mut Handle,
+    fd: u32,
+    settings: &mut SettingsNumbers,
+) -> i32
+    ensures same { engine.new.slot.session ≡ engine.old.slot.session }
+    ensures told { IfSome engine.old.slot.session (λ session. IsTold
+        (settings_told (device_of session.of.engine) (desk_of session.of.engine) fd) result settings.old settings.new) }
+    ensures none { engine.old.slot.session ≡ None
+        → (result ≡ call_fault_number Engine) × (settings.new ≡ settings.old) }
+{
+    let Some(session) = engine.take(alloc) else {
+        return NOT_AN_ENGINE;
+    };
+    let number = tell(session.of.settings(fd), settings);
+    engine.put(session);
+    number
+}
+
+/// What a request of the channel of a descriptor would be answered.
+#[unsafe(no_mangle)]
+pub extern "C" fn dsp_raw_peek(
+    alloc: Global,
+    engine: &mut Handle,
+    fd: u32,
+    request: u32,
+    argument: u32,
+    answer: &mut AnswerNumbers,
+) -> i32
+    ensures same { engine.new.slot.session ≡ engine.old.slot.session }
+    ensures told { IfSome engine.old.slot.session (λ session. IsTold
+        (peek_told (device_of session.of.engine) (desk_of session.of.engine) fd request argument) result answer.old answer.new) }
+    ensures none { engine.old.slot.session ≡ None
+        → (result ≡ call_fault_number Engine) × (answer.new ≡ answer.old) }
+{
+    let Some(session) = engine.take(alloc) else {
+        return NOT_AN_ENGINE;
+    };
+    let number = tell(session.of.peek(fd, request, argument), answer);
+    engine.put(session);
+    number
+}
+
+/// How a slot is.
+#[unsafe(no_mangle)]
+pub extern "C" fn dsp_raw_slot(
+    alloc: Global,
+    engine: &mut Handle,
+    way: u32,
+    number: u32,
+    slot: &mut SlotNumbers,
+) -> i32
+    ensures same { engine.new.slot.session ≡ engine.old.slot.session }
+    ensures told { IfSome engine.old.slot.session (λ session. IsTold
+        (slot_told (device_of session.of.engine) (desk_of session.of.engine) way number) result slot.old slot.new) }
+    ensures none { engine.old.slot.session ≡ None
+        → (result ≡ call_fault_number Engine) × (slot.new ≡ slot.old) }
+{
+    let Some(session) = engine.take(alloc) else {
+        return NOT_AN_ENGINE;
+    };
+    let told = tell(session.of.slot(way, number), slot);
+    engine.put(session);
+    told
+}
+
+/// Answers 1 where no slot of any way is taken, else 0.
+#[unsafe(no_mangle)]
+pub extern "C" fn dsp_raw_is_idle(alloc: Global, engine: &mut Handle) -> i32
+    ensures same { engine.new.slot.session ≡ engine.old.slot.session }
+    ensures told { IfSome engine.old.slot.session (λ session.
+        result ≡ (if is_idle (desk_of session.of.engine) then pos 1 else pos 0)) }
+    ensures none { engine.old.slot.session ≡ None → result ≡ call_fault_number Engine }
+{
+    let Some(session) = engine.take(alloc) else {
+        return NOT_AN_ENGINE;
+    };
+    let idle = session.of.is_idle();
+    engine.put(session);
+    i32::from(idle)
+}
+
+/// Answers whether a descriptor is ready: 1 where a byte can be written to it, and 2 where one can be read, else 0.
+#[unsafe(no_mangle)]
+pub extern "C" fn dsp_raw_is_ready(alloc: Global, engine: &mut Handle, fd: u32) -> i32
+    ensures same { engine.new.slot.session ≡ engine.old.slot.session }
+    ensures told { IfSome engine.old.slot.session (λ session.
+        result ≡ told_number (ready_told (device_of session.of.engine) (desk_of session.of.engine) fd)) }
+    ensures none { engine.old.slot.session ≡ None → result ≡ call_fault_number Engine }
+{
+    let Some(session) = engine.take(alloc) else {
+        return NOT_AN_ENGINE;
+    };
+    let ready = session.of.ready(fd);
+    engine.put(session);
+    match ready {
+        Ok(bits) => bits as i32,
+        Err(number) => number,
+    }
+}
+
+/// After how many frames a client can go on.
+#[unsafe(no_mangle)]
+pub extern "C" fn dsp_raw_frames_until(
+    alloc: Global,
+    engine: &mut Handle,
+    fd: u32,
+    bytes: u32,
+) -> i64
+    ensures same { engine.new.slot.session ≡ engine.old.slot.session }
+    ensures told { IfSome engine.old.slot.session (λ session.
+        IsWait (device_of session.of.engine) (desk_of session.of.engine) fd bytes result) }
+    ensures none { engine.old.slot.session ≡ None → result ≡ call_fault_number Engine }
+{
+    let Some(session) = engine.take(alloc) else {
+        return i64::from(NOT_AN_ENGINE);
+    };
+    let frames = session.of.frames_until(fd, bytes);
+    engine.put(session);
+    match frames {
+        Ok(frames) => frames as i64,
+        Err(number) => i64::from(number),
+    }
+}
+
+// Puts what is told where it belongs, and answers 0; or answers why nothing is told.
+fn tell<X: Copy>(told: Result<X, i32>, out: &mut X) -> i32
+    ensures { IsTold told result out.old out.new }
+{
+    match told {
+        Ok(numbers) => {
+            *out = numbers;
+            0
+        }
+        Err(number) => number,
+    }
 }

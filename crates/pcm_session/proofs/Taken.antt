@@ -1,15 +1,18 @@
 -- A call that a session takes is one that its engine can take.
-use Rattle.std.proofs.Common.{◌≡◌, ℕ, ◌%◌, ◌<◌, ◌≤◌, true, arith}
+use Rattle.std.proofs.Common.{◌≡◌, ℕ, ◌%◌, ◌<◌, ◌≤◌, true, Err, Ok, Result, arith}
 use Rattle.std.specs.Prelude.{◌&&◌, ◌==◌, nat_le, nat_lt}
 use Rattle.std.proofs.lemmas.Bool.{and_parts, eqb-true}
 use Rattle.std.proofs.lemmas.Bool.Decides.{nat_tests}
 use Rattle.pcm_oss.specs.declared.event.Event.{Event}
+use Rattle.pcm_oss.specs.declared.reply.Answer.{Answer}
+use Rattle.pcm_oss.specs.declared.reply.Errno.{Errno}
 use Rattle.pcm_oss.specs.declared.event.Event.TheVariants.{Open, Write, Poke, Read, Ioctl, Join, StartGroup, Close, Mixer, Intr}
 use Rattle.pcm_desk.specs.declared.limits.TheConstants.{DESCRIPTORS, READ_BYTES}
 use Rattle.pcm_desk.specs.Device.{DeviceSeen, device_settings, ring_frames}
 use Rattle.pcm_desk.specs.Events.{bytes_handed}
 use Rattle.pcm_engine.specs.declared.limits.TheConstants.{STEPS}
 use Rattle.pcm_engine.specs.Brought.{IsAllowed, bytes_asked, samples_asked}
+use Rattle.pcm_engine.specs.Steps.{steps_after}
 use Rattle.pcm_numbers.specs.Devices.{is_rate}
 use Rattle.pcm_numbers.proofs.Judging.{rate-is}
 use Rattle.pcm_format.specs.Layouts.{channels_of}
@@ -84,3 +87,8 @@ can-take device steps event bytes samples room is =
       room_is = at_most (bytes_handed device event) room all.1;
       left = left_is steps event most.1;
     }
+
+-- a step leaves no more than an engine has, where one was left
+pub steps-within : (told : Result Answer Errno) (steps : ℕ) → steps < STEPS → steps_after told steps ≤ STEPS
+steps-within (Ok answer) steps left = omega (arith, left)
+steps-within (Err errno) steps left = omega (arith, left)

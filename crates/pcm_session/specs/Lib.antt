@@ -3,3 +3,4 @@ pub mod Steps
 pub mod Runs
 pub mod Events
 pub mod Calls
+pub mod Questions

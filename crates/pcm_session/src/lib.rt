@@ -7,9 +7,11 @@ mod events;
 mod judge;
 mod laws;
 mod limits;
+mod questions;
 mod session;
 
 pub use calls::{ask_mixer, close, interrupt, ioctl, join, open, poke, read, start, write};
 pub use laws::{sessions_run_scripts, steps_of_a_session};
 pub use limits::LIFE;
+pub use questions::{SettingsNumbers, SlotNumbers};
 pub use session::SessionOf;

@@ -1,8 +1,9 @@
 //! The session, and its calls.
 
-ghost use Rattle.std.specs.Prelude.{◌≡◌, true, false, IfErr, IfOk, IsErr, IsOk, Ok, OnErr, [], length, take, drop};
+ghost use Rattle.std.specs.Prelude.{◌≡◌, ◌≤◌, true, false, IfErr, IfOk, IsErr, IsOk, Ok, OnErr, [], length, take, drop};
 ghost use Rattle.pcm_desk.specs.Device.{seen, IsInLimits};
 ghost use Rattle.pcm_desk.specs.Events.{bytes_handed};
+ghost use Rattle.pcm_engine.specs.declared.limits.TheConstants.{STEPS};
 ghost use Rattle.pcm_engine.specs.Engines.{device_of, AreReady, Stands};
 ghost use Rattle.pcm_feeder.specs.Racks.{AreRacks, list_of};
 ghost use Rattle.pcm_session.specs.Steps.{IsCallStep};
@@ -21,8 +22,9 @@ use std::alloc::{AllocError, Global};
 /// An engine, with the reply to its last call.
 #[derive(Drop)]
 pub struct SessionOf<B> {
-    engine: EngineOf<B>,
+    pub(crate) engine: EngineOf<B>,
     reply: ReplyBuf,
+    ghost within: { engine.steps ≤ STEPS },
 }
 
 impl<B: Feeder> SessionOf<B> {

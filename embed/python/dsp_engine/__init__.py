@@ -11,7 +11,27 @@ It needs the shared library, which is looked for at the path in DSP_ENGINE_LIBRA
 libraries. docs/EMBEDDING.md tells what the library is, and docs/SCRIPTS.md what each call means.
 """
 from .engine import Engine
-from .numbers import Answer, Device, Errors, Filter, Format, Fragments, MixerRequest, Position, Request, Section, Space, Trigger, Volume, Way
+from .numbers import (
+    Answer,
+    Device,
+    Errors,
+    Filter,
+    Format,
+    Fragments,
+    MixerRequest,
+    Position,
+    Ready,
+    Request,
+    Section,
+    Settings,
+    Slot,
+    SlotState,
+    Space,
+    State,
+    Trigger,
+    Volume,
+    Way,
+)
 from .refusals import Refusal, Refused, WouldBlock
 
 __all__ = [
@@ -24,11 +44,16 @@ __all__ = [
     "Fragments",
     "MixerRequest",
     "Position",
+    "Ready",
     "Refusal",
     "Refused",
     "Request",
     "Section",
+    "Settings",
+    "Slot",
+    "SlotState",
     "Space",
+    "State",
     "Trigger",
     "Volume",
     "Way",

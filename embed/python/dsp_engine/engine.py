@@ -4,8 +4,28 @@ import threading
 from types import TracebackType
 from typing import Any, Iterable, List, Optional, Sequence, Tuple, Type, Union
 
-from .library import AnswerStruct, FilterStruct, Handle, SectionStruct, accepted, library
-from .numbers import Answer, Device, Errors, Filter, Format, Fragments, MixerRequest, Position, Request, Section, Space, Trigger, Volume, Way
+from .library import AnswerStruct, FilterStruct, Handle, SectionStruct, SettingsStruct, SlotStruct, accepted, library
+from .numbers import (
+    Answer,
+    Device,
+    Errors,
+    Filter,
+    Format,
+    Fragments,
+    MixerRequest,
+    Position,
+    Ready,
+    Request,
+    Section,
+    Settings,
+    Slot,
+    SlotState,
+    Space,
+    State,
+    Trigger,
+    Volume,
+    Way,
+)
 from .structs import device_struct, filter_structs, fits, samples_of, section_struct, volume_number, volume_of
 
 Bytes = Union[bytes, bytearray, memoryview]
@@ -252,3 +272,50 @@ class Engine:
     def _room_for(self, frames: int) -> int:
         """The bytes of so many frames, if the device can hand them over at once."""
         return frames * self._frame_bytes if frames <= self._device.ring_frames else 0
+
+    # ---- questions: none is a step, and none changes anything
+
+    def settings(self, descriptor: int) -> Settings:
+        """How the channel of a descriptor is."""
+        told = SettingsStruct()
+        self._call("settings", fits(descriptor, "descriptor"), told)
+        return Settings(
+            way=Way(told.way),
+            slot=told.slot,
+            format=Format(told.format),
+            channels=told.channels,
+            rate=told.rate,
+            fragments=told.fragments,
+            fragment_bytes=told.fragment_bytes,
+            trigger=bool(told.trigger),
+            volume=volume_of(told.volume),
+            group=told.group,
+            state=State(told.state),
+        )
+
+    def peek(self, descriptor: int, request: Request, argument: int = 0) -> Answer:
+        """What `ioctl` would answer now. Nothing is done: no position and no shortage counts as told."""
+        answer = AnswerStruct()
+        self._call("peek", fits(descriptor, "descriptor"), fits(request, "request"), fits(argument, "argument"), answer)
+        return Answer(answer.first, answer.second, answer.third, answer.fourth)
+
+    def slot_status(self, way: Way, number: int) -> Slot:
+        """How a slot of a way is, by the number that openings are told."""
+        told = SlotStruct()
+        self._call("slot", fits(way, "way"), fits(number, "number"), told)
+        return Slot(SlotState(told.state), told.frames)
+
+    @property
+    def is_idle(self) -> bool:
+        """Whether no slot of any way is taken: nothing plays, records or drains."""
+        return bool(self._call("is_idle"))
+
+    def ready(self) -> Ready:
+        """Which descriptors are ready: a byte can be written, or read."""
+        writable, readable = ctypes.c_uint64(), ctypes.c_uint64()
+        self._call("ready", writable, readable)
+        return Ready(*(frozenset(fd for fd in range(64) if bits.value >> fd & 1) for bits in (writable, readable)))
+
+    def frames_until(self, descriptor: int, length: int) -> int:
+        """After how many frames that interrupts take a write of so many bytes fits whole, or so many can be read, if nothing else happens."""
+        return self._call("frames_until", fits(descriptor, "descriptor"), fits(length, "length"))

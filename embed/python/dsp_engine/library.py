@@ -10,7 +10,7 @@ from .refusals import refused
 
 VARIABLE = "DSP_ENGINE_LIBRARY"
 NAMES = ("libdsp_engine.so.1", "libdsp_engine.so", "libdsp_engine.dylib")
-MAJOR = 1  # of the versions of the library that this package fits
+MAJOR, MINOR = 1, 1  # the version of the library that this package needs: a later minor one fits, too
 
 Handle = ctypes.c_void_p
 U32 = ctypes.c_uint32
@@ -44,6 +44,21 @@ class AnswerStruct(ctypes.Structure):
     _fields_ = [(name, ctypes.c_uint64) for name in "first second third fourth".split()]
 
 
+class SettingsStruct(ctypes.Structure):
+    """struct dsp_settings"""
+
+    _fields_ = [
+        (name, U32)
+        for name in "way slot format channels rate fragments fragment_bytes trigger volume group state".split()
+    ]
+
+
+class SlotStruct(ctypes.Structure):
+    """struct dsp_slot"""
+
+    _fields_ = [("state", U32), ("frames", ctypes.c_uint64)]
+
+
 # what each function takes; all answer a number of 32 bits but those of RESULTS
 PARAMETERS = {
     "create": [
@@ -68,11 +83,17 @@ PARAMETERS = {
     "mixer": [Handle, U32, U32, U32, ctypes.POINTER(AnswerStruct)],
     "interrupt": [Handle, U32, ctypes.POINTER(ctypes.c_int32), SIZE, ctypes.c_void_p, SIZE],
     "steps_left": [Handle],
+    "settings": [Handle, U32, ctypes.POINTER(SettingsStruct)],
+    "peek": [Handle, U32, U32, U32, ctypes.POINTER(AnswerStruct)],
+    "slot": [Handle, U32, U32, ctypes.POINTER(SlotStruct)],
+    "is_idle": [Handle],
+    "ready": [Handle, ctypes.POINTER(ctypes.c_uint64), ctypes.POINTER(ctypes.c_uint64)],
+    "frames_until": [Handle, U32, U32],
     "version": [],
     "error": [ctypes.c_int32],
     "errno": [ctypes.c_int32],
 }
-RESULTS = {"destroy": None, "steps_left": ctypes.c_uint64, "version": U32, "error": ctypes.c_char_p}
+RESULTS = {"destroy": None, "steps_left": ctypes.c_uint64, "frames_until": ctypes.c_int64, "version": U32, "error": ctypes.c_char_p}
 
 
 def places() -> Iterator[str]:
@@ -105,13 +126,13 @@ def loaded() -> ctypes.CDLL:
 def library() -> ctypes.CDLL:
     """The library, loaded once, with the types of its functions."""
     found = loaded()
+    version = int(found.dsp_engine_version())
+    if version >> 16 != MAJOR or version >> 8 & 255 < MINOR:
+        raise ImportError(f"dsp_engine: the library is of version {version >> 16}.{version >> 8 & 255}.{version & 255}, and not of {MAJOR}.{MINOR}")
     for name, parameters in PARAMETERS.items():
         function = getattr(found, f"dsp_engine_{name}")
         function.argtypes = parameters
         function.restype = RESULTS.get(name, ctypes.c_int32)
-    version: int = found.dsp_engine_version()
-    if version >> 16 != MAJOR:
-        raise ImportError(f"dsp_engine: the library is of version {version >> 16}.{version >> 8 & 255}.{version & 255}, and not of {MAJOR}")
     return found
 
 

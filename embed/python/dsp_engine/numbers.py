@@ -1,7 +1,7 @@
 """The numbers of the library by their names: devices, formats, requests, and what calls are answered."""
 from dataclasses import dataclass
 from enum import IntEnum, IntFlag
-from typing import NamedTuple, Sequence
+from typing import FrozenSet, NamedTuple, Sequence
 
 
 class Format(IntEnum):
@@ -162,3 +162,51 @@ class Volume(NamedTuple):
 
     left: int
     right: int
+
+
+class State(IntEnum):
+    """Where the run of a channel stands."""
+
+    SETUP = 0  # nothing of a run is there
+    PRIMED = 1  # written to, and not started
+    RUNNING = 2
+    DRAINING = 3  # takes nothing more until what was written has played
+
+
+class SlotState(IntEnum):
+    """Who has a slot."""
+
+    FREE = 0
+    HELD = 1
+    CLOSING = 2  # closed: it plays what was written to its end
+
+
+@dataclass(frozen=True)
+class Settings:
+    """How the channel of a descriptor is."""
+
+    way: Way
+    slot: int
+    format: Format
+    channels: int
+    rate: int
+    fragments: int
+    fragment_bytes: int
+    trigger: bool
+    volume: Volume
+    group: int  # 0: none
+    state: State
+
+
+class Slot(NamedTuple):
+    """How a slot is, and the frames of the mix that it gives still of what was written."""
+
+    state: SlotState
+    frames: int
+
+
+class Ready(NamedTuple):
+    """The descriptors to which a byte can be written, and those from which one can be read."""
+
+    writable: FrozenSet[int]
+    readable: FrozenSet[int]

@@ -3,6 +3,7 @@
 use crate::answers::{Answer, Errors, Fragments, Position, Space, Volume};
 use crate::device::{numbers_of, Device, Filter, Section};
 use crate::format::Format;
+use crate::questions::{Ready, Settings, Slot};
 use crate::raw;
 use crate::refusal::{accepted, Refusal};
 use crate::requests::{MixerRequest, Request, Trigger, Way};
@@ -271,6 +272,51 @@ impl Engine {
     pub fn steps_left(&mut self) -> u64 {
         // SAFETY: see `open`.
         unsafe { raw::dsp_engine_steps_left(&mut self.handle) }
+    }
+
+    /// How the channel of a descriptor is. No question is a step, and none changes anything.
+    pub fn settings(&mut self, fd: u32) -> Result<Settings, Refusal> {
+        let mut told = raw::SettingsNumbers::default();
+        // SAFETY: see `open`.
+        accepted(unsafe { raw::dsp_engine_settings(&mut self.handle, fd, &mut told) })?;
+        Ok(Settings::from(told))
+    }
+
+    /// What `ioctl` would answer now: no position and no shortage counts as told by it.
+    pub fn peek(&mut self, fd: u32, request: Request, argument: u32) -> Result<Answer, Refusal> {
+        let mut answer = Answer::default();
+        // SAFETY: see `open`.
+        accepted(unsafe { raw::dsp_engine_peek(&mut self.handle, fd, request as u32, argument, &mut answer) })?;
+        Ok(answer)
+    }
+
+    /// How a slot of a way is, by the number that openings are told.
+    pub fn slot_status(&mut self, way: Way, number: u32) -> Result<Slot, Refusal> {
+        let mut told = raw::SlotNumbers::default();
+        // SAFETY: see `open`.
+        accepted(unsafe { raw::dsp_engine_slot(&mut self.handle, way as u32, number, &mut told) })?;
+        Ok(Slot::from(told))
+    }
+
+    /// Whether no slot of any way is taken: nothing plays, records or drains.
+    pub fn is_idle(&mut self) -> bool {
+        // SAFETY: see `open`.
+        unsafe { raw::dsp_engine_is_idle(&mut self.handle) == 1 }
+    }
+
+    /// Which descriptors are ready: a byte can be written, or read.
+    pub fn ready(&mut self) -> Ready {
+        let mut ready = Ready::default();
+        // SAFETY: see `open`.
+        unsafe { raw::dsp_engine_ready(&mut self.handle, &mut ready.writable, &mut ready.readable) };
+        ready
+    }
+
+    /// After how many frames that interrupts take a write of so many bytes fits whole, or so many can be read, if nothing else happens.
+    pub fn frames_until(&mut self, fd: u32, bytes: u32) -> Result<u64, Refusal> {
+        // SAFETY: see `open`.
+        let frames = unsafe { raw::dsp_engine_frames_until(&mut self.handle, fd, bytes) };
+        u64::try_from(frames).or_else(|_| accepted(frames as i32).map(u64::from))
     }
 }
 

@@ -22,6 +22,31 @@ pub struct FilterNumbers {
     pub first: u32,
 }
 
+/// struct dsp_settings
+#[repr(C)]
+#[derive(Default)]
+pub struct SettingsNumbers {
+    pub way: u32,
+    pub slot: u32,
+    pub format: u32,
+    pub channels: u32,
+    pub rate: u32,
+    pub fragments: u32,
+    pub fragment_bytes: u32,
+    pub trigger: u32,
+    pub volume: u32,
+    pub group: u32,
+    pub state: u32,
+}
+
+/// struct dsp_slot
+#[repr(C)]
+#[derive(Default)]
+pub struct SlotNumbers {
+    pub state: u32,
+    pub frames: u64,
+}
+
 extern "C" {
     pub fn dsp_engine_new(
         engine: &mut Handle,
@@ -52,6 +77,12 @@ extern "C" {
         room: usize,
     ) -> i32;
     pub fn dsp_engine_steps_left(engine: &mut Handle) -> u64;
+    pub fn dsp_engine_settings(engine: &mut Handle, fd: u32, settings: &mut SettingsNumbers) -> i32;
+    pub fn dsp_engine_peek(engine: &mut Handle, fd: u32, request: u32, argument: u32, answer: &mut Answer) -> i32;
+    pub fn dsp_engine_slot(engine: &mut Handle, way: u32, number: u32, slot: &mut SlotNumbers) -> i32;
+    pub fn dsp_engine_is_idle(engine: &mut Handle) -> i32;
+    pub fn dsp_engine_ready(engine: &mut Handle, writable: &mut u64, readable: &mut u64) -> i32;
+    pub fn dsp_engine_frames_until(engine: &mut Handle, fd: u32, bytes: u32) -> i64;
     pub fn dsp_engine_version() -> u32;
     pub fn dsp_engine_error(answer: i32) -> *const c_char;
     pub fn dsp_engine_errno(answer: i32) -> i32;

@@ -1,8 +1,8 @@
 //! What calls are answered, by docs/SCRIPTS.md and by hand.
 
 use dsp_engine::{
-    Device, Engine, Errors, Filter, Format, Fragments, MixerRequest, Position, Refusal, Request, Section, Space, Trigger, Volume,
-    Way,
+    Device, Engine, Errors, Filter, Format, Fragments, MixerRequest, Position, Ready, Refusal, Request, Section, Settings, Slot,
+    SlotState, Space, State, Trigger, Volume, Way,
 };
 
 /// One client plays, one records, one is mapped; the ring has 16 frames.
@@ -140,4 +140,36 @@ fn an_engine_may_be_used_by_another_thread() {
     engine.open(0, Way::Play, Format::S16Le, 2, 48000).unwrap();
     let taken = std::thread::spawn(move || engine.write(0, &[0; 12])).join().unwrap();
     assert_eq!(taken, Ok(12));
+}
+
+#[test]
+fn questions_change_nothing() {
+    let mut engine = Engine::new(&Device { map_slots: 1, ..Device::default() }, &[], &[]).unwrap();
+    engine.open(2, Way::Play, Format::S16Le, 2, 48000).unwrap();
+    let opened = Settings {
+        way: Way::Play,
+        slot: 0,
+        format: Some(Format::S16Le),
+        channels: 2,
+        rate: 48000,
+        fragments: 4,
+        fragment_bytes: 4096,
+        trigger: true,
+        volume: Volume { left: 100, right: 100 },
+        group: None,
+        state: State::Setup,
+    };
+    assert_eq!((engine.settings(2), engine.settings(3)), (Ok(opened), Err(Refusal::BadDescriptor)));
+    assert_eq!(engine.ready(), Ready { writable: 4, readable: 0 });
+    assert_eq!(engine.write(2, &[0; 16384]), Ok(16384));
+    assert_eq!(engine.ready(), Ready::default());
+    assert_eq!((engine.frames_until(2, 4096), engine.frames_until(2, 16385)), (Ok(1024), Err(Refusal::Busy)));
+    engine.interrupt(1024, &[], &mut [0; 4096]).unwrap();
+    for _ in 0..2 {
+        assert_eq!(engine.peek(2, Request::GetOPtr, 0).map(|it| it.second), Ok(1));
+    }
+    assert_eq!(engine.slot_status(Way::Play, 0), Ok(Slot { state: SlotState::Held, frames: 3072 }));
+    assert_eq!(engine.slot_status(Way::Map, 4), Ok(Slot { state: SlotState::Free, frames: 0 }));
+    assert!(!engine.is_idle());
+    assert_eq!(engine.steps_left(), Engine::new(&Device::default(), &[], &[]).unwrap().steps_left() - 3);
 }

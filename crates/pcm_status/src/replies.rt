@@ -1,0 +1,92 @@
+//! What a request would be answered.
+
+ghost use Rattle.std.specs.Prelude.{◌≡◌, ◌<◌, ◌≤◌, Some, false};
+ghost use Rattle.pcm_oss.specs.declared.event.Event.TheVariants.{Ioctl};
+ghost use Rattle.pcm_oss.specs.declared.event.Way.TheVariants.{Play};
+ghost use Rattle.pcm_desk.specs.declared.limits.TheConstants.{DESCRIPTORS};
+ghost use Rattle.pcm_desk.specs.Device.{play_slots};
+ghost use Rattle.pcm_desk.specs.Desk.{asking, desk_here, ioctl_on, member_refusal, play_at};
+ghost use Rattle.pcm_desk.specs.Own.{slots_of};
+ghost use Rattle.pcm_desk.specs.PlayBooks.{is_play_free};
+ghost use Rattle.pcm_engine.specs.declared.limits.TheConstants.{STEPS};
+ghost use Rattle.pcm_engine.specs.Engines.{AreReady, desk_of, device_of};
+ghost use Rattle.pcm_status.specs.Statuses.{would};
+
+use pcm_desk::Held;
+use pcm_engine::EngineOf;
+use pcm_feeder::Feeder;
+use pcm_oss::{Answer, Errno, Request, Way};
+
+/// What a request of the channel of a descriptor would be answered now. Nothing is done: a position that is told so isn't the one from which
+/// the next counts fragments, and no shortage is forgotten.
+pub fn reply_of<B: Feeder>(engine: &EngineOf<B>, fd: u8, request: Request) -> Result<Answer, Errno>
+    requires fd { fd < DESCRIPTORS }
+    requires count { engine.now.steps ≤ STEPS }
+    requires ready { AreReady B.kind B.kept engine.now }
+    ensures { result ≡ would (device_of engine.now) (desk_of engine.now) (Ioctl fd request) }
+{
+    let Some(held) = engine.held(fd) else {
+        return Err(Errno::BadF);
+    };
+    match refusal(engine.group_of(held) > 0, request) {
+        Some(errno) => Err(errno),
+        None => channel_reply(engine, held, request),
+    }
+}
+
+// What the channel itself replies.
+fn channel_reply<B: Feeder>(
+    engine: &EngineOf<B>,
+    held: Held,
+    request: Request,
+) -> Result<Answer, Errno>
+    requires count { engine.now.steps ≤ STEPS }
+    requires ready { AreReady B.kind B.kept engine.now }
+    requires there { held.slot < slots_of (desk_of engine.now) held.way }
+    requires taken { held.way ≡ Play
+        → is_play_free (play_at (device_of engine.now) (desk_of engine.now) held.slot).state ≡ false }
+    ensures { result
+        ≡ (ioctl_on (device_of engine.now) (Some held) (desk_of engine.now) request).reply }
+{
+    match held.way {
+        Way::Play => play_reply(engine, held.slot, request),
+        Way::Record => engine.record_book(held.slot).asked(request).reply,
+        Way::Map => engine.map_book(held.slot).asked(request).reply,
+    }
+}
+
+// What one that plays replies.
+fn play_reply<B: Feeder>(
+    engine: &EngineOf<B>,
+    slot: usize,
+    request: Request,
+) -> Result<Answer, Errno>
+    requires count { engine.now.steps ≤ STEPS }
+    requires ready { AreReady B.kind B.kept engine.now }
+    requires there { slot < play_slots (device_of engine.now) }
+    requires taken { is_play_free (play_at (device_of engine.now) (desk_of engine.now) slot).state ≡ false }
+    ensures { result ≡ (asking (device_of engine.now) (desk_here (device_of engine.now) (desk_of engine.now))
+        request (play_at (device_of engine.now) (desk_of engine.now) slot)).reply }
+{
+    let rate = engine.play_rate(slot);
+    let mix_rate = engine.device().mix.rate;
+    let here = engine.here();
+    engine
+        .play_book(slot)
+        .asked(rate, mix_rate, here, request)
+        .reply
+}
+
+// What a member of a group is refused.
+fn refusal(member: bool, request: Request) -> Option<Errno>
+    ensures { result ≡ member_refusal member request }
+{
+    match request {
+        Request::SetTrigger(bits) if member => Some(if bits > 3 {
+            Errno::Inval
+        } else {
+            Errno::Busy
+        }),
+        _ => None,
+    }
+}

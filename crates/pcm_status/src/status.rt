@@ -1,0 +1,216 @@
+//! How a channel and a slot are.
+
+ghost use Rattle.std.specs.Prelude.{◌≡◌, ◌<◌, ◌≤◌, IfSome};
+ghost use Rattle.pcm_desk.specs.declared.limits.TheConstants.{DESCRIPTORS};
+ghost use Rattle.pcm_desk.specs.Own.{slots_of};
+ghost use Rattle.pcm_desk.specs.Device.{play_slots};
+ghost use Rattle.pcm_oss.specs.Fragments.{AreFragments};
+ghost use Rattle.pcm_oss.specs.declared.event.Way.TheVariants.{Play};
+ghost use Rattle.pcm_engine.specs.declared.limits.TheConstants.{STEPS};
+ghost use Rattle.pcm_rate.specs.Rates.{IsRatio};
+ghost use Rattle.pcm_engine.specs.Engines.{AreReady, desk_of, device_of};
+ghost use Rattle.pcm_status.specs.Statuses as statuses;
+ghost use Rattle.pcm_status.specs.Statuses.{map_run, play_run, record_run, still_given, taken_slot};
+
+use pcm_desk::{Held, MapState, Opening, PlayBook, PlayState, RecordState};
+use pcm_engine::EngineOf;
+use pcm_feeder::Feeder;
+use pcm_format::Settings;
+use pcm_oss::{Fragments, Way};
+use pcm_rate::Rate;
+
+/// Where the run of a channel stands.
+#[derive(Clone, Copy, Debug, PartialEq, Eq)]
+pub enum RunState {
+    /// Nothing of a run is there.
+    Setup,
+    /// Written to, and not started.
+    Primed,
+    /// Started.
+    Running,
+    /// Nothing more is taken until what was written has played.
+    Draining,
+}
+
+/// What is set of the channel of a descriptor, and where it stands.
+#[derive(Clone, Copy, Debug, PartialEq, Eq)]
+pub struct ChannelStatus {
+    pub way: Way,
+    /// The number of its slot.
+    pub slot: usize,
+    pub settings: Settings,
+    pub fragments: Fragments,
+    /// Whether the channel may start by itself, or by a post.
+    pub trigger: bool,
+    /// The volume that its client set: 0 of one that records.
+    pub volume: u32,
+    /// The number of its group: 0 is none.
+    pub group: u32,
+    pub run: RunState,
+}
+
+/// Who has a slot.
+#[derive(Clone, Copy, Debug, PartialEq, Eq)]
+pub enum SlotState {
+    /// An open would take it.
+    Free,
+    /// A descriptor holds it.
+    Held,
+    /// No descriptor holds it any more, and it isn't free before what was written has played.
+    Closing,
+}
+
+/// How a slot is.
+#[derive(Clone, Copy, Debug, PartialEq, Eq)]
+pub struct SlotStatus {
+    pub state: SlotState,
+    /// How many frames of the mix it still gives of what was written: none of a slot that doesn't play.
+    pub frames: u64,
+}
+
+/// How the channel of a descriptor is, if it is open.
+pub fn status_of<B: Feeder>(engine: &EngineOf<B>, fd: u8) -> Option<ChannelStatus>
+    requires fd { fd < DESCRIPTORS }
+    requires count { engine.now.steps ≤ STEPS }
+    requires ready { AreReady B.kind B.kept engine.now }
+    ensures fragments { IfSome result (λ status. AreFragments status.fragments) }
+    ensures is { result ≡ statuses.status_of (device_of engine.now) (desk_of engine.now) fd }
+{
+    let held = engine.held(fd)?;
+    Some(held_status(engine, held))
+}
+
+// How a channel is that a descriptor holds.
+fn held_status<B: Feeder>(engine: &EngineOf<B>, held: Held) -> ChannelStatus
+    requires count { engine.now.steps ≤ STEPS }
+    requires ready { AreReady B.kind B.kept engine.now }
+    requires there { held.slot < slots_of (desk_of engine.now) held.way }
+    ensures fragments { AreFragments result.fragments }
+    ensures is { result ≡ statuses.held_status (device_of engine.now) (desk_of engine.now) held }
+{
+    let slot = engine.number_of(held.way, held.slot);
+    let group = engine.group_of(held);
+    match held.way {
+        Way::Play => {
+            let book = engine.play_book(held.slot);
+            let run = play_run(book.state);
+            channel_status(held.way, slot, book.opening, book.volume, group, run)
+        }
+        Way::Record => {
+            let book = engine.record_book(held.slot);
+            let run = record_run(book.state);
+            channel_status(held.way, slot, book.opening, 0, group, run)
+        }
+        Way::Map => {
+            let book = engine.map_book(held.slot);
+            let run = map_run(book.state);
+            channel_status(held.way, slot, book.opening, book.volume, group, run)
+        }
+    }
+}
+
+// A channel's own numbers.
+fn channel_status(
+    way: Way,
+    slot: usize,
+    opening: Opening,
+    volume: u32,
+    group: u32,
+    run: RunState,
+) -> ChannelStatus
+    ensures { result ≡ statuses.channel_status way slot opening volume group run }
+{
+    ChannelStatus {
+        way,
+        slot,
+        settings: opening.settings,
+        fragments: opening.fragments,
+        trigger: opening.trigger,
+        volume,
+        group,
+        run,
+    }
+}
+
+/// How a slot of a way is, by its place among these.
+pub fn slot_status<B: Feeder>(engine: &EngineOf<B>, way: Way, place: usize) -> SlotStatus
+    requires count { engine.now.steps ≤ STEPS }
+    requires ready { AreReady B.kind B.kept engine.now }
+    requires there { place < slots_of (desk_of engine.now) way }
+    ensures { result ≡ statuses.slot_status (device_of engine.now) (desk_of engine.now) way place }
+{
+    match way {
+        Way::Play => play_slot_status(engine, place),
+        Way::Record => taken_slot(engine.record_book(place).is_free()),
+        Way::Map => taken_slot(engine.map_book(place).is_free()),
+    }
+}
+
+// How a slot is that plays.
+fn play_slot_status<B: Feeder>(engine: &EngineOf<B>, slot: usize) -> SlotStatus
+    requires ready { AreReady B.kind B.kept engine.now }
+    requires there { slot < play_slots (device_of engine.now) }
+    ensures { result ≡ statuses.slot_status (device_of engine.now) (desk_of engine.now) Play slot }
+{
+    let book = engine.play_book(slot);
+    let state = match book.state {
+        PlayState::Free => SlotState::Free,
+        PlayState::Draining { closed: true } => SlotState::Closing,
+        _ => SlotState::Held,
+    };
+    let frames = if book.is_started() {
+        still_given(&book, engine.play_rate(slot))
+    } else {
+        0
+    };
+    SlotStatus { state, frames }
+}
+
+// How many frames of the mix a book gives still, if no more is written.
+fn still_given(book: &PlayBook, rate: Rate) -> u64
+    requires { IsRatio rate }
+    ensures { result ≡ still_given rate book.now }
+{
+    book.giving(rate, u64::MAX)
+}
+
+// How a slot is that doesn't play.
+fn taken_slot(free: bool) -> SlotStatus
+    ensures { result ≡ record { state = taken_slot free; frames = 0 } }
+{
+    let state = if free {
+        SlotState::Free
+    } else {
+        SlotState::Held
+    };
+    SlotStatus { state, frames: 0 }
+}
+
+fn play_run(state: PlayState) -> RunState
+    ensures { result ≡ play_run state }
+{
+    match state {
+        PlayState::Free | PlayState::Setup => RunState::Setup,
+        PlayState::Primed => RunState::Primed,
+        PlayState::Running => RunState::Running,
+        PlayState::Draining { .. } => RunState::Draining,
+    }
+}
+
+fn record_run(state: RecordState) -> RunState
+    ensures { result ≡ record_run state }
+{
+    match state {
+        RecordState::Free | RecordState::Setup => RunState::Setup,
+        RecordState::Running => RunState::Running,
+    }
+}
+
+fn map_run(state: MapState) -> RunState
+    ensures { result ≡ map_run state }
+{
+    match state {
+        MapState::Free | MapState::Setup => RunState::Setup,
+        MapState::Running => RunState::Running,
+    }
+}
