@@ -1,0 +1,184 @@
+"""Plays /dev/dsp to a program: the library that is loaded into it, the process that holds the engine, and the replay of what it did.
+
+tools/oss/ has both in C; `cc` compiles them at their first use, over the library of the engine.
+"""
+import collections
+import contextlib
+import hashlib
+import os
+import pathlib
+import shutil
+import signal
+import socket
+import subprocess
+import sys
+import tempfile
+import threading
+
+from calls import Progress, judge, put, writing
+from commands import fail, program_of, say
+from places import ROOT
+
+SOURCES = pathlib.Path(__file__).resolve().parent / "oss"
+EMBED, ARCHIVE = ROOT / "embed", "libdsp_engine.a"
+LIBRARIES = (ROOT / "bin" / ARCHIVE, ROOT / "lib" / ARCHIVE, ROOT / ARCHIVE)
+# the statuses of their own: nothing was opened, the replay is another, something couldn't be written
+NOTHING, OTHER, UNWRITTEN = 3, 4, 5
+# how the requests of OSS are compiled, so that each call of the engine that one makes is taken in
+TAKEN = [f"-Ddsp_engine_{name}=device_{name}" for name in ("ioctl", "join", "start")]
+CFLAGS = ["-std=gnu99", "-O2", "-Wall", "-Wextra"]
+# the codes of formats that a wave can have, and the numbers of the usual device
+CODES = {"u8": 8, "s16le": 0x10, "s24le": 0x10000, "s32le": 0x1000}
+PLAY, RECORD, MAPPED, BLOCK, BLOCKS = 4, 4, 12, 256, 4
+# the bytes that are compared at once; and those of a run's device and of its text, past which a script isn't taken
+PART, MOST_BYTES = 1 << 20, 268435456
+
+# what is played: a device; and what came of it
+Device = collections.namedtuple("Device", "format channels rate capture")
+USUAL = Device("s16le", 2, 48000, None)
+
+
+def library():
+    """The library of the engine."""
+    found = next((it for it in LIBRARIES if it.is_file()), None)
+    return found or fail(f"no library at {', '.join(map(str, LIBRARIES))}: scripts/embed makes it")
+
+
+def ran(words):
+    """Runs the compiler."""
+    made = subprocess.run(list(map(str, words)), stdout=subprocess.PIPE, stderr=subprocess.STDOUT, check=False)
+    if made.returncode:
+        fail(f"cc ended with {made.returncode}: {made.stdout.decode(errors='replace').strip()}")
+
+
+def compile_into(folder, archive):
+    """Compiles the library of programs and the holder into a folder."""
+    clients = sorted(SOURCES.glob("client*.c"))
+    holders = sorted(it for it in SOURCES.glob("*.c") if it not in clients)
+    ran(["cc", *CFLAGS, "-shared", "-fPIC", "-o", folder / "client.so", *clients, "-ldl", "-lpthread"])
+    ran(["cc", *CFLAGS, *TAKEN, "-I", EMBED, "-c", "-o", folder / "dsp_oss.o", EMBED / "dsp_oss.c"])
+    ran(["cc", *CFLAGS, "-I", EMBED, "-o", folder / "holder", *holders, folder / "dsp_oss.o", archive])
+
+
+def digest_of(archive):
+    """What tells these sources and this library from others."""
+    told = hashlib.sha256(" ".join([*CFLAGS, *TAKEN]).encode())
+    for it in sorted([*SOURCES.glob("*.[ch]"), *EMBED.glob("dsp_*.[ch]"), archive]):
+        told.update(it.name.encode() + it.read_bytes())
+    return told.hexdigest()[:16]
+
+
+@contextlib.contextmanager
+def compiled():
+    """A folder with both: one that is kept in bin/ where that can be written, else one of this call."""
+    if not shutil.which("cc"):
+        fail("cc isn't in the path; it compiles what is loaded into the program")
+    archive = library()
+    kept = ROOT / "bin" / "live" / digest_of(archive)
+    if kept.is_dir():
+        yield kept
+        return
+    with tempfile.TemporaryDirectory(prefix="live-") as name:
+        compile_into(pathlib.Path(name), archive)
+        with contextlib.suppress(OSError):
+            keep(pathlib.Path(name), kept)
+        yield pathlib.Path(name)
+
+
+def keep(folder, kept):
+    """Puts what was compiled into bin/, as a whole, in place of what was kept of other sources."""
+    if not os.access(ROOT / "bin", os.W_OK):
+        return
+    kept.parent.mkdir(exist_ok=True)
+    part = kept.parent / f".{kept.name}-{os.getpid()}"
+    shutil.copytree(folder, part)
+    old = [it for it in kept.parent.iterdir() if not it.name.startswith(".") and it != kept]
+    part.rename(kept)
+    for it in old:
+        shutil.rmtree(it, ignore_errors=True)
+
+
+class Holding:
+    """A process that holds the engine, and what it writes into a folder."""
+
+    def __init__(self, tools, folder, device, pace, **files):
+        self.folder, self.pace, self.path = folder, pace, folder / "dsp"
+        self.result = {}
+        words = {"format": CODES[device.format], "channels": device.channels, "rate": device.rate, "block": BLOCK, "ring": BLOCK * BLOCKS,
+                 "play": PLAY, "record": RECORD, "mapped": MAPPED, "pace": pace, "result": folder / "result", **files}
+        with socket.socket(socket.AF_UNIX) as listens:
+            self.bind(listens)
+            words["listens"] = listens.fileno()
+            self.process = subprocess.Popen([str(tools / "holder"), *(f"{name}={value}" for name, value in words.items() if value is not None)],
+                                            stdin=subprocess.PIPE, pass_fds=[listens.fileno()], start_new_session=True)
+        self.client = tools / "client.so"
+
+    def bind(self, listens):
+        try:
+            listens.bind(str(self.path))
+        except OSError as fault:
+            fail(f"{self.path}: no socket: {fault}")
+        listens.listen(128)
+
+    def environment(self):
+        """What a program has in its environment that is played to."""
+        loaded = [str(self.client), *filter(None, [os.environ.get("LD_PRELOAD")])]
+        return {**os.environ, "LD_PRELOAD": ":".join(loaded), "DSP_LIVE": str(self.path), **({"DSP_LIVE_FAST": "1"} if self.pace == "fast" else {})}
+
+    def end(self):
+        """Lets it play what is left, and reads what came of it."""
+        self.process.stdin.close()
+        status = self.process.wait()
+        path = self.folder / "result"
+        lines = path.read_text().splitlines() if path.exists() else fail(f"the engine's process ended with {status}")
+        self.result = {name: int(value) for name, _, value in (it.partition("=") for it in lines)}
+        return self.result
+
+
+def status_of(words, env, printed):
+    """Runs a program to its end. Ctrl-C comes to it from the terminal, and what else ends this tool is handed on to it."""
+    with subprocess.Popen(words, env=env, stdout=printed) as program:
+        for ends, act in ((signal.SIGINT, lambda *_: None), (signal.SIGTERM, lambda number, _: program.send_signal(number)),
+                          (signal.SIGHUP, lambda number, _: program.send_signal(number))):
+            if signal.getsignal(ends) is not signal.SIG_IGN:
+                signal.signal(ends, act)
+        status = program.wait()
+    return status if status >= 0 else 128 - status
+
+
+def same(one, two):
+    """Whether two streams have the same bytes, to the end of the first; both are read on."""
+    is_so = True
+    while data := one.read(PART):
+        is_so &= two.read(len(data)) == data
+    return is_so
+
+
+class Replay:
+    """The run of a script, whose replies and bytes are compared with what was answered and heard."""
+
+    def __init__(self, program, script, config, replies, heard):
+        self.words = [str(program), "run", str(script)]
+        self.config, self.replies, self.heard = [str(config)] if config else [], replies, heard
+        self.is_same = False
+
+    def look_at_bytes(self, end):
+        """Compares what comes out of a pipe with what was heard."""
+        with open(end, "rb", buffering=PART) as out, open(self.heard, "rb") as heard:
+            self.is_same = same(out, heard) and not heard.read(1)
+
+    def run(self):
+        """Answers what differs, in words, or nothing."""
+        reads, writes = os.pipe()
+        looks = threading.Thread(target=self.look_at_bytes, args=(reads,))
+        with tempfile.TemporaryFile() as errors:
+            with subprocess.Popen([*self.words, f"/dev/fd/{writes}", *self.config], stdin=subprocess.DEVNULL, stdout=subprocess.PIPE, stderr=errors,
+                                  pass_fds=[writes]) as ran_program:
+                os.close(writes)
+                looks.start()
+                with open(self.replies, "rb") as replies:
+                    are_same = same(ran_program.stdout, replies) and not replies.read(1)
+            looks.join()
+            errors.seek(0)
+            judge(ran_program.returncode, "", errors.read().decode(errors="replace"))
+        return [what for what, is_so in (("its replies are others", not are_same), ("its bytes are others", not self.is_same)) if is_so]
