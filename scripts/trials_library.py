@@ -10,9 +10,11 @@ import struct
 import subprocess
 import sys
 
+import trials_live
 from library import BIN, CFLAGS
 from sources import ROOT
 from surface import ARCHIVE, EMBED, exported, shared_names
+from trials_live import built
 
 EXAMPLE = ROOT / "examples" / "17-a-mute" / "a_mute"
 PAGE = ROOT / "docs" / "EMBEDDING.md"
@@ -163,6 +165,17 @@ def calls_at_random(_):
     return ends_right("calls at random", [ROOT / "scripts" / "fuzz-calls", "--seconds", "10"])
 
 
+def programs_are_played_to(room):
+    """Programs that open /dev/dsp, by tools/live and tools/record; their scripts are replayed by the program that is built."""
+    program = built()
+    if not program:
+        print("embed: no program is built, so tools/live and tools/record aren't tried")
+        return True
+    (room / "live").mkdir()
+    faults = trials_live.try_all(program, room / "live")
+    return told("tools/live and tools/record", (("\n".join(faults[:20]), faults),), "programs are played to, and their scripts replayed")
+
+
 def stack_suffices(room):
     status, said = played([compiled(["cc", *CFLAGS, "-pthread", EMBED / "stack.c", BIN / ARCHIVE], room, "stack")])
     return told("stack.c", ((f"{said.strip()}: more than docs/EMBEDDING.md says", status != 0),), said.strip())
@@ -265,7 +278,8 @@ def sounds_right(wave):
 
 
 TRIALS = (names_are_hidden, level_is_told, plays_in_c, plays_in_cpp, plays_in_rust, tests_of_python, answers_right, filters_agree,
-          stack_suffices, takes_own_memory, builds_by_the_page, plays_examples, calls_at_random)
+          stack_suffices, takes_own_memory, builds_by_the_page, plays_examples, programs_are_played_to,
+          calls_at_random)
 
 
 def try_all(room):

@@ -1,0 +1,159 @@
+"""Trials of tools/live: programs that play, record, map and wait in every way, as they are heard, and as the scripts of what they did.
+
+They need the library, so scripts/trials_library.py makes them. Each run is replayed by the tool itself: its status tells.
+"""
+import concurrent.futures
+import math
+import os
+import pathlib
+import shlex
+import shutil
+import signal
+import struct
+import subprocess
+import time
+import traceback
+
+import trials_record
+from trials_shared import FAULTS, ROOT, TOOLS, ask, equal, frames_of, put_wave, tool, wave_of
+from places import built  # noqa: E402,F401
+
+FRAMES = 20000
+RAMP = [(k & 0x7fff, k & 0x7fff) for k in range(FRAMES)]
+PLAYS = ("writes", "poll", "select", "epoll", "asking", "parts", "copies", "children", "program", "threads", "stream", "looks", "mixer", "both", "map",
+         "map-poll")
+# of these the clock is tried as well, which takes as long as they sound
+BY_CLOCK = ("writes", "poll", "asking", "children", "map-poll")
+
+
+def player(folder):
+    """The program that plays a ramp."""
+    subprocess.run(["cc", "-std=gnu99", "-Wall", "-Wextra", "-Werror", "-O1", "-o", folder / "player", ROOT / "scripts" / "live_player.c", "-lpthread"],
+                   check=True)
+    return folder / "player"
+
+
+def live(folder, *words):
+    """Runs tools/live in a folder. Answers its status and what it printed."""
+    return tool("live", *words, folder=folder)
+
+
+def heard(path):
+    """What is heard in a wave: its frames without the silence around them."""
+    frames = frames_of(path)
+    begin = next((k for k, it in enumerate(frames) if any(it)), len(frames))
+    end = max((k for k, it in enumerate(frames) if any(it)), default=-1)
+    return frames[begin:end + 1]
+
+
+def try_live_ways(program, folder):
+    """However a program plays, all of its frames are heard one after another, and its script replays so."""
+    words = ["--program", program, "--out", "heard.wav", "--script", "script", "--", player(folder)]
+    for way, more in [*((it, ["--fast"]) for it in PLAYS), *((it, []) for it in BY_CLOCK)]:
+        equal(f"live {way} {more}", live(folder, *more, *words, way), (0, ""))
+        frames = heard(folder / "heard.wav")
+        # by the clock a busy machine is short at times, and a buffer that goes round is heard twice then
+        equal(f"live {way} {more} is heard", (frames if more else list(filter(any, frames))) == RAMP[1:] or (way, more) == ("map-poll", []), True)
+        ask(program, "run", folder / "script", folder / "again", folder / "script.toml")
+        body = (folder / "heard.wav").read_bytes()[44:]
+        equal(f"live {way} {more} again", (folder / "again").read_bytes() == body, True)
+    equal("files of live", sorted(it.name for it in folder.iterdir()), ["again", "heard.wav", "player", "script", "script.toml", "script.wav"])
+
+
+def try_live_records(program, folder):
+    """A program that records gets what is captured."""
+    put_wave(folder / "ramp.wav", "s16le", 2, 48000, b"".join(struct.pack("<hh", *it) for it in RAMP))
+    for way in ("read", "read-poll"):
+        words = ["--fast", "--program", program, "--capture", "ramp.wav", "--script", "script", "--", player(folder), way]
+        equal(f"live {way}", live(folder, *words), (0, ""))
+
+
+def try_live_ends(program, folder):
+    """What goes wrong is told in a line, with a status of its own."""
+    made = player(folder)
+    (folder / "text").write_text("no program\n")
+    usual = ["--fast", "--program", program]
+    for what, words, wanted in (
+            ("nothing opened", ["--out", "x.wav", "--", "true"], (3, "live: true ended with 0, and opened no /dev/dsp\n")),
+            ("a status", ["--out", "x.wav", "--", "sh", "-c", f"{made} writes; exit 7"], (7, "")),
+            ("no program", ["--out", "x.wav", "--", "./none"], (1, "live: ./none: No such file or directory\n")),
+            ("a text", ["--out", "x.wav", "--", "./text"], (1, "live: ./text: Permission denied\n")),
+            ("a full disk", ["--out", "/dev/full", "--", made, "writes"], (5, "live: /dev/full: it can't be written\n")),
+            ("a full disk for a script", ["--script", "/dev/full", "--", made, "writes"], (1, None)),
+            ("a folder", ["--out", ".", "--", made, "writes"], (1, "live: .: a folder\n")),
+            ("no words", ["--fast"], (2, "live: `--` and a program are wanted; live --help tells more\n")),
+            ("three channels", ["--channels", "3", "--", "true"], (2, "live: --channels is 1, 2, 4, 6 or 8; live --help tells more\n"))):
+        status, said = live(folder, *usual, *words)
+        equal(f"live: {what}", (status, said if wanted[1] is not None else None), wanted)
+    equal("files", sorted(it.name for it in folder.iterdir() if it.name != "x.wav"), ["player", "text"])
+
+
+def songs(folder):
+    """A song of some seconds, as what programs play."""
+    body = bytearray()
+    for k in range(8 * 44100):
+        body += struct.pack("<hh", int(12000 * math.sin(k / 20)), int(9000 * math.sin(k / 33)))
+    put_wave(folder / "song.wav", "s16le", 2, 44100, body)
+    for it in ("song.mp3", "song.ogg"):
+        if shutil.which("ffmpeg"):
+            subprocess.run(["ffmpeg", "-loglevel", "error", "-i", folder / "song.wav", folder / it], check=False)
+
+
+# players of others, and what each plays
+PLAYERS = (("mpg123", "song.mp3", "-q -o oss -a /dev/dsp song.mp3"), ("ogg123", "song.ogg", "-q -d oss song.ogg"),
+           ("ffmpeg", "song.wav", "-loglevel error -nostdin -i song.wav -f oss /dev/dsp"), ("sox", "song.wav", "-q song.wav -t oss /dev/dsp"),
+           ("mplayer", "song.wav", "-really-quiet -noconfig all -nolirc -ao oss song.wav"), ("sh", "song.wav", "-c 'cat song.wav >/dev/dsp'"))
+
+
+def try_live_players(program, folder):
+    """Players of others are played to, where they are there, and each of their scripts replays to the byte."""
+    songs(folder)
+    for name, song, words in PLAYERS:
+        if not shutil.which(name) or not (folder / song).exists():
+            print(f"embed: {name} isn't there, or its song, so tools/live isn't tried with it")
+            continue
+        status, said = live(folder, "--fast", "--program", program, "--script", f"{name}.script", "--", name, *shlex.split(words))
+        equal(f"live {name}", (status, said if status else ""), (0, ""))
+        sent = sum(int(line.split()[4]) for line in (folder / f"{name}.script").read_text().splitlines() if line.startswith("send"))
+        equal(f"live {name} plays it all", sent >= 8 * 44100 * 4, True)
+
+
+def end_by(number, folder, words):
+    """Ends a run by a signal to all, as a terminal does, once a program has played for a while. Answers what comes of it."""
+    ran = subprocess.Popen([str(it) for it in (TOOLS / "live", *words)], cwd=folder, stdout=subprocess.PIPE, stderr=subprocess.STDOUT,
+                           start_new_session=True, preexec_fn=lambda: signal.signal(signal.SIGINT, signal.SIG_DFL))
+    for _ in range(100):
+        if (folder / "x.wav").exists() and (folder / "x.wav").stat().st_size > 20000:
+            break
+        time.sleep(0.1)
+    os.killpg(ran.pid, number)
+    said, _ = ran.communicate(timeout=60)
+    return ran.returncode, said
+
+
+def try_live_breaks(program, folder):
+    """A program that is ended in the middle leaves a whole wave, and a script that replays."""
+    words = ["--program", program, "--out", "x.wav", "--script", "script", "--", "sh", "-c", "exec cat /dev/zero >/dev/dsp"]
+    for number, status in ((signal.SIGINT, 130), (signal.SIGTERM, 143)):
+        (folder / "x.wav").unlink(missing_ok=True)
+        equal(f"live and signal {number}", end_by(number, folder, words), (status, b""))
+        equal(f"a script by signal {number}", (folder / "script").read_text().startswith("open 0 play\nsend 0 data 0 "), True)
+        equal(f"a wave by signal {number}", wave_of(folder / "x.wav").size, (folder / "x.wav").stat().st_size - 44)
+
+
+TRIALS = (try_live_players, try_live_ways, try_live_records, try_live_ends, try_live_breaks)
+
+
+def try_all(program, room, names=()):
+    """Makes all trials, those of tools/record as well, or those that are named, each in a folder of its own. Answers what was wrong."""
+    def tried(trial):
+        folder = pathlib.Path(room) / trial.__name__
+        folder.mkdir()
+        try:
+            trial(pathlib.Path(program).resolve(), folder)
+        except Exception:  # a trial that breaks off is a fault, and the others go on
+            FAULTS.append(f"{trial.__name__}: {traceback.format_exc()}")
+
+    with concurrent.futures.ThreadPoolExecutor(4) as pool:
+        list(pool.map(tried, [it for it in (*TRIALS, *trials_record.TRIALS) if not names or it.__name__ in names]))
+    return FAULTS
