@@ -153,6 +153,16 @@ def try_transcripts(program, folder):
     equal("replies", tool("compare", "--replies", first, second), (
         1, "line 1: `1: ok 0`, and `1: ok 1`\nlines 3 to 4, from `3: ok 4`, and `3: ok 5` on\n3 of 4 replies differ\n4 and 5 replies\n"))
     equal("equal replies", tool("compare", "--replies", first, first), (0, ""))
+    script, known = folder / "script", folder / "known"
+    script.write_text("open 0 play\n\nioctl 0 post # starts\nread 1 4\nread 1 4\n")
+    known.write_text("# of systems\nopen * | ok * | ok *\nread * | ok 4 | refused * # nothing\n")
+    equal("known replies", tool("compare", "--replies", first, second, script, "--known", known), (
+        1, "lines 3 to 4, from `3: ok 4`, and `3: ok 5` on, of line 4: read 1 4\n1 replies differ as is known\n2 of 4 replies differ\n4 and 5 replies\n"))
+    second.write_text("1: ok 1\n2: ok\n3: refused badf\n4: ok 4\n")
+    equal("all are known", tool("compare", "--replies", first, second, script, "--known", known), (0, "2 replies differ as is known\n"))
+    known.write_text("open *\n")
+    equal("no pattern", tool("compare", "--replies", first, second, "--known", known), (
+        2, f"compare: {known}: three patterns stand in a line, with | between: open *\n"))
     first.write_text("")
     equal("no replies", tool("compare", "--replies", first, first)[0], 3)
 
