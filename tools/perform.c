@@ -1,0 +1,430 @@
+/*
+ * Performs the lines of a script as calls on /dev/dsp, and prints what each is answered as `dsp_replay run` prints it:
+ *
+ *     perform [--step-file FILE] SCRIPT [DEVICE [NAME=WAVE]..]
+ *
+ * All descriptors are opened without waiting. An interrupt of N frames of 48000 a second is a wait for as long, or, with --step-file, the
+ * number N written into FILE, where something moves the time of a card by it. NAME=WAVE is a wave that lines send. What a system doesn't
+ * tell, the slot of an open, is the least one that isn't open, and what it has no call for is told as `not performed`.
+ *
+ * It is for Linux and FreeBSD, and needs no more than their C libraries: cc -Iembed tools/perform.c -o perform
+ */
+#define _GNU_SOURCE
+#include "dsp_oss.h"
+
+#include <errno.h>
+#include <fcntl.h>
+#include <stdbool.h>
+#include <stdint.h>
+#include <stdio.h>
+#include <stdlib.h>
+#include <string.h>
+#include <sys/ioctl.h>
+#include <sys/mman.h>
+#include <sys/soundcard.h>
+#include <time.h>
+#include <unistd.h>
+
+#ifdef __FreeBSD__
+#define REQUEST(name) DSP_OSS_FREEBSD_##name
+#else
+#define REQUEST(name) DSP_OSS_LINUX_##name
+#endif
+
+enum { DESCRIPTORS = 64, WORDS = 8, RATE = 48000, BLOCK = 256, AREA = 131072, RING = 16384, LINE_MOST = 16384, WAVES = 64, MOST = 131072 };
+enum way { PLAY, RECORD, MAP, WAYS };
+
+/* What is open of a descriptor of the script. */
+struct open {
+    bool used;
+    int fd;
+    enum way way;
+    unsigned slot;
+    uint8_t *area;
+    uint32_t ring;
+};
+
+struct wave {
+    const char *name;
+    uint8_t *body;
+    size_t size;
+};
+
+static struct {
+    const char *device, *mixer, *step_file;
+    struct open list[DESCRIPTORS];
+    struct wave waves[WAVES];
+    size_t wave_count;
+    unsigned long events;
+} all = {.device = "/dev/dsp", .mixer = "/dev/mixer"};
+
+static void fail(const char *what, const char *name) {
+    fprintf(stderr, "perform: %s: %s\n", name, what);
+    exit(1);
+}
+
+/* ---- words ---- */
+
+static uint32_t number_of(const char *word) {
+    return (uint32_t)strtoul(word, NULL, strncmp(word, "0x", 2) == 0 ? 16 : 10);
+}
+
+/* Cuts a line at its blanks. Answers how many words it has in front of a comment. */
+static int cut(char *line, char **words) {
+    int count = 0;
+    for (char *word = strtok(line, " \t\r\n"); word && *word != '#' && count < WORDS; word = strtok(NULL, " \t\r\n")) {
+        words[count++] = word;
+    }
+    return count;
+}
+
+static const struct {
+    const char *name;
+    uint32_t code;
+} formats[] = {{"u8", DSP_U8},        {"s8", DSP_S8},        {"s16le", DSP_S16_LE}, {"s16be", DSP_S16_BE}, {"u16le", DSP_U16_LE},
+               {"u16be", DSP_U16_BE}, {"s24le", DSP_S24_LE}, {"s24be", DSP_S24_BE}, {"u24le", DSP_U24_LE}, {"u24be", DSP_U24_BE},
+               {"s32le", DSP_S32_LE}, {"s32be", DSP_S32_BE}, {"u32le", DSP_U32_LE}, {"u32be", DSP_U32_BE}};
+
+/* The code of a format by its name, or a number. */
+static uint32_t format_of(const char *word) {
+    for (size_t k = 0; k < sizeof formats / sizeof formats[0]; k += 1) {
+        if (strcmp(formats[k].name, word) == 0) {
+            return formats[k].code;
+        }
+    }
+    return number_of(word);
+}
+
+static uint8_t digit(char sign) {
+    return (uint8_t)(sign <= '9' ? sign - '0' : (sign | 32) - 'a' + 10);
+}
+
+/* The bytes of pairs of digits; none of `-`. */
+static size_t bytes_of(const char *word, uint8_t *bytes) {
+    size_t count = strcmp(word, "-") == 0 ? 0 : strlen(word) / 2;
+    for (size_t k = 0; k < count; k += 1) {
+        bytes[k] = (uint8_t)(digit(word[2 * k]) << 4 | digit(word[2 * k + 1]));
+    }
+    return count;
+}
+
+/* ---- replies ---- */
+
+static void reply_refused(int fault) {
+    static const struct {
+        int fault;
+        const char *name;
+    } names[] = {{EAGAIN, "again"}, {EBUSY, "busy"}, {EBADF, "badf"}, {EEXIST, "exist"}, {EINVAL, "inval"}};
+    for (size_t k = 0; k < sizeof names / sizeof names[0]; k += 1) {
+        if (names[k].fault == fault) {
+            printf("refused %s\n", names[k].name);
+            return;
+        }
+    }
+    printf("refused by errno %d\n", fault);
+}
+
+/* What a call is answered: a number, or its refusal. */
+static void reply(long answer) {
+    if (answer < 0) {
+        reply_refused(errno);
+    } else {
+        printf("ok %ld\n", answer);
+    }
+}
+
+static void reply_done(int answer) {
+    if (answer < 0) {
+        reply_refused(errno);
+    } else {
+        puts("ok");
+    }
+}
+
+/* ---- opens and closes ---- */
+
+static struct open *open_of(const char *word) {
+    return &all.list[number_of(word) % DESCRIPTORS];
+}
+
+static unsigned free_slot(enum way way) {
+    bool taken[DESCRIPTORS] = {false};
+    unsigned slot = way == MAP ? 4 : 0;
+    for (size_t k = 0; k < DESCRIPTORS; k += 1) {
+        if (all.list[k].used && all.list[k].way == way) {
+            taken[all.list[k].slot % DESCRIPTORS] = true;
+        }
+    }
+    while (slot < DESCRIPTORS && taken[slot]) {
+        slot += 1;
+    }
+    return slot;
+}
+
+static int set(int fd, unsigned long request, uint32_t value) {
+    int number = (int)value;
+    return ioctl(fd, request, &number);
+}
+
+/* Maps what a channel plays out of. Its silence is what the system put there. */
+static bool has_area(struct open *it) {
+    void *area = it->way == MAP ? mmap(NULL, AREA, PROT_READ | PROT_WRITE, MAP_SHARED, it->fd, 0) : NULL;
+    it->area = area == MAP_FAILED ? NULL : area;
+    it->ring = RING;
+    return area != MAP_FAILED;
+}
+
+static void do_open(char **words, int count) {
+    static const int flags[] = {[PLAY] = O_WRONLY, [RECORD] = O_RDONLY, [MAP] = O_RDWR};
+    struct open *it = open_of(words[1]);
+    enum way way = words[2][0] == 'p' ? PLAY : words[2][0] == 'r' ? RECORD : MAP;
+    if (it->used) {
+        reply_refused(EEXIST);
+        return;
+    }
+    *it = (struct open){.used = true, .fd = open(all.device, flags[way] | O_NONBLOCK), .way = way};
+    bool is_set = it->fd >= 0 && (count < 6 || (set(it->fd, REQUEST(SETFMT), format_of(words[3])) == 0 &&
+                                                set(it->fd, REQUEST(CHANNELS), number_of(words[4])) == 0 && set(it->fd, REQUEST(SPEED), number_of(words[5])) == 0));
+    if (!is_set || !has_area(it)) {
+        int fault = errno;
+        if (it->fd >= 0) {
+            close(it->fd);
+        }
+        it->used = false;
+        reply_refused(fault);
+        return;
+    }
+    it->used = false;
+    it->slot = free_slot(way);
+    it->used = true;
+    reply(it->slot);
+}
+
+static void do_close(struct open *it) {
+    if (it->area) {
+        munmap(it->area, AREA);
+    }
+    it->used = false;
+    reply_done(close(it->fd));
+}
+
+/* ---- bytes ---- */
+
+static void do_send(const struct open *it, char **words) {
+    for (size_t k = 0; k < all.wave_count; k += 1) {
+        if (strcmp(all.waves[k].name, words[2]) == 0) {
+            size_t from = number_of(words[3]), count = number_of(words[4]);
+            if (from + count > all.waves[k].size) {
+                fail("its body is shorter", words[2]);
+            }
+            reply(write(it->fd, all.waves[k].body + from, count));
+            return;
+        }
+    }
+    fail("no such wave is named", words[2]);
+}
+
+static void do_read(const struct open *it, size_t count) {
+    static uint8_t bytes[MOST];
+    ssize_t got = read(it->fd, bytes, count < MOST ? count : MOST);
+    if (got < 0) {
+        reply_refused(errno);
+        return;
+    }
+    printf("ok %zd %s", got, got ? "" : "-");
+    for (ssize_t k = 0; k < got; k += 1) {
+        printf("%02x", bytes[k]);
+    }
+    putchar('\n');
+}
+
+static void do_poke(const struct open *it, uint32_t offset, const uint8_t *bytes, size_t count) {
+    if (!it->area || offset + count > it->ring) {
+        reply_refused(EINVAL);
+        return;
+    }
+    memcpy(it->area + offset, bytes, count);
+    puts("ok");
+}
+
+/* ---- requests ---- */
+
+enum form { NOTHING, NUMBER, SPACE, PLACE, ERRORS, GROUP };
+
+static const struct request {
+    const char *name;
+    unsigned long number;
+    enum form form;
+} requests[] = {
+    {"setfmt", REQUEST(SETFMT), NUMBER},          {"speed", REQUEST(SPEED), NUMBER},           {"channels", REQUEST(CHANNELS), NUMBER},
+    {"getfmts", REQUEST(GETFMTS), NUMBER},        {"getcaps", REQUEST(GETCAPS), NUMBER},       {"getblksize", REQUEST(GETBLKSIZE), NUMBER},
+    {"setfragment", REQUEST(SETFRAGMENT), NUMBER}, {"getospace", REQUEST(GETOSPACE), SPACE},   {"getispace", REQUEST(GETISPACE), SPACE},
+    {"getoptr", REQUEST(GETOPTR), PLACE},         {"getiptr", REQUEST(GETIPTR), PLACE},        {"getodelay", REQUEST(GETODELAY), NUMBER},
+    {"geterror", REQUEST(GETERROR), ERRORS},      {"settrigger", REQUEST(SETTRIGGER), NOTHING}, {"gettrigger", REQUEST(GETTRIGGER), NUMBER},
+    {"setplayvol", REQUEST(SETPLAYVOL), NUMBER},  {"getplayvol", REQUEST(GETPLAYVOL), NUMBER}, {"post", REQUEST(POST), NOTHING},
+    {"sync", REQUEST(SYNC), NOTHING},             {"halt", REQUEST(RESET), NOTHING},           {"syncgroup", REQUEST(SYNCGROUP), GROUP},
+    {"syncstart", REQUEST(SYNCSTART), NOTHING},
+};
+
+/* An argument of any request. */
+union argument {
+    int number;
+    struct dsp_oss_space space;
+    struct dsp_oss_position place;
+    struct dsp_oss_errors errors;
+    struct dsp_oss_group group;
+    uint8_t room[256];
+};
+
+static void reply_told(enum form form, const union argument *is) {
+    switch (form) {
+    case SPACE:
+        printf("ok fragments=%d fragstotal=%d fragsize=%d bytes=%d\n", is->space.fragments, is->space.fragstotal, is->space.fragsize, is->space.bytes);
+        break;
+    case PLACE:
+        printf("ok bytes=%u blocks=%d ptr=%d\n", (unsigned)is->place.bytes, is->place.blocks, is->place.ptr);
+        break;
+    case ERRORS:
+        printf("ok underruns=%d overruns=%d\n", is->errors.play_underruns, is->errors.rec_overruns);
+        break;
+    case NOTHING:
+        puts("ok");
+        break;
+    default:
+        printf("ok %u\n", (unsigned)is->number);
+    }
+}
+
+static void do_ioctl(struct open *it, const char *name, const char *word) {
+    union argument is = {.room = {0}};
+    for (size_t k = 0; k < sizeof requests / sizeof requests[0]; k += 1) {
+        if (strcmp(requests[k].name, name) != 0) {
+            continue;
+        }
+        is.number = word ? (int)(strcmp(name, "setfmt") == 0 ? format_of(word) : number_of(word)) : 0;
+        is.group.mode = requests[k].form == GROUP ? (it->way == RECORD ? PCM_ENABLE_INPUT : PCM_ENABLE_OUTPUT) : is.group.mode;
+        if (ioctl(it->fd, requests[k].number, &is) < 0) {
+            reply_refused(errno);
+            return;
+        }
+        if (strcmp(name, "setfragment") == 0) {
+            it->ring = (uint32_t)(is.number >> 16) << (is.number & 0xffff);
+        }
+        reply_told(requests[k].form, &is);
+        return;
+    }
+    fail("no such request", name);
+}
+
+/* ---- the mixer, and time ---- */
+
+static void do_mixer(char **words, int count) {
+    int fd = strcmp(words[1], "master") == 0 ? open(all.mixer, O_RDWR) : -1;
+    if (fd < 0) {
+        puts("not performed");
+        return;
+    }
+    int value = count > 2 ? (int)number_of(words[2]) : 0, answer = ioctl(fd, count > 2 ? SOUND_MIXER_WRITE_VOLUME : SOUND_MIXER_READ_VOLUME, &value);
+    reply(answer < 0 ? answer : value);
+    close(fd);
+}
+
+static void do_interrupt(uint32_t frames) {
+    const struct timespec lasts = {frames / RATE, (long)((uint64_t)(frames % RATE) * 1000000000 / RATE)};
+    char text[32];
+    if (!all.step_file) {
+        nanosleep(&lasts, NULL);
+        reply(frames);
+        return;
+    }
+    int fd = open(all.step_file, O_WRONLY), length = snprintf(text, sizeof text, "%u\n", frames);
+    if (fd < 0 || write(fd, text, (size_t)length) != length || close(fd) != 0) {
+        fail(strerror(errno), all.step_file);
+    }
+    reply(frames);
+}
+
+/* ---- lines ---- */
+
+/* What a line does to a descriptor that is open. */
+static void do_on(struct open *it, char **words, int count) {
+    static uint8_t bytes[LINE_MOST];
+    if (strcmp(words[0], "write") == 0) {
+        reply(write(it->fd, bytes, bytes_of(words[2], bytes)));
+    } else if (strcmp(words[0], "send") == 0) {
+        do_send(it, words);
+    } else if (strcmp(words[0], "read") == 0) {
+        do_read(it, number_of(words[2]));
+    } else if (strcmp(words[0], "poke") == 0) {
+        size_t size = bytes_of(words[3], bytes);
+        do_poke(it, number_of(words[2]), bytes, size);
+    } else if (strcmp(words[0], "ioctl") == 0) {
+        do_ioctl(it, words[2], count > 3 ? words[3] : NULL);
+    } else {
+        do_close(it);
+    }
+}
+
+static void perform(char **words, int count) {
+    printf("%lu: ", ++all.events);
+    if (strcmp(words[0], "intr") == 0) {
+        do_interrupt(count > 1 ? number_of(words[1]) : BLOCK);
+    } else if (strcmp(words[0], "mixer") == 0) {
+        do_mixer(words, count);
+    } else if (strcmp(words[0], "open") == 0) {
+        do_open(words, count);
+    } else if (!open_of(words[1])->used) {
+        reply_refused(EBADF);
+    } else {
+        do_on(open_of(words[1]), words, count);
+    }
+}
+
+/* ---- its own words ---- */
+
+static void take_wave(char *word) {
+    char *equals = strchr(word, '=');
+    struct wave *wave = &all.waves[all.wave_count];
+    FILE *file = equals && all.wave_count < WAVES ? fopen(equals + 1, "rb") : NULL;
+    uint8_t head[8];
+    if (!file || fseek(file, 12, SEEK_SET) != 0) {
+        fail("no wave", word);
+    }
+    for (*equals = 0; fread(head, 1, sizeof head, file) == sizeof head;) {
+        uint32_t size = head[4] | (uint32_t)head[5] << 8 | (uint32_t)head[6] << 16 | (uint32_t)head[7] << 24;
+        if (memcmp(head, "data", 4) == 0) {
+            *wave = (struct wave){word, malloc(size + 1), 0};
+            wave->size = wave->body ? fread(wave->body, 1, size, file) : 0;
+            all.wave_count += 1;
+            break;
+        }
+        fseek(file, (long)(size + size % 2), SEEK_CUR);
+    }
+    fclose(file);
+}
+
+int main(int count, char **words) {
+    static char line[LINE_MOST];
+    char *cut_words[WORDS];
+    int at = 1;
+    if (count > 3 && strcmp(words[1], "--step-file") == 0) {
+        all.step_file = words[2];
+        at = 3;
+    }
+    FILE *script = at < count ? fopen(words[at], "r") : NULL;
+    if (!script) {
+        fprintf(stderr, at < count ? "perform: %s: %s\n" : "usage: perform [--step-file FILE] SCRIPT [DEVICE [NAME=WAVE]..]\n", words[at], strerror(errno));
+        return at < count ? 1 : 2;
+    }
+    all.device = at + 1 < count ? words[at + 1] : all.device;
+    for (int k = at + 2; k < count; k += 1) {
+        take_wave(words[k]);
+    }
+    while (fgets(line, sizeof line, script)) {
+        int found = cut(line, cut_words);
+        if (found > 0) {
+            perform(cut_words, found);
+        }
+    }
+    return fflush(stdout) == 0 && !ferror(script) ? 0 : 1;
+}
