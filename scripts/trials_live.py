@@ -141,7 +141,45 @@ def try_live_breaks(program, folder):
         equal(f"a wave by signal {number}", wave_of(folder / "x.wav").size, (folder / "x.wav").stat().st_size - 44)
 
 
-TRIALS = (try_live_players, try_live_ways, try_live_records, try_live_ends, try_live_breaks)
+# what no system tells, or has no call for
+KNOWN = "open * | ok * | ok *   # the slot\nmixer * | not performed | *\n"
+
+
+def try_perform(program, folder):
+    """Each script of the usual device, performed under tools/live step by step, is answered as a run answers it."""
+    subprocess.run(["cc", "-std=gnu99", "-Wall", "-Wextra", "-Werror", "-O1", "-I", ROOT / "embed", "-o", folder / "perform", ROOT / "tools" / "perform.c"],
+                   check=True)
+    (folder / "known").write_text(KNOWN)
+    scripts = [it for top in ("examples", "corpus") for it in sorted(ROOT.glob(f"{top}/*/*.script")) if not it.with_suffix(".toml").exists()]
+    for script in (it for it in scripts if it.parent.name != "faults"):
+        (folder / "replies").write_text(ask(program, "run", script, folder / "out"))
+        status, said = live(folder, "--step", "--unchecked", "--out", "heard.wav", "--", folder / "perform", "--step-file", "/dev/dsp.step", script)
+        (folder / "performed").write_text(said)
+        words = ["--replies", folder / "performed", folder / "replies", script, "--known", folder / "known"]
+        if not any(line.startswith("open") for line in script.read_text().splitlines()):
+            continue
+        equal(f"perform {script.name}", (status, *tool("compare", *words)[:1]), (0, 0))
+
+
+def try_hold(program, folder):
+    """Several programs at once are clients of one engine, and its script replays."""
+    made, name = player(folder), f"trial-{os.getpid()}"
+    words = [TOOLS / "live", "--hold", name, "--fast", "--program", program, "--script", "script"]
+    with subprocess.Popen(list(map(str, words)), cwd=folder, stdout=subprocess.PIPE, stderr=subprocess.STDOUT) as holds:
+        for _ in range(100):
+            if live(folder, "--join", name, "--", "true")[0] == 0:
+                break
+            time.sleep(0.1)
+        joins = [subprocess.Popen(list(map(str, [TOOLS / "live", "--join", name, "--", made, way])), cwd=folder) for way in ("writes", "children", "parts")]
+        equal("programs that join", [it.wait(timeout=60) for it in joins], [0, 0, 0])
+        holds.terminate()
+        equal("an engine that is held", (holds.communicate(timeout=60)[0], holds.returncode), (b"", 0))
+    equal("clients of one engine", (folder / "script").read_text().count("open "), 3)
+    status, said = live(folder, "--join", name, "--", "true")
+    equal("nothing is held", (status, said), (1, f"live: nothing is held as {name}: tools/live --hold {name} does that\n"))
+
+
+TRIALS = (try_live_players, try_perform, try_hold, try_live_ways, try_live_records, try_live_ends, try_live_breaks)
 
 
 def try_all(program, room, names=()):

@@ -101,8 +101,8 @@ def keep(folder, kept):
 class Holding:
     """A process that holds the engine, and what it writes into a folder."""
 
-    def __init__(self, tools, folder, device, pace, **files):
-        self.folder, self.pace, self.path = folder, pace, folder / "dsp"
+    def __init__(self, tools, folder, device, pace, path=None, **files):
+        self.folder, self.pace, self.path = folder, pace, path or folder / "dsp"
         self.result = {}
         words = {"format": CODES[device.format], "channels": device.channels, "rate": device.rate, "block": BLOCK, "ring": BLOCK * BLOCKS,
                  "play": PLAY, "record": RECORD, "mapped": MAPPED, "pace": pace, "result": folder / "result", **files}
@@ -121,9 +121,7 @@ class Holding:
         listens.listen(128)
 
     def environment(self):
-        """What a program has in its environment that is played to."""
-        loaded = [str(self.client), *filter(None, [os.environ.get("LD_PRELOAD")])]
-        return {**os.environ, "LD_PRELOAD": ":".join(loaded), "DSP_LIVE": str(self.path), **({"DSP_LIVE_FAST": "1"} if self.pace == "fast" else {})}
+        return environment(self.client, self.path, self.pace)
 
     def end(self):
         """Lets it play what is left, and reads what came of it."""
@@ -133,6 +131,12 @@ class Holding:
         lines = path.read_text().splitlines() if path.exists() else fail(f"the engine's process ended with {status}")
         self.result = {name: int(value) for name, _, value in (it.partition("=") for it in lines)}
         return self.result
+
+
+def environment(client, path, pace):
+    """What a program has in its environment that is played to."""
+    loaded = [str(client), *filter(None, [os.environ.get("LD_PRELOAD")])]
+    return {**os.environ, "LD_PRELOAD": ":".join(loaded), "DSP_LIVE": str(path), **({"DSP_LIVE_FAST": "1"} if pace == "fast" else {})}
 
 
 def status_of(words, env, printed):

@@ -1,16 +1,22 @@
 """A program that is played to, from its begin to the replay of what it did: what tools/live and tools/record have in common."""
 import array
 import collections
+import contextlib
 import json
+import os
 import pathlib
 import re
 import shutil
+import signal
+import socket
+import stat
 import sys
 import tempfile
+import threading
 
 from calls import look_at_out, put, wave_of, writing
 from commands import UNREAD, fail, program_of, say
-from holding import BLOCK, BLOCKS, MAPPED, MOST_BYTES, NOTHING, OTHER, PART, UNWRITTEN, USUAL, Holding, Replay, compiled, status_of
+from holding import BLOCK, BLOCKS, MAPPED, MOST_BYTES, NOTHING, OTHER, PART, UNWRITTEN, USUAL, Holding, Replay, compiled, environment, status_of
 from sounds import numbers_of
 
 # a script that needs a configuration for its slots: one with a mapped channel, or with the mixer's line of one
@@ -136,15 +142,27 @@ def look_at_files(wanted):
         fail(f"{wanted.script}: no file, and the sound of the script stands beside it")
 
 
+def files_of(wanted, folder):
+    """Which files the engine's process writes, and where the sound of a script goes."""
+    data = folder / "data" if wanted.script == "-" else beside(wanted.script, ".wav")
+    files = {"wave": wanted.out, "capture": capture_into(wanted.device.capture, wanted.device, folder)}
+    if wanted.script:
+        files.update(script=folder / "script", replies=folder / "replies", kept=folder / "device", data=data, lines=wanted.lines)
+    return files, data
+
+
+def finished(wanted, folder, result, data, status):
+    """The status of a run whose program ended with a status, or that of what was wrong."""
+    return faults_of(wanted, result) or (finish_script(wanted, folder, result, data) if wanted.script else 0) or status
+
+
 def play(wanted):
     """Runs a program. Answers its status, or what was wrong."""
     look_at_files(wanted)
     with compiled() as tools, tempfile.TemporaryDirectory(prefix="live-") as name:
         folder = pathlib.Path(name)
-        data = folder / "data" if wanted.script == "-" else beside(wanted.script, ".wav")
-        files = {"script": folder / "script", "replies": folder / "replies", "kept": folder / "device", "data": data,
-                 "lines": wanted.lines} if wanted.script else {}
-        holding = Holding(tools, folder, wanted.device, wanted.pace, wave=wanted.out, capture=capture_into(wanted.device.capture, wanted.device, folder), **files)
+        files, data = files_of(wanted, folder)
+        holding = Holding(tools, folder, wanted.device, wanted.pace, **files)
         try:
             status = status_of(wanted.words, holding.environment(), sys.stderr if "-" in (wanted.out, wanted.script) else None)
         finally:
@@ -152,4 +170,66 @@ def play(wanted):
         if not result["opened"]:
             say(f"{wanted.words[0]} ended with {status}, and opened no /dev/dsp")
             return NOTHING
-        return faults_of(wanted, result) or (finish_script(wanted, folder, result, data) if wanted.script else 0) or status
+        return finished(wanted, folder, result, data, status)
+
+
+# ---- several programs ----
+
+def place_of(name):
+    """The socket of a name, in a folder that is its owner's alone."""
+    folder = pathlib.Path(os.environ.get("XDG_RUNTIME_DIR") or tempfile.gettempdir()) / f"dsp_live-{os.getuid()}"
+    with contextlib.suppress(FileExistsError):
+        folder.mkdir(mode=0o700)
+    is_there = folder.lstat()
+    if not stat.S_ISDIR(is_there.st_mode) or is_there.st_uid != os.getuid() or is_there.st_mode & 0o077:
+        fail(f"{folder}: it isn't a folder of yours alone")
+    return folder / name
+
+
+def is_held(place):
+    """Whether a process listens at a socket."""
+    with socket.socket(socket.AF_UNIX) as asks:
+        return asks.connect_ex(str(place)) == 0
+
+
+def wait_for_end():
+    """Waits until this tool is to end."""
+    ended = threading.Event()
+    for ends in (signal.SIGINT, signal.SIGTERM, signal.SIGHUP):
+        if signal.getsignal(ends) is not signal.SIG_IGN:
+            signal.signal(ends, lambda *_: ended.set())
+    while not ended.wait(0.2):
+        pass
+
+
+def hold(wanted, name):
+    """Holds an engine under a name until Ctrl-C. Answers 0, or what was wrong."""
+    look_at_files(wanted)
+    place = place_of(name)
+    if is_held(place):
+        fail(f"{name} is held already")
+    with compiled() as tools, tempfile.TemporaryDirectory(prefix="live-") as room:
+        folder = pathlib.Path(room)
+        files, data = files_of(wanted, folder)
+        place.unlink(missing_ok=True)
+        place.with_suffix(".pace").write_text(wanted.pace)
+        holding = Holding(tools, folder, wanted.device, wanted.pace, place, **files)
+        try:
+            wait_for_end()
+        finally:
+            place.unlink(missing_ok=True)
+            place.with_suffix(".pace").unlink(missing_ok=True)
+            result = holding.end()
+        if not result["opened"]:
+            say("nobody opened /dev/dsp")
+            return NOTHING
+        return finished(wanted, folder, result, data, 0)
+
+
+def join(words, name):
+    """Runs a program whose device is held under a name. Answers its status."""
+    place = place_of(name)
+    if not is_held(place):
+        fail(f"nothing is held as {name}: tools/live --hold {name} does that")
+    with compiled() as tools:
+        return status_of(words, environment(tools / "client.so", place, place.with_suffix(".pace").read_text()), None)
