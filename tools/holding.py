@@ -15,8 +15,8 @@ import sys
 import tempfile
 import threading
 
-from calls import Progress, judge, put, writing
-from commands import fail, program_of, say
+from calls import judge
+from commands import Progress, fail
 from places import ROOT
 
 SOURCES = pathlib.Path(__file__).resolve().parent / "oss"
@@ -140,21 +140,26 @@ def environment(client, path, pace):
 
 
 def status_of(words, env, printed):
-    """Runs a program to its end. Ctrl-C comes to it from the terminal, and what else ends this tool is handed on to it."""
+    """Runs a program to its end. Ctrl-C comes to it from the terminal, and what else ends this tool is handed on to it; behind it both end
+    this tool again."""
+    before = {it: signal.getsignal(it) for it in (signal.SIGINT, signal.SIGTERM, signal.SIGHUP)}
     with subprocess.Popen(words, env=env, stdout=printed) as program:
-        for ends, act in ((signal.SIGINT, lambda *_: None), (signal.SIGTERM, lambda number, _: program.send_signal(number)),
-                          (signal.SIGHUP, lambda number, _: program.send_signal(number))):
-            if signal.getsignal(ends) is not signal.SIG_IGN:
-                signal.signal(ends, act)
+        for ends, act in before.items():
+            if act is not signal.SIG_IGN:
+                signal.signal(ends, lambda number, _: number == signal.SIGINT or program.send_signal(number))
         status = program.wait()
+    for ends, act in before.items():
+        signal.signal(ends, act)
     return status if status >= 0 else 128 - status
 
 
-def same(one, two):
-    """Whether two streams have the same bytes, to the end of the first; both are read on."""
-    is_so = True
+def same(one, two, at=lambda done: None):
+    """Whether two streams have the same bytes, to the end of the first; both are read on, and it is told how far that is."""
+    is_so, done = True, 0
     while data := one.read(PART):
         is_so &= two.read(len(data)) == data
+        done += len(data)
+        at(done)
     return is_so
 
 
@@ -168,21 +173,23 @@ class Replay:
 
     def look_at_bytes(self, end):
         """Compares what comes out of a pipe with what was heard."""
+        progress, size = Progress("the script is replayed"), os.path.getsize(self.heard)
         with open(end, "rb", buffering=PART) as out, open(self.heard, "rb") as heard:
-            self.is_same = same(out, heard) and not heard.read(1)
+            self.is_same = same(out, heard, lambda done: progress.at(done, size)) and not heard.read(1)
+        progress.end()
 
     def run(self):
         """Answers what differs, in words, or nothing."""
         reads, writes = os.pipe()
         looks = threading.Thread(target=self.look_at_bytes, args=(reads,))
         with tempfile.TemporaryFile() as errors:
-            with subprocess.Popen([*self.words, f"/dev/fd/{writes}", *self.config], stdin=subprocess.DEVNULL, stdout=subprocess.PIPE, stderr=errors,
-                                  pass_fds=[writes]) as ran_program:
+            words = [*self.words, f"/dev/fd/{writes}", *self.config]
+            with subprocess.Popen(words, stdin=subprocess.DEVNULL, stdout=subprocess.PIPE, stderr=errors, pass_fds=[writes]) as program:
                 os.close(writes)
                 looks.start()
                 with open(self.replies, "rb") as replies:
-                    are_same = same(ran_program.stdout, replies) and not replies.read(1)
+                    are_same = same(program.stdout, replies) and not replies.read(1)
             looks.join()
             errors.seek(0)
-            judge(ran_program.returncode, "", errors.read().decode(errors="replace"))
+            judge(program.returncode, "", errors.read().decode(errors="replace"))
         return [what for what, is_so in (("its replies are others", not are_same), ("its bytes are others", not self.is_same)) if is_so]

@@ -84,8 +84,35 @@ static int wait_for_both(struct pollfd *list, nfds_t count, const struct timespe
     return ready < 0 ? -1 : ready + put_ready(list, is);
 }
 
+/* Where the device goes as fast as it is waited for, a sleep is over once the device has taken as much, if that is sooner. Answers 0 then,
+ * EINTR where a signal came before, and -1 where the system is to sleep. errno stays. */
+static int slept(const struct timespec *wait) {
+    if (!client()->is_there || !client()->is_fast || wait->tv_sec < 0 || is_zero(wait)) {
+        return -1;
+    }
+    uint64_t microseconds = (uint64_t)wait->tv_sec * MILLION + (uint64_t)wait->tv_nsec / THOUSAND;
+    int before = errno, connection = client_begin(WIRE_SLEEP, 0, microseconds, WIRE_WAITS, NULL, 0), answer = -1;
+    if (connection >= 0) {
+        struct pollfd one = {connection, POLLIN, 0};
+        answer = poll_by_system(&one, 1, wait, NULL) < 0 ? EINTR : 0;
+        syscall(SYS_close, connection);
+    }
+    errno = before;
+    return answer;
+}
+
+/* Answers as a call does. */
+static int told(int fault) {
+    errno = fault > 0 ? fault : errno;
+    return fault > 0 ? -1 : 0;
+}
+
 static int polled(struct pollfd *list, nfds_t count, const struct timespec *wait, const sigset_t *mask) {
     struct sorted is;
+    int fault = count == 0 && wait ? slept(wait) : -1;
+    if (fault >= 0) {
+        return told(fault);
+    }
     if (client()->is_there) {
         sort(list, count, &is);
     }
@@ -158,57 +185,30 @@ static int selected(int count, fd_set *in, fd_set *out, fd_set *other, const str
            leave(other, list, used, POLLPRI, POLLPRI);
 }
 
-/* ---- sleeps ---- */
-
-/* Where the device goes as fast as it is waited for, a sleep is over once the device has taken as much, if that is sooner. Answers
- * whether it was. */
-static bool is_slept(const struct timespec *wait) {
-    if (!client()->is_there || !client()->is_fast || wait->tv_sec < 0 || is_zero(wait)) {
-        return false;
-    }
-    uint64_t microseconds = (uint64_t)wait->tv_sec * MILLION + (uint64_t)wait->tv_nsec / THOUSAND;
-    int before = errno, connection = client_begin(WIRE_SLEEP, 0, microseconds, WIRE_WAITS, NULL, 0);
-    struct pollfd one = {connection, POLLIN, 0};
-    if (connection < 0) {
-        errno = before;
-        return false;
-    }
-    int ready = poll_by_system(&one, 1, wait, NULL);
-    syscall(SYS_close, connection);
-    if (ready >= 0) {
-        errno = before;
-    }
-    return true;
-}
-
 int select(int count, fd_set *in, fd_set *out, fd_set *other, struct timeval *wait) {
     const struct timespec left = {wait ? wait->tv_sec : 0, wait ? wait->tv_usec * THOUSAND : 0};
     if (has_ours(count, in, out)) {
         return selected(count, in, out, other, wait ? &left : NULL, NULL);
     }
-    if (count == 0 && wait && is_slept(&left)) {
-        return 0;
-    }
-    return REAL(select)(count, in, out, other, wait);
+    int fault = count == 0 && wait ? slept(&left) : -1;
+    return fault >= 0 ? told(fault) : REAL(select)(count, in, out, other, wait);
 }
 
 int pselect(int count, fd_set *in, fd_set *out, fd_set *other, const struct timespec *wait, const sigset_t *mask) {
     return has_ours(count, in, out) ? selected(count, in, out, other, wait, mask) : REAL(pselect)(count, in, out, other, wait, mask);
 }
 
+/* ---- sleeps ---- */
+
 int nanosleep(const struct timespec *wait, struct timespec *left) {
-    int before = errno;
-    errno = 0;
-    if (is_slept(wait)) {
-        bool is_broken = errno == EINTR;
-        if (left) {
-            *left = (struct timespec){0, 0};
-        }
-        errno = is_broken ? EINTR : before;
-        return is_broken ? -1 : 0;
+    int fault = slept(wait);
+    if (fault < 0) {
+        return REAL(nanosleep)(wait, left);
     }
-    errno = before;
-    return REAL(nanosleep)(wait, left);
+    if (left) {
+        *left = (struct timespec){0, 0};
+    }
+    return told(fault);
 }
 
 int clock_nanosleep(clockid_t clock, int flags, const struct timespec *wait, struct timespec *left) {
