@@ -6,6 +6,7 @@ import concurrent.futures
 import math
 import os
 import pathlib
+import re
 import shlex
 import shutil
 import signal
@@ -15,8 +16,9 @@ import time
 import traceback
 
 import trials_record
-from trials_shared import FAULTS, ROOT, TOOLS, ask, equal, frames_of, put_wave, tool, wave_of
-from places import built  # noqa: E402,F401
+from trials_shared import FAULTS, ROOT, TOOLS, ask, config_of, equal, frames_of, put_wave, tool, wave_of
+from places import built  # noqa: F401
+from scripts import keys_of
 
 FRAMES = 20000
 RAMP = [(k & 0x7fff, k & 0x7fff) for k in range(FRAMES)]
@@ -145,20 +147,32 @@ def try_live_breaks(program, folder):
 KNOWN = "open * | ok * | ok *   # the slot\nmixer * | not performed | *\n"
 
 
+def performed(folder, script, config):
+    """What tools/perform prints of a script under tools/live, step by step."""
+    files = keys_of(config.read_text()) if config else {}
+    waves = [f"{key.partition('.')[2]}={path}" for key, path in files.items() if key.startswith("files.")]
+    words = ["--step", "--unchecked", "--script", folder / "again", *(["--config", config] if config else []), "--", folder / "perform"]
+    return tool("live", *words, "--step-file", "/dev/dsp.step", script, "/dev/dsp", *waves, folder=script.parent)
+
+
 def try_perform(program, folder):
-    """Each script of the usual device, performed under tools/live step by step, is answered as a run answers it."""
+    """Each script that needs no filter, performed under tools/live step by step, is answered as a run answers it."""
     subprocess.run(["cc", "-std=gnu99", "-Wall", "-Wextra", "-Werror", "-O1", "-I", ROOT / "embed", "-o", folder / "perform", ROOT / "tools" / "perform.c"],
                    check=True)
     (folder / "known").write_text(KNOWN)
-    scripts = [it for top in ("examples", "corpus") for it in sorted(ROOT.glob(f"{top}/*/*.script")) if not it.with_suffix(".toml").exists()]
-    for script in (it for it in scripts if it.parent.name != "faults"):
-        (folder / "replies").write_text(ask(program, "run", script, folder / "out"))
-        status, said = live(folder, "--step", "--unchecked", "--out", "heard.wav", "--", folder / "perform", "--step-file", "/dev/dsp.step", script)
+    for script in (it for top in ("examples", "corpus") for it in sorted(ROOT.glob(f"{top}/*/*.script")) if it.parent.name != "faults"):
+        config = next(iter(config_of(script)), None)
+        if config and ("[[" in config.read_text() or not keys_of(config.read_text())) or not re.search(r"(?m)^\s*open", script.read_text()):
+            continue
+        words = ["run", script, folder / "out", *([config] if config else [])]
+        ran = subprocess.run([str(it) for it in (program, *words)], cwd=script.parent, stdout=subprocess.PIPE, universal_newlines=True, check=False)
+        if ran.returncode:
+            continue
+        (folder / "replies").write_text(ran.stdout)
+        status, said = performed(folder, script, config)
         (folder / "performed").write_text(said)
         words = ["--replies", folder / "performed", folder / "replies", script, "--known", folder / "known"]
-        if not any(line.startswith("open") for line in script.read_text().splitlines()):
-            continue
-        equal(f"perform {script.name}", (status, *tool("compare", *words)[:1]), (0, 0))
+        equal(f"perform {script.name}", (status, tool("compare", *words)[0]), (0, 0))
 
 
 def try_hold(program, folder):

@@ -27,15 +27,15 @@ NOTHING, OTHER, UNWRITTEN = 3, 4, 5
 # how the requests of OSS are compiled, so that each call of the engine that one makes is taken in
 TAKEN = [f"-Ddsp_engine_{name}=device_{name}" for name in ("ioctl", "join", "start")]
 CFLAGS = ["-std=gnu99", "-O2", "-Wall", "-Wextra"]
-# the codes of formats that a wave can have, and the numbers of the usual device
-CODES = {"u8": 8, "s16le": 0x10, "s24le": 0x10000, "s32le": 0x1000}
-PLAY, RECORD, MAPPED, BLOCK, BLOCKS = 4, 4, 12, 256, 4
+# the codes of formats
+CODES = {"u8": 8, "s8": 0x40, "s16le": 0x10, "s16be": 0x20, "u16le": 0x80, "u16be": 0x100, "s24le": 0x10000, "s24be": 0x20000, "u24le": 0x40000,
+         "u24be": 0x80000, "s32le": 0x1000, "s32be": 0x2000, "u32le": 0x4000, "u32be": 0x8000}
 # the bytes that are compared at once; and those of a run's device and of its text, past which a script isn't taken
 PART, MOST_BYTES = 1 << 20, 268435456
 
-# what is played: a device; and what came of it
-Device = collections.namedtuple("Device", "format channels rate capture")
-USUAL = Device("s16le", 2, 48000, None)
+# a device, whose mix has its rate and its channels where they are 0; and the usual one, on which scripts without a configuration run
+Device = collections.namedtuple("Device", "format channels rate block blocks play record mapped quality mix_channels mix_rate capture")
+USUAL = Device("s16le", 2, 48000, 256, 4, 4, 4, 0, 1, 0, 0, None)
 
 
 def library():
@@ -104,8 +104,8 @@ class Holding:
     def __init__(self, tools, folder, device, pace, path=None, **files):
         self.folder, self.pace, self.path = folder, pace, path or folder / "dsp"
         self.result = {}
-        words = {"format": CODES[device.format], "channels": device.channels, "rate": device.rate, "block": BLOCK, "ring": BLOCK * BLOCKS,
-                 "play": PLAY, "record": RECORD, "mapped": MAPPED, "pace": pace, "result": folder / "result", **files}
+        words = {**device._asdict(), "format": CODES[device.format], "ring": device.block * device.blocks, "pace": pace,
+                 "result": folder / "result", **files}
         with socket.socket(socket.AF_UNIX) as listens:
             self.bind(listens)
             words["listens"] = listens.fileno()

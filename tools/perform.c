@@ -31,7 +31,7 @@
 #define REQUEST(name) DSP_OSS_LINUX_##name
 #endif
 
-enum { DESCRIPTORS = 64, WORDS = 8, RATE = 48000, BLOCK = 256, AREA = 131072, RING = 16384, LINE_MOST = 16384, WAVES = 64, MOST = 131072 };
+enum { DESCRIPTORS = 64, WORDS = 8, RATE = 48000, BLOCK = 256, RING = 16384, FRAGMENTS = 0x4000c, LINE_MOST = 16384, WAVES = 64, MOST = 131072 };
 enum way { PLAY, RECORD, MAP, WAYS };
 
 /* What is open of a descriptor of the script. */
@@ -41,7 +41,7 @@ struct open {
     enum way way;
     unsigned slot;
     uint8_t *area;
-    uint32_t ring;
+    uint32_t ring, fragments, format, channels;
 };
 
 struct wave {
@@ -166,12 +166,53 @@ static int set(int fd, unsigned long request, uint32_t value) {
     return ioctl(fd, request, &number);
 }
 
-/* Maps what a channel plays out of. Its silence is what the system put there. */
-static bool has_area(struct open *it) {
-    void *area = it->way == MAP ? mmap(NULL, AREA, PROT_READ | PROT_WRITE, MAP_SHARED, it->fd, 0) : NULL;
+/* Maps what a channel plays out of, as large as its ring. */
+static bool has_area(struct open *it, uint32_t ring) {
+    if (it->area) {
+        munmap(it->area, it->ring);
+    }
+    void *area = it->way == MAP ? mmap(NULL, ring, PROT_READ | PROT_WRITE, MAP_SHARED, it->fd, 0) : NULL;
     it->area = area == MAP_FAILED ? NULL : area;
-    it->ring = RING;
+    it->ring = ring;
     return area != MAP_FAILED;
+}
+
+/* The bytes of a sample. */
+static uint32_t width_of(uint32_t format) {
+    if (format & (DSP_U8 | DSP_S8)) {
+        return 1;
+    }
+    if (format & (DSP_S24_LE | DSP_S24_BE | DSP_U24_LE | DSP_U24_BE)) {
+        return 3;
+    }
+    return format & (DSP_S32_LE | DSP_S32_BE | DSP_U32_LE | DSP_U32_BE) ? 4 : 2;
+}
+
+/* An area is silent at first, and where the format, the channels or the fragments become others. */
+static void put_silence(struct open *it) {
+    uint32_t format = it->format, width = width_of(format);
+    bool first = format & (DSP_U8 | DSP_U16_BE | DSP_U24_BE | DSP_U32_BE), last = format & (DSP_U16_LE | DSP_U24_LE | DSP_U32_LE);
+    for (uint32_t at = 0; it->area && at < it->ring; at += 1) {
+        it->area[at] = (first && at % width == 0) || (last && at % width == width - 1) ? 0x80 : 0;
+    }
+}
+
+/* What a request leaves of an area. */
+static void look_at_area(struct open *it, const char *name, uint32_t answer) {
+    struct open before = *it;
+    uint32_t ring = it->ring;
+    if (strcmp(name, "setfmt") == 0) {
+        it->format = answer;
+    } else if (strcmp(name, "channels") == 0) {
+        it->channels = answer;
+    } else if (strcmp(name, "setfragment") == 0 && answer != it->fragments) {
+        ring = (answer >> 16) << (answer & 0xffff);
+        it->fragments = answer;
+        has_area(it, ring);
+    }
+    if (it->format != before.format || it->channels != before.channels || it->fragments != before.fragments) {
+        put_silence(it);
+    }
 }
 
 static void do_open(char **words, int count) {
@@ -182,10 +223,11 @@ static void do_open(char **words, int count) {
         reply_refused(EEXIST);
         return;
     }
-    *it = (struct open){.used = true, .fd = open(all.device, flags[way] | O_NONBLOCK), .way = way};
+    *it = (struct open){.used = true, .fd = open(all.device, flags[way] | O_NONBLOCK), .way = way, .fragments = FRAGMENTS,
+                        .format = count < 6 ? DSP_U8 : format_of(words[3]), .channels = count < 6 ? 1 : number_of(words[4])};
     bool is_set = it->fd >= 0 && (count < 6 || (set(it->fd, REQUEST(SETFMT), format_of(words[3])) == 0 &&
                                                 set(it->fd, REQUEST(CHANNELS), number_of(words[4])) == 0 && set(it->fd, REQUEST(SPEED), number_of(words[5])) == 0));
-    if (!is_set || !has_area(it)) {
+    if (!is_set || !has_area(it, RING)) {
         int fault = errno;
         if (it->fd >= 0) {
             close(it->fd);
@@ -194,6 +236,7 @@ static void do_open(char **words, int count) {
         reply_refused(fault);
         return;
     }
+    put_silence(it);
     it->used = false;
     it->slot = free_slot(way);
     it->used = true;
@@ -202,7 +245,7 @@ static void do_open(char **words, int count) {
 
 static void do_close(struct open *it) {
     if (it->area) {
-        munmap(it->area, AREA);
+        munmap(it->area, it->ring);
     }
     it->used = false;
     reply_done(close(it->fd));
@@ -307,9 +350,7 @@ static void do_ioctl(struct open *it, const char *name, const char *word) {
             reply_refused(errno);
             return;
         }
-        if (strcmp(name, "setfragment") == 0) {
-            it->ring = (uint32_t)(is.number >> 16) << (is.number & 0xffff);
-        }
+        look_at_area(it, name, (uint32_t)is.number);
         reply_told(requests[k].form, &is);
         return;
     }

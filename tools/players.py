@@ -14,11 +14,14 @@ import sys
 import tempfile
 import threading
 
-from calls import look_at_out, put, wave_of, writing
+from calls import WIDTHS, look_at_out, put, wave_of, writing
 from commands import UNREAD, fail, program_of, say
-from holding import BLOCK, BLOCKS, MAPPED, MOST_BYTES, NOTHING, OTHER, PART, UNWRITTEN, USUAL, Holding, Replay, compiled, environment, status_of
-from sounds import numbers_of
+from holding import CODES, MOST_BYTES, NOTHING, OTHER, PART, UNWRITTEN, USUAL, Device, Holding, Replay, compiled, environment, status_of
+from scripts import count_of, has_entries, keys_of
+from sounds import WIDTH, numbers_of
 
+# how many mapped channels there are where nothing says how many
+MAPPED = 12
 # a script that needs a configuration for its slots: one with a mapped channel, or with the mixer's line of one
 NEEDS_MAPPED = re.compile(rb"(?m)^open \d+ map|^mixer (slot|mute) ([4-9]|1\d) ")
 
@@ -37,14 +40,31 @@ def capture_into(path, device, folder):
     with open(path, "rb") as file:
         file.seek(wave.at)
         body = file.read(wave.size)
-    width = len(body) // max(1, len(numbers_of(body, wave.format))) if body else 1
-    samples = array.array("i", [it << 32 - 8 * width for it in numbers_of(body, wave.format)])
+    samples = array.array("i", [it << 32 - 8 * WIDTHS[wave.format] for it in numbers_of(body, wave.format)])
     (folder / "captured").write_bytes(samples.tobytes())
     return folder / "captured"
 
 
 def beside(script, ending):
     return f"{script}{ending}"
+
+
+def device_of(text, is_step):
+    """The device of a configuration's text. Without one it has mapped slots, which change nothing where no buffer is mapped; but step by
+    step it is the usual one."""
+    keys = keys_of(text)
+    if has_entries(text, "tables") or has_entries(text, "eq"):
+        fail("filters and an equaliser aren't taken from a configuration")
+
+    def number(key, usual):
+        return count_of(keys, key, str(usual))
+
+    capture = keys.get("device.capture")
+    return Device(keys.get("device.format", USUAL.format), number("device.channels", USUAL.channels), number("device.rate", USUAL.rate),
+                  number("device.hw_block", USUAL.block), number("device.hw_blocks", USUAL.blocks), number("vchans.play", USUAL.play),
+                  number("vchans.record", USUAL.record), number("vchans.mapped", USUAL.mapped if text or is_step else MAPPED),
+                  number("vchans.quality", USUAL.quality), number("vchans.channels", 0), number("vchans.rate", 0),
+                  keys.get(f"files.{capture}") if capture else None)
 
 
 def needs_slots(script):
@@ -60,16 +80,17 @@ def needs_slots(script):
 
 def configuration(wanted, result, is_mapped, data):
     """The text of the configuration that a script needs, or nothing."""
-    device, lines = wanted.device, []
-    if device != USUAL:
-        lines += ["[device]", f'format = "{device.format}"', f"channels = {device.channels}", f"rate = {device.rate}",
-                  f"hw_block = {BLOCK}", f"hw_blocks = {BLOCKS}", *(['capture = "captured"'] if device.capture else [])]
-    if is_mapped:
-        lines += ["[vchans]", f"mapped = {MAPPED}"]
-    if result["data"] or device.capture:
-        lines += ["[files]", *([f"data = {json.dumps(str(data))}"] if result["data"] else []),
-                  *([f"captured = {json.dumps(str(device.capture))}"] if device.capture else [])]
-    return "".join(f"{it}\n" for it in lines)
+    is_of, usual = wanted.device, USUAL._replace(mapped=0)
+    device = {"format": json.dumps(is_of.format), "channels": is_of.channels, "rate": is_of.rate, "hw_block": is_of.block, "hw_blocks": is_of.blocks}
+    usually = {"format": json.dumps(usual.format), "channels": usual.channels, "rate": usual.rate, "hw_block": usual.block, "hw_blocks": usual.blocks}
+    device = {key: value for key, value in device.items() if value != usually[key]}
+    mapped = is_of.mapped if is_mapped or is_of.mapped != MAPPED else 0
+    vchans = {"play": (is_of.play, usual.play), "record": (is_of.record, usual.record), "mapped": (mapped, 0), "quality": (is_of.quality, usual.quality),
+              "channels": (is_of.mix_channels, 0), "rate": (is_of.mix_rate, 0)}
+    files = {**({"data": json.dumps(str(data))} if result["data"] else {}), **({"captured": json.dumps(str(is_of.capture))} if is_of.capture else {})}
+    tables = {"device": {**device, **({"capture": '"captured"'} if is_of.capture else {})},
+              "vchans": {key: value for key, (value, other) in vchans.items() if value != other}, "files": files}
+    return "".join(f"[{name}]\n" + "".join(f"{key} = {value}\n" for key, value in keys.items()) for name, keys in tables.items() if keys)
 
 
 def put_script(path, script):
@@ -85,8 +106,7 @@ def time_of(frames, rate):
 def tell_cut(result, device):
     """Says that a script ends before the program did."""
     if result["cut"]:
-        width = {"u8": 1, "s16le": 2, "s24le": 3, "s32le": 4}[device.format]
-        at = time_of(result["bytes"] // (width * device.channels), device.rate)
+        at = time_of(result["bytes"] // (WIDTH[device.format] * device.channels), device.rate)
         say(f"the script ends at {at}, as a run takes no more: 1048576 events, and {MOST_BYTES} bytes of the device and of sound. "
             "A device of fewer bytes, by --rate, --channels or --format, lasts longer")
 
@@ -138,6 +158,8 @@ def look_at_files(wanted):
     """Fails where a file can't be written, or a script is no file that its sound can stand beside."""
     for it in filter(None, (wanted.out, wanted.script)):
         look_at_out(it)
+    if wanted.device.format not in CODES or (wanted.out and wanted.device.format not in WIDTHS):
+        fail(f"a wave can't have the format {wanted.device.format}: {', '.join(WIDTHS)} can be")
     if wanted.script and not wanted.lines and pathlib.Path(wanted.script).exists() and not pathlib.Path(wanted.script).is_file():
         fail(f"{wanted.script}: no file, and the sound of the script stands beside it")
 

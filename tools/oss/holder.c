@@ -3,7 +3,7 @@
  *
  * Its words are NAME=VALUE: listens, the descriptor of its socket; script, replies, data, wave, kept and result, the files that it writes; pace, which is
  * clock, fast or step; lines, how many bytes of sound go into lines; capture, samples of 32 bits; and format, channels, rate, ring, block,
- * play, record, mapped of the device. It ends once its standard input does.
+ * play, record, mapped, quality, mix_channels and mix_rate of the device. It ends once its standard input does.
  */
 #define _GNU_SOURCE
 #include "holder.h"
@@ -68,7 +68,8 @@ static void settle(struct holder *holder, char **words) {
     device->settings = (struct dsp_device){
         .format = number_of(words, "format", DSP_S16_LE), .channels = number_of(words, "channels", 2), .rate = number_of(words, "rate", 48000),
         .ring_frames = number_of(words, "ring", 1024), .play_slots = number_of(words, "play", 4), .record_slots = number_of(words, "record", 4),
-        .map_slots = number_of(words, "mapped", 12), .quality = 1};
+        .map_slots = number_of(words, "mapped", 0), .quality = number_of(words, "quality", 1), .mix_channels = number_of(words, "mix_channels", 0),
+        .mix_rate = number_of(words, "mix_rate", 0)};
     device->block = number_of(words, "block", 256);
     device->journal.script_path = word_of(words, "script");
     device->journal.replies_path = word_of(words, "replies");
