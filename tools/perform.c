@@ -215,6 +215,12 @@ static void look_at_area(struct open *it, const char *name, uint32_t answer) {
     }
 }
 
+/* Sets what an open asks for behind its way. */
+static bool is_set(const struct open *it, char **words) {
+    return set(it->fd, REQUEST(SETFMT), it->format) == 0 && set(it->fd, REQUEST(CHANNELS), it->channels) == 0 &&
+           set(it->fd, REQUEST(SPEED), number_of(words[5])) == 0;
+}
+
 static void do_open(char **words, int count) {
     static const int flags[] = {[PLAY] = O_WRONLY, [RECORD] = O_RDONLY, [MAP] = O_RDWR};
     struct open *it = open_of(words[1]);
@@ -225,9 +231,7 @@ static void do_open(char **words, int count) {
     }
     *it = (struct open){.used = true, .fd = open(all.device, flags[way] | O_NONBLOCK), .way = way, .fragments = FRAGMENTS,
                         .format = count < 6 ? DSP_U8 : format_of(words[3]), .channels = count < 6 ? 1 : number_of(words[4])};
-    bool is_set = it->fd >= 0 && (count < 6 || (set(it->fd, REQUEST(SETFMT), format_of(words[3])) == 0 &&
-                                                set(it->fd, REQUEST(CHANNELS), number_of(words[4])) == 0 && set(it->fd, REQUEST(SPEED), number_of(words[5])) == 0));
-    if (!is_set || !has_area(it, RING)) {
+    if (it->fd < 0 || (count >= 6 && !is_set(it, words)) || !has_area(it, RING)) {
         int fault = errno;
         if (it->fd >= 0) {
             close(it->fd);
@@ -322,7 +326,8 @@ union argument {
 static void reply_told(enum form form, const union argument *is) {
     switch (form) {
     case SPACE:
-        printf("ok fragments=%d fragstotal=%d fragsize=%d bytes=%d\n", is->space.fragments, is->space.fragstotal, is->space.fragsize, is->space.bytes);
+        printf("ok fragments=%d fragstotal=%d fragsize=%d bytes=%d\n", is->space.fragments, is->space.fragstotal, is->space.fragsize,
+               is->space.bytes);
         break;
     case PLACE:
         printf("ok bytes=%u blocks=%d ptr=%d\n", (unsigned)is->place.bytes, is->place.blocks, is->place.ptr);
@@ -453,9 +458,12 @@ int main(int count, char **words) {
         at = 3;
     }
     FILE *script = at < count ? fopen(words[at], "r") : NULL;
+    if (at >= count) {
+        fputs("usage: perform [--step-file FILE] SCRIPT [DEVICE [NAME=WAVE]..]\n", stderr);
+        return 2;
+    }
     if (!script) {
-        fprintf(stderr, at < count ? "perform: %s: %s\n" : "usage: perform [--step-file FILE] SCRIPT [DEVICE [NAME=WAVE]..]\n", words[at], strerror(errno));
-        return at < count ? 1 : 2;
+        fail(strerror(errno), words[at]);
     }
     all.device = at + 1 < count ? words[at + 1] : all.device;
     for (int k = at + 2; k < count; k += 1) {

@@ -199,9 +199,9 @@ static bool serve_poll(struct holder *holder, struct call *call) {
             polled[k].revents = POLLNVAL;
             ready += 1;
         } else {
-            bool is_clear = token_is_clear(holder, token);
+            uint32_t never = token_is_clear(holder, token) ? 0 : POLLOUT | POLLWRNORM;
             token->thread = call->head.thread;
-            ready += token_is_ready(holder, token, is_clear ? polled[k].events : polled[k].events & ~(uint32_t)(POLLOUT | POLLWRNORM), &polled[k].revents);
+            ready += token_is_ready(holder, token, polled[k].events & ~never, &polled[k].revents);
         }
     }
     if (ready || !waits(call)) {

@@ -69,7 +69,8 @@ static void look(struct token *token, uint32_t request) {
 int oss_request(struct holder *holder, struct token *token, uint32_t request, void *argument, size_t size) {
     struct dsp_engine *engine = &holder->device.engine;
     uint8_t other[ARGUMENT_MOST] = {0};
-    int rec = is_of_input(request) ? token_rec(holder, token) : token->rec, d = token->play < 0 || (is_of_input(request) && rec >= 0) ? rec : token->play;
+    int rec = is_of_input(request) ? token_rec(holder, token) : token->rec;
+    int d = token->play < 0 || (is_of_input(request) && rec >= 0) ? rec : token->play;
     /* step by step nothing is moved to what is near */
     unsigned flags = holder->pace == PACE_STEP ? 0 : DSP_OSS_NEAR;
     uint64_t shape = token->maps ? shape_of(holder, token) : 0;

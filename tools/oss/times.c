@@ -111,7 +111,10 @@ static uint64_t frames_left(struct holder *holder, struct token *token) {
     if (token->kind != KIND_DSP || is_waiting(holder, token->thread)) {
         return UINT64_MAX;
     }
-    uint64_t left = token_plays(holder, token) && !token_drains(holder, token) ? token_lasts(holder, token, token_waiting(holder, token)) : UINT64_MAX;
+    uint64_t left = UINT64_MAX;
+    if (token_plays(holder, token) && !token_drains(holder, token)) {
+        left = token_lasts(holder, token, token_waiting(holder, token));
+    }
     if (token->is_recording && token->rec >= 0) {
         struct dsp_answer is = device_ask(&holder->device, (uint32_t)token->rec, DSP_GETISPACE);
         uint64_t room = token_lasts(holder, token, is.second * is.third - is.fourth);
