@@ -36,6 +36,16 @@ static int32_t refused(int32_t answer) {
     return answer < 0 ? -dsp_engine_errno(answer) : answer;
 }
 
+/* Where interrupts come as the program waits, what was asked before, or refused, with no change since, waits for one. */
+static bool waits_for_change(struct holder *holder, struct token *token, int question) {
+    return question >= 0 && holder->pace == PACE_FAST && token_moves(holder, token) && token->asked[question] == holder->device.changes;
+}
+
+/* Whether a call that was refused for now, as one before it, waits for a change. */
+static bool is_refused_again(struct holder *holder, struct token *token, const struct call *call, int question) {
+    return !waits(call) && !call->done && waits_for_change(holder, token, question);
+}
+
 /* ---- writes and reads ---- */
 
 /* How many bytes a descriptor takes now. */
@@ -77,7 +87,11 @@ static bool serve_write(struct holder *holder, struct token *token, struct call 
     if (call->head.length == 0) {
         return answered(call, refused(device_write(&holder->device, (uint32_t)token->play, call->bytes, 0)));
     }
+    if (is_refused_again(holder, token, call, ASKED_WRITE)) {
+        return false;
+    }
     int32_t answer = written(holder, token, call);
+    token->asked[ASKED_WRITE] = answer == -EAGAIN ? holder->device.changes : UINT64_MAX;
     return answer != 0 && answered(call, answer);
 }
 
@@ -96,6 +110,9 @@ static bool serve_read(struct holder *holder, struct token *token, struct call *
         return answered(call, wrong_way(holder, token));
     }
     token_start_recording(holder, token);
+    if (is_refused_again(holder, token, call, ASKED_READ)) {
+        return false;
+    }
     if (wanted == 0) {
         return answered(call, refused(device_read(&holder->device, (uint32_t)rec, call->bytes, 0)));
     }
@@ -106,6 +123,7 @@ static bool serve_read(struct holder *holder, struct token *token, struct call *
         }
         int32_t got = there || !call->done ? device_read(&holder->device, (uint32_t)rec, call->bytes + call->done, piece) : 0;
         if (got <= 0) {
+            token->asked[ASKED_READ] = got == DSP_AGAIN ? holder->device.changes : UINT64_MAX;
             call_answer(call, call->done || got == 0 ? (int32_t)call->done : refused(got), call->bytes, (uint32_t)call->done);
             return true;
         }
@@ -119,9 +137,9 @@ static bool serve_read(struct holder *holder, struct token *token, struct call *
 
 /* The place of a question that is asked again and again by a program that waits, or -1. */
 static int question_of(uint32_t request) {
-    static const uint32_t questions[ASKED] = {DSP_OSS_LINUX_GETOSPACE, DSP_OSS_LINUX_GETISPACE, DSP_OSS_LINUX_GETOPTR, DSP_OSS_LINUX_GETIPTR,
+    static const uint32_t questions[] = {DSP_OSS_LINUX_GETOSPACE, DSP_OSS_LINUX_GETISPACE, DSP_OSS_LINUX_GETOPTR, DSP_OSS_LINUX_GETIPTR,
                                               DSP_OSS_LINUX_GETODELAY};
-    for (int k = 0; k < ASKED; k += 1) {
+    for (int k = 0; k < (int)(sizeof questions / sizeof questions[0]); k += 1) {
         if (questions[k] == request) {
             return k;
         }
@@ -129,11 +147,6 @@ static int question_of(uint32_t request) {
     return -1;
 }
 
-/* Where interrupts come as the program waits, a question that was answered before, with no change since, waits for one. */
-static bool waits_for_change(struct holder *holder, struct token *token, struct call *call) {
-    int question = question_of((uint32_t)call->head.number);
-    return question >= 0 && holder->pace == PACE_FAST && token_moves(holder, token) && token->asked[question] == holder->device.changes;
-}
 
 static int request_of(struct holder *holder, struct token *token, struct call *call) {
     uint32_t request = (uint32_t)call->head.number;
@@ -152,7 +165,7 @@ static int request_of(struct holder *holder, struct token *token, struct call *c
 static bool serve_ioctl(struct holder *holder, struct token *token, struct call *call) {
     uint32_t request = (uint32_t)call->head.number;
     if (!call->is_begun) {
-        if (waits_for_change(holder, token, call)) {
+        if (waits_for_change(holder, token, question_of(request))) {
             return false;
         }
         call->is_begun = true;

@@ -5,7 +5,7 @@
 #include "device.h"
 #include "wire.h"
 
-enum { TOKENS = 64, CALLS = 256, NATIVE = 4096, AREA_MOST = 131072, ASKED = 5 };
+enum { TOKENS = 64, CALLS = 256, NATIVE = 4096, AREA_MOST = 131072, ASKED = 7, ASKED_WRITE = 5, ASKED_READ = 6 };
 
 /* A descriptor of programs, however many copies of it there are. One for both ways is two of the engine. */
 struct token {
@@ -17,7 +17,7 @@ struct token {
     bool may_record; /* it was opened for both ways, and records from its first read on */
     bool maps, drains, has_sound, is_recording;
     uint32_t thread;         /* who used it last */
-    uint64_t asked[ASKED];   /* the changes that there were as each question was answered last */
+    uint64_t asked[ASKED];   /* the changes that there were as each question was answered last, and a write and a read refused */
     uint8_t native[NATIVE];  /* bytes that came by no call */
     uint32_t native_at, native_size;
     uint64_t ready_at; /* the device's frames at which a mapped one was ready last */

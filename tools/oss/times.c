@@ -95,11 +95,17 @@ static bool moves(struct holder *holder, const struct call *call) {
     }
 }
 
+/* Whether a call waits until the device has done something, and not for a change alone. */
+static bool is_long(const struct call *call) {
+    bool waits = call->head.flags & WIRE_WAITS;
+    return call->head.op != WIRE_SLEEP && (call->head.op == WIRE_IOCTL ? call->is_begun : call->head.op == WIRE_POLL || waits);
+}
+
 /* Whether a thread waits until the device has gone on, so that it can bring nothing before. */
 static bool is_waiting(const struct holder *holder, uint32_t thread) {
     for (size_t k = 0; k < CALLS; k += 1) {
         const struct call *call = holder->calls[k];
-        if (call && call->is_whole && call->head.thread == thread && call->head.op != WIRE_SLEEP && (call->head.op != WIRE_IOCTL || call->is_begun)) {
+        if (call && call->is_whole && call->head.thread == thread && is_long(call)) {
             return true;
         }
     }
