@@ -16,7 +16,7 @@ import time
 import traceback
 
 import trials_record
-from trials_shared import FAULTS, ROOT, TOOLS, ask, config_of, equal, frames_of, put_wave, tool, wave_of
+from trials_shared import FAULTS, ROOT, TOOLS, config_of, equal, frames_of, put_wave, tool, wave_of
 from places import built  # noqa: F401
 from scripts import keys_of
 
@@ -56,7 +56,7 @@ def try_live_ways(program, folder):
         frames = heard(folder / "heard.wav")
         # by the clock a busy machine is short at times, and a buffer that goes round is heard twice then
         equal(f"live {way} {more} is heard", (frames if more else list(filter(any, frames))) == RAMP[1:] or (way, more) == ("map-poll", []), True)
-        ask(program, "run", folder / "script", folder / "again", folder / "script.toml")
+        subprocess.run([program, "run", "script", "again", "script.toml"], cwd=folder, stdout=subprocess.DEVNULL, check=True)
         body = (folder / "heard.wav").read_bytes()[44:]
         equal(f"live {way} {more} again", (folder / "again").read_bytes() == body, True)
     equal("files of live", sorted(it.name for it in folder.iterdir()), ["again", "heard.wav", "player", "script", "script.toml", "script.wav"])
@@ -117,7 +117,8 @@ def try_live_players(program, folder):
         status, said = live(folder, "--fast", "--program", program, "--script", f"{name}.script", "--", name, *shlex.split(words))
         equal(f"live {name}", (status, said if status else ""), (0, ""))
         sent = sum(int(line.split()[4]) for line in (folder / f"{name}.script").read_text().splitlines() if line.startswith("send"))
-        equal(f"live {name} plays it all", sent >= 8 * 44100 * 4, True)
+        # ffmpeg writes whole blocks of 4096 bytes alone
+        equal(f"live {name} plays it all", sent > 8 * 44100 * 4 - 4096, True)
 
 
 def end_by(number, folder, words):
@@ -139,7 +140,8 @@ def try_live_breaks(program, folder):
     for number, status in ((signal.SIGINT, 130), (signal.SIGTERM, 143)):
         (folder / "x.wav").unlink(missing_ok=True)
         equal(f"live and signal {number}", end_by(number, folder, words), (status, b""))
-        equal(f"a script by signal {number}", (folder / "script").read_text().startswith("open 0 play\nsend 0 data 0 "), True)
+        text = (folder / "script").read_text()
+        equal(f"a script by signal {number}", (text.startswith("open 0 play\n"), "\nsend 0 data 0 " in text), (True, True))
         equal(f"a wave by signal {number}", wave_of(folder / "x.wav").size, (folder / "x.wav").stat().st_size - 44)
 
 
