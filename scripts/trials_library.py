@@ -10,11 +10,11 @@ import struct
 import subprocess
 import sys
 
-import trials_live
+import trials_live  # which brings tools/ into the path
 from library import BIN, CFLAGS
+from places import built
 from sources import ROOT
 from surface import ARCHIVE, EMBED, exported, shared_names
-from trials_live import built
 
 EXAMPLE = ROOT / "examples" / "17-a-mute" / "a_mute"
 PAGE = ROOT / "docs" / "EMBEDDING.md"

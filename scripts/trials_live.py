@@ -17,7 +17,6 @@ import traceback
 
 import trials_record
 from trials_shared import FAULTS, ROOT, TOOLS, config_of, equal, frames_of, put_wave, tool, wave_of
-from places import built  # noqa: F401
 from scripts import keys_of
 
 FRAMES = 20000

@@ -15,7 +15,7 @@ import tempfile
 import threading
 
 from calls import WIDTHS, look_at_out, put, wave_of, writing
-from commands import UNREAD, fail, program_of, say
+from commands import UNREAD, fail, say
 from holding import CODES, MOST_BYTES, NOTHING, OTHER, PART, UNWRITTEN, USUAL, Device, Holding, Replay, compiled, environment, status_of
 from scripts import count_of, has_entries, keys_of
 from sounds import WIDTH, numbers_of
