@@ -89,6 +89,18 @@ def try_live_ends(program, folder):
     equal("files", sorted(it.name for it in folder.iterdir() if it.name != "x.wav"), ["player", "text"])
 
 
+def try_live_replays(program, folder):
+    """A replay with another reply, or with other bytes, is told."""
+    made = player(folder)
+    for what, shell in (("replies", f"{program} \"$@\" | sed 5s/ok/no/"), ("bytes", f"{program} \"$@\"; printf x >>\"$3\"")):
+        (folder / "liar").write_text(f"#!/bin/sh\n{shell}\n")
+        (folder / "liar").chmod(0o700)
+        wanted = 4, f"live: the replay of the script differs: its {what} are others\n"
+        equal(f"live and other {what}", live(folder, "--fast", "--program", folder / "liar", "--script", "script", "--", made, "writes"), wanted)
+    words = ["--fast", "--unchecked", "--script", "script", "--", made, "writes"]
+    equal("live unchecked", live(folder, "--program", folder / "liar", *words), (0, ""))
+
+
 def songs(folder):
     """A song of some seconds, as what programs play."""
     body = bytearray()
@@ -194,7 +206,8 @@ def try_hold(program, folder):
     equal("nothing is held", (status, said), (1, f"live: nothing is held as {name}: tools/live --hold {name} does that\n"))
 
 
-TRIALS = (try_live_players, try_perform, try_hold, try_live_ways, try_live_records, try_live_ends, try_live_breaks)
+TRIALS = (try_live_players, try_perform, try_hold, try_live_ways, try_live_records, try_live_ends, try_live_replays,
+          try_live_breaks)
 
 
 def try_all(program, room, names=()):
