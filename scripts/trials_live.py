@@ -12,6 +12,7 @@ import shutil
 import signal
 import struct
 import subprocess
+import tempfile
 import time
 import traceback
 
@@ -87,6 +88,11 @@ def try_live_ends(program, folder):
         status, said = live(folder, *usual, *words)
         equal(f"live: {what}", (status, said if wanted[1] is not None else None), wanted)
     equal("files", sorted(it.name for it in folder.iterdir() if it.name != "x.wav"), ["player", "text"])
+    for more, fault in ((["--out", "x.wav"], "x.wav: it can't be written"),
+                        (["--script", "script"], f"no room for the script in {tempfile.gettempdir()}, or for its sound beside it")):
+        words = ["sh", "-c", 'ulimit -f 100; exec "$0" "$@"', TOOLS / "live", *usual, *more, "--", made, "writes"]
+        ran = subprocess.run(list(map(str, words)), cwd=folder, stdout=subprocess.PIPE, stderr=subprocess.STDOUT, universal_newlines=True, check=False)
+        equal(f"live without room {more}", (ran.returncode, ran.stdout), (5, f"live: {fault}\n"))
 
 
 def try_live_replays(program, folder):

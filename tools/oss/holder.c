@@ -257,6 +257,7 @@ int main(int count, char **words) {
     signal(SIGHUP, SIG_IGN);
     signal(SIGTERM, SIG_IGN);
     signal(SIGPIPE, SIG_IGN);
+    signal(SIGXFSZ, SIG_IGN);
     settle(&holder, words + 1);
     int32_t answer = device_begin(&holder.device);
     if (answer < 0 || !read_capture(&holder.device, word_of(words + 1, "capture"))) {

@@ -69,7 +69,7 @@ void token_start_recording(struct holder *holder, struct token *token);
 int token_map(struct holder *holder, struct token *token, uint64_t length);
 /* Tells the engine what was stored into areas. */
 void token_poke(struct holder *holder, struct token *token);
-/* What the engine knows of an area, where its settings became others. */
+/* Makes an area silent, as the engine does where its settings became others. */
 void token_is_silent(struct holder *holder, struct token *token);
 /* The bytes that wait in the ring of a descriptor that plays, and the frames of the device that they last for. */
 uint64_t token_waiting(struct holder *holder, const struct token *token);

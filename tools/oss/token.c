@@ -206,7 +206,8 @@ static void put_silence(struct holder *holder, const struct token *token, uint8_
 }
 
 void token_is_silent(struct holder *holder, struct token *token) {
-    put_silence(holder, token, token->poked, AREA_MOST);
+    put_silence(holder, token, token->area, AREA_MOST);
+    memcpy(token->poked, token->area, AREA_MOST);
 }
 
 /* The number that asks for the fragments of a ring. */
@@ -269,7 +270,6 @@ int token_map(struct holder *holder, struct token *token, uint64_t length) {
     if (!has_memory(token)) {
         return -ENOMEM;
     }
-    put_silence(holder, token, token->area, AREA_MOST);
     token_is_silent(holder, token);
     return 0;
 }
