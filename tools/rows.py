@@ -1,7 +1,12 @@
-"""The lanes of a picture's rows, and which stretches of its axis are left out."""
+"""The rows of a picture and of a page with their lanes, and which stretches of an axis are left out."""
 from commands import told
+from shown import Recording
 from sounds import full_scale
 from sums import merged
+
+# the names of the lanes of a layout
+SIDES = ("left", "right", "centre", "low effects", "back left", "back right", "side left", "side right")
+NAMES = {1: (), 2: SIDES[:2], 4: (*SIDES[:2], *SIDES[4:6]), 6: SIDES[:6], 8: SIDES}
 
 # what stands between rows
 GAP = 20
@@ -74,3 +79,38 @@ def breaks_of(axis, every, events):
     if not kept or sum(high - low for low, high in kept) == 0:
         return [(begin, end)]
     return [(begin if at == 0 and low - begin <= (end - begin) // LEFT_OUT else low, high) for at, (low, high) in enumerate(kept)]
+
+
+class Row:
+    """A row with lanes: what is written beside it, and where it stands once it is drawn."""
+
+    def __init__(self, name, words, lanes):
+        self.name, self.words, self.lanes, self.top, self.bottom, self.limited = name, words, lanes, 0, 0, []
+
+
+def settings_of(client):
+    """The settings at which a channel did something, or else the last that it had."""
+    active = [it.settings for it in client.moments if not it.setup] or [it.settings for it in client.moments[-1:]]
+    return [f"{client.opening.way} {it.format} {it.channels} {it.rate}" for it in dict.fromkeys(active)]
+
+
+def rows_of(shown):
+    """The rows of a picture: of each slot, the mix, the device, and those that record, with their clients and what they lost."""
+    slots = {}
+    for slot in shown.slots():
+        clients = shown.of_slot(slot)
+        words = [*shown.label(slot), *dict.fromkeys(text for it in clients for text in settings_of(it))]
+        slots[slot] = Row(f"slot {slot}", words[:3], Lanes("slot", [(shown.given[slot], shown.along)], shown.mix.device.channels, shown.total))
+    device = shown.mix.device
+    mix = Row("the mix", [f"{device.channels} {device.rate}"] if shown.own else [], Lanes("mix", [(shown.mix, shown.along)], device.channels, shown.total))
+    end, it = shown.total + shown.device.ring, shown.device
+    out = Row("the device", [f"{it.format} {it.channels} {it.rate}"], Lanes("device", [(shown.out, None)], it.channels, end))
+    return slots, mix, out, [recording_row(shown, place, client) for place, client in enumerate(shown.clients) if client.opening.way == "rec"]
+
+
+def recording_row(shown, place, client):
+    kept, settings = Recording(shown, client), settings_of(client)
+    runs = list(kept.runs())
+    channels = runs[-1][0].device.channels if runs else client.moments[-1].settings.channels
+    lanes = Lanes("recording", [it for it in runs if it[0].device.channels == channels], channels, shown.total)
+    return place, client, Row(f"recording {client.opening.slot}", settings[:2], lanes), kept.lost

@@ -2,6 +2,7 @@
 import array
 import bisect
 import collections
+import functools
 import itertools
 import json
 import os
@@ -89,6 +90,7 @@ def unquoted(value):
         return value.strip('"')
 
 
+@functools.lru_cache(16)
 def keys_of(text):
     """What the tables of a configuration's text set, by table and key: read as TOML where python can, else line by line. A text that is
     none sets nothing: its faults are the program's to tell."""
