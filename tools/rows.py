@@ -21,6 +21,10 @@ class Lanes:
     def __init__(self, kind, sources, channels, end):
         self.kind, self.sources, self.channels, self.end, self.bounds, self.peak = kind, sources, channels, end, [], 1
 
+    def names(self):
+        """The names of the lanes."""
+        return NAMES[self.channels]
+
 
 def bounds_of(lanes, axis):
     """The least and the greatest sample of each channel in each column, with 0 among them."""

@@ -57,10 +57,10 @@ class Shown:
         self.device, self.total, self.out = self.played.device, self.played.total, self.played.out
         self.own, self.config = bool(rates_of(config)), config
         self.begin, self.end = self.window(*bounds)
-        self.solos, self.given, self.clients = solos_of(self.played), {}, []
+        self.solos, self.given, self.heard, self.clients = solos_of(self.played), {}, {}, []
         for slot, solo in self.solos.items():
             moments, sound = solo.moments_and_sound(self.around())
-            self.given[slot] = solo.given() if self.own else sound.from_frame(self.device.ring)
+            self.heard[slot], self.given[slot] = sound, solo.given() if self.own else sound.from_frame(self.device.ring)
             self.clients += [Client(*it, solo, which) for which, it in enumerate(zip(solo.openings, moments))]
         self.clients += self.recorders()
         self.clients.sort(key=lambda it: it.opening.at)

@@ -1,0 +1,228 @@
+"""Sounds as a page holds them: frames whole where they fit, the least and the greatest of many everywhere, and a copy to listen to."""
+import array
+import base64
+import math
+import sys
+import zlib
+
+from commands import told
+from sounds import WIDTH, full_scale
+
+# so many frames one number of the lowest level stands for, and so many times that one of each level above; shorter sounds have no levels
+BLOCK, TIMES, SHORT = 256, 4, 4096
+# so many frames are packed as one
+CHUNK = 1 << 14
+# copies to listen to, the best first: every how many frames give one, and whether channels are joined
+COPIES = ((2, False), (4, False), (8, False), (8, True), (16, True), (32, True), (64, True), (128, True))
+PART = 1 << 15
+# frames that are packed fit where they have at most so many times the room; and which part of the room the copies take of the device, and
+# of the others
+MAY_FIT, FIRST, OTHERS = 6, 0.5, 0.75
+# so many frames on both sides of a click are held whole
+AROUND = 1024
+
+
+def packed(data):
+    """Bytes as a page holds them: deflated, as text."""
+    return base64.b64encode(zlib.compress(data, 6)).decode()
+
+
+def little(numbers):
+    """The bytes of an array, the lowest first."""
+    if sys.byteorder == "big":
+        numbers.byteswap()
+    return numbers.tobytes()
+
+
+class Room:
+    """The text that a page has still room for, and what it holds by names."""
+
+    def __init__(self, most):
+        self.left, self.blobs, self.known = most, {}, {}
+
+    def put(self, data):
+        """Holds bytes. Answers their name, or None where there is no room. What is there already is held once."""
+        if data not in self.known:
+            text = packed(data)
+            if len(text) > self.left:
+                return None
+            self.left -= len(text)
+            self.known[data] = str(len(self.blobs))
+            self.blobs[self.known[data]] = text
+        return self.known[data]
+
+
+def without(begin, end, rows):
+    """The parts of some frames that aren't among rows of them."""
+    for low, high in sorted(rows):
+        if low > begin and begin < end:
+            yield begin, min(low, end)
+        begin = max(begin, high)
+    if begin < end:
+        yield begin, end
+
+
+class Track:
+    """A sound of a page."""
+
+    def __init__(self, name, sound, frames):
+        self.name, self.sound, self.frames, self.device = name, sound, frames, sound.device
+        self.chunks, self.levels, self.copy = [], [], None
+
+    def width(self):
+        return 4 if WIDTH[self.device.format] > 2 else WIDTH[self.device.format]
+
+    def planes(self, begin, end):
+        """The samples of some frames, channel by channel."""
+        samples = self.sound.samples(begin, end)
+        return [samples[k::self.device.channels] for k in range(self.device.channels)]
+
+    def put_chunk(self, room, begin, end):
+        """Holds frames whole. Answers whether there was room."""
+        end = min(end, self.frames)
+        name = room.put(b"".join(map(little, self.planes(begin, end)))) if begin < end else None
+        self.chunks += [[begin, end, name]] if name else []
+        return begin >= end or name is not None
+
+    def put_levels(self, room):
+        """Holds the least and the greatest of blocks of frames, and of blocks of these."""
+        lows, highs = self.extremes()
+        while lows and len(lows[0]) > 1:
+            data = b"".join(little(array.array("h", it)) for pair in zip(lows, highs) for it in pair)
+            self.levels.append([len(lows[0]), room.put(data)])
+            lows, highs = ([[which(it[k:k + TIMES]) for k in range(0, len(it), TIMES)] for it in every] for every, which in ((lows, min), (highs, max)))
+
+    def extremes(self):
+        """The least and the greatest of each block, channel by channel, in 16 bits."""
+        lows, highs = ([[] for _ in range(self.device.channels)] for _ in range(2))
+        if self.frames < SHORT:
+            return [], []
+        for begin, end in told(self.sound.parts(0, self.frames, PART), "the levels are made", self.frames):
+            for at, plane in enumerate(self.planes(begin, end)):
+                plane = highest(plane, WIDTH[self.device.format])
+                blocks = [plane[k:k + BLOCK] for k in range(0, len(plane), BLOCK)]
+                lows[at] += map(min, blocks)
+                highs[at] += map(max, blocks)
+        return lows, highs
+
+    def copy_size(self, every, is_joined):
+        return self.frames * (1 if is_joined else self.device.channels) // every
+
+    def put_copy(self, room, every, is_joined):
+        """Holds a copy to listen to: the mean of some frames, in 8 bits that are finer where it is quiet."""
+        joins = self.device.channels if is_joined else 1
+        table = coded(every * joins)
+        lanes = [bytearray() for _ in range(1 if is_joined else self.device.channels)]
+        for begin, end in told(self.sound.parts(0, self.frames - self.frames % every, PART), "a copy to listen to is made", self.frames):
+            planes = [highest(it, WIDTH[self.device.format]) for it in self.planes(begin, end)]
+            for lane, which in zip(lanes, [planes] if is_joined else [[it] for it in planes]):
+                lane.extend(map(table.__getitem__, map(sum, zip(*(it[k::every] for it in which for k in range(every))))))
+        name = room.put(b"".join(lanes))
+        self.copy = {"every": every, "channels": len(lanes), "blob": name} if name else None
+
+    def told(self):
+        """What the page is told of it."""
+        return {"name": self.name, "channels": self.device.channels, "rate": self.device.rate, "frames": self.frames, "width": self.width(),
+                "full": full_scale(self.device), "block": BLOCK, "times": TIMES, "levels": self.levels, "chunks": self.chunks, "copy": self.copy}
+
+
+def highest(plane, width):
+    """Samples in 16 bits, the lower bits left out."""
+    if width == 2:
+        return plane
+    if width == 1:
+        return array.array("h", (it << 8 for it in plane))
+    data, found = little(plane), bytearray(2 * len(plane))
+    found[0::2], found[1::2] = (data[2::4], data[3::4]) if width == 4 else (data[1::4], data[2::4])
+    numbers = array.array("h", bytes(found))
+    if sys.byteorder == "big":
+        numbers.byteswap()
+    return numbers
+
+
+def coded(count):
+    """The codes of 8 bits by the sum of so many samples of 16 bits, those below 0 from the end: steps that grow with the level."""
+    most = 32768 * count
+    upper = bytearray(round(127 * math.log1p(255 * it / most) / math.log(256)) for it in range(most))
+    return bytes(upper) + bytes(256 - it if it else 0 for it in (min(it, 127) for it in [*upper[1:], 127][::-1]))
+
+
+class Packer:
+    """Puts the sounds of a page into the room that it has."""
+
+    def __init__(self, page, room):
+        self.page, self.room, self.whole, self.is_all = page, room, [0, 0], False
+
+    def frames(self, track, begin, end):
+        """The frames of a track that belong to frames of OUT: those that are handed over, or mixed into them."""
+        along = self.page.alongs.get(id(track))
+        if not along:
+            return begin, min(end, track.frames)
+        return along.frames(max(begin - self.page.ring, 0), end) or (0, 0)
+
+    def put_part(self, begin, end):
+        """Holds frames of all tracks whole, those that aren't yet. Answers whether all had room."""
+        for track in self.page.tracks:
+            first, last = self.frames(track, begin, end)
+            for part in list(without(first, min(last, track.frames), [it[:2] for it in track.chunks])):
+                if not track.put_chunk(self.room, *part):
+                    return False
+        return True
+
+    def put_window(self, begin, end):
+        """Holds the frames of a window whole, as far as there is room."""
+        for at in told_parts(begin, end):
+            if not self.put_part(at, min(at + CHUNK, end)):
+                return at
+        return end
+
+    def try_whole(self):
+        """Holds all frames whole, if they may fit. Where they don't, all is as before."""
+        kept = self.room.left, dict(self.room.blobs), dict(self.room.known)
+        size = sum(it.frames * it.width() * it.device.channels for it in self.page.tracks)
+        if size < MAY_FIT * self.room.left and self.put_window(0, self.page.out.frames) == self.page.out.frames:
+            self.is_all, self.whole = True, [0, self.page.out.frames]
+            return True
+        self.room.left, self.room.blobs, self.room.known = kept
+        for track in self.page.tracks:
+            track.chunks = []
+        return False
+
+    def put_all(self):
+        """Holds all of the sounds that there is room for, what matters most first."""
+        for track, rows in self.page.whys.wanted():
+            for begin, end in rows:
+                track.put_chunk(self.room, begin, end)
+        for track in self.page.tracks:
+            track.put_levels(self.room)
+        if not self.try_whole():
+            self.put_copies()
+            for it in self.page.clicks:
+                self.put_part(max(it.at - AROUND, 0), it.at + AROUND)
+            begin, end = self.page.window
+            self.whole = [begin, self.put_window(begin, end)]
+
+    def notes(self, names, megabytes):
+        """What the page leaves out, and how to ask for it."""
+        if self.is_all:
+            return []
+        words = " ".join(["tools/page", *names])
+        copy = self.page.out.copy
+        heard = f", and a copy to listen to, of {self.page.out.device.rate // copy['every']} Hz with 8 bits" if copy else ", and no sound"
+        return [f"This file has at most {megabytes} MB. Frames {self.whole[0]} to {max(self.whole[1] - 1, self.whole[0])} are in it whole, and those around each click."
+                f" Elsewhere it has the least and the greatest of each {BLOCK} frames{heard}.",
+                f"For other frames: {words} --from 1:00 --to 1:02", f"For a larger file: {words} --megabytes {4 * megabytes}"]
+
+    def put_copies(self):
+        """Holds a copy to listen to of each sound that the page plays: that of the device by itself, and those of the others alike."""
+        first, *others = self.page.played_tracks()
+        for tracks, part in (([first], FIRST), (others, OTHERS)):
+            sizes = [(sum(it.copy_size(*how) for it in tracks) * 4 // 3, how) for how in COPIES]
+            how = next((how for size, how in sizes if size <= part * self.room.left), None)
+            for it in tracks if how else ():
+                it.put_copy(self.room, *how)
+
+
+def told_parts(begin, end):
+    """Where parts of some frames begin, while it is told how far they are."""
+    return (at for at, _ in told(((at, end) for at in range(begin, end, CHUNK)), "sound is packed", end))

@@ -1,0 +1,144 @@
+/** The sounds of the page: whole frames where it has them, and the least and the greatest of many everywhere. */
+
+const ARRAYS = { 1: Int8Array, 2: Int16Array, 4: Int32Array };
+const WHOLE = 2, BLOCKS = 1, NOTHING = 0;
+
+class Track {
+  constructor(told) {
+    Object.assign(this, told);
+    this.begins = told.chunks.map((it) => it[0]);
+    this.parts = told.chunks.map(() => null);
+    this.shift = 2 ** Math.max(0, Math.log2(told.full) - 15);
+    this.pyramid = [];
+  }
+
+  /** Reads the levels: of each the least and the greatest of each channel, one after another. */
+  async readLevels() {
+    for (const [count, name] of this.levels) {
+      const numbers = new Int16Array(await blob(name));
+      this.pyramid.push(Array.from({ length: 2 * this.channels }, (_, at) => numbers.subarray(at * count, (at + 1) * count)));
+    }
+  }
+
+  /** Reads a part of the whole frames. */
+  async readPart(at) {
+    const [begin, end, name] = this.chunks[at], numbers = new ARRAYS[this.width](await blob(name));
+    this.parts[at] = Array.from({ length: this.channels }, (_, channel) => numbers.subarray(channel * (end - begin), (channel + 1) * (end - begin)));
+  }
+
+  sort() {
+    this.chunks.sort((a, b) => a[0] - b[0]);
+    this.begins = this.chunks.map((it) => it[0]);
+  }
+
+  /** The number of the part that has a frame whole, or -1. */
+  partOf(frame) {
+    const at = countUpTo(this.begins, frame) - 1;
+    return at >= 0 && frame < this.chunks[at][1] && this.parts[at] ? at : -1;
+  }
+
+  /** Whether frames are there whole. */
+  isWhole(begin, end) {
+    let at = Math.max(begin, 0);
+    while (at < Math.min(end, this.frames)) {
+      const part = this.partOf(at);
+      if (part < 0) return false;
+      at = this.chunks[part][1];
+    }
+    return true;
+  }
+
+  /** The samples of a frame, or null where they aren't there. */
+  frame(at) {
+    const part = this.partOf(at);
+    return part < 0 ? null : this.parts[part].map((it) => it[at - this.chunks[part][0]]);
+  }
+
+  /** Puts the least and the greatest sample of a channel among frames into two places. Answers how well they are known. */
+  extremes(begin, end, channel, into) {
+    [begin, end] = [Math.max(begin, 0), Math.min(end, this.frames)];
+    if (begin >= end) return NOTHING;
+    const isFew = end - begin <= 2 * this.block || !this.pyramid.length;
+    if (isFew && this.isWhole(begin, end)) return this.exactly(begin, end, channel, into);
+    return this.pyramid.length ? this.roughly(begin, end, channel, into) : NOTHING;
+  }
+
+  exactly(begin, end, channel, into) {
+    let least = Infinity, most = -Infinity;
+    for (let at = begin; at < end;) {
+      const part = this.partOf(at), [first, last] = this.chunks[part], lane = this.parts[part][channel], to = Math.min(last, end) - first;
+      for (let k = at - first; k < to; k += 1) {
+        if (lane[k] < least) least = lane[k];
+        if (lane[k] > most) most = lane[k];
+      }
+      at = last;
+    }
+    [into[0], into[1]] = [least, most];
+    return WHOLE;
+  }
+
+  roughly(begin, end, channel, into) {
+    let size = this.block, level = 0;
+    while (level + 1 < this.pyramid.length && size * this.times <= end - begin) [size, level] = [size * this.times, level + 1];
+    const lows = this.pyramid[level][2 * channel], highs = this.pyramid[level][2 * channel + 1];
+    let least = Infinity, most = -Infinity;
+    for (let at = Math.floor(begin / size); at * size < end && at < lows.length; at += 1) {
+      if (lows[at] < least) least = lows[at];
+      if (highs[at] > most) most = highs[at];
+    }
+    [into[0], into[1]] = [least * this.shift, most * this.shift];
+    return end - begin < this.block ? BLOCKS : WHOLE;
+  }
+
+  /** How far its samples reach on either side. */
+  reach() {
+    const into = [0, 0], found = [0];
+    for (let channel = 0; channel < this.channels; channel += 1) {
+      if (this.pyramid.length) this.roughly(0, this.frames, channel, into);
+      else if (!this.extremes(0, this.frames, channel, into)) continue;
+      found.push(-into[0], into[1]);
+    }
+    return Math.max(...found);
+  }
+}
+
+/** A sound of a row: its track, and where its frames stand on the axis. */
+class Source {
+  constructor(told, tracks) {
+    this.track = tracks[told.track];
+    this.offset = told.offset;
+    this.along = told.along;
+  }
+
+  /** Reads where its frames stand: rows of the first frame and the one behind the last on the axis, and the same of the sound. */
+  async read() {
+    if (this.along === null) return;
+    const rows = new Int32Array(await blob(this.along));
+    [this.begins, this.ends, this.firsts, this.lasts] = [0, 1, 2, 3].map((side) => rows.filter((_, at) => at % 4 === side));
+  }
+
+  /** Where the sound is at a place of the axis, not rounded. */
+  inside(place) {
+    if (!this.begins) return place + this.offset;
+    const at = Math.max(countUpTo(this.begins, place) - 1, 0);
+    const part = Math.min(Math.max(place - this.begins[at], 0) / Math.max(this.ends[at] - this.begins[at], 1), 1);
+    return this.firsts[at] + part * (this.lasts[at] - this.firsts[at]);
+  }
+
+  /** Where a frame of the sound stands on the axis. */
+  outside(frame) {
+    if (!this.begins) return frame - this.offset;
+    const at = Math.max(countUpTo(this.firsts, frame) - 1, 0);
+    const part = Math.min((frame - this.firsts[at]) / Math.max(this.lasts[at] - this.firsts[at], 1), 1);
+    return this.begins[at] + part * (this.ends[at] - this.begins[at]);
+  }
+
+  /** The frames of the sound at some of the axis, from the first to the one behind the last, or null. */
+  frames(begin, end) {
+    if (!this.begins) return [begin + this.offset, end + this.offset];
+    const from = Math.max(countUpTo(this.begins, begin) - 1, 0), to = countBelow(this.begins, end) - 1;
+    if (to < 0 || this.ends[to] <= begin) return null;
+    const low = Math.floor(this.inside(Math.max(begin, this.begins[from]))), high = Math.ceil(this.inside(Math.min(end, this.ends[to])));
+    return high > low || this.lasts[to] > low ? [low, Math.max(high, low + 1)] : null;
+  }
+}
