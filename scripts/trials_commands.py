@@ -10,7 +10,7 @@ import time
 
 from trials_shared import ROOT, TOOLS, called, equal, noise
 
-TOOL_NAMES = ("compare", "equaliser", "explain", "filter", "mix", "picture", "record", "sweep")
+TOOL_NAMES = ("compare", "equaliser", "explain", "filter", "mix", "page", "picture", "record", "sweep")
 SHORT = ROOT / "examples" / "03-a-shortage" / "a_shortage.script"
 
 

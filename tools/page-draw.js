@@ -81,9 +81,10 @@ class Painter {
     }
   }
 
-  density(source) {
-    const at = this.axis.begin + this.axis.seen() / 2;
-    return 1 / Math.max(source.inside(at + 50) - source.inside(at - 50), 1) * 100;
+  /** How many frames of the axis go with one of a sound. */
+  density({ begins, ends, firsts, lasts }) {
+    const last = ends.length - 1;
+    return last < 0 ? 1 : (ends[last] - begins[0]) / Math.max(lasts[last] - firsts[0], 1);
   }
 
   column(row, source, channel, x) {

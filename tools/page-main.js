@@ -20,6 +20,7 @@ class App {
     this.stage.choose(at);
     byId("source").value = String(at);
     if (wasOn) this.play();
+    else this.why(this.cursor);
   }
 
   chooseNext(step) {
@@ -96,6 +97,7 @@ class App {
     this.axis.reveal(this.cursor);
     this.showCursor();
     this.stage.redraw();
+    if (!wasOn) this.why(this.cursor);
     if (!isChosen) this.list.choose(this.list.lineAt(Math.floor(this.cursor)), true);
     if (wasOn) this.play();
   }
@@ -156,16 +158,22 @@ class App {
   pressed(event, x) {
     const frame = Math.floor(this.axis.frameAt(x)), { row } = this.stage.at(x, event.clientY - byId("waves").getBoundingClientRect().top);
     this.select(null);
+    if (row) this.choose(this.page.rows.indexOf(row));
     this.go(frame);
-    this.why(frame, row);
     byId("stage").focus({ preventScroll: true });
   }
 
   /** Tells why a frame is what it is: of the device that which is handed over there, of slots and the mix that which is mixed there. */
-  why(place, row = this.page.rows[this.chosen]) {
-    const isMixed = row && (row.kind === "slot" || row.kind === "mix"), frame = Math.floor(place) + (isMixed ? this.page.ring : 0);
-    const last = Math.max(this.page.frames - 1, 0);
-    this.reasons.show(byId("why"), Math.min(Math.max(frame, 0), last));
+  why(place) {
+    const { kind, name } = this.page.rows[this.chosen], isMixed = kind === "slot" || kind === "mix", at = Math.floor(place);
+    const frame = Math.min(Math.max(at + (isMixed ? this.page.ring : 0), 0), Math.max(this.page.frames - 1, 0));
+    this.reasons.show(byId("why"), frame, isMixed ? `What ${name} has at frame ${at} is handed over one ring later:` : "");
+  }
+
+  /** Says the reason for those who don't see it. */
+  tellWhy() {
+    this.why(this.cursor);
+    this.tell([...document.querySelectorAll("#why .why > p:not(.note, .command)")].map((it) => it.textContent).join("; "));
   }
 
   hover(event, x) {
@@ -177,7 +185,7 @@ class App {
     this.choose(this.page.rows.findIndex((it) => it.kind === "device"));
     if (this.axis.seen() > 400) this.axis.show(click.at - 200, click.at + 200);
     this.go(click.at);
-    this.why(click.at);
+    this.tell(click.says);
   }
 
   tell(text) {
@@ -237,10 +245,16 @@ function reachOf(page) {
   page.reach = reach;
 }
 
+function fillAbout(page) {
+  const { format, channels, rate } = page.device;
+  byId("about").textContent = [`${format}, ${channels} channel${channels > 1 ? "s" : ""}, ${grouped(rate)} Hz`, timeOf(page.total, rate),
+    `the device's ring has ${grouped(page.ring)} frames`, `a lane reaches ${grouped(page.reach)}`].join("; ");
+}
+
 function fillControls(app) {
-  const { page } = app, { format, channels, rate } = page.device;
+  const { page } = app;
+  fillAbout(page);
   byId("title").textContent = page.title;
-  byId("about").textContent = `${format}, ${channels} channel${channels > 1 ? "s" : ""}, ${grouped(rate)} Hz; ${timeOf(page.total, rate)}; the device's ring has ${grouped(page.ring)} frames`;
   page.rows.forEach((row, at) => byId("source").append(new Option(row.name, String(at))));
   byId("stage").setAttribute("aria-valuemax", Math.max(page.frames - 1, 0));
   byId("notes").replaceChildren(...page.notes.map((it) => element("p", "", it)));
@@ -287,7 +301,8 @@ async function begin() {
   app.stage.resize();
   app.go(0);
   await readParts(page, app);
-  app.why(app.page.clicks.length ? 0 : 0);
+  fillAbout(page);
+  app.why(app.cursor);
   document.body.dataset.ready = "yes";
 }
 

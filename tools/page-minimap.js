@@ -17,14 +17,17 @@ function secondsOf(value, step) {
   return minutes ? `${minutes}:${(value - 60 * minutes).toFixed(digits).padStart(digits ? digits + 3 : 2, "0")}` : `${value.toFixed(digits)} s`;
 }
 
+/** Draws numbers, those that aren't cut off and don't touch each other. */
 function drawNumbers(pen, axis, ticks, y, told) {
+  let behind = 0;
   for (const [value, x] of ticks) {
-    const words = told(value), wide = pen.measureText(words).width;
+    const words = told(value), wide = pen.measureText(words).width, left = x < 1 ? 2 : x - wide / 2;
     pen.fillStyle = colours.line;
     pen.fillRect(Math.round(x), y + 2, 1, 4);
+    if (left < behind || left + wide > axis.width) continue;
     pen.fillStyle = colours.text;
-    if (x < 1) pen.fillText(words, 2, y);
-    else if (x + wide / 2 <= axis.width) pen.fillText(words, x - wide / 2, y);
+    pen.fillText(words, left, y);
+    behind = left + wide + 8;
   }
 }
 

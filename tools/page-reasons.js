@@ -73,8 +73,9 @@ class Reasons {
   }
 
   /** Shows why a frame is what it is. */
-  show(box, frame) {
+  show(box, frame, before) {
     const list = element("div", "why");
+    if (before) list.append(element("p", "before", before));
     for (const [depth, text, more] of this.lines(frame)) {
       const line = element("p", depth ? "inner" : "", undefined);
       line.append(...this.linked(text));

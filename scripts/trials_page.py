@@ -1,0 +1,177 @@
+"""Trials of tools/page: in a browser its pages of the examples, of a long run and of strange names; and its file. Without a browser the
+trials that need one are left out, and say so."""
+import base64
+import json
+import math
+import re
+import zlib
+
+from browser import Browser, chromium
+from trials_shared import ROOT, called, config_of, equal, put_wave, tool
+
+# keeps the clock of the page's sound where a trial finds it
+CLOCK = "window.AudioContext = class extends AudioContext { constructor() { super(); window.heard = this; } };"
+# what the canvas of the lanes shows: how many colours
+COLOURS = """(() => { const it = document.getElementById("waves"), data = it.getContext("2d").getImageData(0, 0, it.width, it.height).data, found = new Set();
+for (let at = 0; at < data.length; at += 40) found.add(data[at] << 16 | data[at + 1] << 8 | data[at + 2]); return found.size; })()"""
+# the lines of the reason that is shown, as tools/explain prints them
+LINES = """[...document.querySelectorAll("#why .why > p:not(.gains, .note, .command, .before)")].map((it) => (it.className === "inner" ? "  " : "") + it.textContent)"""
+FOCUS = "document.getElementById('stage').focus()"
+# a wave of a name that would be run, if it were not escaped, and a comment and a script that would
+STRANGE = "<script>window.wrong=1<\u2044script><img src=x onerror=window.wrong=1>"
+
+
+def paged(program, script, configs, folder, *words):
+    """The page of a script as a file."""
+    out = folder / f"{script.parent.name}-{script.name}.html"
+    equal(f"page {script.name}", tool("page", script.name, *(it.name for it in configs), "--out", out, *words, "--program", program, folder=script.parent), (0, ""))
+    return out
+
+
+def told_in(out):
+    """What the file tells."""
+    return json.loads(zlib.decompress(base64.b64decode(re.search(r'id="told">([^<]*)<', out.read_text())[1])))
+
+
+def shown(browser, out, **how):
+    """A tab that shows a page, once it is read whole."""
+    tab = browser.open("about:blank", **how)
+    tab.ask("Page.addScriptToEvaluateOnNewDocument", source=CLOCK)
+    tab.show(out.as_uri(), how.get("width", 1280), how.get("height", 800))
+    tab.wait("document.body.dataset.ready === 'yes'")
+    return tab
+
+
+def text_of(tab, name):
+    return tab.value(f"document.getElementById('{name}').textContent")
+
+
+def frame_of(tab):
+    """The frame at which the cursor is."""
+    return int(re.search(r"frame ([\d\u202f]+)", text_of(tab, "time"))[1].replace("\u202f", ""))
+
+
+def look_at_silence(name, tab, out):
+    """Nothing is said on the console, and nothing is asked for but the file."""
+    others = [it for it in tab.requests if it != out.as_uri() and not it.startswith(("data:", "blob:"))]
+    equal(f"what {name} says and asks for", (tab.said, others), ([], []))
+
+
+def explained(program, script, configs, frame):
+    return called("explain", script.name, frame, *(it.name for it in configs), "--program", program, folder=script.parent)[1].splitlines()
+
+
+def look_at_page(program, browser, script, configs, out):
+    """A page draws, plays, reaches single frames, and gives the reasons that tools/explain gives."""
+    name, tab = script.parent.name, shown(browser, out)
+    equal(f"what {name} draws", tab.value(COLOURS) > 5, True)
+    clicks = called("explain", "--clicks", script.name, *(it.name for it in configs), "--program", program, folder=script.parent)[1].splitlines()
+    found = tab.value("[...document.querySelectorAll('#clicks button')].map((it) => it.textContent)")
+    equal(f"the clicks of {name}", found or ["nothing jumps, is limited or falls silent"], clicks)
+    if found:
+        tab.value("document.querySelector('#clicks button').click()")
+        frame = int(re.match(r"frame (\d+)", found[0])[1])
+        equal(f"the reason of {name}'s loudest click", tab.value(LINES), explained(program, script, configs, frame))
+    look_at_frames(program, tab, script, configs)
+    look_at_sound(name, tab)
+    look_at_silence(name, tab, out)
+
+
+def look_at_frames(program, tab, script, configs):
+    """At the closest a press on the device's lane gives the reason of the frame there."""
+    tab.value(FOCUS)
+    tab.key("1", "1")
+    tab.value("new Promise((then) => requestAnimationFrame(() => requestAnimationFrame(then)))")
+    box = tab.value("(({ left, top, width }) => ({ left, top, width }))(document.getElementById('waves').getBoundingClientRect())")
+    button = tab.value("(({ top, height }) => top + height / 2)([...document.querySelectorAll('.choose')].find((it) => it.textContent === 'the device').getBoundingClientRect())")
+    tab.press(box["left"] + box["width"] * 0.61, button)
+    frame = frame_of(tab)
+    found = tab.value(LINES)
+    equal(f"the frame of {script.name} that was pressed", found[0].startswith(f"frame {frame} is "), True)
+    wanted = explained(program, script, configs, frame)
+    if wanted:
+        equal(f"the reason of frame {frame} of {script.name}", found, wanted)
+
+
+def look_at_sound(name, tab):
+    """What is played goes on by its clock, and stops."""
+    tab.value("document.getElementById('speed').value = '0.01'")
+    tab.key("Home")
+    tab.key(" ", " ")
+    tab.wait("window.heard && window.heard.currentTime > 0.02")
+    before = tab.value("window.heard.currentTime")
+    tab.wait(f"window.heard.currentTime > {before}")
+    tab.key(" ", " ")
+    equal(f"{name} stops", tab.value("document.getElementById('play').textContent"), "Play")
+
+
+def try_page_examples(program, folder):
+    """The pages of the examples, in a browser."""
+    if not chromium():
+        print("tool-tests: there is no chromium, so no page is looked at")
+        return
+    with Browser() as browser:
+        for script in sorted((ROOT / "examples").glob("*/*.script")):
+            configs = config_of(script)
+            look_at_page(program, browser, script, configs, paged(program, script, configs, folder))
+
+
+def try_page_names(program, folder):
+    """What comes from outside stays text: a wave, a comment, a script and a configuration of strange names run nothing, and are shown as they are."""
+    wave, script, config = (folder / f"{STRANGE}{it}" for it in (".wav", ".script", ".toml"))
+    put_wave(wave, "s16le", 1, 48000, bytes([0, 32]) * 100)
+    config.write_text(f"[files]\nw = {json.dumps(str(wave))}\n")
+    script.write_text("open 0 play s16le 1 48000 # </script><script>window.wrong=1</script>\nsend 0 w 0 200\nclose 0\nintr 100\nintr 1024\n")
+    out = folder / "out.html"
+    equal("page of strange names", tool("page", script, config, "--out", out, "--program", program), (0, ""))
+    text = out.read_text()
+    equal("nothing of them in the text", ("window.wrong" in re.sub(r"<title>.*?</title>|<h1.*?</h1>|<img.*", "", text), text.count("</script>")), (False, text.count("<script")))
+    equal("a policy", re.findall(r"""(default-src|script-src|style-src) ('none'|'sha256-[\w+/=]+')""", text) != [], True)
+    if chromium():
+        with Browser() as browser:
+            tab = shown(browser, out)
+            equal("what is run", (tab.value("window.wrong === undefined"), tab.value("document.querySelectorAll('main img, main script').length")), (True, 0))
+            equal("the name of a wave", tab.value("[...document.querySelectorAll('.word')].some((it) => it.textContent.startsWith('<script>'))"), True)
+            tab.value("(() => { const it = document.createElement('script'); it.textContent = 'window.wrong = 2'; document.body.append(it); })()")
+            equal("what is put in by others", tab.value("window.wrong === undefined"), True)
+
+
+def tones(folder, seconds):
+    """A script of four clients that play waves so long, which can't be packed well, and its configuration."""
+    names, lines = ("one", "two", "three", "four"), []
+    for at, name in enumerate(names):
+        body = b"".join(round(4000 * math.sin(k * k / (90000 + 7000 * at)) + 97 * (k * 7919 % 31)).to_bytes(2, "little", signed=True) * 2 for k in range(48000))
+        put_wave(folder / f"{name}.wav", "s16le", 2, 48000, body * seconds)
+        lines += [f"open {at} play s16le 2 48000", f"ioctl {at} setfragment 0x00020010"]
+    for turn in range(seconds * 48000 // 8192):
+        lines += [f"send {at} {name} {turn * 32768} 32768" for at, name in enumerate(names)] + ["intr 1024"] * 8
+    (folder / "long.script").write_text("\n".join(lines) + "\n")
+    (folder / "long.toml").write_text("[files]\n" + "".join(f'{it} = "{folder / it}.wav"\n' for it in names))
+    return folder / "long.script", [folder / "long.toml"]
+
+
+def try_page_size(program, folder):
+    """A run that has no room whole leaves something out, and says so; a window of it has its frames."""
+    script, configs = tones(folder, 4)
+    out = paged(program, script, configs, folder, "--megabytes", 1, "--from", 96000, "--to", 97000)
+    told = told_in(out)
+    equal("how large it is", out.stat().st_size <= 1000000, True)
+    equal("what it says", (told["whole"], len(told["notes"]), "--megabytes 4" in told["notes"][2]), ([96000, 97000], 3, True))
+    equal("a copy to listen to", bool(told["tracks"][0]["copy"]), True)
+    out = paged(program, script, configs, folder, "--megabytes", 40)
+    equal("all of it", (told_in(out)["whole"], told_in(out)["notes"]), ([0, told_in(out)["frames"]], []))
+
+
+def try_page_words(program, folder):
+    """What is wrong is told in a line."""
+    short = ROOT / "examples" / "03-a-shortage" / "a_shortage.script"
+    for words in (["--megabytes", "0", short], ["--from", "x", short], [short, short, short], ["-", "-"]):
+        status, said, errors = called("page", *words, "--program", program)
+        equal(f"page {words}", (status, said, errors.count("\n"), errors.startswith("page: ")), (2, "", 1, True))
+    for words in ([short, "--out", folder], [short, "--out", "/dev/full"], [folder / "gone"], [short, "--from", "99999"]):
+        status, said, errors = called("page", *words, "--program", program)
+        equal(f"page {words}", (status, said, errors.count("\n"), "Traceback" in errors), (1, "", 1, False))
+    equal("standard input and output", called("page", "-", "--out", "-", "--program", program, stdin="intr 4\n")[:2][1].startswith("<!doctype html>"), True)
+
+
+TRIALS = (try_page_examples, try_page_size, try_page_names, try_page_words)
