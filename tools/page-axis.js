@@ -49,9 +49,10 @@ class Axis {
     if (frame < this.begin || frame > this.end) this.show(frame - seen / 4, frame - seen / 4 + seen);
   }
 
-  /** How far apart round numbers stand of which one is so many frames. */
+  /** How far apart round numbers stand of which one is so many frames; of seconds those of a minute count. */
   step(unit) {
     const least = APART * this.seen() / this.width / unit;
+    if (unit > 1 && least > 10) return [15, 30, 60, 120, 300, 600, 1200, 3600].find((it) => it >= least) || 3600 * Math.ceil(least / 3600);
     const power = 10 ** Math.floor(Math.log10(least));
     return [1, 2, 5, 10].map((it) => it * power).find((it) => it >= least * 0.999999);
   }

@@ -1,6 +1,7 @@
 /** Draws the rows of the page, as far as they are seen. */
 
-const LANE = 76, LEAST = 26, STATE = 7, FILL = 20, ABOVE = 16, BELOW = 12;
+// the heights of a row of lanes at least and at most, of one lane at least, of a bar of states, of a fill, and between rows
+const LEAST = 44, MOST = 110, SMALLEST = 18, STATE = 7, FILL = 18, ABOVE = 14, BELOW = 8;
 const DOTS = 5, VALUES = 52;
 
 /** A canvas that is as sharp as the screen. Answers what draws on it, or null where nothing is to be seen. */
@@ -10,21 +11,61 @@ function sharp(canvas, width, height) {
     [canvas.width, canvas.height] = [Math.round(width * ratio), Math.round(height * ratio)];
     [canvas.style.width, canvas.style.height] = [`${width}px`, `${height}px`];
   }
-  const pen = canvas.getContext("2d", { alpha: false });
+  const pen = canvas.getContext("2d", { alpha: false, willReadFrequently: true });
   pen.setTransform(ratio, 0, 0, ratio, 0, 0);
   pen.fillStyle = colours.ground;
   pen.fillRect(0, 0, width, height);
   return pen;
 }
 
-/** Where the parts of each row stand. Answers the height of all. */
-function placeRows(rows) {
+/** A colour of the style, as a pixel has it. */
+function pixelOf(colour) {
+  const value = parseInt(colour.slice(1), 16);
+  return (0xff000000 | (value & 0xff) << 16 | value & 0xff00 | value >> 16) >>> 0;
+}
+
+/** The image of a lane, of which there is one for each size. */
+class LaneImage {
+  constructor(width, height) {
+    [this.width, this.height, this.data] = [width, height, new ImageData(width, height)];
+    this.pixels = new Uint32Array(this.data.data.buffer);
+  }
+
+  /** Begins with the ground of a lane from one place to another one, and a line through its middle. */
+  ground(from, to, ratio) {
+    const { width, height, pixels } = this, left = Math.min(Math.max(from, 0), width), right = Math.min(Math.max(to, left), width);
+    pixels.fill(pixelOf(colours.ground));
+    for (let y = 0; y < height; y += 1) pixels.fill(pixelOf(colours.lane), y * width + left, y * width + right);
+    for (let y = Math.floor(height / 2); y < Math.floor(height / 2) + Math.round(ratio); y += 1) pixels.fill(pixelOf(colours.line), y * width + left, y * width + right);
+  }
+
+  stroke(x, from, to, pixel) {
+    const { width, pixels } = this, last = Math.min(to, this.height);
+    for (let at = Math.max(from, 0) * width + x, end = last * width; at < end; at += width) pixels[at] = pixel;
+  }
+}
+
+const images = new Map();
+
+function imageOf(width, height) {
+  const key = `${width} ${height}`;
+  if (!images.has(key)) {
+    if (images.size > 8) images.clear();
+    images.set(key, new LaneImage(width, height));
+  }
+  return images.get(key);
+}
+
+/** Where the parts of each row stand, so that all are seen in some height, if they can. Answers the height of all. */
+function placeRows(rows, height) {
+  const below = (row) => (row.states ? STATE + 6 : 0) + (row.fills ? FILL + 6 : 0) + ABOVE + BELOW;
+  const room = (height - ABOVE - rows.reduce((sum, row) => sum + below(row), 0)) / Math.max(rows.length, 1);
   let top = ABOVE;
   for (const row of rows) {
-    row.lane = Math.max(LEAST, Math.floor(LANE / row.channels));
+    row.lane = Math.max(Math.floor(Math.min(Math.max(room, LEAST), MOST) / row.channels), SMALLEST);
     row.top = top;
     row.middle = top + row.lane * row.channels;
-    row.bottom = row.middle + (row.states ? STATE + 6 : 0) + (row.fills ? FILL + 6 : 0);
+    row.bottom = row.middle + below(row) - ABOVE - BELOW;
     top = row.bottom + ABOVE + BELOW;
   }
   return top;
@@ -38,6 +79,7 @@ class Painter {
 
   /** Draws all rows that are between two heights. */
   draw(canvas, height, from, to) {
+    this.canvas = canvas;
     this.pen = sharp(canvas, this.axis.width, height);
     this.pen.font = '11px "DejaVu Sans", Verdana, Arial, sans-serif';
     for (const row of this.page.rows) if (row.bottom + BELOW > from && row.top - ABOVE < to) this.row(row);
@@ -55,30 +97,38 @@ class Painter {
     if (row.kind === "device") this.left(row);
   }
 
+  /** Draws a lane as an image: its ground, its middle and its samples in columns; or the samples by themselves where there is room. */
   lane(row, channel, end) {
-    const top = row.top + channel * row.lane, middle = top + row.lane / 2, pen = this.pen;
-    pen.fillStyle = colours.lane;
-    pen.fillRect(Math.max(this.axis.across(0), 0), top + 1, end - Math.max(this.axis.across(0), 0), row.lane - 2);
-    pen.fillStyle = colours.line;
-    pen.fillRect(0, middle - 0.5, Math.max(end, 0), 1);
-    for (const source of row.sources) if (source.track.channels === row.channels) this.wave(row, source, channel, middle, row.lane / 2 - 3);
+    const top = row.top + channel * row.lane, ratio = this.canvas.width / this.axis.width, image = imageOf(this.canvas.width, Math.round((row.lane - 2) * ratio));
+    const sources = row.sources.filter((it) => it.track.channels === row.channels), middle = image.height / 2, half = middle - 3 * ratio;
+    image.ground(Math.round(this.axis.across(0) * ratio), Math.round(end * ratio), ratio);
+    const single = sources.map((it) => this.axis.width / this.axis.seen() * (it.begins ? this.density(it) : 1));
+    const isSingle = sources.map((it, at) => single[at] >= DOTS && this.isThere(row, it));
+    sources.forEach((it, at) => { if (!isSingle[at]) this.columns(row, it, channel, image, middle, half); });
+    this.pen.putImageData(image.data, 0, Math.round((top + 1) * ratio));
+    sources.forEach((it, at) => { if (isSingle[at]) this.dots(row, it, channel, top + row.lane / 2, row.lane / 2 - 3, single[at]); });
   }
 
-  /** Draws the samples of a lane around a height: columns, or each by itself where there is room. */
-  wave(row, source, channel, middle, half) {
-    const { axis, pen } = this, wide = axis.width / axis.seen() * (source.begins ? this.density(source) : 1);
-    if (wide >= DOTS && this.dots(row, source, channel, middle, half, wide)) return;
-    pen.fillStyle = colours[row.kind];
-    let wasWhole = true;
-    for (let x = 0; x < axis.width; x += 1) {
-      const found = this.column(row, source, channel, x);
-      if (!found || !this.into[0] && !this.into[1]) continue;
-      if ((found === WHOLE) !== wasWhole) {
-        wasWhole = found === WHOLE;
-        pen.fillStyle = wasWhole ? colours[row.kind] : colours.faint;
-      }
-      this.stroke(x, middle, half / row.reach);
+  columns(row, source, channel, image, middle, half) {
+    const count = image.width, { lows, highs, known } = this.rows(count), scale = half / row.reach, colour = pixelOf(colours[row.kind]), faint = pixelOf(colours.faint);
+    source.columns(this.axis, count, row.end, channel, lows, highs, known);
+    for (let x = 0; x < count; x += 1) {
+      if (!known[x] || !lows[x] && !highs[x]) continue;
+      const from = Math.round(middle - Math.max(highs[x], 0) * scale), to = Math.round(middle - Math.min(lows[x], 0) * scale);
+      image.stroke(x, from, Math.max(to, from + 1), known[x] === WHOLE ? colour : faint);
     }
+  }
+
+  /** Rows for so many columns. */
+  rows(count) {
+    if (!this.found || this.found.lows.length < count) this.found = { lows: new Float64Array(count), highs: new Float64Array(count), known: new Uint8Array(count) };
+    return this.found;
+  }
+
+  /** Whether all samples that are seen of a sound are there. */
+  isThere(row, source) {
+    const frames = source.frames(Math.max(Math.floor(this.axis.begin), 0), Math.ceil(Math.min(this.axis.end + 1, row.end)));
+    return !frames || source.track.isWhole(...frames);
   }
 
   /** How many frames of the axis go with one of a sound. */
@@ -87,27 +137,12 @@ class Painter {
     return last < 0 ? 1 : (ends[last] - begins[0]) / Math.max(lasts[last] - firsts[0], 1);
   }
 
-  column(row, source, channel, x) {
-    const begin = Math.floor(this.axis.frameAt(x)), end = Math.max(Math.floor(this.axis.frameAt(x + 1)), begin + 1);
-    const frames = begin < row.end ? source.frames(Math.max(begin, 0), Math.min(end, row.end)) : null;
-    return frames ? source.track.extremes(frames[0], frames[1], channel, this.into) : NOTHING;
-  }
-
-  stroke(x, middle, scale) {
-    const top = middle - Math.max(this.into[1], 0) * scale, bottom = middle - Math.min(this.into[0], 0) * scale;
-    this.pen.fillRect(x, top, 1, Math.max(bottom - top, 1));
-  }
-
-  /** Draws each sample by itself, with its value where there is room. Answers whether all are there. */
+  /** Draws each sample by itself, with its value where there is room. */
   dots(row, source, channel, middle, half, wide) {
-    const last = Math.min(this.axis.end + 1, row.end);
-    const frames = source.frames(Math.max(Math.floor(this.axis.begin), 0), Math.ceil(last));
-    if (!frames || !source.track.isWhole(...frames)) return false;
+    const frames = source.frames(Math.max(Math.floor(this.axis.begin), 0), Math.ceil(Math.min(this.axis.end + 1, row.end))) || [0, 0];
     for (let at = Math.max(frames[0], 0); at < Math.min(frames[1], source.track.frames); at += 1) {
-      const value = source.track.frame(at)[channel], x = this.axis.across(source.outside(at));
-      this.dot(row, value, x, middle, half, wide);
+      this.dot(row, source.track.frame(at)[channel], this.axis.across(source.outside(at)), middle, half, wide);
     }
-    return true;
   }
 
   dot(row, value, x, middle, half, wide) {
@@ -167,21 +202,20 @@ class Painter {
   }
 
   fill(levels, fills, floor) {
-    const { axis, pen } = this;
+    const { axis, pen } = this, first = Math.max(countUpTo(fills.places.get(levels), axis.begin) - 2, 0);
+    let y = floor, before = -2;
     pen.fillStyle = colours.fill;
     pen.beginPath();
-    let y = floor, begun = false;
-    for (let at = Math.max(countUpTo(fills.places.get(levels), axis.begin) - 2, 0); at < levels.length; at += 1) {
-      const x = Math.min(Math.max(axis.across(levels[at][0]), -1), axis.width + 1);
-      if (!begun) pen.moveTo(x, floor);
-      begun = true;
+    pen.moveTo(Math.max(axis.across(levels[first][0]), -1), floor);
+    for (let at = first; at < levels.length && before <= axis.width; at += 1) {
+      const x = Math.min(Math.max(axis.across(levels[at][0]), -1), axis.width + 1), level = floor - levels[at][1] * FILL / fills.most;
+      if (x - before >= 0.5) pen.lineTo(x, y);
+      y = x - before >= 0.5 ? level : Math.min(y, level);
       pen.lineTo(x, y);
-      y = floor - levels[at][1] * FILL / fills.most;
-      pen.lineTo(x, y);
-      if (x > axis.width) break;
+      before = x - before >= 0.5 ? x : before;
+      if (at + 1 === levels.length || axis.across(levels[at + 1][0]) - before >= 0.5) y = level;
     }
-    const last = Math.min(axis.across(levels[levels.length - 1][0]), axis.width + 1);
-    pen.lineTo(last, floor);
+    pen.lineTo(Math.min(axis.across(levels[levels.length - 1][0]), axis.width + 1), floor);
     pen.fill();
   }
 

@@ -5,17 +5,20 @@ class Stage {
     [this.page, this.axis] = [page, axis];
     this.painter = new Painter(page, axis);
     this.map = new Minimap(page, byId("map"));
-    this.height = placeRows(page.rows);
+    this.height = 0;
     this.names = byId("names");
     this.cursor = 0;
     this.selection = null;
     this.waits = false;
-    this.makeNames();
+    this.chosen = 0;
   }
 
-  makeNames() {
+  /** Places the rows in a height, and their names beside them. */
+  place(height) {
+    this.height = placeRows(this.page.rows, height);
     this.names.style.height = `${this.height}px`;
-    this.page.rows.forEach((row, at) => this.names.append(this.nameOf(row, at)));
+    this.names.replaceChildren(...this.page.rows.map((row, at) => this.nameOf(row, at)));
+    this.choose(this.chosen);
   }
 
   /** What stands beside a row: a button that chooses it, and its words. */
@@ -41,6 +44,7 @@ class Stage {
 
   /** Marks the row that is played. */
   choose(at) {
+    this.chosen = at;
     for (const it of this.names.querySelectorAll("button")) it.setAttribute("aria-pressed", String(Number(it.dataset.row) === at));
   }
 
@@ -53,6 +57,7 @@ class Stage {
 
   resize() {
     const box = byId("lanes");
+    if (box.clientHeight !== this.room) this.place(this.room = box.clientHeight);
     this.axis.width = Math.max(box.clientWidth - this.names.offsetWidth, 50);
     this.map.draw(byId("map").parentElement.clientWidth);
     this.redraw();

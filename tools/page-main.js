@@ -259,6 +259,7 @@ function fillControls(app) {
   byId("stage").setAttribute("aria-valuemax", Math.max(page.frames - 1, 0));
   byId("notes").replaceChildren(...page.notes.map((it) => element("p", "", it)));
   byId("notes").hidden = !page.notes.length;
+  document.querySelector(".item.faint").hidden = !page.notes.length;
   app.reasons.listClicks(byId("clicks"), (it) => app.click(it));
 }
 

@@ -68,15 +68,19 @@ class Player {
     return { buffer, isWhole };
   }
 
+  /** The copy to listen to of some frames. */
   async copied(track, begin, end) {
     const { every, channels } = track.copy;
     if (!this.copies.has(track)) this.copies.set(track, new Uint8Array(await blob(track.copy.blob)));
-    const codes = this.copies.get(track), length = codes.length / channels;
-    return Array.from({ length: channels }, (_, at) => {
-      const part = codes.subarray(at * length + Math.floor(begin / every), at * length + Math.min(Math.floor(end / every), length));
-      return Float32Array.from(part, (it) => LISTENED[it]);
-    });
+    const codes = this.copies.get(track), length = codes.length / channels, from = Math.floor(begin / every), to = Math.min(Math.floor(end / every), length);
+    return Array.from({ length: channels }, (_, at) => heardCodes(codes.subarray(at * length + from, at * length + to)));
   }
+}
+
+function heardCodes(codes) {
+  const lane = new Float32Array(codes.length);
+  for (let at = 0; at < codes.length; at += 1) lane[at] = LISTENED[codes[at]];
+  return lane;
 }
 
 function wholeLanes(track, begin, end) {
@@ -98,9 +102,15 @@ function bufferOf(context, lanes, rate, channels) {
   let times = 1;
   while (rate * times < 8000) times += 1;
   const buffer = new AudioBuffer({ length: length * times, numberOfChannels: count, sampleRate: rate * times });
-  for (let at = 0; at < count; at += 1) {
-    const lane = lanes[at], into = buffer.getChannelData(at), more = channels === 8 && at > 3 ? lanes[at + 2] : null;
-    for (let k = 0; k < into.length; k += 1) into[k] = lane[Math.floor(k / times)] + (more ? more[Math.floor(k / times)] : 0);
-  }
+  for (let at = 0; at < count; at += 1) fillChannel(buffer.getChannelData(at), lanes[at], channels === 8 && at > 3 ? lanes[at + 2] : null, times);
   return buffer;
+}
+
+/** Puts a lane into a channel, each sample so many times, with another one where one joins it. */
+function fillChannel(into, lane, more, times) {
+  if (times === 1 && !more) {
+    into.set(lane.subarray(0, into.length));
+    return;
+  }
+  for (let k = 0; k < into.length; k += 1) into[k] = lane[Math.floor(k / times)] + (more ? more[Math.floor(k / times)] : 0);
 }

@@ -56,11 +56,11 @@ class Track {
 
   /** Puts the least and the greatest sample of a channel among frames into two places. Answers how well they are known. */
   extremes(begin, end, channel, into) {
-    [begin, end] = [Math.max(begin, 0), Math.min(end, this.frames)];
-    if (begin >= end) return NOTHING;
-    const isFew = end - begin <= 2 * this.block || !this.pyramid.length;
-    if (isFew && this.isWhole(begin, end)) return this.exactly(begin, end, channel, into);
-    return this.pyramid.length ? this.roughly(begin, end, channel, into) : NOTHING;
+    const first = Math.max(begin, 0), last = Math.min(end, this.frames);
+    if (first >= last) return NOTHING;
+    const isFew = last - first <= 2 * this.block || !this.pyramid.length;
+    if (isFew && this.isWhole(first, last)) return this.exactly(first, last, channel, into);
+    return this.pyramid.length ? this.roughly(first, last, channel, into, this.levelFor(last - first)) : NOTHING;
   }
 
   exactly(begin, end, channel, into) {
@@ -73,20 +73,28 @@ class Track {
       }
       at = last;
     }
-    [into[0], into[1]] = [least, most];
+    into[0] = least;
+    into[1] = most;
     return WHOLE;
   }
 
-  roughly(begin, end, channel, into) {
-    let size = this.block, level = 0;
-    while (level + 1 < this.pyramid.length && size * this.times <= end - begin) [size, level] = [size * this.times, level + 1];
-    const lows = this.pyramid[level][2 * channel], highs = this.pyramid[level][2 * channel + 1];
+  /** The level whose blocks are as large as so many frames, or smaller. */
+  levelFor(frames) {
+    let level = 0;
+    for (let size = this.block * this.times; size <= frames && level + 1 < this.pyramid.length; size *= this.times) level += 1;
+    return level;
+  }
+
+  roughly(begin, end, channel, into, level) {
+    const size = this.block * this.times ** level, lows = this.pyramid[level][2 * channel], highs = this.pyramid[level][2 * channel + 1];
+    const last = Math.min(Math.ceil(end / size), lows.length);
     let least = Infinity, most = -Infinity;
-    for (let at = Math.floor(begin / size); at * size < end && at < lows.length; at += 1) {
+    for (let at = Math.floor(begin / size); at < last; at += 1) {
       if (lows[at] < least) least = lows[at];
       if (highs[at] > most) most = highs[at];
     }
-    [into[0], into[1]] = [least * this.shift, most * this.shift];
+    into[0] = least * this.shift;
+    into[1] = most * this.shift;
     return end - begin < this.block ? BLOCKS : WHOLE;
   }
 
@@ -94,7 +102,7 @@ class Track {
   reach() {
     const into = [0, 0], found = [0];
     for (let channel = 0; channel < this.channels; channel += 1) {
-      if (this.pyramid.length) this.roughly(0, this.frames, channel, into);
+      if (this.pyramid.length) this.roughly(0, this.frames, channel, into, this.pyramid.length - 1);
       else if (!this.extremes(0, this.frames, channel, into)) continue;
       found.push(-into[0], into[1]);
     }
@@ -131,6 +139,25 @@ class Source {
     const at = Math.max(countUpTo(this.firsts, frame) - 1, 0);
     const part = Math.min((frame - this.firsts[at]) / Math.max(this.lasts[at] - this.firsts[at], 1), 1);
     return this.begins[at] + part * (this.ends[at] - this.begins[at]);
+  }
+
+  /** Puts the least and the greatest samples of columns of an axis into two rows, and how well they are known. */
+  columns(axis, count, last, channel, lows, highs, known) {
+    const wide = axis.seen() / count, into = [0, 0];
+    for (let x = 0, begin = Math.floor(axis.begin); x < count; x += 1) {
+      const next = Math.floor(axis.begin + (x + 1) * wide), end = Math.min(Math.max(next, begin + 1), last);
+      known[x] = begin < end ? this.extremes(Math.max(begin, 0), end, channel, into) : NOTHING;
+      lows[x] = into[0];
+      highs[x] = into[1];
+      begin = next;
+    }
+  }
+
+  /** The least and the greatest sample at some frames of the axis. */
+  extremes(begin, end, channel, into) {
+    if (!this.begins) return this.track.extremes(begin + this.offset, end + this.offset, channel, into);
+    const frames = this.frames(begin, end);
+    return frames ? this.track.extremes(frames[0], frames[1], channel, into) : NOTHING;
   }
 
   /** The frames of the sound at some of the axis, from the first to the one behind the last, or null. */
