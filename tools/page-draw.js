@@ -213,7 +213,8 @@ class Painter {
       y = x - before >= 0.5 ? level : Math.min(y, level);
       pen.lineTo(x, y);
       before = x - before >= 0.5 ? x : before;
-      if (at + 1 === levels.length || axis.across(levels[at + 1][0]) - before >= 0.5) y = level;
+      const isLast = at + 1 === levels.length || axis.across(levels[at + 1][0]) - before >= 0.5;
+      if (isLast) pen.lineTo(x, y = level);
     }
     pen.lineTo(Math.min(axis.across(levels[levels.length - 1][0]), axis.width + 1), floor);
     pen.fill();

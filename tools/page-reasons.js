@@ -58,13 +58,13 @@ class Reasons {
   /** The volumes that a slot has as a frame is mixed. */
   gains(slot, frame) {
     const mixed = frame - this.page.ring, volume = lastOf(slot.volumes, mixed), fader = lastOf(slot.faders, mixed);
-    const own = volume ? `volume of the client ${volume[1]} left, ${volume[2]} right; ` : "";
-    return `${own}volume of the slot ${fader[1]} left, ${fader[2]} right${fader[3] ? "; muted" : ""}`;
+    const own = volume ? `${volume[1]} ${volume[2]} of the client and ` : "";
+    return `at volumes ${own}${fader[1]} ${fader[2]} of the slot${fader[3] ? ", which is muted" : ""}`;
   }
 
   masterGains(frame) {
     const master = lastOf(this.page.whys.master, frame - this.page.ring);
-    return `volume of the master ${master[1]} left, ${master[2]} right`;
+    return `at volumes ${master[1]} ${master[2]} of the master`;
   }
 
   command(frame) {

@@ -19,7 +19,7 @@ from sums import limits_of, merged
 from whys import Whys
 
 FOLDER = pathlib.Path(__file__).resolve().parent
-PARTS = ("data", "tracks", "axis", "colours", "draw", "minimap", "sound", "script", "reasons", "lanes", "keys", "main")
+PARTS = ("data", "tracks", "axis", "colours", "draw", "minimap", "sound", "script", "reasons", "lanes", "keys", "app", "controls", "main")
 # so many clicks are told, and so many frames have their reasons
 CLICKS, REASONED = 20, 1 << 13
 # what is kept for what is told of the sounds
