@@ -105,15 +105,27 @@ def look_at_sound(name, tab):
     equal(f"{name} stops", tab.value("document.getElementById('play').textContent"), "Play")
 
 
-def try_page_examples(program, folder):
-    """The pages of the examples, in a browser."""
+def look_at_examples(program, folder, which):
+    """The pages of every third example, in a browser."""
     if not chromium():
-        print("tool-tests: there is no chromium, so no page is looked at")
+        print("tool-tests: there is no chromium, so pages are not looked at")
         return
     with Browser() as browser:
-        for script in sorted((ROOT / "examples").glob("*/*.script")):
+        for script in sorted((ROOT / "examples").glob("*/*.script"))[which::3]:
             configs = config_of(script)
             look_at_page(program, browser, script, configs, paged(program, script, configs, folder))
+
+
+def try_page_examples(program, folder):
+    look_at_examples(program, folder, 0)
+
+
+def try_page_more_examples(program, folder):
+    look_at_examples(program, folder, 1)
+
+
+def try_page_other_examples(program, folder):
+    look_at_examples(program, folder, 2)
 
 
 def try_page_names(program, folder):
@@ -174,4 +186,4 @@ def try_page_words(program, folder):
     equal("standard input and output", called("page", "-", "--out", "-", "--program", program, stdin="intr 4\n")[:2][1].startswith("<!doctype html>"), True)
 
 
-TRIALS = (try_page_examples, try_page_size, try_page_names, try_page_words)
+TRIALS = (try_page_examples, try_page_more_examples, try_page_other_examples, try_page_size, try_page_names, try_page_words)

@@ -85,10 +85,10 @@ def silences(out, total):
 class Clicks:
     """The places of a script at which it clicks, with what the clients give and are told there."""
 
-    def __init__(self, played, most):
+    def __init__(self, played, most, solos=None, given=None):
         self.played, self.ring = played, played.device.ring
-        self.solos = solos_of(played)
-        self.given = given_by(self.solos)
+        self.solos = solos_of(played) if solos is None else solos
+        self.given = given_by(self.solos) if given is None else given
         self.rate = next(iter(self.given.values())).device.rate if self.given else played.device.rate
         self.limits = limits_of(self.given, [(0, self.of_mix(played.total))]).rows
         self.clipped = {slot: clipped(it) for slot, it in self.solos.items()}
@@ -218,9 +218,9 @@ def of_client(clicks, slot, frame):
     return f"a jump in what was written: {frame_of(clicks, slot, reached, frame)}"
 
 
-def clicks_of(played, most):
-    """The places at which OUT clicks, the loudest first, with their causes."""
-    clicks = Clicks(played, most)
+def clicks_of(played, most, solos=None, given=None):
+    """The places at which OUT clicks, the loudest first, with their causes; where the clients of each slot and what they give are known, by these."""
+    clicks = Clicks(played, most, solos, given)
     return [it._replace(why=why(clicks, it)) for it in clicks.places]
 
 

@@ -93,7 +93,7 @@ class Page:
         self.ring, self.tracks = shown.device.ring, []
         self.out = self.track("device", shown.out, shown.total + self.ring if shown.out.frames > shown.total else shown.total)
         self.heard = {slot: self.track(f"slot {slot}", it, self.out.frames) for slot, it in shown.heard.items()}
-        self.clicks = clicks_of(self.played, CLICKS)
+        self.clicks = clicks_of(self.played, CLICKS, shown.solos, shown.given)
         self.whys = Whys(shown, self.reasoned(), self.heard)
         self.sums, self.alongs = self.whys.tracks(), {}
         self.rows = self.rows_of()

@@ -3,7 +3,7 @@ import array
 import operator
 import re
 
-from facts import around, clipped, cuts_at, is_clipped
+from facts import around, cuts_at
 from packed import Track
 from reasons import OWN_STAGES, Asked, Explained, muted_events, recording_words, run_words, slot_words
 from scripts import mixed_turns, value_of
@@ -92,12 +92,12 @@ class Whys:
         """What a slot's client does at each frame, as lines."""
         frames = [it.mixed_at for it in self.explained if it.mixed is not None]
         found = around(solo, frames, solo.told((), cuts_at(self.played, frames))) if frames else {}
-        sound = None if self.shown.own else clipped(solo)
+        clipped = () if self.shown.own else self.shown.clipped[solo.slot]
         for it in self.explained:
             if it.mixed is None:
                 continue
             lines = run_words(it, solo, found[it.mixed_at])
-            if is_clipped(sound, it.mixed_at, it.mixed_at + 1):
+            if any(begin <= it.mixed_at < end for begin, end in clipped):
                 lines = [*lines, OWN_STAGES]
             yield it.frame, "\n".join(lines)
 
