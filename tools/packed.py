@@ -1,7 +1,9 @@
 """Sounds as a page holds them: frames whole where they fit, the least and the greatest of many everywhere, and a copy to listen to."""
 import array
 import base64
+import functools
 import math
+import operator
 import sys
 import zlib
 
@@ -116,7 +118,7 @@ class Track:
         for begin, end in told(self.sound.parts(0, self.frames - self.frames % every, PART), "a copy to listen to is made", self.frames):
             planes = [highest(it, WIDTH[self.device.format]) for it in self.planes(begin, end)]
             for lane, which in zip(lanes, [planes] if is_joined else [[it] for it in planes]):
-                lane.extend(map(table.__getitem__, map(sum, zip(*(it[k::every] for it in which for k in range(every))))))
+                lane.extend(map(table.__getitem__, added([it[k::every] for it in which for k in range(every)])))
         name = room.put(b"".join(lanes))
         self.copy = {"every": every, "channels": len(lanes), "blob": name} if name else None
 
@@ -124,6 +126,11 @@ class Track:
         """What the page is told of it."""
         return {"name": self.name, "channels": self.device.channels, "rate": self.device.rate, "frames": self.frames, "width": self.width(),
                 "full": full_scale(self.device), "block": BLOCK, "times": TIMES, "levels": self.levels, "chunks": self.chunks, "copy": self.copy}
+
+
+def added(rows):
+    """The sums of rows of numbers, place by place: two rows at a time, which is faster than all at once."""
+    return functools.reduce(lambda total, row: list(map(operator.add, total, row)), rows)
 
 
 def highest(plane, width):
@@ -140,11 +147,12 @@ def highest(plane, width):
     return numbers
 
 
+@functools.lru_cache(4)
 def coded(count):
     """The codes of 8 bits by the sum of so many samples of 16 bits, those below 0 from the end: steps that grow with the level."""
-    most = 32768 * count
-    upper = bytearray(round(127 * math.log1p(255 * it / most) / math.log(256)) for it in range(most))
-    return bytes(upper) + bytes(256 - it if it else 0 for it in (min(it, 127) for it in [*upper[1:], 127][::-1]))
+    codes = bytes(min(round(127 * math.log1p(255 * it / 32768) / math.log(256)), 127) for it in range(32768))
+    upper = b"".join(bytes([it]) * count for it in codes)
+    return upper + (upper[1:] + b"\x7f")[::-1].translate(bytes(-it % 256 for it in range(256)))
 
 
 class Packer:

@@ -84,6 +84,7 @@ class App {
     this.stage.cursor = this.cursor;
     this.stage.drawOverlay();
     byId("time").textContent = words;
+    if (this.player.isOn()) return;
     byId("stage").setAttribute("aria-valuenow", frame);
     byId("stage").setAttribute("aria-valuetext", words);
   }

@@ -23,6 +23,7 @@ function fillControls(app) {
   const { page } = app;
   fillAbout(page);
   byId("title").textContent = page.title;
+  byId("made").textContent = `This page was made by tools/page of dsp_replay ${page.version}.`;
   page.rows.forEach((row, at) => byId("source").append(new Option(row.name, String(at))));
   byId("stage").setAttribute("aria-valuemax", Math.max(page.frames - 1, 0));
   byId("notes").replaceChildren(...page.notes.map((it) => element("p", "", it)));

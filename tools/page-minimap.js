@@ -76,8 +76,11 @@ class Minimap {
     this.marks(pen);
   }
 
+  /** Below the sound shortages and limits, and above it a mark for each click. */
   marks(pen) {
     const { page, axis } = this;
+    pen.fillStyle = colours.mark;
+    for (const { at } of page.clicks) pen.fill(new Path2D(`M${axis.across(at) - 3} 0h6l-3 5z`));
     for (const row of page.rows) {
       for (const [kind, y] of [["short", 29], ["limited", 29]]) {
         pen.fillStyle = colours[kind];
