@@ -51,9 +51,9 @@ def frame_of(tab):
     return int(re.search(r"frame ([\d\u202f]+)", text_of(tab, "time"))[1].replace("\u202f", ""))
 
 
-def look_at_silence(name, tab, out):
+def look_at_silence(name, tab, address):
     """Nothing is said on the console, and nothing is asked for but the file."""
-    others = [it for it in tab.requests if it != out.as_uri() and not it.startswith(("data:", "blob:"))]
+    others = [it for it in tab.requests if it != address and not it.startswith(("data:", "blob:"))]
     equal(f"what {name} says and asks for", (tab.said, others), ([], []))
 
 
@@ -74,7 +74,7 @@ def look_at_page(program, browser, script, configs, out):
         equal(f"the reason of {name}'s loudest click", tab.value(LINES), explained(program, script, configs, frame))
     look_at_frames(program, tab, script, configs)
     look_at_sound(name, tab)
-    look_at_silence(name, tab, out)
+    look_at_silence(name, tab, out.as_uri())
 
 
 def look_at_frames(program, tab, script, configs):
@@ -91,6 +91,8 @@ def look_at_frames(program, tab, script, configs):
     wanted = explained(program, script, configs, frame)
     if wanted:
         equal(f"the reason of frame {frame} of {script.name}", found, wanted)
+    tab.key("ArrowRight")
+    equal(f"a step at the closest of {script.name}", frame_of(tab), min(frame + 1, int(tab.value("document.getElementById('stage').getAttribute('aria-valuemax')"))))
 
 
 def look_at_sound(name, tab):
@@ -126,6 +128,35 @@ def try_page_more_examples(program, folder):
 
 def try_page_other_examples(program, folder):
     look_at_examples(program, folder, 2)
+
+
+def try_page_script(program, folder):
+    """The script and the lanes lead to each other, and keys do what the pointer does."""
+    if not chromium():
+        return
+    script = ROOT / "examples" / "03-a-shortage" / "a_shortage.script"
+    with Browser() as browser:
+        tab = shown(browser, paged(program, script, [], folder))
+        # before line 8 one interrupt of 768 frames was handed over, and frame 1600 is of the third one, line 10
+        tab.value("document.getElementById('line-8').click()")
+        equal("the time of a line", frame_of(tab), 768)
+        tab.value(FOCUS)
+        tab.key("End")
+        equal("the last frame", (frame_of(tab), tab.value("document.querySelector('.chosen').dataset.line")), (3327, "10"))
+        tab.key("Home")
+        tab.key("n")
+        # behind frame 0 the first that happens is a shortage, at frame 1024
+        equal("what happens next", (frame_of(tab), text_of(tab, "status").startswith("slot 0 is short from frame 1024 to 1535")), (1024, True))
+        tab.value("(() => { const it = document.getElementById('search'); it.value = 'OK 3072'; it.dispatchEvent(new Event('input')); })()")
+        equal("what is found", (text_of(tab, "found"), tab.value("document.querySelector('.chosen').dataset.line")), ("1 of 1", "9"))
+        tab.key("Home")
+        tab.value(FOCUS)
+        tab.key("l")
+        tab.key(" ", " ")
+        tab.wait("document.querySelector('.present') !== null")
+        tab.key("ArrowDown")
+        equal("another row", tab.value("document.querySelector('.choose[aria-pressed=true]').textContent"), "slot 0")
+        look_at_silence("the script", tab, tab.value("location.href"))
 
 
 def try_page_names(program, folder):
@@ -186,4 +217,4 @@ def try_page_words(program, folder):
     equal("standard input and output", called("page", "-", "--out", "-", "--program", program, stdin="intr 4\n")[:2][1].startswith("<!doctype html>"), True)
 
 
-TRIALS = (try_page_examples, try_page_more_examples, try_page_other_examples, try_page_size, try_page_names, try_page_words)
+TRIALS = (try_page_examples, try_page_more_examples, try_page_other_examples, try_page_size, try_page_names, try_page_script, try_page_words)

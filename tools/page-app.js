@@ -148,12 +148,12 @@ class App {
     this.stage.redraw();
   }
 
-  /** Goes to the next thing that happens, or to the one before, and tells it. */
+  /** Goes to the next place where something happens, or to the one before, and tells all that does there. */
   event(way) {
     const at = Math.round(this.cursor), found = way > 0 ? this.page.happens.find((it) => it[0] > at) : this.page.happens.findLast((it) => it[0] < at);
     if (!found) return this.tell(way > 0 ? "Nothing more happens." : "Nothing happens before.");
     this.go(found[0]);
-    return this.tell(found[1]);
+    return this.tell(this.page.happens.filter((it) => it[0] === found[0]).map((it) => it[1]).join("; "));
   }
 
   pressed(event, x) {

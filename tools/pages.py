@@ -178,7 +178,7 @@ class Page:
             "title": title_of(names), "version": version(), "script": script_of(self.room, played, text), "ring": self.ring, "total": self.shown.total,
             "frames": self.out.frames, "own": self.shown.own,
             "device": {"format": device.format, "channels": device.channels, "rate": device.rate},
-            "files": [shlex.quote(it) for it in names if it], "rows": self.rows, "groups": list(self.groups()),
+            "files": ["SCRIPT" if it == "-" else shlex.quote(it) for it in names if it], "rows": self.rows, "groups": list(self.groups()),
             "clicks": [{"at": it.at, "does": it.does, "size": it.size, "says": told_click(played, it)} for it in self.clicks], "whys": self.whys.told([*self.tracks, *self.sums])}
 
 
