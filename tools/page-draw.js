@@ -84,6 +84,16 @@ class Painter {
     this.pen.font = '11px "DejaVu Sans", Verdana, Arial, sans-serif';
     for (const row of this.page.rows) if (row.bottom + BELOW > from && row.top - ABOVE < to) this.row(row);
     for (const group of this.page.groups) this.group(group);
+    this.interrupts(height);
+  }
+
+  /** A line down at the end of each interrupt, where these are far enough from each other. */
+  interrupts(height) {
+    const { axis, pen, page } = this, { ends } = page.script, first = countUpTo(ends, axis.begin), last = countUpTo(ends, axis.end);
+    if (last - first > axis.width / NEAR) return;
+    [pen.fillStyle, pen.globalAlpha] = [colours.line, 0.55];
+    for (let at = first; at < last; at += 1) pen.fillRect(Math.round(axis.across(ends[at])), 0, 1, height - BELOW);
+    pen.globalAlpha = 1;
   }
 
   row(row) {
