@@ -142,8 +142,9 @@ class App {
     this.stage.redraw();
   }
 
+  /** Shows single frames, with room for their values. */
   closest() {
-    const seen = Math.max(this.axis.width / 60, LEAST_SEEN);
+    const seen = Math.max(this.axis.width / (DIGIT * String(-this.page.reach).length + 20), LEAST_SEEN);
     this.axis.show(this.cursor - seen / 2, this.cursor + seen / 2);
     this.stage.redraw();
   }

@@ -2,7 +2,8 @@
 
 // the heights of a row of lanes at least and at most, of one lane at least, of a bar of states, of a fill, and between rows
 const LEAST = 44, MOST = 110, SMALLEST = 18, STATE = 7, FILL = 18, ABOVE = 14, BELOW = 8;
-const DOTS = 5, VALUES = 52;
+// how wide a frame is from which on it is drawn by itself, and a digit of its value
+const DOTS = 5, DIGIT = 7.2;
 
 /** A canvas that is as sharp as the screen. Answers what draws on it, or null where nothing is to be seen. */
 function sharp(canvas, width, height) {
@@ -116,7 +117,7 @@ class Painter {
     const isSingle = sources.map((it, at) => single[at] >= DOTS && this.isThere(row, it));
     sources.forEach((it, at) => { if (!isSingle[at]) this.columns(row, it, channel, image, middle, half); });
     this.pen.putImageData(image.data, 0, Math.round((top + 1) * ratio));
-    sources.forEach((it, at) => { if (isSingle[at]) this.dots(row, it, channel, top + row.lane / 2, row.lane / 2 - 3, single[at]); });
+    sources.forEach((it, at) => { if (isSingle[at]) this.dots(row, it, channel, top + row.lane / 2, row.lane / 2 - 3); });
   }
 
   columns(row, source, channel, image, middle, half) {
@@ -148,21 +149,22 @@ class Painter {
   }
 
   /** Draws each sample by itself, with its value where there is room. */
-  dots(row, source, channel, middle, half, wide) {
+  dots(row, source, channel, middle, half) {
     const frames = source.frames(Math.max(Math.floor(this.axis.begin), 0), Math.ceil(Math.min(this.axis.end + 1, row.end))) || [0, 0];
     for (let at = Math.max(frames[0], 0); at < Math.min(frames[1], source.track.frames); at += 1) {
-      this.dot(row, source.track.frame(at)[channel], this.axis.across(source.outside(at)), middle, half, wide);
+      const x = this.axis.across(source.outside(at)), wide = this.axis.across(source.outside(at + 1)) - x;
+      this.dot(row, source.track.frame(at)[channel], x, middle, half, wide);
     }
   }
 
   dot(row, value, x, middle, half, wide) {
-    const { pen } = this, y = middle - value * half / row.reach, width = Math.min(wide - 1, 3 + wide / 3);
+    const { pen } = this, y = middle - value * half / row.reach, room = DIGIT * String(-row.reach).length + 6;
+    const width = Math.max(wide >= room + 4 ? Math.min(wide - room, wide / 2) : wide / 2, 1);
     pen.fillStyle = colours[row.kind];
     pen.fillRect(x, Math.min(y, middle), width, Math.max(Math.abs(y - middle), 1));
-    if (wide < VALUES) return;
+    if (wide < room + 4) return;
     pen.fillStyle = colours.text;
-    const isHigh = value * half / row.reach > half - 12;
-    pen.fillText(String(value), x + width + 2, isHigh ? middle - half + 10 : value < 0 ? Math.min(y + 4, middle + half) : y + 3);
+    pen.fillText(String(value), x + width + 2, Math.min(Math.max(y + 4, middle - half + 9), middle + half));
   }
 
   bar(colour, begin, end, y, height) {
