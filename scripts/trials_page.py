@@ -2,7 +2,7 @@
 trials that need one are left out, and say so."""
 import base64
 import json
-import math
+import random
 import re
 import zlib
 
@@ -179,30 +179,40 @@ def try_page_names(program, folder):
             equal("what is put in by others", tab.value("window.wrong === undefined"), True)
 
 
-def tones(folder, seconds):
-    """A script of four clients that play waves so long, which can't be packed well, and its configuration."""
-    names, lines = ("one", "two", "three", "four"), []
-    for at, name in enumerate(names):
-        body = b"".join(round(4000 * math.sin(k * k / (90000 + 7000 * at)) + 97 * (k * 7919 % 31)).to_bytes(2, "little", signed=True) * 2 for k in range(48000))
-        put_wave(folder / f"{name}.wav", "s16le", 2, 48000, body * seconds)
-        lines += [f"open {at} play s16le 2 48000", f"ioctl {at} setfragment 0x00020010"]
-    for turn in range(seconds * 48000 // 8192):
-        lines += [f"send {at} {name} {turn * 32768} 32768" for at, name in enumerate(names)] + ["intr 1024"] * 8
-    (folder / "long.script").write_text("\n".join(lines) + "\n")
-    (folder / "long.toml").write_text("[files]\n" + "".join(f'{it} = "{folder / it}.wav"\n' for it in names))
-    return folder / "long.script", [folder / "long.toml"]
+def long_noise(folder, frames):
+    """A script of a client that plays noise, which can't be packed, in eight channels of 32 bits, and its configuration."""
+    script, config = folder / "long.script", folder / "long.toml"
+    put_wave(folder / "noise.wav", "s32le", 8, 48000, random.Random(frames).getrandbits(256 * frames).to_bytes(32 * frames, "little"))
+    lines = [f"send 0 noise {at * 32} 32768\nintr 1024" for at in range(0, frames, 1024)]
+    script.write_text("\n".join(["open 0 play s32le 8 48000", "ioctl 0 setfragment 0x0002000f", *lines]) + "\n")
+    config.write_text('[device]\nformat = "s32le"\nchannels = 8\n[files]\nnoise = "noise.wav"\n')
+    return script, [config]
 
 
 def try_page_size(program, folder):
-    """A run that has no room whole leaves something out, and says so; a window of it has its frames."""
-    script, configs = tones(folder, 4)
-    out = paged(program, script, configs, folder, "--megabytes", 1, "--from", 96000, "--to", 97000)
+    """A run that has no room whole leaves something out, and says so; a window of it has its frames, and what is heard of the rest is a copy."""
+    script, configs = long_noise(folder, 28672)
+    out = paged(program, script, configs, folder, "--megabytes", 1, "--from", 6000, "--to", 7000)
     told = told_in(out)
     equal("how large it is", out.stat().st_size <= 1000000, True)
-    equal("what it says", (told["whole"], len(told["notes"]), "--megabytes 4" in told["notes"][2]), ([96000, 97000], 3, True))
-    equal("a copy to listen to", bool(told["tracks"][0]["copy"]), True)
-    out = paged(program, script, configs, folder, "--megabytes", 40)
-    equal("all of it", (told_in(out)["whole"], told_in(out)["notes"]), ([0, told_in(out)["frames"]], []))
+    equal("what it says", (told["whole"], len(told["notes"]), "--megabytes 4" in told["notes"][2]), ([6000, 7000], 3, True))
+    equal("what it has", [(bool(it["copy"]), len(it["levels"]) > 1) for it in told["tracks"][:2]], [(True, True)] * 2)
+    if chromium():
+        with Browser() as browser:
+            tab = shown(browser, out)
+            tab.value(FOCUS)
+            for key in ("Home", "l", "1"):
+                tab.key(key)
+            tab.key(" ", " ")
+            tab.wait("window.heard && window.heard.currentTime > 0.02")
+            equal("what is played", "a copy" in text_of(tab, "status"), True)
+            tab.key(" ", " ")
+            tab.key("End")
+            said = text_of(tab, "why")
+            equal("what isn't there", ("isn't in this file whole" in said, "still in the device's ring" in said), (True, True))
+            look_at_silence("a long page", tab, out.as_uri())
+    told = told_in(paged(program, script, configs, folder, "--megabytes", 4))
+    equal("all of it", (told["whole"], told["notes"]), ([0, told["frames"]], []))
 
 
 def try_page_words(program, folder):

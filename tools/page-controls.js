@@ -5,7 +5,8 @@ function fillLegend(page) {
   const kinds = new Set(page.notes.length ? ["faint"] : []);
   for (const row of page.rows) {
     kinds.add(row.kind);
-    for (const kind of ["short", "limited"]) if (row[kind] && row[kind].length) kinds.add(kind);
+    if (row.short && row.short.length) kinds.add("short");
+    if (row.limited && row.limited.count) kinds.add("limited");
     for (const it of [...(row.states || []), ...(row.marks || [])]) kinds.add(it[0]);
     if (row.fills && row.fills.most) kinds.add("fill");
   }

@@ -46,6 +46,34 @@ function countUpTo(numbers, value) {
 /** How many of sorted numbers are below a value. */
 const countBelow = (numbers, value) => countUpTo(numbers, value - 1);
 
+/** Bars of limits, sorted, which don't overlap: where each begins and ends, and which frames of the mix these are. */
+class Limits {
+  constructor(numbers, says) {
+    [this.begins, this.ends, this.firsts, this.lasts] = [0, 1, 2, 3].map((side) => numbers.filter((_, at) => at % 4 === side));
+    this.count = this.begins.length;
+    this.words = says;
+  }
+
+  says(at) {
+    return `${this.words} ${this.firsts[at]} to ${this.lasts[at]} of the mix`;
+  }
+
+  /** The number of the bar at a frame, or -1. */
+  at(frame) {
+    const found = countUpTo(this.begins, frame) - 1;
+    return found >= 0 && frame < this.ends[found] ? found : -1;
+  }
+
+  /** The bars among frames, those that touch at so many frames as one: each by where it begins and ends. */
+  * among(begin, end, near) {
+    for (let at = Math.max(countUpTo(this.ends, begin), 0); at < this.count && this.begins[at] < end; at += 1) {
+      const from = this.begins[at];
+      while (at + 1 < this.count && this.begins[at + 1] - this.ends[at] < near) at += 1;
+      yield [from, this.ends[at]];
+    }
+  }
+}
+
 /** A number with its digits in groups of three. */
 const grouped = (value) => String(value).replace(/\B(?=(\d{3})+$)/g, "\u202f");
 

@@ -102,9 +102,9 @@ class Painter {
     for (let channel = 0; channel < row.channels; channel += 1) this.lane(row, channel, end);
     for (const bar of row.short || []) this.framed(bar, row.top, row.middle - row.top);
     for (const bar of row.states || []) this.bar(colours[bar[0]], bar[1], bar[2], row.middle + 3, STATE);
-    for (const bar of row.limited || []) this.bar(colours.limited, bar[0], bar[1], row.top - 6, 5);
+    if (row.limited) this.limits(row);
     if (row.fills) this.fills(row, row.bottom - 4);
-    for (const [kind, frame] of row.marks || []) this.mark(kind, frame, kind === "mixer" ? row.top - 3 : row.middle + 6);
+    this.marks(row);
     if (row.kind === "device") this.left(row);
   }
 
@@ -174,6 +174,11 @@ class Painter {
     this.pen.fillRect(left, y, right - left, height);
   }
 
+  limits(row) {
+    const { axis } = this, near = axis.seen() / axis.width;
+    for (const [begin, end] of row.limited.among(axis.begin, axis.end, near)) this.bar(colours.limited, begin, end, row.top - 6, 5);
+  }
+
   framed(bar, y, height) {
     const { pen, axis } = this, left = axis.across(bar[0]), right = Math.max(axis.across(bar[1]), left + 2);
     if (right <= 0 || left >= axis.width) return;
@@ -232,9 +237,19 @@ class Painter {
     pen.fill();
   }
 
-  mark(kind, frame, y) {
-    const x = this.axis.across(frame), pen = this.pen;
-    if (x < -5 || x > this.axis.width + 5) return;
+  /** Draws the marks of a row, of those of a kind that touch each other the first. */
+  marks(row) {
+    const last = {};
+    for (const [kind, frame] of row.marks || []) {
+      const x = this.axis.across(frame);
+      if (x < -5 || x > this.axis.width + 5 || Math.abs(x - last[kind]) < 4) continue;
+      this.mark(kind, x, kind === "mixer" ? row.top - 3 : row.middle + 6);
+      last[kind] = x;
+    }
+  }
+
+  mark(kind, x, y) {
+    const { pen } = this;
     [pen.strokeStyle, pen.fillStyle, pen.lineWidth] = [colours.mark, kind === "mixer" ? colours.ground : colours.mark, 1.5];
     pen.stroke(MARKS[kind](x, y));
     if (kind !== "dropped") pen.fill(MARKS[kind](x, y));

@@ -89,10 +89,11 @@ class Stage {
   /** What the bars and marks of a row say at a place. */
   saysAt(row, x) {
     const frame = this.axis.frameAt(x), near = 5 * this.axis.seen() / this.axis.width;
-    const bars = [...(row.short || []), ...(row.limited || [])].filter(([begin, end]) => begin <= frame && frame < end);
+    const bars = (row.short || []).filter(([begin, end]) => begin <= frame && frame < end), limit = row.limited ? row.limited.at(frame) : -1;
     const states = (row.states || []).filter(([, begin, end]) => begin <= frame && frame < end);
     const marks = (row.marks || []).filter(([, at]) => Math.abs(at - frame) <= near);
-    return [...marks, ...bars, ...states].map((it) => it[it.length - 1]).join("\n");
+    const limits = limit < 0 ? [] : [row.limited.says(limit)];
+    return [...[...marks, ...bars, ...states].map((it) => it[it.length - 1]), ...limits].join("\n");
   }
 }
 

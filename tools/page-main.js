@@ -4,7 +4,8 @@
 function happensOf(page) {
   const found = page.groups.map(([frame, , says]) => [frame, says]);
   for (const row of page.rows) {
-    for (const it of [...(row.short || []), ...(row.limited || [])]) found.push([it[0], it[2]]);
+    for (const it of row.short || []) found.push([it[0], it[2]]);
+    for (let at = 0; row.limited && at < row.limited.count; at += 1) found.push([row.limited.begins[at], row.limited.says(at)]);
     for (const it of row.states || []) found.push([it[1], it[3]]);
     for (const it of row.marks || []) found.push([it[1], it[2]]);
   }
@@ -21,6 +22,7 @@ async function readPage() {
   for (const row of page.rows) {
     row.sources = row.sources.map((it) => new Source(it, page.tracks));
     await Promise.all(row.sources.map((it) => it.read()));
+    if (row.limited) row.limited = new Limits(new Int32Array(await blob(row.limited.rows)), row.limited.says);
     if (row.fills) row.fills.places = new Map(row.fills.levels.map((levels) => [levels, levels.map((it) => it[0])]));
   }
   page.happens = happensOf(page);
@@ -39,6 +41,7 @@ async function readParts(page, app) {
     reachOf(page);
     app.stage.resize();
   }
+  for (const track of page.tracks) await track.readCopy();
   reachOf(page);
   app.stage.resize();
 }

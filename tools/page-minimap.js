@@ -82,9 +82,10 @@ class Minimap {
     pen.fillStyle = colours.mark;
     for (const { at } of page.clicks) pen.fill(new Path2D(`M${axis.across(at) - 3} 0h6l-3 5z`));
     for (const row of page.rows) {
-      for (const [kind, y] of [["short", 29], ["limited", 29]]) {
+      const limited = row.limited ? row.limited.among(0, page.frames, axis.seen() / axis.width) : [];
+      for (const [kind, bars] of [["short", row.short || []], ["limited", limited]]) {
         pen.fillStyle = colours[kind];
-        for (const [begin, end] of row[kind] || []) pen.fillRect(axis.across(begin), y, Math.max(axis.across(end) - axis.across(begin), 2), 4);
+        for (const [begin, end] of bars) pen.fillRect(axis.across(begin), 29, Math.max(axis.across(end) - axis.across(begin), 2), 4);
       }
     }
   }

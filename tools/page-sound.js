@@ -1,18 +1,9 @@
 /** Plays the sound of a row, from a place on, as often as wanted. */
 
-const LEVEL = Math.log(256);
-
-/** The samples of a copy to listen to, whose steps grow with the level. */
-const LISTENED = Float32Array.from({ length: 256 }, (_, code) => {
-  const value = code < 128 ? code : code - 256;
-  return Math.sign(value) * (Math.exp(Math.abs(value) / 127 * LEVEL) - 1) / 255;
-});
-
 class Player {
   constructor(whenEnded) {
     this.whenEnded = whenEnded;
     this.node = null;
-    this.copies = new Map();
   }
 
   /** Begins to play frames of a sound, from one of them on; those from begin to end again and again where that is wanted. */
@@ -62,19 +53,18 @@ class Player {
   async heardOf(track, begin, end) {
     const isWhole = track.isWhole(begin, end);
     if (!isWhole && !track.copy) throw new Error("the sound isn't in this file");
-    const lanes = isWhole ? wholeLanes(track, begin, end) : await this.copied(track, begin, end);
+    const lanes = isWhole ? wholeLanes(track, begin, end) : await copied(track, begin, end);
     const rate = isWhole ? track.rate : track.rate / track.copy.every;
     const buffer = bufferOf(this.context, lanes, rate, track.channels);
     return { buffer, isWhole };
   }
+}
 
-  /** The copy to listen to of some frames. */
-  async copied(track, begin, end) {
-    const { every, channels } = track.copy;
-    if (!this.copies.has(track)) this.copies.set(track, new Uint8Array(await blob(track.copy.blob)));
-    const codes = this.copies.get(track), length = codes.length / channels, from = Math.floor(begin / every), to = Math.min(Math.floor(end / every), length);
-    return Array.from({ length: channels }, (_, at) => heardCodes(codes.subarray(at * length + from, at * length + to)));
-  }
+/** The copy to listen to of some frames. */
+async function copied(track, begin, end) {
+  await track.readCopy();
+  const { every } = track.copy;
+  return track.codes.map((codes) => heardCodes(codes.subarray(Math.floor(begin / every), Math.floor(end / every))));
 }
 
 function heardCodes(codes) {

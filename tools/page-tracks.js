@@ -1,7 +1,15 @@
 /** The sounds of the page: whole frames where it has them, and the least and the greatest of many everywhere. */
 
 const ARRAYS = { 1: Int8Array, 2: Int16Array, 4: Int32Array };
-const WHOLE = 2, BLOCKS = 1, NOTHING = 0;
+// how well samples are known: as they are, by a copy or by blocks, or not at all
+const WHOLE = 2, ROUGH = 1, NOTHING = 0;
+const LEVEL = Math.log(256);
+
+/** The samples of a copy to listen to, whose steps grow with the level. */
+const LISTENED = Float32Array.from({ length: 256 }, (_, code) => {
+  const value = code < 128 ? code : code - 256;
+  return Math.sign(value) * (Math.exp(Math.abs(value) / 127 * LEVEL) - 1) / 255;
+});
 
 class Track {
   constructor(told) {
@@ -24,6 +32,13 @@ class Track {
   async readPart(at) {
     const [begin, end, name] = this.chunks[at], numbers = new ARRAYS[this.width](await blob(name));
     this.parts[at] = Array.from({ length: this.channels }, (_, channel) => numbers.subarray(channel * (end - begin), (channel + 1) * (end - begin)));
+  }
+
+  /** Reads the copy to listen to: of each of its channels the codes of its samples. */
+  async readCopy() {
+    if (!this.copy || this.codes) return;
+    const codes = new Uint8Array(await blob(this.copy.blob)), length = codes.length / this.copy.channels;
+    this.codes = Array.from({ length: this.copy.channels }, (_, at) => codes.subarray(at * length, (at + 1) * length));
   }
 
   sort() {
@@ -60,6 +75,7 @@ class Track {
     if (first >= last) return NOTHING;
     const isFew = last - first <= 2 * this.block || !this.pyramid.length;
     if (isFew && this.isWhole(first, last)) return this.exactly(first, last, channel, into);
+    if (last - first < this.block && this.codes) return this.copied(first, last, channel, into);
     return this.pyramid.length ? this.roughly(first, last, channel, into, this.levelFor(last - first)) : NOTHING;
   }
 
@@ -76,6 +92,21 @@ class Track {
     into[0] = least;
     into[1] = most;
     return WHOLE;
+  }
+
+  copied(begin, end, channel, into) {
+    const codes = this.codes[Math.min(channel, this.codes.length - 1)], { every } = this.copy;
+    const last = Math.min(Math.max(Math.ceil(end / every), Math.floor(begin / every) + 1), codes.length);
+    let least = Infinity, most = -Infinity;
+    for (let at = Math.floor(begin / every); at < last; at += 1) {
+      const value = LISTENED[codes[at]];
+      if (value < least) least = value;
+      if (value > most) most = value;
+    }
+    if (least > most) return NOTHING;
+    into[0] = least * this.full;
+    into[1] = most * this.full;
+    return ROUGH;
   }
 
   /** The level whose blocks are as large as so many frames, or smaller. */
@@ -95,7 +126,7 @@ class Track {
     }
     into[0] = least * this.shift;
     into[1] = most * this.shift;
-    return end - begin < this.block ? BLOCKS : WHOLE;
+    return end - begin < this.block ? ROUGH : WHOLE;
   }
 
   /** How far its samples reach on either side. */

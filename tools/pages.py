@@ -22,6 +22,8 @@ FOLDER = pathlib.Path(__file__).resolve().parent
 PARTS = ("data", "tracks", "axis", "colours", "draw", "minimap", "sound", "script", "reasons", "lanes", "keys", "app", "controls", "main")
 # so many clicks are told, and so many frames have their reasons
 CLICKS, REASONED = 20, 1 << 13
+# so many bars of limits a row has at most
+LIMITS = 10000
 # what is kept for what is told of the sounds
 MARGIN = 100_000
 MEGABYTE = 1_000_000
@@ -80,9 +82,17 @@ def mixers(shown, slot):
     return [["mixer", frame, words] for frame, words in mixers_of(shown, slot)]
 
 
-def limited_bars(shown, rows, whose):
-    """Bars of limits, whose frames are those of the mix."""
-    return [[shown.along.place(begin), shown.along.place(end - 1) + 1, f"{whose} in frames {begin} to {end - 1} of the mix"] for begin, end in rows]
+def fewer(rows, most=LIMITS):
+    """Rows of frames, those near each other joined where they are too many. Answers how near."""
+    gap = 0
+    while len(rows) > most:
+        gap, found = 2 * gap + 16, []
+        for begin, end in rows:
+            if found and begin - found[-1][1] <= gap:
+                begin = found.pop()[0]
+            found.append((begin, end))
+        rows = found
+    return rows, gap
 
 
 class Page:
@@ -134,11 +144,17 @@ class Page:
             return Source(track, self.ring, None)
         return Source(self.track(f"{name}, as it is mixed", sound, sum(self.played.mixed())), 0, self.shown.along)
 
+    def limited(self, rows, whose):
+        """Bars of limits: where each begins and ends, and which frames of the mix these are."""
+        rows, gap = fewer(rows)
+        numbers = (it for begin, end in rows for it in (self.shown.along.place(begin), self.shown.along.place(end - 1) + 1, begin, end - 1))
+        return {"says": f"{whose} in {'some of ' * (gap > 0)}frames", "rows": hold(self.room, little(array.array("i", numbers)))}
+
     def slot_row(self, slot, row):
         shown, clients = self.shown, self.shown.of_slot(slot)
         bars = bars_of(shown, clients, row.name)
         bars["marks"] += mixers(shown, slot)
-        limited = limited_bars(shown, shown.clipped[slot], f"{row.name} is limited by its own stages")
+        limited = self.limited(shown.clipped[slot], f"{row.name} is limited by its own stages")
         rings = fills_of([it for it in clients if it.opening.way == "play"])
         source = self.mixed_source(row.name, shown.given[slot], self.heard[slot])
         return self.row(row, [source], slot=slot, stem=self.tracks.index(self.heard[slot]), limited=limited, fills=rings, **bars)
@@ -146,7 +162,7 @@ class Page:
     def mix_row(self, row):
         shown = self.shown
         frames = sum(self.played.mixed()) if shown.own else shown.total
-        limited = limited_bars(shown, limits_of(shown.given, [(0, frames)]).rows, "limited")
+        limited = self.limited(limits_of(shown.given, [(0, frames)]).rows, "limited")
         return self.row(row, [self.mixed_source("the mix", shown.mix, self.out)], limited=limited, marks=mixers(shown, None))
 
     def device_row(self, row):
