@@ -45,7 +45,8 @@ class App {
   async play() {
     const source = this.source(), selection = this.stage.selection;
     if (!source) return this.tell("This row has no sound.");
-    const limits = [0, source.track.frames], span = selection ? selection.map((it) => Math.min(Math.max(Math.round(source.inside(it)), 0), limits[1])) : limits;
+    const { frames } = source.track, inside = (it) => Math.min(Math.max(Math.round(source.inside(it)), 0), frames);
+    const span = selection ? selection.map(inside) : [0, frames];
     let from = Math.floor(source.inside(this.cursor));
     if (from < span[0] || from >= span[1] - 1) from = span[0];
     try {
@@ -119,8 +120,14 @@ class App {
     const sorted = frames && frames.map((it) => Math.min(Math.max(Math.round(it), 0), this.page.frames)).sort((a, b) => a - b);
     this.stage.selection = sorted && sorted[1] > sorted[0] ? sorted : null;
     this.anchor = undefined;
-    byId("selection").textContent = this.stage.selection ? `selected: ${grouped(sorted[0])} to ${grouped(sorted[1] - 1)}, ${timeOf(sorted[1] - sorted[0], this.page.device.rate)}` : "";
+    byId("selection").textContent = this.selectedWords();
     this.stage.drawOverlay();
+  }
+
+  selectedWords() {
+    if (!this.stage.selection) return "";
+    const [begin, end] = this.stage.selection;
+    return `selected: ${grouped(begin)} to ${grouped(end - 1)}, ${timeOf(end - begin, this.page.device.rate)}`;
   }
 
   toggleLoop() {

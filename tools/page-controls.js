@@ -34,8 +34,10 @@ function fillControls(app) {
 }
 
 function listenToControls(app) {
-  const acts = { play: () => app.toggle(), loop: () => app.toggleLoop(), closer: () => app.zoom(1 / 2), farther: () => app.zoom(2), fit: () => app.fit(),
-    closest: () => app.closest(), before: () => app.event(-1), after: () => app.event(1), keys: () => byId("help").showModal() };
+  const acts = {
+    play: () => app.toggle(), loop: () => app.toggleLoop(), before: () => app.event(-1), after: () => app.event(1), farther: () => app.zoom(2),
+    closer: () => app.zoom(1 / 2), fit: () => app.fit(), closest: () => app.closest(), keys: () => byId("help").showModal(),
+  };
   for (const [id, act] of Object.entries(acts)) byId(id).addEventListener("click", act);
   byId("source").addEventListener("change", () => app.choose(Number(byId("source").value)));
   byId("speed").addEventListener("change", () => { if (app.player.isOn()) { app.cursor = app.player.place(); app.play(); } });

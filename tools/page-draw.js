@@ -35,9 +35,11 @@ class LaneImage {
   /** Begins with the ground of a lane from one place to another one, and a line through its middle. */
   ground(from, to, ratio) {
     const { width, height, pixels } = this, left = Math.min(Math.max(from, 0), width), right = Math.min(Math.max(to, left), width);
+    const middle = Math.floor(height / 2), lane = pixelOf(colours.lane), line = pixelOf(colours.line);
     pixels.fill(pixelOf(colours.ground));
-    for (let y = 0; y < height; y += 1) pixels.fill(pixelOf(colours.lane), y * width + left, y * width + right);
-    for (let y = Math.floor(height / 2); y < Math.floor(height / 2) + Math.round(ratio); y += 1) pixels.fill(pixelOf(colours.line), y * width + left, y * width + right);
+    for (let y = 0; y < height; y += 1) {
+      pixels.fill(y >= middle && y < middle + Math.round(ratio) ? line : lane, y * width + left, y * width + right);
+    }
   }
 
   stroke(x, from, to, pixel) {
@@ -110,8 +112,9 @@ class Painter {
 
   /** Draws a lane as an image: its ground, its middle and its samples in columns; or the samples by themselves where there is room. */
   lane(row, channel, end) {
-    const top = row.top + channel * row.lane, ratio = this.canvas.width / this.axis.width, image = imageOf(this.canvas.width, Math.round((row.lane - 2) * ratio));
-    const sources = row.sources.filter((it) => it.track.channels === row.channels), middle = image.height / 2, half = middle - 3 * ratio;
+    const top = row.top + channel * row.lane, ratio = this.canvas.width / this.axis.width;
+    const image = imageOf(this.canvas.width, Math.round((row.lane - 2) * ratio)), middle = image.height / 2, half = middle - 3 * ratio;
+    const sources = row.sources.filter((it) => it.track.channels === row.channels);
     image.ground(Math.round(this.axis.across(0) * ratio), Math.round(end * ratio), ratio);
     const single = sources.map((it) => this.axis.width / this.axis.seen() * (it.begins ? this.density(it) : 1));
     const isSingle = sources.map((it, at) => single[at] >= DOTS && this.isThere(row, it));
@@ -121,7 +124,8 @@ class Painter {
   }
 
   columns(row, source, channel, image, middle, half) {
-    const count = image.width, { lows, highs, known } = this.rows(count), scale = half / row.reach, colour = pixelOf(colours[row.kind]), faint = pixelOf(colours.faint);
+    const count = image.width, { lows, highs, known } = this.rows(count), scale = half / row.reach;
+    const colour = pixelOf(colours[row.kind]), faint = pixelOf(colours.faint);
     source.columns(this.axis, count, row.end, channel, lows, highs, known);
     for (let x = 0; x < count; x += 1) {
       if (!known[x] || !lows[x] && !highs[x]) continue;
@@ -132,7 +136,8 @@ class Painter {
 
   /** Rows for so many columns. */
   rows(count) {
-    if (!this.found || this.found.lows.length < count) this.found = { lows: new Float64Array(count), highs: new Float64Array(count), known: new Uint8Array(count) };
+    if (this.found && this.found.lows.length >= count) return this.found;
+    this.found = { lows: new Float64Array(count), highs: new Float64Array(count), known: new Uint8Array(count) };
     return this.found;
   }
 

@@ -29,7 +29,8 @@ const KEYS = {
 
 function listenToKeys(app) {
   document.addEventListener("keydown", (event) => {
-    const isTyped = event.target.closest("input, select, dialog, #script"), isPressed = event.target.closest("button, summary") && [" ", "Enter"].includes(event.key);
+    const isTyped = event.target.closest("input, select, dialog, #script");
+    const isPressed = event.target.closest("button") && [" ", "Enter"].includes(event.key);
     if (isTyped || isPressed || event.ctrlKey || event.metaKey || event.altKey || !KEYS[event.key]) return;
     event.preventDefault();
     KEYS[event.key](app, event);

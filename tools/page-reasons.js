@@ -94,7 +94,8 @@ class Reasons {
     button.addEventListener("click", () => copyText(words, button));
     const row = element("p", "command");
     row.append(element("code", "", words), button);
-    return [element("p", "note", isKnown ? "The same on a terminal:" : "The reasons of this frame aren't in this file. This command tells them:"), row];
+    const note = isKnown ? "The same on a terminal:" : "The reasons of this frame aren't in this file. This command tells them:";
+    return [element("p", "note", note), row];
   }
 
   /** A text in which each `line N` is a button that goes there. */

@@ -38,10 +38,12 @@ class ScriptList {
     made.style.top = `${(line - 1) * HIGH}px`;
     made.dataset.line = line;
     made.id = `line-${line}`;
-    for (const [name, value] of [["role", "option"], ["aria-posinset", line], ["aria-setsize", this.count], ["aria-selected", line === this.chosen]]) made.setAttribute(name, value);
+    const told = { role: "option", "aria-posinset": line, "aria-setsize": this.count, "aria-selected": line === this.chosen };
+    for (const [name, value] of Object.entries(told)) made.setAttribute(name, value);
     if (line === this.chosen) made.classList.add("chosen");
     if (line === this.present) made.classList.add("present");
-    made.append(element("span", "number", String(line)), this.textOf(text, event), element("span", reply.startsWith("ok") ? "reply" : "reply refused", reply));
+    const kind = reply.startsWith("ok") ? "reply" : "reply refused";
+    made.append(element("span", "number", String(line)), this.textOf(text, event), element("span", kind, reply));
     made.title = text.length > SHOWN ? `${text.slice(0, SHOWN)}..` : text;
     return made;
   }

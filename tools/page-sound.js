@@ -44,7 +44,8 @@ class Player {
 
   /** Where on the axis the sound is that is heard now. */
   place() {
-    const [begin, end] = this.span, passed = (this.context.currentTime - this.begun - (this.context.outputLatency || 0)) * this.source.track.rate * this.speed;
+    const [begin, end] = this.span, seconds = this.context.currentTime - this.begun - (this.context.outputLatency || 0);
+    const passed = seconds * this.source.track.rate * this.speed;
     const at = this.from - begin + Math.max(passed, 0), length = end - begin;
     return this.source.outside(begin + (this.isLoop ? at % length : Math.min(at, length)));
   }
