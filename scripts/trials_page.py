@@ -156,7 +156,21 @@ def try_page_script(program, folder):
         tab.wait("document.querySelector('.present') !== null")
         tab.key("ArrowDown")
         equal("another row", tab.value("document.querySelector('.choose[aria-pressed=true]').textContent"), "slot 0")
+        look_at_media(tab)
         look_at_silence("the script", tab, tab.value("location.href"))
+
+
+def look_at_media(tab):
+    """Dark and light are those of the system, a narrow window has no part that is wider, and what is printed is the picture."""
+    ground = "getComputedStyle(document.body).backgroundColor"
+    for scheme, wanted in (("dark", "rgb(20, 24, 29)"), ("light", "rgb(255, 255, 255)")):
+        tab.ask("Emulation.setEmulatedMedia", features=[{"name": "prefers-color-scheme", "value": scheme}])
+        equal(f"the ground where it is {scheme}", tab.value(ground), wanted)
+    tab.resize(380, 700)
+    equal("a narrow window", tab.value("document.documentElement.scrollWidth"), 380)
+    tab.ask("Emulation.setEmulatedMedia", media="print")
+    shown_parts = "['picture', 'stage'].map((it) => document.getElementById(it).checkVisibility())"
+    equal("what is printed", (tab.value(shown_parts), tab.value("document.getElementById('picture').naturalWidth")), ([True, False], 1000))
 
 
 def try_page_names(program, folder):

@@ -169,7 +169,8 @@ class Painter {
     pen.fillRect(x, Math.min(y, middle), width, Math.max(Math.abs(y - middle), 1));
     if (wide < room + 4) return;
     pen.fillStyle = colours.text;
-    pen.fillText(String(value), x + width + 2, Math.min(Math.max(y + 4, middle - half + 9), middle + half));
+    const level = value < 0 ? Math.max(y + 4, middle + 11) : Math.min(y + 4, middle - 3);
+    pen.fillText(String(value), x + width + 2, Math.min(Math.max(level, middle - half + 9), middle + half));
   }
 
   bar(colour, begin, end, y, height) {
