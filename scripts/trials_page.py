@@ -238,6 +238,9 @@ def try_page_words(program, folder):
     for words in ([short, "--out", folder], [short, "--out", "/dev/full"], [folder / "gone"], [short, "--from", "99999"]):
         status, said, errors = called("page", *words, "--program", program)
         equal(f"page {words}", (status, said, errors.count("\n"), "Traceback" in errors), (1, "", 1, False))
+    (folder / "large").write_text("".join(f"# {random.Random(at).getrandbits(4000):x}\n" for at in range(3000)) + "intr 4\n")
+    equal("a page without room", called("page", folder / "large", "--megabytes", 1, "--out", folder / "x.html", "--program", program), (
+        1, "", "page: the page would be larger than it may be, even without its sound: --megabytes N allows more\n"))
     equal("standard input and output", called("page", "-", "--out", "-", "--program", program, stdin="intr 4\n")[:2][1].startswith("<!doctype html>"), True)
 
 

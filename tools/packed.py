@@ -2,12 +2,13 @@
 import array
 import base64
 import functools
+import hashlib
 import math
 import operator
 import sys
 import zlib
 
-from commands import told
+from commands import fail, told
 from sounds import WIDTH, full_scale
 
 # so many frames one number of the lowest level stands for, and so many times that one of each level above; shorter sounds have no levels
@@ -44,14 +45,20 @@ class Room:
 
     def put(self, data):
         """Holds bytes. Answers their name, or None where there is no room. What is there already is held once."""
-        if data not in self.known:
+        key = hashlib.sha256(data).digest()
+        if key not in self.known:
             text = packed(data)
             if len(text) > self.left:
                 return None
             self.left -= len(text)
-            self.known[data] = str(len(self.blobs))
-            self.blobs[self.known[data]] = text
-        return self.known[data]
+            self.known[key] = str(len(self.blobs))
+            self.blobs[self.known[key]] = text
+        return self.known[key]
+
+    def hold(self, data):
+        """Holds what no page goes without."""
+        name = self.put(data)
+        return fail("the page would be larger than it may be, even without its sound: --megabytes N allows more") if name is None else name
 
 
 def without(begin, end, rows):
@@ -91,7 +98,7 @@ class Track:
         lows, highs = self.extremes()
         while lows and len(lows[0]) > 1:
             data = b"".join(little(array.array("h", it)) for pair in zip(lows, highs) for it in pair)
-            self.levels.append([len(lows[0]), room.put(data)])
+            self.levels.append([len(lows[0]), room.hold(data)])
             lows, highs = ([[which(it[k:k + TIMES]) for k in range(0, len(it), TIMES)] for it in every] for every, which in ((lows, min), (highs, max)))
 
     def extremes(self):
@@ -217,8 +224,9 @@ class Packer:
         words = " ".join(["tools/page", *names])
         copy = self.page.out.copy
         heard = f", and a copy to listen to, of {self.page.out.device.rate // copy['every']} Hz with 8 bits" if copy else ", and no sound"
-        return [f"This file has at most {megabytes} MB. Frames {self.whole[0]} to {max(self.whole[1] - 1, self.whole[0])} are in it whole, and those around each click."
-                f" Elsewhere it has the least and the greatest of each {BLOCK} frames{heard}.",
+        begin, end = self.whole
+        whole = f"Frames {begin} to {end - 1} are in it whole, and those around each click." if end > begin else "Frames around clicks are in it whole."
+        return [f"This file has at most {megabytes} MB. {whole} Elsewhere it has the least and the greatest of each {BLOCK} frames{heard}.",
                 f"For other frames: {words} --from 1:00 --to 1:02", f"For a larger file: {words} --megabytes {4 * megabytes}"]
 
     def put_copies(self):

@@ -10,7 +10,7 @@ import re
 import shlex
 
 from clicks import clicks_of, told_click
-from commands import fail, version
+from commands import version
 from packed import Packer, Room, Track, little, packed
 from rows import rows_of
 from sheet import picture
@@ -41,20 +41,14 @@ def title_of(names):
 def numbers(room, values):
     """Holds whole numbers, each as its difference to the one before."""
     found = array.array("i", values)
-    return hold(room, little(array.array("i", (b - a for a, b in zip([0, *found], found)))))
-
-
-def hold(room, data):
-    """Holds what no page goes without."""
-    name = room.put(data)
-    return fail("the page is too large without its sound: --megabytes N asks for a larger one") if name is None else name
+    return room.hold(little(array.array("i", (b - a for a, b in zip([0, *found], found)))))
 
 
 def script_of(room, played, text):
     """The lines of a script, its events with the frame at which each comes, and their replies."""
     lines = [it[:-1] if it.endswith("\r") else it for it in text.split("\n")]
     handed = [played.handed(at) for at in range(len(played.script.events))]
-    texts = [hold(room, "\n".join(it).encode("utf-8", "replace")) for it in (lines, played.replies[:len(handed)])]
+    texts = [room.hold("\n".join(it).encode("utf-8", "replace")) for it in (lines, played.replies[:len(handed)])]
     return {"lines": texts[0], "replies": texts[1], "numbers": numbers(room, played.script.numbers), "frames": numbers(room, handed),
             "turns": numbers(room, played.turns), "ends": numbers(room, played.ends)}
 
@@ -133,10 +127,12 @@ class Page:
         """What all rows have."""
         self.alongs.update({id(it.track): it.along for it in sources})
         told = [{"track": self.tracks.index(it.track), "offset": it.offset, "along": self.along(it)} for it in sources]
-        return {"kind": row.lanes.kind, "name": row.name, "words": row.words, "channels": row.lanes.channels, "names": row.lanes.names(), "sources": told, "end": row.lanes.end, **more}
+        lanes = row.lanes
+        return {"kind": lanes.kind, "name": row.name, "words": row.words, "channels": lanes.channels, "names": lanes.names(), "sources": told,
+                "end": lanes.end, **more}
 
     def along(self, source):
-        return hold(self.room, little(array.array("i", (it for row in source.along.rows for it in row)))) if source.along else None
+        return self.room.hold(little(array.array("i", (it for row in source.along.rows for it in row)))) if source.along else None
 
     def mixed_source(self, name, sound, track):
         """The frames of a slot or of the mix, which stand where they are mixed."""
@@ -148,7 +144,7 @@ class Page:
         """Bars of limits: where each begins and ends, and which frames of the mix these are."""
         rows, gap = fewer(rows)
         numbers = (it for begin, end in rows for it in (self.shown.along.place(begin), self.shown.along.place(end - 1) + 1, begin, end - 1))
-        return {"says": f"{whose} in {'some of ' * (gap > 0)}frames", "rows": hold(self.room, little(array.array("i", numbers)))}
+        return {"says": f"{whose} in {'some of ' * (gap > 0)}frames", "rows": self.room.hold(little(array.array("i", numbers)))}
 
     def slot_row(self, slot, row):
         shown, clients = self.shown, self.shown.of_slot(slot)
@@ -157,7 +153,7 @@ class Page:
         limited = self.limited(shown.clipped[slot], f"{row.name} is limited by its own stages")
         rings = fills_of([it for it in clients if it.opening.way == "play"])
         source = self.mixed_source(row.name, shown.given[slot], self.heard[slot])
-        return self.row(row, [source], slot=slot, stem=self.tracks.index(self.heard[slot]), limited=limited, fills=rings, **bars)
+        return self.row(row, [source], limited=limited, fills=rings, **bars)
 
     def mix_row(self, row):
         shown = self.shown
@@ -192,10 +188,10 @@ class Page:
         device, played = self.shown.device, self.played
         return {
             "title": title_of(names), "version": version(), "script": script_of(self.room, played, text), "ring": self.ring, "total": self.shown.total,
-            "frames": self.out.frames, "own": self.shown.own,
-            "device": {"format": device.format, "channels": device.channels, "rate": device.rate},
+            "frames": self.out.frames, "device": {"format": device.format, "channels": device.channels, "rate": device.rate},
             "files": ["SCRIPT" if it == "-" else shlex.quote(it) for it in names if it], "rows": self.rows, "groups": list(self.groups()),
-            "clicks": [{"at": it.at, "does": it.does, "size": it.size, "says": told_click(played, it)} for it in self.clicks], "whys": self.whys.told([*self.tracks, *self.sums])}
+            "clicks": [{"at": it.at, "says": told_click(played, it)} for it in self.clicks],
+            "whys": self.whys.told([*self.tracks, *self.sums])}
 
 
 def script_tag(name, text):
