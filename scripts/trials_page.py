@@ -16,7 +16,7 @@ COLOURS = """(() => { const it = document.getElementById("waves"), data = it.get
 for (let at = 0; at < data.length; at += 40) found.add(data[at] << 16 | data[at + 1] << 8 | data[at + 2]); return found.size; })()"""
 # the lines of the reason that is shown, as tools/explain prints them
 LINES = """[...document.querySelectorAll("#why .why > p:not(.gains, .note, .command, .before)")].map((it) => (it.className === "inner" ? "  " : "") + it.textContent)"""
-FOCUS = "document.getElementById('stage').focus()"
+FOCUS = "document.getElementById('drawn').focus()"
 # a wave of a name that would be run, if it were not escaped, and a comment and a script that would
 STRANGE = "<script>window.wrong=1<\u2044script><img src=x onerror=window.wrong=1>"
 
@@ -92,7 +92,7 @@ def look_at_frames(program, tab, script, configs):
     if wanted:
         equal(f"the reason of frame {frame} of {script.name}", found, wanted)
     tab.key("ArrowRight")
-    equal(f"a step at the closest of {script.name}", frame_of(tab), min(frame + 1, int(tab.value("document.getElementById('stage').getAttribute('aria-valuemax')"))))
+    equal(f"a step at the closest of {script.name}", frame_of(tab), min(frame + 1, int(tab.value("document.getElementById('drawn').getAttribute('aria-valuemax')"))))
 
 
 def look_at_sound(name, tab):

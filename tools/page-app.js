@@ -86,8 +86,8 @@ class App {
     this.stage.drawOverlay();
     byId("time").textContent = words;
     if (this.player.isOn()) return;
-    byId("stage").setAttribute("aria-valuenow", frame);
-    byId("stage").setAttribute("aria-valuetext", words);
+    byId("drawn").setAttribute("aria-valuenow", frame);
+    byId("drawn").setAttribute("aria-valuetext", words);
   }
 
   /** Sets the cursor to a frame, and shows it. */
@@ -169,7 +169,7 @@ class App {
     this.select(null);
     if (row) this.choose(this.page.rows.indexOf(row));
     this.go(frame);
-    byId("stage").focus({ preventScroll: true });
+    byId("drawn").focus({ preventScroll: true });
   }
 
   /** Tells why a frame is what it is: of the device that which is handed over there, of slots and the mix that which is mixed there. */

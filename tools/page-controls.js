@@ -26,7 +26,7 @@ function fillControls(app) {
   byId("title").textContent = page.title;
   byId("made").textContent = `This page was made by tools/page of dsp_replay ${page.version}.`;
   page.rows.forEach((row, at) => byId("source").append(new Option(row.name, String(at))));
-  byId("stage").setAttribute("aria-valuemax", Math.max(page.frames - 1, 0));
+  byId("drawn").setAttribute("aria-valuemax", Math.max(page.frames - 1, 0));
   byId("notes").replaceChildren(...page.notes.map((it) => element("p", "", it)));
   byId("notes").hidden = !page.notes.length;
   fillLegend(page);
@@ -55,6 +55,6 @@ function listenToSearch(app) {
   box.addEventListener("input", () => { app.list.search(box.value); say(app.list.next(1)); });
   box.addEventListener("keydown", (event) => {
     if (event.key === "Enter") say(app.list.next(event.shiftKey ? -1 : 1));
-    if (event.key === "Escape") byId("stage").focus();
+    if (event.key === "Escape") byId("drawn").focus();
   });
 }
