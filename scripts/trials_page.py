@@ -110,7 +110,7 @@ def look_at_sound(name, tab):
 def look_at_examples(program, folder, which):
     """The pages of every third example, in a browser."""
     if not chromium():
-        print("tool-tests: there is no chromium, so pages are not looked at")
+        print("tool-tests: there is no chromium, so no page is looked at\n" * (which == 0), end="")
         return
     with Browser() as browser:
         for script in sorted((ROOT / "examples").glob("*/*.script"))[which::3]:
