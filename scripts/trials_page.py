@@ -156,8 +156,30 @@ def try_page_script(program, folder):
         tab.wait("document.querySelector('.present') !== null")
         tab.key("ArrowDown")
         equal("another row", tab.value("document.querySelector('.choose[aria-pressed=true]').textContent"), "slot 0")
+        tab.key(" ", " ")
+        look_at_selection(tab)
         look_at_media(tab)
         look_at_silence("the script", tab, tab.value("location.href"))
+
+
+def look_at_selection(tab):
+    """A drag selects, what is selected is played again and again, and the wheel shows fewer frames around the pointer."""
+    tab.key("0")
+    box = tab.value("(({ left, top, width }) => ({ left, top, width }))(document.getElementById('waves').getBoundingClientRect())")
+    at = [box["left"] + box["width"] * part for part in (0.25, 0.5)]
+    tab.press(at[0], box["top"] + 40, (at[1], box["top"] + 40))
+    begin, end = (int(it.replace("\u202f", "")) for it in re.match(r"selected: ([\d\u202f]+) to ([\d\u202f]+)", text_of(tab, "selection")).groups())
+    # of 3328 frames a quarter and a half
+    equal("what is selected", (abs(begin - 832) < 12, abs(end - 1663) < 12), (True, True))
+    tab.key(" ", " ")
+    before = tab.value("window.heard.currentTime")
+    tab.wait(f"window.heard.currentTime > {before} + 0.1")
+    equal("a loop over the selection", [at for at in (frame_of(tab) for _ in range(5)) if not begin <= at <= end], [])
+    tab.key(" ", " ")
+    tab.key("Escape")
+    tab.wheel(at[0], box["top"] + 40, -600)
+    tab.wait("!document.getElementById('seen').hidden && parseFloat(document.getElementById('seen').style.width) < 300")
+    equal("nothing is selected", text_of(tab, "selection"), "")
 
 
 def look_at_media(tab):
