@@ -198,6 +198,6 @@ class App {
   }
 
   tell(text) {
-    byId("status").textContent = text;
+    byId("status").textContent = byId("status").title = text;
   }
 }

@@ -2,7 +2,7 @@
 
 /** Leaves out of the legend what doesn't occur. */
 function fillLegend(page) {
-  const kinds = new Set(page.notes.length ? ["faint"] : []);
+  const kinds = new Set(page.notes.length ? ["other", "faint"] : ["other"]);
   for (const row of page.rows) {
     kinds.add(row.kind);
     if (row.short && row.short.length) kinds.add("short");

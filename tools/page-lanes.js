@@ -74,10 +74,21 @@ class Stage {
   drawOverlay() {
     const { axis, map } = this, width = map.axis.width;
     for (const it of document.querySelectorAll(".cursor")) moveTo(it, axis.across(this.cursor), 0, axis.width);
+    this.drawOther();
     moveTo(byId("map-cursor"), map.axis.across(this.cursor), 0, width);
     const [begin, end] = this.selection || [0, 0];
     stretch(byId("selected"), axis.across(begin), axis.across(end), axis.width);
     stretch(byId("seen"), axis.begin * width / map.axis.frames, axis.end * width / map.axis.frames, width);
+  }
+
+  /** A dashed line where the frame that is handed over at the cursor is mixed; or, in a slot or the mix, where it is handed over. */
+  drawOther() {
+    const { rows, ring } = this.page, it = byId("other"), device = rows.find(({ kind }) => kind === "device"), { kind } = rows[this.chosen];
+    const isDevice = kind === "device", at = this.cursor + (isDevice ? -ring : ring);
+    const [top, bottom] = isDevice ? [0, device.top - ABOVE] : [device.top, device.bottom];
+    moveTo(it, this.axis.across(at), 0, this.axis.width);
+    if (kind === "recording" || at < 0 || at >= this.page.frames) it.hidden = true;
+    [it.style.top, it.style.height] = [`${top}px`, `${bottom - top}px`];
   }
 
   /** What stands at a point of the lanes: the row, and what its marks say. */
