@@ -224,22 +224,27 @@ class Painter {
     for (const levels of row.fills.most ? row.fills.levels : []) this.fill(levels, row.fills, floor);
   }
 
+  /** The steps of what waits; where they are too near each other to be told apart, the most in each column. */
   fill(levels, fills, floor) {
-    const { axis, pen } = this, first = Math.max(countUpTo(fills.places.get(levels), axis.begin) - 2, 0);
-    let y = floor, before = -2;
+    const { axis, pen } = this, { width } = axis, places = fills.places.get(levels), scale = FILL / fills.most;
+    const first = Math.max(countUpTo(places, axis.begin) - 2, 0), isDense = countUpTo(places, axis.end) - first > width, near = isDense ? 1 : 0.5;
+    let x = Math.max(axis.across(levels[first][0]), -1), most = levels[first][1], last = most;
     pen.fillStyle = colours.fill;
     pen.beginPath();
-    pen.moveTo(Math.max(axis.across(levels[first][0]), -1), floor);
-    for (let at = first; at < levels.length && before <= axis.width; at += 1) {
-      const x = Math.min(Math.max(axis.across(levels[at][0]), -1), axis.width + 1), level = floor - levels[at][1] * FILL / fills.most;
-      if (x - before >= 0.5) pen.lineTo(x, y);
-      y = x - before >= 0.5 ? level : Math.min(y, level);
-      pen.lineTo(x, y);
-      before = x - before >= 0.5 ? x : before;
-      const isLast = at + 1 === levels.length || axis.across(levels[at + 1][0]) - before >= 0.5;
-      if (isLast) pen.lineTo(x, y = level);
+    pen.moveTo(x, floor);
+    for (let at = first + 1; at < levels.length && x <= width; at += 1) {
+      const next = Math.min(axis.across(places[at]), width + 1), waiting = levels[at][1];
+      if (next - x >= near) {
+        pen.lineTo(x, floor - most * scale);
+        if (!isDense && last !== most) pen.lineTo(x, floor - last * scale);
+        pen.lineTo(next, floor - (isDense ? most : last) * scale);
+        [x, most] = [next, waiting];
+      }
+      most = Math.max(most, waiting);
+      last = waiting;
     }
-    pen.lineTo(Math.min(axis.across(levels[levels.length - 1][0]), axis.width + 1), floor);
+    pen.lineTo(x, floor - most * scale);
+    pen.lineTo(x, floor);
     pen.fill();
   }
 
