@@ -11,7 +11,7 @@ ghost use Rattle.pcm_numbers.specs.Answers.{call_fault_number, fault_number};
 ghost use Rattle.pcm_numbers.specs.declared.call_fault.CallFault.TheVariants.{Engine};
 ghost use Rattle.pcm_numbers.specs.declared.fault.NumbersFault.TheVariants.{Memory};
 ghost use Rattle.pcm_session.specs.Calls.{Interrupts, MakesCall, beside, call_number, count_number, done_number, handed_count, handed_number, open_number, read_into};
-ghost use Rattle.pcm_session.specs.Questions.{peek_told, ready_told, settings_told, slot_told};
+ghost use Rattle.pcm_session.specs.Questions.{peek_told, ready_told, told_settings, slot_told};
 ghost use Rattle.pcm_session.specs.Taken.{steps_left};
 ghost use Rattle.pcm_engine_c.specs.Told.{IsTold, IsWait, told_number};
 ghost use Rattle.pcm_session.specs.Events.{event_for_close, event_for_ioctl, event_for_join, event_for_mixer, event_for_open, event_for_poke, event_for_read, event_for_start, event_for_write};
@@ -320,7 +320,7 @@ pub extern "C" fn dsp_raw_settings(
 ) -> i32
     ensures same { engine.new.slot.session ≡ engine.old.slot.session }
     ensures told { IfSome engine.old.slot.session (λ session. IsTold
-        (settings_told (device_of session.of.engine) (desk_of session.of.engine) fd) result settings.old settings.new) }
+        (told_settings (device_of session.of.engine) (desk_of session.of.engine) fd) result settings.old settings.new) }
     ensures none { engine.old.slot.session ≡ None
         → (result ≡ call_fault_number Engine) × (settings.new ≡ settings.old) }
 {

@@ -1,5 +1,5 @@
 -- The number of a slot fits what a caller is told.
-use Rattle.std.proofs.Common.{◌≡◌, ℕ, ◌+◌, ◌<◌, ◌≤◌, ◌^◌, Some, None, length, refl, sym, ap, ◌∙◌, subst, arith}
+use Rattle.std.proofs.Common.{◌≡◌, ℕ, ◌<◌, ◌≤◌, ◌^◌, Some, None, length, refl, sym, subst, arith}
 use Rattle.std.specs.Prelude.{Option, option_map}
 use Rattle.std.proofs.lemmas.List.{length-map}
 use Rattle.pcm_fixed.proofs.Items.{items-count}
@@ -13,7 +13,7 @@ use Rattle.pcm_engine.specs.declared.engine.EngineOf.{EngineOf}
 use Rattle.pcm_engine.specs.Engines.{desk_of, device_of}
 use Rattle.pcm_engine.proofs.Turning.{held-few}
 use Rattle.pcm_status.specs.declared.status.ChannelStatus.{ChannelStatus}
-use Rattle.pcm_status.specs.Statuses.{held_status, status_of}
+use Rattle.pcm_status.specs.Statuses.{held_status, client_status}
 
 -- the slot of a status, if there is one
 abbrev slot_in : Option ChannelStatus → ℕ
@@ -41,5 +41,5 @@ held_few {B} engine fd (Some held) e =
     (sym (slot_by held.way _ _ _ (slot_number (length (desk_of engine).play) held.way held.slot) refl refl refl))
     (number_few held.way (length (desk_of engine).play) held.slot count (held-few engine.parent engine.descriptors fd held engine.apart e))
 
-pub status-few : {B : Type 0} (engine : EngineOf B) (fd : ℕ) (status : ChannelStatus) → status_of (device_of engine) (desk_of engine) fd ≡ Some status → status.slot < 2 ^ 32
+pub status-few : {B : Type 0} (engine : EngineOf B) (fd : ℕ) (status : ChannelStatus) → client_status (device_of engine) (desk_of engine) fd ≡ Some status → status.slot < 2 ^ 32
 status-few engine fd status is = subst (λ (found : Option ChannelStatus). slot_in found < 2 ^ 32) is (held_few engine fd (held_by (desk_of engine) fd) refl)

@@ -24,7 +24,7 @@ use Rattle.pcm_status.specs.declared.status.RunState.TheVariants.{Setup, Primed,
 use Rattle.pcm_status.specs.declared.status.SlotState.{SlotState}
 use Rattle.pcm_status.specs.declared.status.SlotState.TheVariants.{Free, Held, Closing}
 use Rattle.pcm_status.specs.declared.status.SlotStatus.{SlotStatus}
-use Rattle.pcm_status.specs.Statuses.{is_readable, is_writable, slot_status, status_of, would}
+use Rattle.pcm_status.specs.Statuses.{is_readable, is_writable, slot_status, client_status, would}
 use Rattle.pcm_status.specs.Waits.{WaitOf}
 use Rattle.pcm_session.specs.declared.questions.SettingsNumbers.{SettingsNumbers}
 use Rattle.pcm_session.specs.declared.questions.SlotNumbers.{SlotNumbers}
@@ -42,10 +42,10 @@ run_number Primed = 1
 run_number Running = 2
 run_number Draining = 3
 
-abbrev pub state_number : SlotState → ℕ
-state_number Free = 0
-state_number Held = 1
-state_number Closing = 2
+abbrev pub slot_state_number : SlotState → ℕ
+slot_state_number Free = 0
+slot_state_number Held = 1
+slot_state_number Closing = 2
 
 abbrev pub settings_numbers : ChannelStatus → SettingsNumbers
 settings_numbers status = record {
@@ -63,7 +63,7 @@ settings_numbers status = record {
 }
 
 abbrev pub slot_numbers : SlotStatus → SlotNumbers
-slot_numbers status = record { state = state_number status.state; frames = status.frames }
+slot_numbers status = record { state = slot_state_number status.state; frames = status.frames }
 
 -- ---- what is answered
 
@@ -80,8 +80,8 @@ abbrev pub status_told : Option ChannelStatus → Result SettingsNumbers ℤ
 status_told None = Err (refusal_number BadF)
 status_told (Some status) = Ok (settings_numbers status)
 
-abbrev pub settings_told : DeviceSeen → Desk → ℕ → Result SettingsNumbers ℤ
-settings_told device desk fd = of_descriptor fd (status_told (status_of device desk fd))
+abbrev pub told_settings : DeviceSeen → Desk → ℕ → Result SettingsNumbers ℤ
+told_settings device desk fd = of_descriptor fd (status_told (client_status device desk fd))
 
 -- what a request would be answered, if there is one of its number
 abbrev pub reply_told : Result Answer Errno → Result AnswerNumbers ℤ

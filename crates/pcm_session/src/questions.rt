@@ -5,7 +5,7 @@ ghost use Rattle.pcm_desk.specs.Device.{unfiltered};
 ghost use Rattle.pcm_engine.specs.Engines.{AreReady, desk_of, device_of};
 ghost use Rattle.pcm_engine.specs.Views.{is_idle};
 ghost use Rattle.pcm_oss.specs.Fragments.{AreFragments};
-ghost use Rattle.pcm_session.specs.Questions.{WaitTold, of_descriptor, peek_told, place_among, place_below, ready_bits, ready_told, run_number, settings_numbers, settings_told, slot_numbers, slot_told, state_number, way_number};
+ghost use Rattle.pcm_session.specs.Questions.{WaitTold, of_descriptor, peek_told, place_among, place_below, ready_bits, ready_told, run_number, settings_numbers, told_settings, slot_numbers, slot_told, slot_state_number, way_number};
 
 use crate::session::SessionOf;
 use pcm_desk::{DESCRIPTORS, Device};
@@ -60,10 +60,10 @@ impl<B: Feeder> SessionOf<B> {
     /// The number of a wrong argument where there is no such descriptor, and that of a bad one where it isn't open.
     pub fn settings(&self, fd: u32) -> Result<SettingsNumbers, i32>
         requires { AreReady B.kind B.kept self.now.engine }
-        ensures { result ≡ settings_told (device_of self.now.engine) (desk_of self.now.engine) fd }
+        ensures { result ≡ told_settings (device_of self.now.engine) (desk_of self.now.engine) fd }
     {
         let fd = descriptor_from(fd)?;
-        match pcm_status::status_of(&self.engine, fd) {
+        match pcm_status::client_status(&self.engine, fd) {
             Some(status) => Ok(settings_numbers(&status)),
             None => Err(BAD_DESCRIPTOR),
         }
@@ -206,7 +206,7 @@ fn slot_numbers(status: SlotStatus) -> SlotNumbers
     ensures { result ≡ slot_numbers status }
 {
     SlotNumbers {
-        state: state_number(status.state),
+        state: slot_state_number(status.state),
         frames: status.frames,
     }
 }
@@ -240,8 +240,8 @@ fn run_number(run: RunState) -> u32
     }
 }
 
-fn state_number(state: SlotState) -> u32
-    ensures { result ≡ state_number state }
+fn slot_state_number(state: SlotState) -> u32
+    ensures { result ≡ slot_state_number state }
 {
     match state {
         SlotState::Free => 0,

@@ -87,8 +87,8 @@ held_status device desk held =
     (channel_status held.way number area.opening area.volume (group_of desk held) (map_run area.state))
 
 -- of a descriptor, if it is open
-abbrev pub status_of : DeviceSeen → Desk → ℕ → Option ChannelStatus
-status_of device desk fd = option_map (held_status device desk) (held_by desk fd)
+abbrev pub client_status : DeviceSeen → Desk → ℕ → Option ChannelStatus
+client_status device desk fd = option_map (held_status device desk) (held_by desk fd)
 
 -- ---- a slot
 

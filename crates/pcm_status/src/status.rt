@@ -69,12 +69,12 @@ pub struct SlotStatus {
 }
 
 /// How the channel of a descriptor is, if it is open.
-pub fn status_of<B: Feeder>(engine: &EngineOf<B>, fd: u8) -> Option<ChannelStatus>
+pub fn client_status<B: Feeder>(engine: &EngineOf<B>, fd: u8) -> Option<ChannelStatus>
     requires fd { fd < DESCRIPTORS }
     requires count { engine.now.steps ≤ STEPS }
     requires ready { AreReady B.kind B.kept engine.now }
     ensures fragments { IfSome result (λ status. AreFragments status.fragments) }
-    ensures is { result ≡ statuses.status_of (device_of engine.now) (desk_of engine.now) fd }
+    ensures is { result ≡ statuses.client_status (device_of engine.now) (desk_of engine.now) fd }
 {
     let held = engine.held(fd)?;
     Some(held_status(engine, held))
