@@ -1,3 +1,4 @@
 -- What C holds, as the machine has it.
 pub mod Readiness
 pub mod Slots
+pub mod Asking

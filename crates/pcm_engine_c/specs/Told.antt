@@ -1,5 +1,5 @@
 -- What a question of C is answered: 0 and what is told, or a number below 0 and nothing.
-use Rattle.std.specs.Prelude.{◌≡◌, ℕ, ℤ, pos, Result, Ok, Err}
+use Rattle.std.specs.Prelude.{◌≡◌, ℕ, ℤ, pos, min, Result, Ok, Err}
 use Rattle.pcm_desk.specs.Device.{DeviceSeen}
 use Rattle.pcm_desk.specs.Desk.{Desk}
 use Rattle.pcm_session.specs.Questions.{WaitTold}
@@ -9,13 +9,18 @@ abbrev pub IsTold : {X : Type 0} → Result X ℤ → ℤ → X → X → Type 0
 IsTold (Ok numbers) result old new = (result ≡ pos 0) × (new ≡ numbers)
 IsTold (Err number) result old new = (result ≡ number) × (new ≡ old)
 
--- what is counted, or a number below 0
-abbrev pub told_number : Result ℕ ℤ → ℤ
-told_number (Ok count) = pos count
-told_number (Err number) = number
+-- the bits of a descriptor, or a number below 0
+abbrev pub ready_number : Result ℕ ℤ → ℤ
+ready_number (Ok bits) = pos (min bits 2147483647)
+ready_number (Err number) = number
+
+-- a number of frames, or one below 0
+abbrev pub wait_number : Result ℕ ℤ → ℤ
+wait_number (Ok frames) = pos (min frames 9223372036854775807)
+wait_number (Err number) = number
 
 -- after how many frames a client can go on
 pub record IsWait (device : DeviceSeen) (desk : Desk) (fd bytes : ℕ) (result : ℤ) : Type 0 where
   pub wait : Result ℕ ℤ
   pub is : WaitTold device desk fd bytes wait
-  pub number : result ≡ told_number wait
+  pub number : result ≡ wait_number wait

@@ -13,7 +13,7 @@ ghost use Rattle.pcm_numbers.specs.declared.fault.NumbersFault.TheVariants.{Memo
 ghost use Rattle.pcm_session.specs.Calls.{Interrupts, MakesCall, beside, call_number, count_number, done_number, handed_count, handed_number, open_number, read_into};
 ghost use Rattle.pcm_session.specs.Questions.{peek_told, ready_told, told_settings, slot_told};
 ghost use Rattle.pcm_session.specs.Taken.{steps_left};
-ghost use Rattle.pcm_engine_c.specs.Told.{IsTold, IsWait, told_number};
+ghost use Rattle.pcm_engine_c.specs.Told.{IsTold, IsWait, ready_number, wait_number};
 ghost use Rattle.pcm_session.specs.Events.{event_for_close, event_for_ioctl, event_for_join, event_for_mixer, event_for_open, event_for_poke, event_for_read, event_for_start, event_for_write};
 
 mod handle;
@@ -400,7 +400,7 @@ pub extern "C" fn dsp_raw_is_idle(alloc: Global, engine: &mut Handle) -> i32
 pub extern "C" fn dsp_raw_is_ready(alloc: Global, engine: &mut Handle, fd: u32) -> i32
     ensures same { engine.new.slot.session ≡ engine.old.slot.session }
     ensures told { IfSome engine.old.slot.session (λ session.
-        result ≡ told_number (ready_told (device_of session.of.engine) (desk_of session.of.engine) fd)) }
+        result ≡ ready_number (ready_told (device_of session.of.engine) (desk_of session.of.engine) fd)) }
     ensures none { engine.old.slot.session ≡ None → result ≡ call_fault_number Engine }
 {
     let Some(session) = engine.take(alloc) else {
@@ -408,10 +408,7 @@ pub extern "C" fn dsp_raw_is_ready(alloc: Global, engine: &mut Handle, fd: u32) 
     };
     let ready = session.of.ready(fd);
     engine.put(session);
-    match ready {
-        Ok(bits) => bits as i32,
-        Err(number) => number,
-    }
+    ready_number(ready)
 }
 
 /// After how many frames a client can go on.
@@ -432,8 +429,25 @@ pub extern "C" fn dsp_raw_frames_until(
     };
     let frames = session.of.frames_until(fd, bytes);
     engine.put(session);
-    match frames {
-        Ok(frames) => frames as i64,
+    wait_number(frames)
+}
+
+// The bits of a descriptor, or a number below 0.
+fn ready_number(told: Result<u32, i32>) -> i32
+    ensures { result ≡ ready_number told }
+{
+    match told {
+        Ok(bits) => bits.min(i32::MAX as u32) as i32,
+        Err(number) => number,
+    }
+}
+
+// A number of frames, or one below 0.
+fn wait_number(told: Result<u64, i32>) -> i64
+    ensures { result ≡ wait_number told }
+{
+    match told {
+        Ok(frames) => frames.min(i64::MAX as u64) as i64,
         Err(number) => i64::from(number),
     }
 }
