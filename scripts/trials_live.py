@@ -163,7 +163,7 @@ def try_live_breaks(program, folder):
 
 
 # what no system tells, or has no call for
-KNOWN = "open * | ok * | ok *   # the slot\nmixer * | not performed | *\n"
+KNOWN = "open * | ok * | ok *   # the slot\nopen * map* | refused busy | ok *   # it is opened to play, and mapped then\nmixer * | not performed | *\n"
 
 
 def performed(folder, script, config):
@@ -171,7 +171,8 @@ def performed(folder, script, config):
     files = keys_of(config.read_text()) if config else {}
     waves = [f"{key.partition('.')[2]}={path}" for key, path in files.items() if key.startswith("files.")]
     words = ["--step", "--unchecked", "--script", folder / "again", *(["--config", config] if config else []), "--", folder / "perform"]
-    return tool("live", *words, "--step-file", "/dev/dsp.step", script, "/dev/dsp", *waves, folder=script.parent)
+    options = ["--step-file", "/dev/dsp.step", "--block", files.get("device.hw_block", "256")]
+    return tool("live", *words, *options, script, "/dev/dsp", *waves, folder=script.parent)
 
 
 def try_perform(program, folder):
@@ -181,7 +182,7 @@ def try_perform(program, folder):
     (folder / "known").write_text(KNOWN)
     for script in (it for top in ("examples", "corpus") for it in sorted(ROOT.glob(f"{top}/*/*.script")) if it.parent.name != "faults"):
         config = next(iter(config_of(script)), None)
-        if config and ("[[" in config.read_text() or not keys_of(config.read_text())) or not re.search(r"(?m)^\s*open", script.read_text()):
+        if config and (re.search(r"(?m)^\s*(\[\[|eq\b)", config.read_text()) or not keys_of(config.read_text())) or not re.search(r"(?m)^\s*open", script.read_text()):
             continue
         words = ["run", script, folder / "out", *([config] if config else [])]
         ran = subprocess.run([str(it) for it in (program, *words)], cwd=script.parent, stdout=subprocess.PIPE, universal_newlines=True, check=False)

@@ -1,7 +1,7 @@
 /*
  * Performs the lines of a script as calls on /dev/dsp, and prints what each is answered as `dsp_replay run` prints it:
  *
- *     perform [--step-file FILE] SCRIPT [DEVICE [NAME=WAVE]..]
+ *     perform [--step-file FILE] [--block N] SCRIPT [DEVICE [NAME=WAVE]..]
  *
  * All descriptors are opened without waiting. An interrupt of N frames of 48000 a second is a wait for as long, or, with --step-file, the
  * number N written into FILE, where something moves the time of a card by it. NAME=WAVE is a wave that lines send. What a system doesn't
@@ -56,7 +56,8 @@ static struct {
     struct wave waves[WAVES];
     size_t wave_count;
     unsigned long events;
-} all = {.device = "/dev/dsp", .mixer = "/dev/mixer"};
+    uint32_t block; /* the frames of an interrupt that names none */
+} all = {.device = "/dev/dsp", .mixer = "/dev/mixer", .block = BLOCK};
 
 static void fail(const char *what, const char *name) {
     fprintf(stderr, "perform: %s: %s\n", name, what);
@@ -414,7 +415,7 @@ static void do_on(struct open *it, char **words, int count) {
 static void perform(char **words, int count) {
     printf("%lu: ", ++all.events);
     if (strcmp(words[0], "intr") == 0) {
-        do_interrupt(count > 1 ? number_of(words[1]) : BLOCK);
+        do_interrupt(count > 1 ? number_of(words[1]) : all.block);
     } else if (strcmp(words[0], "mixer") == 0) {
         do_mixer(words, count);
     } else if (strcmp(words[0], "open") == 0) {
@@ -449,17 +450,26 @@ static void take_wave(char *word) {
     fclose(file);
 }
 
+static void take_option(char *name, char *value) {
+    if (strcmp(name, "--step-file") == 0) {
+        all.step_file = value;
+    } else if (strcmp(name, "--block") == 0 && number_of(value) > 0) {
+        all.block = number_of(value);
+    } else {
+        fail("no option", name);
+    }
+}
+
 int main(int count, char **words) {
     static char line[LINE_MOST];
     char *cut_words[WORDS];
     int at = 1;
-    if (count > 3 && strcmp(words[1], "--step-file") == 0) {
-        all.step_file = words[2];
-        at = 3;
+    for (; count > at + 2 && strncmp(words[at], "--", 2) == 0; at += 2) {
+        take_option(words[at], words[at + 1]);
     }
     FILE *script = at < count ? fopen(words[at], "r") : NULL;
     if (at >= count) {
-        fputs("usage: perform [--step-file FILE] SCRIPT [DEVICE [NAME=WAVE]..]\n", stderr);
+        fputs("usage: perform [--step-file FILE] [--block N] SCRIPT [DEVICE [NAME=WAVE]..]\n", stderr);
         return 2;
     }
     if (!script) {
