@@ -54,8 +54,8 @@ def try_live_ways(program, folder):
     for way, more in [*((it, ["--fast"]) for it in PLAYS), *((it, []) for it in BY_CLOCK)]:
         equal(f"live {way} {more}", live(folder, *more, *words, way), (0, ""))
         frames = heard(folder / "heard.wav")
-        # by the clock a busy machine is short at times, and a buffer that goes round is heard twice then
-        equal(f"live {way} {more} is heard", (frames if more else list(filter(any, frames))) == RAMP[1:] or (way, more) == ("map-poll", []), True)
+        # a busy machine is short at times, also where the device waits a tenth of a second for it; a buffer that goes round is heard twice then
+        equal(f"live {way} {more} is heard", list(filter(any, frames)) == RAMP[1:] or (way, more) == ("map-poll", []), True)
         subprocess.run([program, "run", "script", "again", "script.toml"], cwd=folder, stdout=subprocess.DEVNULL, check=True)
         body = (folder / "heard.wav").read_bytes()[44:]
         equal(f"live {way} {more} again", (folder / "again").read_bytes() == body, True)
