@@ -374,9 +374,9 @@ int32_t dsp_engine_is_ready(struct dsp_engine *engine, uint32_t fd);
 int32_t dsp_engine_ready(struct dsp_engine *engine, uint64_t *writable, uint64_t *readable);
 
 /*
- * After how many frames that interrupts take a write of so many bytes fits whole, or so many bytes can be read, if nothing else happens
+ * After how many frames, taken by one interrupt, a write of so many bytes fits whole, or so many bytes can be read, if nothing else happens
  * meanwhile: after as many it is so, and after one fewer it isn't. Answers how many: 0 where it is so now. DSP_INVALID where the descriptor
- * is mapped, and DSP_BUSY where it isn't so within 4294967295 frames: nothing takes or brings frames, or so many never fit.
+ * is mapped, and DSP_BUSY where it isn't so after 4294967295 frames either: nothing takes or brings frames, or so many never fit.
  */
 int64_t dsp_engine_frames_until(struct dsp_engine *engine, uint32_t fd, uint32_t bytes);
 
