@@ -46,7 +46,7 @@ static void without_an_engine(void) {
     IS(dsp_engine_close(&none, 0), DSP_NOT_AN_ENGINE);
     IS(dsp_engine_mixer(&none, DSP_GET_MASTER, 0, 0, &answer), DSP_NOT_AN_ENGINE);
     IS(dsp_engine_interrupt(&none, 1, NULL, 0, bytes, sizeof bytes), DSP_NOT_AN_ENGINE);
-    IS(dsp_engine_steps_left(&none), 0);
+    IS(dsp_engine_frames_left(&none), 0);
     dsp_engine_free(&none);
 }
 
@@ -66,7 +66,7 @@ static void without_a_handle(void) {
     IS(dsp_engine_close(NULL, 0), DSP_NULL_POINTER);
     IS(dsp_engine_mixer(NULL, DSP_GET_MASTER, 0, 0, &answer), DSP_NULL_POINTER);
     IS(dsp_engine_interrupt(NULL, 1, NULL, 0, bytes, sizeof bytes), DSP_NULL_POINTER);
-    IS(dsp_engine_steps_left(NULL), 0);
+    IS(dsp_engine_frames_left(NULL), 0);
     dsp_engine_free(NULL);
     dsp_engine_destroy(NULL);
 }
@@ -146,7 +146,7 @@ static void numbers(struct dsp_engine *engine) {
     IS(dsp_engine_interrupt(engine, 0, NULL, 0, bytes, sizeof bytes), DSP_WRONG_ARGUMENT);
     IS(dsp_engine_interrupt(engine, 17, NULL, 0, bytes, sizeof bytes), DSP_WRONG_ARGUMENT);
     IS(dsp_engine_interrupt(engine, 16, NULL, 0, bytes, 63), DSP_SHORT_ROOM);
-    IS(dsp_engine_interrupt(engine, 16, NULL, 0, NULL, 0), DSP_SHORT_ROOM);
+    IS(dsp_engine_interrupt(engine, 17, NULL, 0, NULL, 0), DSP_WRONG_ARGUMENT);
     IS(dsp_engine_interrupt(engine, 1, samples, 3, bytes, sizeof bytes), DSP_WRONG_ARGUMENT);
     IS(dsp_engine_interrupt(engine, 2, samples, 3, bytes, sizeof bytes), DSP_WRONG_ARGUMENT);
     IS(dsp_engine_interrupt(engine, 1, NULL, 2, bytes, sizeof bytes), DSP_NULL_POINTER);
@@ -159,15 +159,15 @@ static void refusals(struct dsp_engine *engine) {
     uint8_t bytes[4] = {0};
 
     IS(dsp_engine_write(engine, 0, bytes, 4), DSP_BAD_DESCRIPTOR);
-    IS(dsp_engine_steps_left(engine), 34342961152);
+    IS(dsp_engine_frames_left(engine), 70368744177664);
     IS(dsp_engine_open(engine, 0, DSP_PLAY, DSP_S16_LE, 2, 48000), 0);
-    IS(dsp_engine_steps_left(engine), 34342961151);
+    IS(dsp_engine_frames_left(engine), 70368744177664);
     IS(dsp_engine_open(engine, 0, DSP_PLAY, DSP_S16_LE, 2, 48000), DSP_EXISTS);
     IS(dsp_engine_open(engine, 1, DSP_PLAY, DSP_S16_LE, 2, 48000), DSP_BUSY);
     IS(dsp_engine_read(engine, 0, bytes, 4), DSP_INVALID);
     IS(dsp_engine_ioctl(engine, 0, DSP_GETISPACE, 0, &answer), DSP_INVALID);
     IS(answer.first, 7);
-    IS(dsp_engine_steps_left(engine), 34342961151);
+    IS(dsp_engine_frames_left(engine), 70368744177664);
     IS(dsp_engine_ioctl(engine, 0, DSP_SPEED, 44100, &answer), 0);
     IS(answer.first, 44100);
     IS(answer.second, 0);
@@ -207,6 +207,21 @@ static void mapped_channels(struct dsp_engine *engine) {
     IS(dsp_engine_poke(engine, 3, 16381, bytes, 4), DSP_INVALID);
     IS(dsp_engine_write(engine, 3, bytes, 4), DSP_INVALID);
     IS(dsp_engine_close(engine, 3), 0);
+}
+
+/* What nobody hears is let go, and all else is as with room. */
+static void unheard(struct dsp_engine *engine) {
+    uint8_t bytes[64], out[64];
+
+    memset(bytes, 7, sizeof bytes);
+    IS(dsp_engine_mixer(engine, DSP_SET_MASTER, 0, 0x6464, NULL), 0);
+    IS(dsp_engine_open(engine, 0, DSP_PLAY, DSP_S16_LE, 2, 48000), 0);
+    IS(dsp_engine_write(engine, 0, bytes, sizeof bytes), 64);
+    IS(dsp_engine_ioctl(engine, 0, DSP_POST, 0, NULL), 0);
+    IS(dsp_engine_interrupt(engine, 16, NULL, 0, NULL, 0), 64);
+    IS(dsp_engine_interrupt(engine, 16, NULL, 0, out, sizeof out), 64);
+    IS(memcmp(bytes, out, sizeof out), 0);
+    IS(dsp_engine_close(engine, 0), 0);
 }
 
 /* What answers mean, by the table of docs/SCRIPTS.md and, of those that no script has, by what they say. */
@@ -249,12 +264,14 @@ int main(void) {
     created();
     filters_and_sections();
     IS(dsp_engine_new(&engine, &device, NULL, 0, NULL, 0, NULL, 0), 0);
-    IS(dsp_engine_steps_left(&engine), 34342961152);
+    IS(dsp_engine_frames_left(&engine), 70368744177664);
     numbers(&engine);
-    IS(dsp_engine_steps_left(&engine), 34342961152);
+    IS(dsp_engine_frames_left(&engine), 70368744177664);
     refusals(&engine);
     recordings(&engine);
     mapped_channels(&engine);
+    unheard(&engine);
+    IS(dsp_engine_frames_left(&engine), 70368744177664 - 4 - 32);
     dsp_engine_free(&engine);
     IS(dsp_engine_close(&engine, 3), DSP_NOT_AN_ENGINE);
     printf("%d answers are wrong\n", wrong);

@@ -121,15 +121,17 @@ int32_t dsp_engine_mixer(struct dsp_engine *engine, enum dsp_mixer_request reque
 int32_t dsp_engine_interrupt(struct dsp_engine *engine, uint32_t frames, const int32_t *samples, size_t sample_count, void *out,
                              size_t room) {
     const int32_t no_sample = 0;
-    uint8_t no_byte = 0;
     if (engine == NULL || is_lacking(samples, sample_count) || is_lacking(out, room)) {
         return DSP_NULL_POINTER;
     }
-    return dsp_raw_interrupt(engine, frames, samples == NULL ? &no_sample : samples, sample_count, out == NULL ? &no_byte : out, room);
+    if (out == NULL) {
+        return dsp_raw_discard(engine, frames, samples == NULL ? &no_sample : samples, sample_count);
+    }
+    return dsp_raw_interrupt(engine, frames, samples == NULL ? &no_sample : samples, sample_count, out, room);
 }
 
-uint64_t dsp_engine_steps_left(struct dsp_engine *engine) {
-    return engine == NULL ? 0 : dsp_raw_steps_left(engine);
+uint64_t dsp_engine_frames_left(struct dsp_engine *engine) {
+    return engine == NULL ? 0 : dsp_raw_frames_left(engine);
 }
 
 /* ---- questions ---- */
@@ -181,7 +183,7 @@ static const struct meaning meanings[] = {
     [-1 - DSP_NULL_POINTER] = {EFAULT, "a pointer is null that may not be"},
     [-1 - DSP_NOT_AN_ENGINE] = {ENXIO, "there is no engine, or one already where one is to be made"},
     [-1 - DSP_SHORT_ROOM] = {ERANGE, "the room for what is handed over is too small"},
-    [-1 - DSP_WORN_OUT] = {EOVERFLOW, "the engine has taken all its steps"},
+    [-1 - DSP_WORN_OUT] = {EOVERFLOW, "the engine has handed over all its frames"},
 };
 
 static struct meaning meaning_of(int32_t answer) {

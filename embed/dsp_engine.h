@@ -15,7 +15,7 @@
  *   dsp_engine_join, dsp_engine_start          groups of channels that start together
  *   dsp_engine_mixer                           volumes
  *   dsp_engine_interrupt                       the device takes frames
- *   dsp_engine_steps_left                      how many steps an engine still takes
+ *   dsp_engine_frames_left                     how many frames an engine still hands over
  *   dsp_engine_settings, dsp_engine_peek       how a channel is, and what a request would be answered
  *   dsp_engine_space, dsp_engine_position,     room, position, delay and shortages of a channel
  *   dsp_engine_delay, dsp_engine_errors
@@ -49,7 +49,7 @@ extern "C" {
 /* ---- the version ---- */
 
 /* Of this header: the major number * 65536 + the minor one * 256 + that of the patch. dsp_engine_version tells the library's. */
-#define DSP_ENGINE_VERSION 0x00010100
+#define DSP_ENGINE_VERSION 0x00020000
 
 /* ---- what calls answer ---- */
 
@@ -73,7 +73,7 @@ extern "C" {
 #define DSP_NOT_AN_ENGINE (-9)
 /* The room for what is handed over is too small. */
 #define DSP_SHORT_ROOM (-10)
-/* The engine has taken all its steps: see dsp_engine_steps_left. */
+/* The engine doesn't hand over as many frames any more: see dsp_engine_frames_left. */
 #define DSP_WORN_OUT (-11)
 
 /* ---- an engine ---- */
@@ -316,16 +316,17 @@ int32_t dsp_engine_mixer(struct dsp_engine *engine, enum dsp_mixer_request reque
 /*
  * The device takes so many frames, 1 to those of its ring. Answers how many bytes they are: they stand at the front of out, whose room they
  * need. With them come the frames that the device captured meanwhile: samples of 32 bits, as many as the device has channels for each frame,
- * frame by frame. There may be fewer, or none and then null: behind them is silence.
+ * frame by frame. There may be fewer, or none and then null: behind them is silence. Where out is null and room is 0, nobody hears the frames:
+ * all is as with room, and the bytes are let go.
  */
 int32_t dsp_engine_interrupt(struct dsp_engine *engine, uint32_t frames, const int32_t *samples, size_t sample_count, void *out,
                              size_t room);
 
 /*
- * How many steps an engine still takes: 34342961152 at first, and 0 without an engine. A call that is accepted is a step, and one that
- * answers a number below 0 is none. Behind them every call but dsp_engine_close answers DSP_WORN_OUT. Asking is no step.
+ * How many frames an engine still hands over: 70368744177664 at first, which last 46 years at 48000 a second, and 0 without an engine. An
+ * interrupt that would take more answers DSP_WORN_OUT. Nothing else uses an engine up, and every other call works to the end.
  */
-uint64_t dsp_engine_steps_left(struct dsp_engine *engine);
+uint64_t dsp_engine_frames_left(struct dsp_engine *engine);
 
 /* ---- questions: none is a step, and none changes anything ---- */
 

@@ -265,10 +265,10 @@ int main(void) {
     uint64_t left;
 
     IS(dsp_engine_new(&engine, &device, NULL, 0, NULL, 0, NULL, 0), 0);
-    left = dsp_engine_steps_left(&engine);
+    left = dsp_engine_frames_left(&engine);
     of_nothing(&engine);
     of_a_new_engine(&engine);
-    IS(dsp_engine_steps_left(&engine), left); /* no question is a step */
+    IS(dsp_engine_frames_left(&engine), left); /* no question uses it up */
     of_one_that_plays(&engine);
     of_one_that_drains(&engine);
     of_one_that_syncs(&engine);

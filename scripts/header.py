@@ -24,6 +24,9 @@ TYPES = {"bool": "bool", "u8": "uint8_t", "i32": "int32_t", "u32": "uint32_t", "
 TYPES.update({ours: f"struct {theirs}" for theirs, ours in STRUCTS.items()})
 # fields that have a name of their own on each side
 NAMES = {("Handle", "slot"): "at"}
+# the functions that a function of another name hands its arguments on to, and those of its arguments that it keeps
+OUTER = {"dsp_raw_discard": "dsp_engine_interrupt"}
+WITHOUT = {"dsp_raw_discard": ("out", "room")}
 
 
 def type_in_c(text):
@@ -78,12 +81,12 @@ def functions(code):
         numbers = [it for it, kind in mine if not kind.startswith("&")]
         if [it for it, _ in found if it in numbers] != numbers:
             yield f"{RAW.name}: {name} has its numbers in another order"
-        yield from handed_on(name.replace("raw", "engine"), name, {})
+        yield from handed_on(OUTER.get(name, name.replace("raw", "engine")), name, {}, WITHOUT.get(name, ()))
 
 
-def handed_on(outer, inner, own):
+def handed_on(outer, inner, own, without=()):
     """Where a function that programs call has other parameters than are declared, or hands on others, or in another order. A parameter may
-    be handed on under a name of the function's own."""
+    be handed on under a name of the function's own, or not at all."""
     calls = c_of(CALLS)
     head, body = re.search(rf"\b{outer}\(([^)]*)\) \{{(.*?)^\}}", calls, re.S | re.M).groups()
     names = [it for it, _ in pairs(head, THEIRS)]
@@ -91,7 +94,7 @@ def handed_on(outer, inner, own):
         yield f"{CALLS.name}: {outer} has other parameters than {HEADER.name} declares"
     handed = re.search(rf"\b{inner}\((.*?)\);", body, re.S)[1].split(",")
     found = [HANDED.fullmatch(it.strip()) for it in handed]
-    if [it and (it["name"] or it["unless"]) for it in found] != [own.get(it, it) for it in names]:
+    if [it and (it["name"] or it["unless"]) for it in found] != [own.get(it, it) for it in names if it not in without]:
         yield f"{CALLS.name}: {outer} hands its arguments on in another order"
 
 

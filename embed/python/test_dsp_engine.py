@@ -197,10 +197,10 @@ class Questions(unittest.TestCase):
         self.engine.write(MUSIC, bytes(16384))
         for _ in range(4):
             self.engine.interrupt(256)
-        left = self.engine.steps_left
+        left = self.engine.frames_left
         for _ in range(2):
             self.assertEqual(self.engine.peek(MUSIC, Request.GETOPTR), Answer(4096, 1, 4096, 0))
-        self.assertEqual(self.engine.steps_left, left)
+        self.assertEqual(self.engine.frames_left, left)
         self.assertEqual(self.engine.output_position(MUSIC), Position(4096, 1, 4096))
         self.assertEqual(self.engine.peek(MUSIC, Request.GETOPTR).second, 0)
 
@@ -272,9 +272,17 @@ class Refusals(unittest.TestCase):
         self.refuses(Refusal.WRONG_ARGUMENT, "interrupt", 1, [0, 0, 0])
         self.refuses(Refusal.WRONG_ARGUMENT, "interrupt", 2, [0, 0, 0])
         self.refuses(Refusal.BAD_DESCRIPTOR, "close", 0)
-        self.assertEqual(self.engine.steps_left, 34342961152)
-        self.engine.set_master((80, 80))
-        self.assertEqual(self.engine.steps_left, 34342961151)
+        self.assertEqual(self.engine.frames_left, 70368744177664)
+        self.engine.interrupt(16)
+        self.assertEqual(self.engine.frames_left, 70368744177648)
+
+    def test_what_nobody_hears_is_let_go(self) -> None:
+        self.engine.open(0, Way.PLAY, Format.S16_LE, 2, 48000)
+        self.engine.write(0, bytes([7]) * 64)
+        self.engine.post(0)
+        self.refuses(Refusal.WRONG_ARGUMENT, "discard", 17)
+        self.assertEqual(self.engine.discard(16), 64)
+        self.assertEqual(self.engine.interrupt(16), bytes([7]) * 64)
 
     def test_numbers_that_do_not_fit(self) -> None:
         with self.assertRaises(ValueError):

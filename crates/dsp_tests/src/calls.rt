@@ -77,8 +77,8 @@ fn comes_to(
     let (status, printed, content) = expected;
     let mut files = folder(alloc, held, files_room, call)?;
     let mut out = sink(alloc, sink_room, put)?;
-    let steps = steps_of(words, printed, status);
-    let has_ended = ends_with(alloc, words, &mut files, &mut out, status, steps)?;
+    let handed = handed_by(held, words, status);
+    let has_ended = ends_with(alloc, words, &mut files, &mut out, status, handed)?;
     Ok(has_ended && out.bytes() == printed && has_file(&files, content))
 }
 
@@ -99,39 +99,65 @@ fn sink(alloc: Global, room: usize, put: u32) -> Result<MemSink, AllocError> {
     Ok(out)
 }
 
-// How many steps the engine has taken that a call leaves: one for each line of a run that tells no refusal, and for a soak its 20,000
-// events but the 4,619 that its line tells as refused. A call that ends with another status than 0 leaves none, and so do the other commands.
-fn steps_of(words: &[&str], printed: &[u8], status: u8) -> Option<u64> {
+// How many frames the engine has handed over that a call leaves: those of the script's interrupts, and of a soak those that its line tells. A
+// call that ends with another status than 0 leaves no engine, and neither do the other commands.
+fn handed_by(held: Held, words: &[&str], status: u8) -> Option<u64> {
     if status != 0 {
         None
     } else if words.first() == Some(&"run") {
-        Some(accepted_in(printed))
+        Some(interrupted(script_in(held)))
     } else if words.first() == Some(&"soak") {
-        Some(15_381)
+        Some(644_627)
     } else {
         None
     }
 }
 
-// How many of the lines that are printed tell no refusal.
-fn accepted_in(printed: &[u8]) -> u64 {
-    let mut accepted = 0u64;
-    for at in 0..printed.len() {
-        if printed[at..].starts_with(b": ok") {
-            accepted = accepted.saturating_add(1);
+// The script of a run: the file named so.
+fn script_in(held: Held) -> &'static [u8] {
+    for (name, bytes) in held {
+        if *name == "s" {
+            return bytes;
         }
     }
-    accepted
+    &[]
 }
 
-// Whether a call with these words ends with that status, and leaves an engine that has taken so many steps, or none.
+// The frames of a script's interrupts.
+fn interrupted(script: &[u8]) -> u64 {
+    let mut frames = 0u64;
+    for at in 0..script.len() {
+        if script[at..].starts_with(b"intr ") {
+            frames = frames.saturating_add(number_in(&script[at..]));
+        }
+    }
+    frames
+}
+
+// The number that a line's digits spell.
+fn number_in(line: &[u8]) -> u64 {
+    let mut number = 0u64;
+    for byte in line {
+        if *byte == b'\n' {
+            return number;
+        }
+        if byte.is_ascii_digit() {
+            number = number
+                .saturating_mul(10)
+                .saturating_add(u64::from(byte.saturating_sub(b'0')));
+        }
+    }
+    number
+}
+
+// Whether a call with these words ends with that status, and leaves an engine that has handed over so many frames, or none.
 fn ends_with(
     alloc: Global,
     words: &[&str],
     files: &mut MemFiles,
     out: &mut MemSink,
     status: u8,
-    steps: Option<u64>,
+    handed: Option<u64>,
 ) -> Result<bool, AllocError> {
     let Ok(racks) = Racks::of_boxes(alloc, boxes(alloc)?) else {
         return Ok(false);
@@ -139,7 +165,7 @@ fn ends_with(
     let words = owned(alloc, words)?;
     let mut ran = None;
     let found = dsp_main(alloc, &words, files, out, racks, &mut ran);
-    Ok(found == status && ran.map(|engine| engine.steps()) == steps)
+    Ok(found == status && ran.map(|engine| engine.handed()) == handed)
 }
 
 /// Words of their own memory.

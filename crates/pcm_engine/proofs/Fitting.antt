@@ -1,44 +1,58 @@
--- What an engine counts is within its steps, of which a refusal is none; and few steps fit 64 bits.
-use Rattle.std.proofs.Common.{◌≡◌, ℕ, ◌+◌, ◌*◌, ◌^◌, ◌<◌, ◌≤◌, All, Err, Ok, Result, refl, sym, ap, subst, arith}
-use Rattle.std.specs.Prelude.{IsErr}
+-- An engine hands over few frames, and no count of a book runs ahead of them: so all counts fit 64 bits.
+use Rattle.std.proofs.Common.{◌≡◌, ℕ, ◌+◌, ◌*◌, ◌^◌, ◌<◌, ◌≤◌, ap, arith}
 use Rattle.std.proofs.Math.Nat.{mul-le-mul_right}
 use Rattle.pcm_format.specs.Frames.{frame_bytes}
 use Rattle.pcm_format.proofs.Streams.{frame_bytes-most}
+use Rattle.pcm_rate.specs.declared.rate.Rate.{Rate}
 use Rattle.pcm_rate.specs.Rates.{need}
 use Rattle.pcm_feeder.specs.Filters.{Filters}
+use Rattle.pcm_feeder.specs.Kept.{Kept}
+use Rattle.pcm_chain.specs.Counts.{IsNear}
 use Rattle.pcm_chain.proofs.Counting.{need-near, rate-near}
-use Rattle.pcm_oss.specs.declared.fragments.TheConstants.{RING_BYTES}
-use Rattle.pcm_oss.specs.declared.reply.Answer.{Answer}
-use Rattle.pcm_oss.specs.declared.reply.Errno.{Errno}
-use Rattle.pcm_desk.specs.declared.limits.TheConstants.{MIX_FRAMES, RING_FRAMES}
-use Rattle.pcm_desk.specs.Device.{DeviceSeen, IsDevice, play_plan_between, seen}
+use Rattle.pcm_desk.specs.declared.play_book.PlayBook.{PlayBook}
+use Rattle.pcm_desk.specs.declared.play_book.PlayState.{PlayState}
+use Rattle.pcm_desk.specs.declared.play_book.PlayState.TheVariants.{Free, Setup, Primed, Running, Draining}
+use Rattle.pcm_desk.specs.Device.{DeviceSeen, IsDevice, parent_plan, parent_rate, play_plan_between, seen}
 use Rattle.pcm_desk.specs.Desk.{map_rate_at}
 use Rattle.pcm_desk.specs.MapBooks.{taken_of}
-use Rattle.pcm_desk.proofs.Ratios.{plan-between-fits}
+use Rattle.pcm_desk.specs.PlaySafe.{IsPlayInOrder, PlayIsSafe}
+use Rattle.pcm_desk.proofs.Ratios.{parent-plan-fits, plan-between-fits}
 use Rattle.pcm_map.specs.declared.channel.MapChannelOf.{MapChannelOf}
 use Rattle.pcm_map.specs.Channels.{CountsFit, IsMapServed}
 use Rattle.pcm_map.proofs.Books.{safe-served}
 use Rattle.pcm_vchan.specs.declared.parent.ParentOf.{ParentOf}
-use Rattle.pcm_vchan.specs.Parents.{map_channels, play_channels, record_channels}
-use Rattle.pcm_engine.specs.Steps.{steps_after}
+use Rattle.pcm_vchan.specs.Parents.{HasBus}
+use Rattle.pcm_engine.specs.declared.limits.TheConstants.{LIFE}
+use Rattle.pcm_engine.specs.Life.{PlayKeepsPace, bytes_for_frame}
 
--- ---- steps
+-- a frame that is handed over needs 48 of the mix at most
+pub mixed-few : {B : Type 0} (kept : B → Kept) (device : DeviceSeen) (parent : ParentOf B) → HasBus kept device parent → parent.handed ≤ LIFE → parent.mixed ≤ 48 * LIFE + 33
+mixed-few kept device parent has few =
+    let most = need-near (parent_rate device) parent.handed (rate-near (parent_plan device) (parent-plan-fits device has.planned.limits)) in
+    let level = has.level in
+    omega (arith, most, level, few)
 
--- the counts of a parent are those of so many steps at most
-pub record AreWithin {B : Type 0} (steps : ℕ) (parent : ParentOf B) : Type 0 where
-  pub counted : All (λ channel. channel.book.done + channel.book.written ≤ RING_BYTES * steps) (play_channels parent)
-  pub given : All (λ channel. channel.book.given ≤ MIX_FRAMES * steps) (play_channels parent)
-  pub maps_given : All (λ channel. channel.book.given ≤ MIX_FRAMES * steps) (map_channels parent)
-  pub kept : All (λ channel. channel.book.kept ≤ RING_BYTES * steps) (record_channels parent)
-  pub captured : All (λ channel. channel.book.captured ≤ RING_FRAMES * steps) (record_channels parent)
-  pub mixed : parent.mixed ≤ MIX_FRAMES * steps
-  pub handed : parent.handed ≤ RING_FRAMES * steps
+-- ---- books that play
 
--- so they are after a step that was counted, which a refusal, since it left the parent as it was, may take back
-pub within-after : {B : Type 0} (told : Result Answer Errno) (steps counted : ℕ) (old new : ParentOf B) → counted ≡ steps + 1 → (IsErr told → new ≡ old)
-    → AreWithin steps old → AreWithin counted new → AreWithin (steps_after told steps) new
-within-after (Ok answer) steps counted old new is same before after = subst (λ (n : ℕ). AreWithin n new) is after
-within-after (Err errno) steps counted old new is same before after = subst (λ (parent : ParentOf _). AreWithin steps parent) (sym (same refl)) before
+-- a run needs 48 frames of its client at most for each that it gave
+eaten_few : (state : PlayState) (rate : Rate) (book : PlayBook) → IsNear rate → IsPlayInOrder rate state book → book.eaten ≤ 48 * book.given + 81
+eaten_few Free rate book near o = (let none = o.1.eaten_none in omega (arith, none))
+eaten_few Setup rate book near o = (let none = o.1.eaten_none in omega (arith, none))
+eaten_few Primed rate book near o = (let none = o.1.eaten_none in omega (arith, none))
+eaten_few Running rate book near o = (let early = o.eats.early in omega (arith, early, need-near rate book.given near, need-near rate (book.given + 1) near))
+eaten_few (Draining closed) rate book near o = (let early = o.eats.early in omega (arith, early, need-near rate book.given near, need-near rate (book.given + 1) near))
+
+-- what was written waits, or was needed for what was mixed
+pub bytes-few : (rate : Rate) (mixed : ℕ) (book : PlayBook) → IsNear rate → PlayIsSafe rate book → PlayKeepsPace mixed book → book.done + book.written ≤ bytes_for_frame * mixed + 133664
+bytes-few rate mixed book near safe pace =
+    let size : ℕ = frame_bytes book.opening.settings in
+    let few = eaten_few book.state rate book near safe.order in
+    let up = mul-le-mul_right {m = book.eaten} {n = 48 * book.given + 81} size (omega (arith, few)) in
+    let wide = mul-le-mul_right {m = size} {n = 32} (48 * book.given + 81) (frame_bytes-most book.opening.settings) in
+    let fill = safe.fill in
+    let ring = safe.fragments.fits in
+    let played = pace.played in
+    omega (arith, up, wide, fill, ring, played)
 
 -- ---- mapped channels
 

@@ -1,5 +1,5 @@
 -- The books of a ready engine are in order, and no ring passes its size: its channels and its parent carry it.
-use Rattle.std.proofs.Common.{◌≡◌, ℕ, ◌<◌, ◌≤◌, ◌^◌, List, length, get_or, inl, inr, refl, sym, ap, ◌∙◌, subst, arith}
+use Rattle.std.proofs.Common.{◌≡◌, ℕ, ◌+◌, ◌<◌, ◌^◌, List, length, get_or, inl, inr, refl, sym, ap, ◌∙◌, subst, arith}
 use Rattle.std.specs.Prelude.{All}
 use Rattle.std.proofs.lemmas.Bool.{cases_lt}
 use Rattle.std.proofs.lemmas.List.{get_or-map, get_or_past, length-map}
@@ -38,9 +38,10 @@ use Rattle.pcm_vchan.specs.Slots.{RecordAreOf, record_books_of}
 use Rattle.pcm_bus.proofs.Channels.{some_channel}
 use Rattle.pcm_vchan.specs.Parents.{AreClosable, AreServed, HasBus, here_of, map_channels, play_channels, record_channels}
 use Rattle.pcm_engine.specs.declared.engine.EngineOf.{EngineOf}
-use Rattle.pcm_engine.specs.declared.limits.TheConstants.{STEPS}
+use Rattle.pcm_engine.specs.Life.{MapKeepsPace, PlayKeepsPace, RecordKeepsPace}
 use Rattle.pcm_engine.specs.Answered.{CanBeAsked}
-use Rattle.pcm_engine.proofs.Fitting.{taken-few}
+use Rattle.pcm_engine.proofs.Fitting.{bytes-few, mixed-few, taken-few}
+use Rattle.pcm_engine.proofs.Pace.{ReliesOn, near-rate}
 use Rattle.pcm_desk.specs.Own.{MembersWait}
 use Rattle.pcm_engine.specs.Engines.{AreReady, BooksAreHere, MapBooksAreSafe, RecordsAreSafe, RingsHold, desk_of, device_of}
 
@@ -86,12 +87,19 @@ books-rates {B} engine d slot =
 pub here-seen : {B : Type 0} (kept : B → Kept) (engine : EngineOf B) → HasBus kept (device_of engine) engine.parent → here_of engine.parent ≡ desk_here (device_of engine) (desk_of engine)
 here-seen kept engine has = ap (λ (mixed : ℕ). record { mixed = mixed; passed = passed_for (device_of engine) engine.parent.handed }) has.level
 
--- is within the limits, since few steps were taken
-pub here-within : {B : Type 0} (kept : B → Kept) (engine : EngineOf B) → IsInLimits (device_of engine) → HasBus kept (device_of engine) engine.parent → engine.steps ≤ STEPS → IsHere (here_of engine.parent)
-here-within kept engine limits has few =
+-- what an event relies on, so that no count runs ahead
+pub relies : {B : Type 0} (kind : B → Kind) (kept : B → Kept) (engine : EngineOf B) → AreReady kind kept engine → ReliesOn (device_of engine) (desk_of engine)
+relies kind kept engine ready = record { device_is = ready.limits.device_is; rates = books-rates engine ready.limits.device_is; records_safe = ready.records; maps_safe = ready.maps }
+
+-- few frames were mixed, since few were handed over
+pub few-mixed : {B : Type 0} (kept : B → Kept) (engine : EngineOf B) → HasBus kept (device_of engine) engine.parent → engine.parent.mixed < 2 ^ 53
+few-mixed kept engine has = omega (arith, mixed-few kept (device_of engine) engine.parent has engine.life)
+
+-- the mix and the device are within the limits
+pub here-within : {B : Type 0} (kept : B → Kept) (engine : EngineOf B) → IsInLimits (device_of engine) → HasBus kept (device_of engine) engine.parent → IsHere (here_of engine.parent)
+here-within kept engine limits has =
     let level = has.level in
-    let most = engine.mixed_within in
-    subst IsHere (sym (here-seen kept engine has)) (here-is (device_of engine) engine.parent.handed limits (omega (arith, level, most, few)))
+    subst IsHere (sym (here-seen kept engine has)) (here-is (device_of engine) engine.parent.handed limits (omega (arith, level, few-mixed kept engine has)))
 
 -- and each channel is there
 pub channels-here : {B : Type 0} (kept : B → Kept) (engine : EngineOf B) → HasBus kept (device_of engine) engine.parent → BooksAreHere (device_of engine) (desk_of engine)
@@ -210,22 +218,53 @@ closable kind kept engine ready = record {
   maps_kinds = λ slot other there. (ready.mapped slot other there).kinds;
 }
 
--- and what a mapped one has taken fits, since few steps were taken
-pub maps-taken : {B : Type 0} (kind : B → Kind) (kept : B → Kept) (engine : EngineOf B) → AreReady kind kept engine → engine.steps ≤ STEPS
-    → All (λ (channel : MapChannelOf B). taken_of channel.book < 2 ^ 64) (map_channels engine.parent)
-maps-taken kind kept engine ready few slot other there =
-    let channel = get_or (map_channels engine.parent) slot other in
-    let given = engine.maps_given slot other there in
-    let device = subst (λ (d : Device). IsDevice (seen engine.tables d)) (sym (engine.maps_own slot other there)) ready.bus.planned.limits in
-    taken-few engine.tables channel device (ready.mapped slot other there).planned (omega (arith, given, few))
+-- ---- counts
 
--- and may be asked where the mix and the device are, since few steps were taken
-pub can-be-asked : {B : Type 0} (kind : B → Kind) (kept : B → Kept) (engine : EngineOf B) (here : Here) → AreReady kind kept engine → engine.steps < STEPS → here ≡ here_of engine.parent → CanBeAsked kind kept engine.tables here engine.parent
-can-be-asked kind kept engine here ready few is = record {
+-- no channel runs ahead of what was mixed and handed over
+pub play-pace : {B : Type 0} (engine : EngineOf B) (slot : ℕ) (other : PlayChannelOf B) → slot < length (play_channels engine.parent) → PlayKeepsPace engine.parent.mixed (get_or (play_channels engine.parent) slot other).book
+play-pace {B} engine slot other there =
+    let book : PlayChannelOf B → PlayBook = λ channel. channel.book in
+    subst (PlayKeepsPace engine.parent.mixed) (get_or-map book (play_channels engine.parent) slot other other.book there)
+    (engine.pace.playing slot other.book (omega (arith, there, length-map (play_channels engine.parent) book)))
+
+pub record-pace : {B : Type 0} (engine : EngineOf B) (slot : ℕ) (other : RecordChannelOf B) → slot < length (record_channels engine.parent) → RecordKeepsPace engine.parent.handed (get_or (record_channels engine.parent) slot other).book
+record-pace {B} engine slot other there =
+    let book : RecordChannelOf B → RecordBook = λ channel. channel.book in
+    subst (RecordKeepsPace engine.parent.handed) (get_or-map book (record_channels engine.parent) slot other other.book there)
+    (engine.pace.recording slot other.book (omega (arith, there, length-map (record_channels engine.parent) book)))
+
+pub map-pace : {B : Type 0} (engine : EngineOf B) (slot : ℕ) (other : MapChannelOf B) → slot < length (map_channels engine.parent) → MapKeepsPace engine.parent.mixed (get_or (map_channels engine.parent) slot other).book
+map-pace {B} engine slot other there =
+    let book : MapChannelOf B → MapBook = λ channel. channel.book in
+    subst (MapKeepsPace engine.parent.mixed) (get_or-map book (map_channels engine.parent) slot other other.book there)
+    (engine.pace.mapped slot other.book (omega (arith, there, length-map (map_channels engine.parent) book)))
+
+-- the bytes that one counts are few
+pub bytes-counted : {B : Type 0} (kind : B → Kind) (kept : B → Kept) (engine : EngineOf B) → AreReady kind kept engine
+    → All (λ (channel : PlayChannelOf B). channel.book.done + channel.book.written < 2 ^ 63) (play_channels engine.parent)
+bytes-counted {B} kind kept engine ready slot other there =
+    let channel : PlayChannelOf B = get_or (play_channels engine.parent) slot other in
+    let near = near-rate (seen engine.tables channel.path.device) channel.book.opening.settings
+    (subst (λ (d : Device). IsDevice (seen engine.tables d)) (sym (engine.own slot other there)) ready.limits.device_is) channel.serves.rate in
+    let safe = safe-served engine.tables channel (ready.playing slot other there).planned in
+    omega (arith, bytes-few _ engine.parent.mixed channel.book near safe (play-pace engine slot other there), mixed-few kept (device_of engine) engine.parent ready.bus engine.life)
+
+-- and what a mapped one has taken fits
+pub maps-taken : {B : Type 0} (kind : B → Kind) (kept : B → Kept) (engine : EngineOf B) → AreReady kind kept engine
+    → All (λ (channel : MapChannelOf B). taken_of channel.book < 2 ^ 64) (map_channels engine.parent)
+maps-taken kind kept engine ready slot other there =
+    let channel = get_or (map_channels engine.parent) slot other in
+    let given = (map-pace engine slot other there).given in
+    let device = subst (λ (d : Device). IsDevice (seen engine.tables d)) (sym (engine.maps_own slot other there)) ready.bus.planned.limits in
+    taken-few engine.tables channel device (ready.mapped slot other there).planned (omega (arith, given, few-mixed kept engine ready.bus))
+
+-- all may be asked where the mix and the device are
+pub can-be-asked : {B : Type 0} (kind : B → Kind) (kept : B → Kept) (engine : EngineOf B) (here : Here) → AreReady kind kept engine → here ≡ here_of engine.parent → CanBeAsked kind kept engine.tables here engine.parent
+can-be-asked kind kept engine here ready is = record {
   served = served kind kept engine ready;
-  here = subst IsHere (sym is) (here-within kept engine ready.limits ready.bus (omega (arith, few)));
+  here = subst IsHere (sym is) (here-within kept engine ready.limits ready.bus);
   at = is ∙ here-seen kept engine ready.bus;
   places = subst (λ (place : Here). All (IsPlayHere engine.tables place) (play_channels engine.parent)) (sym is) (channels-here kept engine ready.bus ready.places);
-  count = λ slot other there. (let counted = engine.counted slot other there in omega (arith, counted, few));
-  taken = maps-taken kind kept engine ready (omega (arith, few));
+  count = λ slot other there. (let counted = bytes-counted kind kept engine ready slot other there in omega (arith, counted));
+  taken = maps-taken kind kept engine ready;
 }

@@ -2,6 +2,7 @@ pub mod Bringing
 pub mod Counted
 pub mod Desks
 pub mod Buses
+pub mod Pace
 pub mod Fitting
 pub mod InOrder
 pub mod Turning

@@ -14,6 +14,7 @@ use Rattle.pcm_desk.specs.Events.{bytes_handed}
 use Rattle.pcm_desk.specs.Own.{IsIsolated, MembersWait}
 use Rattle.pcm_desk.proofs.Isolation.{isolated}
 use Rattle.pcm_desk.proofs.Members.{waits-after}
+use Rattle.pcm_desk.proofs.Turning.{handed-taken}
 use Rattle.pcm_sound.proofs.Stories.{order-after}
 use Rattle.pcm_play.specs.Channels.{IsPlayReady}
 use Rattle.pcm_record.specs.Channels.{IsRecordReady}
@@ -23,7 +24,7 @@ use Rattle.pcm_vchan.proofs.Channels.{ready-after}
 use Rattle.pcm_engine.specs.declared.engine.EngineOf.{EngineOf}
 use Rattle.pcm_engine.specs.Brought.{IsAllowed}
 use Rattle.pcm_engine.specs.Engines.{AreReady, BooksAreHere, HasStepped, IsUnchanged, desk_of, device_of}
-use Rattle.pcm_engine.specs.Steps.{bytes_answered, bytes_moved, frames_mixed, steps_after}
+use Rattle.pcm_engine.specs.Steps.{bytes_answered, bytes_moved, frames_mixed}
 use Rattle.pcm_engine.proofs.Bringing.{opens-allowed}
 use Rattle.pcm_engine.proofs.Called.{Applied}
 use Rattle.pcm_engine.proofs.InOrder.{books-rates, ready-all}
@@ -53,16 +54,16 @@ ready-applied kind kept event bytes samples old new told handed a within ready b
 
 -- and all that a step says of it holds
 pub stepped-applied : {B : Type 0} (kind : B → Kind) (kept : B → Kept) (event : Event) (bytes : List ℕ) (samples : List ℤ) (old new : EngineOf B) (told : Reply) (handed : List ℕ) (size : ℕ) (room filled : List ℕ)
-    → Applied kind kept event bytes samples old new told handed → IsAllowed (device_of old) event → AreReady kind kept old → HasBus kept (device_of old) new.parent → new.steps ≡ steps_after told.result old.steps
+    → Applied kind kept event bytes samples old new told handed → IsAllowed (device_of old) event → AreReady kind kept old → HasBus kept (device_of old) new.parent
     → (IsErr told.result → IsUnchanged old new) → size ≡ bytes_handed (device_of old) event → drop size filled ≡ drop size room → HasStepped kind kept event old new told size room filled
-stepped-applied kind kept event bytes samples old new told handed size room filled a within was_ready bus steps refused count rest =
+stepped-applied kind kept event bytes samples old new told handed size room filled a within was_ready bus refused count rest =
     let device = device_of old in
     let desk = desk_of old in
     let same : device_of new ≡ device = ap (λ (d : Device). seen new.tables d) a.device ∙ ap (λ (t : Filters). seen t old.parent.device) a.tables in
     let ready = ready-applied kind kept event bytes samples old new told handed a within was_ready bus same in
     record {
       device = same;
-      steps = steps;
+      handed = ap (λ (desk : Desk). desk.handed) a.desk ∙ handed-taken device desk event;
       ready = ready;
       desk = a.desk;
       result = a.result;

@@ -1,5 +1,5 @@
 -- What an engine stands for, and what holds of every one.
-use Rattle.std.specs.Prelude.{◌≡◌, ◌≤◌, ◌*◌, ℕ, ℤ, List, [], ◌∷◌, ◌++◌, All, IsErr, IsOk, Result, drop, length, map, take}
+use Rattle.std.specs.Prelude.{◌≡◌, ◌≤◌, ◌+◌, ◌*◌, ℕ, ℤ, List, [], ◌∷◌, ◌++◌, All, IsErr, IsOk, Result, drop, length, map, take}
 use Rattle.pcm_oss.specs.declared.event.Event.{Event}
 use Rattle.pcm_oss.specs.declared.event.Event.TheVariants.{Read, StartGroup}
 use Rattle.pcm_oss.specs.declared.reply.Answer.{Answer}
@@ -16,7 +16,7 @@ use Rattle.pcm_desk.specs.PlaySafe.{PlayIsHere, PlayIsSafe}
 use Rattle.pcm_desk.specs.RecordSafe.{RecordIsSafe}
 use Rattle.pcm_desk.specs.MapSafe.{MapIsSafe}
 use Rattle.pcm_desk.specs.Desk.{Desk, after, desk_here, held_by, map_at, map_rate_at, play_at, play_rate_at, record_at, record_rate_at}
-use Rattle.pcm_desk.specs.Events.{Fits, bytes_handed}
+use Rattle.pcm_desk.specs.Events.{Fits, bytes_handed, frames_taken}
 use Rattle.pcm_sound.specs.DeviceList.{device_text}
 use Rattle.pcm_sound.specs.OwnAreas.{ChangesOneArea}
 use Rattle.pcm_sound.specs.Plain.{HasNoShortage, IsInPlace, IsUnbroken, plain_text}
@@ -32,7 +32,7 @@ use Rattle.pcm_engine.specs.Desks.{desk_with}
 use Rattle.pcm_record.specs.Channels.{IsRecordReady}
 use Rattle.pcm_map.specs.Channels.{IsMapReady}
 use Rattle.pcm_engine.specs.Stands.{PartsStand, RecordersStand}
-use Rattle.pcm_engine.specs.Steps.{BusMoves, ChannelsMove, MapsMove, RecordersMove, bytes_answered, front_taken, steps_after}
+use Rattle.pcm_engine.specs.Steps.{BusMoves, ChannelsMove, MapsMove, RecordersMove, bytes_answered, front_taken}
 use Rattle.pcm_vchan.specs.Parents.{HasBus, map_channels, play_channels, record_channels}
 use Rattle.pcm_vchan.specs.Slots.{AllRecordStand}
 
@@ -194,8 +194,7 @@ pub record AreReady {B : Type 0} (kind : B → Kind) (kept : B → Kept) (engine
   pub members : MembersWait (device_of engine) (desk_of engine)
   pub rings : RingsHold engine
 
--- All but the count of steps is as before: channels with their books, rings and chains, descriptors, the device's ring and counts. What is
--- refused leaves that count too, as `steps_after` says.
+-- All is as before: channels with their books, rings and chains, descriptors, the device's ring and counts.
 pub record IsUnchanged {B : Type 0} (old new : EngineOf B) : Type 0 where
   pub parent_same : new.parent ≡ old.parent
   pub descriptors_same : new.descriptors ≡ old.descriptors
@@ -205,7 +204,7 @@ pub record IsUnchanged {B : Type 0} (old new : EngineOf B) : Type 0 where
 -- What a step on an event makes of an engine that is ready: what it told, and that it handed so many bytes over at the front of a room.
 pub record HasStepped {B : Type 0} (kind : B → Kind) (kept : B → Kept) (event : Event) (old new : EngineOf B) (told : Reply) (size : ℕ) (room filled : List ℕ) : Type 0 where
   pub device : device_of new ≡ device_of old
-  pub steps : new.steps ≡ steps_after told.result old.steps
+  pub handed : new.parent.handed ≡ old.parent.handed + frames_taken event
   pub ready : AreReady kind kept new
   -- The desk and the answer are those of the rules, the counts of every book are in order, no run gave a frame past what is mixed
   -- or is over and goes on, and no ring passes its size.

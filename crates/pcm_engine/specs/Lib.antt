@@ -3,6 +3,7 @@ pub mod Desks
 pub mod Answered
 pub mod Brought
 pub mod Steps
+pub mod Life
 pub mod Stands
 pub mod Engines
 pub mod Views

@@ -1,9 +1,7 @@
 -- What one event leaves of an engine's parts.
-use Rattle.std.specs.Prelude.{◌≡◌, ℕ, ℤ, ◌+◌, if◌then◌else◌, min, List, [], take, drop, Option, Some, None, Result, Ok, Err, slice_index_or}
+use Rattle.std.specs.Prelude.{◌≡◌, ℕ, ℤ, if◌then◌else◌, min, List, [], take, drop, Option, Some, None, slice_index_or}
 use Rattle.pcm_oss.specs.declared.event.Event.{Event}
 use Rattle.pcm_oss.specs.declared.event.Event.TheVariants.{Write, Poke, Read, Intr}
-use Rattle.pcm_oss.specs.declared.reply.Answer.{Answer}
-use Rattle.pcm_oss.specs.declared.reply.Errno.{Errno}
 use Rattle.pcm_feeder.specs.declared.kind.Kind.{Kind}
 use Rattle.pcm_feeder.specs.Filters.{Filters}
 use Rattle.pcm_feeder.specs.Kept.{Kept}
@@ -26,11 +24,6 @@ use Rattle.pcm_vchan.specs.Slots.{MapKeeps}
 use Rattle.pcm_vchan.specs.Starts.{EachAt}
 use Rattle.pcm_bus.specs.Buses.{TurnsBus}
 use Rattle.pcm_vchan.specs.Captures.{Captures}
-
--- how many steps were taken after an event that is answered so, where so many were before it: a refusal is none
-abbrev pub steps_after : Result Answer Errno → ℕ → ℕ
-steps_after (Ok answer) steps = steps + 1
-steps_after (Err errno) steps = steps
 
 -- the bytes that an event moves into rings, of those that it brings
 abbrev pub bytes_moved : List ℕ → Event → List ℕ

@@ -1,10 +1,9 @@
 //! The engine and its events.
 
-ghost use Rattle.std.specs.Prelude.{◌≡◌, [], ◌+◌, ◌*◌, ◌<◌, ◌≤◌, length, take, drop, All, IfOk, IsErr};
+ghost use Rattle.std.specs.Prelude.{◌≡◌, [], ◌+◌, ◌*◌, ◌≤◌, length, take, drop, IfOk, IsErr};
 ghost use Rattle.pcm_fixed.specs.Fixed.{fixed_len};
-ghost use Rattle.pcm_desk.specs.declared.limits.TheConstants.{MIX_FRAMES, RING_FRAMES};
-ghost use Rattle.pcm_engine.specs.declared.limits.TheConstants.{STEPS};
-ghost use Rattle.pcm_desk.specs.Events.{Fits, bytes_handed};
+ghost use Rattle.pcm_engine.specs.declared.limits.TheConstants.{LIFE};
+ghost use Rattle.pcm_desk.specs.Events.{Fits, bytes_handed, frames_taken};
 ghost use Rattle.pcm_desk.specs.Device.{seen};
 ghost use Rattle.pcm_desk.specs.Own.{HoldApart};
 ghost use Rattle.pcm_vchan.specs.Parents.{map_channels, play_channels, record_channels, HasBus, HasRacks};
@@ -12,9 +11,8 @@ ghost use Rattle.pcm_bus.specs.Slots.{MapAreOf, PlayAreOf};
 ghost use Rattle.pcm_vchan.specs.Slots.{RecordAreOf};
 ghost use Rattle.pcm_desk.proofs.Props.{hold_props};
 ghost use Rattle.pcm_engine.specs.Desks.{desk_with};
-ghost use Rattle.pcm_engine.specs.Steps.{steps_after};
+ghost use Rattle.pcm_engine.specs.Life.{KeepsPace};
 ghost use Rattle.pcm_oss.specs.Replies.{bytes_due};
-ghost use Rattle.pcm_oss.specs.declared.fragments.TheConstants.{RING_BYTES};
 ghost use Rattle.pcm_oss.specs.declared.reply.TheConstants.{REPLY_BYTES};
 ghost use Rattle.pcm_format.specs.Layouts.{channels_of};
 
@@ -40,20 +38,14 @@ pub struct EngineOf<B> {
     pub(crate) descriptors: Descriptors,
     captured: Fixed<i32>,
     answered: Fixed<u8>,
-    steps: u64,
     ghost own: { PlayAreOf parent.device (play_channels parent) },
     ghost recorders_own: { RecordAreOf parent.device (record_channels parent) },
     ghost maps_own: { MapAreOf parent.device (map_channels parent) },
     ghost apart: { HoldApart (desk_with parent descriptors) } by { Prim.hlevel hold_props },
-    ghost counted: { All (λ channel. channel.book.done + channel.book.written ≤ RING_BYTES * steps) (play_channels parent) },
-    ghost given: { All (λ channel. channel.book.given ≤ MIX_FRAMES * steps) (play_channels parent) },
-    ghost maps_given: { All (λ channel. channel.book.given ≤ MIX_FRAMES * steps) (map_channels parent) },
-    ghost kept: { All (λ channel. channel.book.kept ≤ RING_BYTES * steps) (record_channels parent) },
-    ghost captured_within: { All (λ channel. channel.book.captured ≤ RING_FRAMES * steps) (record_channels parent) },
+    ghost pace: { KeepsPace (desk_with parent descriptors) },
+    ghost life: { parent.handed ≤ LIFE },
     ghost captured_size: { fixed_len captured ≡ parent.device.ring_frames * channels_of parent.device.settings.layout },
     ghost answered_size: { fixed_len answered ≡ REPLY_BYTES },
-    ghost mixed_within: { parent.mixed ≤ MIX_FRAMES * steps },
-    ghost handed_within: { parent.handed ≤ RING_FRAMES * steps },
 }
 
 impl<B: Feeder> EngineOf<B> {
@@ -78,7 +70,7 @@ impl<B: Feeder> EngineOf<B> {
         requires limits { IsInLimits (seen tables device) }
         requires kinds { AreRacks B.kind (list_of racks) }
         ensures device { IfOk result (λ engine. device_of engine ≡ seen tables device) }
-        ensures steps { IfOk result (λ engine. engine.steps ≡ 0) }
+        ensures handed { IfOk result (λ engine. engine.parent.handed ≡ 0) }
         ensures ready { IfOk result (AreReady B.kind B.kept) }
         ensures stands { IfOk result (λ engine. (pool : Pool) → Stands B.kept engine pool []) }
         // Each slot has the boxes of its own rack, and so has the bus.
@@ -94,7 +86,6 @@ impl<B: Feeder> EngineOf<B> {
             descriptors: Descriptors::all_shut(),
             captured: Fixed::new(captured),
             answered: Fixed::new(answered),
-            steps: 0,
         })
     }
 
@@ -110,12 +101,11 @@ impl<B: Feeder> EngineOf<B> {
         requires fits { Fits (device_of self.old) pool.now event.now }
         requires room { bytes_handed (device_of self.old) event.now ≤ length out.old }
         requires captures { IsCaptureIn (device_settings (device_of self.old)).layout pool.now }
-        requires count { self.old.steps < STEPS }
+        requires life { self.old.parent.handed + frames_taken event.now ≤ LIFE }
         requires ready { AreReady B.kind B.kept self.old }
 
         ensures device { device_of self.new ≡ device_of self.old }
-        // A refusal is no step.
-        ensures steps { self.new.steps ≡ steps_after reply.new.result self.old.steps }
+        ensures handed { self.new.parent.handed ≡ self.old.parent.handed + frames_taken event.now }
         ensures ready { AreReady B.kind B.kept self.new }
 
         // The desk and the answer are those of the rules, the counts of every book are in order, no run gave a frame past what is mixed
@@ -176,7 +166,7 @@ impl<B: Feeder> EngineOf<B> {
         requires bytes { length bytes.now ≡ bytes_asked event.now }
         requires samples { length samples.now ≤ samples_most self.old event.now }
         requires room { bytes_handed (device_of self.old) event.now ≤ length out.old }
-        requires count { self.old.steps < STEPS }
+        requires life { self.old.parent.handed + frames_taken event.now ≤ LIFE }
         requires ready { AreReady B.kind B.kept self.old }
 
         ensures stepped { HasStepped B.kind B.kept event.now self.old self.new
@@ -188,13 +178,6 @@ impl<B: Feeder> EngineOf<B> {
         let count = samples_asked(layout, event);
         pad(samples, count, &mut self.captured);
         self.answer(event, bytes, out, reply)
-    }
-
-    /// How many steps it has taken: one for each event that it accepted.
-    pub fn steps(&self) -> u64
-        ensures { result ≡ self.now.steps }
-    {
-        self.steps
     }
 
     /// The device.
@@ -209,17 +192,14 @@ impl<B: Feeder> EngineOf<B> {
         requires within { IsAllowed (device_of self.old) event.now }
         requires bytes { length bytes.now ≡ bytes_asked event.now }
         requires room { bytes_handed (device_of self.old) event.now ≤ length out.old }
-        requires count { self.old.steps < STEPS }
+        requires life { self.old.parent.handed + frames_taken event.now ≤ LIFE }
         requires ready { AreReady B.kind B.kept self.old }
         ensures stepped { HasStepped B.kind B.kept event.now self.old self.new
             reply.new result out.old out.new }
         ensures called { StepsAsCalled B.kept event.now bytes.now (samples_at_hand self.old event.now)
             self.old self.new reply.new (take result out.new) }
     {
-        let steps = self.steps;
-        let count = self.apply(event, bytes, out, reply);
-        self.steps = steps_after(reply.result(), steps);
-        count
+        self.apply(event, bytes, out, reply)
     }
 
     // One event on the parts, as a step. The reply, and how many device bytes stand at the front of `out`.
@@ -227,7 +207,7 @@ impl<B: Feeder> EngineOf<B> {
         requires within { IsAllowed (device_of self.old) event.now }
         requires bytes { length bytes.now ≡ bytes_asked event.now }
         requires room { bytes_handed (device_of self.old) event.now ≤ length out.old }
-        requires count { self.old.steps < STEPS }
+        requires life { self.old.parent.handed + frames_taken event.now ≤ LIFE }
         requires ready { AreReady B.kind B.kept self.old }
         ensures device { self.new.parent.device ≡ self.old.parent.device }
         ensures tables { self.new.tables ≡ self.old.tables }
@@ -237,7 +217,6 @@ impl<B: Feeder> EngineOf<B> {
             ≡ length (record_channels self.old.parent) }
         ensures maps_slots { length (map_channels self.new.parent)
             ≡ length (map_channels self.old.parent) }
-        ensures steps { self.new.steps ≡ self.old.steps + 1 }
         ensures desk { desk_of self.new
             ≡ (after (device_of self.old) (desk_of self.old) event.now).desk }
         ensures reply { reply.new.result
@@ -253,7 +232,6 @@ impl<B: Feeder> EngineOf<B> {
         ensures out { take result out.new ≡ take result self.old.parent.ring.bytes }
         ensures rest { drop result out.new ≡ drop result out.old }
     {
-        self.steps += 1;
         let here = self.parent.here();
         let parent = &mut self.parent;
         let tables = &self.tables;
@@ -289,17 +267,6 @@ impl<B: Feeder> EngineOf<B> {
                 interrupt(parent, tables, frames, &self.captured, out)
             }
         }
-    }
-}
-
-// The count of steps after an event that is answered so: a refusal, which changes nothing, is none.
-fn steps_after(told: Result<Answer, Errno>, steps: u64) -> u64
-    requires { steps < STEPS }
-    ensures { result ≡ steps_after told steps }
-{
-    match told {
-        Ok(_) => steps + 1,
-        Err(_) => steps,
     }
 }
 

@@ -16,4 +16,4 @@ mod views;
 pub use brought::{bytes_asked, bytes_handed, samples_asked};
 pub use engine::{Engine, EngineOf};
 pub use laws::engines_stand_with_alike_pools;
-pub use limits::STEPS;
+pub use limits::LIFE;

@@ -1,6 +1,5 @@
 //! The limit of an engine.
 
-/// How many steps an engine takes at most, 2 ^ 35: with fewer each count of bytes that are written or recorded stays below 2 ^ 52, and each of
-/// frames, in a book, handed over or mixed, below 2 ^ 53, however much each step writes, captures and mixes. A mapped channel takes up to
-/// 48 * 32 bytes for a frame, so with twice as many steps its count of bytes could pass 2 ^ 64. A script has fewer events by far.
-pub const STEPS: u64 = 34359738368;
+/// How many frames an engine hands over at most, 2 ^ 46: those of 46 years at 48,000 a second. No count grows by anything else: with so many handed
+/// over fewer than 2 ^ 53 were mixed, and each count of bytes stays below 2 ^ 64, whatever was written, asked or refused.
+pub const LIFE: u64 = 70368744177664;

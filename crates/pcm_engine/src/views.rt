@@ -6,8 +6,8 @@ ghost use Rattle.pcm_feeder.specs.Limits.{IsRate};
 ghost use Rattle.pcm_chain.specs.Counts.{IsNear};
 ghost use Rattle.pcm_oss.specs.declared.event.TheConstants.{SLOTS};
 ghost use Rattle.pcm_oss.specs.declared.fragments.TheConstants.{RING_BYTES};
-ghost use Rattle.pcm_engine.specs.declared.limits.TheConstants.{STEPS};
-ghost use Rattle.pcm_desk.specs.declared.limits.TheConstants.{DESCRIPTORS, MIX_FRAMES, RING_FRAMES};
+ghost use Rattle.pcm_engine.specs.declared.limits.TheConstants.{LIFE};
+ghost use Rattle.pcm_desk.specs.declared.limits.TheConstants.{DESCRIPTORS};
 ghost use Rattle.pcm_desk.specs.Device.{map_slots, parent_rate, play_slots, record_slots};
 ghost use Rattle.pcm_desk.specs.Desk.{desk_here, group_of, held_by, map_at, play_at, play_rate_at, record_at, record_rate_at, slot_number};
 ghost use Rattle.pcm_desk.specs.Here.{IsHere};
@@ -80,12 +80,13 @@ impl<B: Feeder> EngineOf<B> {
 
     /// The book of a slot that plays.
     pub fn play_book(&self, slot: usize) -> PlayBook
-        requires { slot < play_slots (device_of self.now) }
+        requires ready { AreReady B.kind B.kept self.now }
+        requires there { slot < play_slots (device_of self.now) }
         ensures is { result ≡ play_at (device_of self.now) (desk_of self.now) slot }
         ensures client { IsRate result.opening.settings.rate }
         ensures eaten { result.eaten * frame_bytes result.opening.settings ≤ result.written }
-        ensures counted { result.done + result.written ≤ RING_BYTES * self.now.steps }
-        ensures given { result.given ≤ MIX_FRAMES * self.now.steps }
+        ensures counted { result.done + result.written < 2 ^ 63 }
+        ensures given { result.given < 2 ^ 53 }
     {
         self.parent.channels[slot].book
     }
@@ -94,8 +95,8 @@ impl<B: Feeder> EngineOf<B> {
     pub fn record_book(&self, slot: usize) -> RecordBook
         requires { slot < record_slots (device_of self.now) }
         ensures is { result ≡ record_at (device_of self.now) (desk_of self.now) slot }
-        ensures captured { result.captured ≤ RING_FRAMES * self.now.steps }
-        ensures kept { result.kept ≤ RING_BYTES * self.now.steps }
+        ensures captured { result.captured ≤ LIFE }
+        ensures kept { result.kept ≤ RING_BYTES * LIFE }
     {
         self.parent.recorders[slot].book
     }
@@ -103,7 +104,6 @@ impl<B: Feeder> EngineOf<B> {
     /// The book of a mapped slot, by its place among these.
     pub fn map_book(&self, place: usize) -> MapBook
         requires ready { AreReady B.kind B.kept self.now }
-        requires count { self.now.steps ≤ STEPS }
         requires there { place < map_slots (device_of self.now) }
         ensures is { result ≡ map_at (device_of self.now) (desk_of self.now) place }
         ensures taken { result.eaten * frame_bytes result.opening.settings < 2 ^ 64 }
@@ -145,18 +145,17 @@ impl<B: Feeder> EngineOf<B> {
     /// How many frames were handed over.
     pub fn handed(&self) -> u64
         ensures is { result ≡ (desk_of self.now).handed }
-        ensures within { result ≤ RING_FRAMES * self.now.steps }
+        ensures within { result ≤ LIFE }
     {
         self.parent.handed
     }
 
     /// Where the mix and the device are.
     pub fn here(&self) -> Here
-        requires count { self.now.steps ≤ STEPS }
         requires ready { AreReady B.kind B.kept self.now }
         ensures is { result ≡ desk_here (device_of self.now) (desk_of self.now) }
         ensures within { IsHere result }
-        ensures mixed { result.mixed ≤ MIX_FRAMES * self.now.steps }
+        ensures mixed { result.mixed < 2 ^ 53 }
     {
         self.parent.here()
     }

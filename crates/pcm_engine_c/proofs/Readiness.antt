@@ -8,7 +8,7 @@ use Rattle.pcm_numbers.specs.declared.device.DeviceNumbers.{DeviceNumbers}
 use Rattle.pcm_numbers.specs.declared.filters.FilterNumbers.{FilterNumbers}
 use Rattle.pcm_numbers.specs.declared.sections.SectionNumbers.{SectionNumbers}
 use Rattle.pcm_session.specs.declared.session.SessionOf.{SessionOf}
-use Rattle.pcm_session.specs.Calls.{Interrupts}
+use Rattle.pcm_session.specs.Calls.{Discards, Interrupts}
 use Rattle.pcm_engine_c.specs.declared.session.Session.{Session}
 use Rattle.pcm_engine_c.specs.Calls.{OnHeld}
 use Rattle.pcm_engine_c.specs.Sessions.{IsNew}
@@ -24,6 +24,10 @@ new-moved kept device filters coefs sections one other same is = subst (IsNew ke
 -- an interrupt of a session is one of the same session elsewhere
 pub interrupts-moved : {B : Type 0} (kept : B → Kept) (frames : ℕ) (samples : List ℤ) (out : List ℕ) (one other new : SessionOf B) → one ≡ other → Interrupts kept frames samples out other new → Interrupts kept frames samples out one new
 interrupts-moved kept frames samples out one other new same interrupts = subst (λ (session : SessionOf _). Interrupts kept frames samples out session new) (sym same) interrupts
+
+-- so it is of one whose bytes nobody hears
+pub discards-moved : {B : Type 0} (kept : B → Kept) (frames : ℕ) (samples : List ℤ) (one other new : SessionOf B) → one ≡ other → Discards kept frames samples other new → Discards kept frames samples one new
+discards-moved kept frames samples one other new same discards = subst (λ (session : SessionOf _). Discards kept frames samples session new) (sym same) discards
 
 -- what is done to a session is done to what is held
 pub on-some : (old new : Option Session) (one other : Session) (does : Session → Session → Type 0) → Some one ≡ old → new ≡ Some other → does one other → OnHeld old new does

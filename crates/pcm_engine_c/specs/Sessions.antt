@@ -24,7 +24,7 @@ pub record IsNew {B : Type 0} (kept : B → Kept) (device : DeviceNumbers) (filt
   pub made_is : device_from device ≡ Some made
   pub tables_are : tables_from filters coefs sections ≡ Some tables
   pub device_is : device_of engine ≡ seen tables made
-  pub steps : engine.steps ≡ 0
+  pub handed : engine.parent.handed ≡ 0
   pub stands : (pool : Pool) → Stands kept engine pool []
 
 -- whether there is such an engine at all

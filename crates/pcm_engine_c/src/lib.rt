@@ -10,9 +10,9 @@ ghost use Rattle.pcm_engine_c.specs.Sessions.{IsMade, is_possible};
 ghost use Rattle.pcm_numbers.specs.Answers.{call_fault_number, fault_number};
 ghost use Rattle.pcm_numbers.specs.declared.call_fault.CallFault.TheVariants.{Engine};
 ghost use Rattle.pcm_numbers.specs.declared.fault.NumbersFault.TheVariants.{Memory};
-ghost use Rattle.pcm_session.specs.Calls.{Interrupts, MakesCall, beside, call_number, count_number, done_number, handed_count, handed_number, open_number, read_into};
+ghost use Rattle.pcm_session.specs.Calls.{Discards, Interrupts, MakesCall, beside, call_number, count_number, done_number, handed_count, handed_number, open_number, read_into};
 ghost use Rattle.pcm_session.specs.Questions.{peek_told, ready_told, told_settings, slot_told};
-ghost use Rattle.pcm_session.specs.Taken.{steps_left};
+ghost use Rattle.pcm_session.specs.Taken.{frames_left, unheard_room};
 ghost use Rattle.pcm_engine_c.specs.Told.{IsTold, IsWait, ready_number, wait_number};
 ghost use Rattle.pcm_session.specs.Events.{event_for_close, event_for_ioctl, event_for_join, event_for_mixer, event_for_open, event_for_poke, event_for_read, event_for_start, event_for_write};
 
@@ -295,17 +295,39 @@ pub extern "C" fn dsp_raw_interrupt(
     number
 }
 
-/// Answers how many steps are left for other calls than closes: none without an engine.
+/// The device takes frames that nobody hears, and brings what it captured.
 #[unsafe(no_mangle)]
-pub extern "C" fn dsp_raw_steps_left(alloc: Global, engine: &mut Handle) -> u64
+pub extern "C" fn dsp_raw_discard(
+    alloc: Global,
+    engine: &mut Handle,
+    frames: u32,
+    samples: &[i32],
+) -> i32
+    ensures discards { On engine.old engine.new (λ old new.
+        Discards ⟦<Stage as Feeder>⟧.kept frames samples.now old.of new.of) }
+    ensures number { On engine.old engine.new (λ old new.
+        result ≡ handed_number old.of frames (length samples.now) (unheard_room (device_of old.of.engine))) }
+    ensures none { engine.old.slot.session ≡ None → result ≡ call_fault_number Engine }
+{
+    let Some(mut session) = engine.take(alloc) else {
+        return NOT_AN_ENGINE;
+    };
+    let number = pcm_session::discard(&mut session.of, frames, samples);
+    engine.put(session);
+    number
+}
+
+/// Answers how many frames the engine still hands over: none without an engine.
+#[unsafe(no_mangle)]
+pub extern "C" fn dsp_raw_frames_left(alloc: Global, engine: &mut Handle) -> u64
     ensures same { engine.new.slot.session ≡ engine.old.slot.session }
-    ensures left { IfSome engine.old.slot.session (λ session. result ≡ steps_left session.of.engine.steps) }
+    ensures left { IfSome engine.old.slot.session (λ session. result ≡ frames_left session.of.engine.parent.handed) }
     ensures none { engine.old.slot.session ≡ None → result ≡ 0 }
 {
     let Some(session) = engine.take(alloc) else {
         return 0;
     };
-    let left = session.of.steps_left();
+    let left = session.of.frames_left();
     engine.put(session);
     left
 }

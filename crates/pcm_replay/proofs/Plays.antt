@@ -8,20 +8,18 @@ use Rattle.pcm_oss.specs.declared.event.Event.TheVariants.{Open, Write, Poke, Re
 use Rattle.pcm_wave.specs.declared.pool.Pool.{Pool}
 use Rattle.pcm_oss.specs.Replies.{Reply}
 use Rattle.pcm_desk.specs.Device.{DeviceSeen, device_frame_bytes}
-use Rattle.pcm_desk.specs.Events.{bytes_handed, frames_taken}
+use Rattle.pcm_desk.specs.Events.{all_frames_taken, bytes_handed, frames_taken}
 use Rattle.pcm_sound.specs.DeviceList.{device_text}
 use Rattle.pcm_sound.specs.StoryReplies.{replies, reply_to}
 use Rattle.pcm_sound.specs.Story.{Story, story_at_start, story_of}
 use Rattle.pcm_feeder.specs.declared.kind.Kind.{Kind}
 use Rattle.pcm_feeder.specs.Kept.{Kept}
 use Rattle.pcm_engine.specs.Engines.{AreReady, Stands, device_of}
-use Rattle.pcm_engine.specs.Steps.{steps_after}
 use Rattle.pcm_report.specs.Lines.{reply_line}
 use Rattle.pcm_verdict.specs.Transcript.{lines_from, transcript}
 use Rattle.pcm_replay.specs.declared.replay.ReplayOf.{ReplayOf}
 use Rattle.pcm_replay.specs.Playback.{playback}
-use Rattle.pcm_soaking.specs.Running.{steps_in}
-use Rattle.pcm_soaking.proofs.Running.{length-replies, replies-more, steps-more}
+use Rattle.pcm_soaking.proofs.Running.{handed-more, length-replies, replies-more}
 use Rattle.pcm_replay.specs.Playing.{HasPlayed, greatest_taken}
 use Rattle.pcm_replay.specs.Turns.{IsNext}
 
@@ -53,7 +51,7 @@ pub record Steps {B : Type 0} (kind : B → Kind) (kept : B → Kept) (old new :
   pub device : device_of new.engine ≡ device_of old.engine
   pub ready : AreReady kind kept new.engine
   pub stands : Stands kept old.engine pool events → Stands kept new.engine pool (events ++ event ∷ [])
-  pub steps : new.engine.steps ≡ steps_after reply.result old.engine.steps
+  pub handed : new.engine.parent.handed ≡ old.engine.parent.handed + frames_taken event
   pub bytes : Stands kept old.engine pool events
       → device_text (device_of old.engine) pool (events ++ event ∷ []) ≡ device_text (device_of old.engine) pool events ++ piece
   pub replied : Stands kept old.engine pool events
@@ -73,9 +71,8 @@ played kind kept old new pool events at other piece reply there s h =
         device_is = refl;
         stands = subst (λ (list : List Event). Stands kept new.engine pool list) (sym more) (s.stands h.engine.stands);
         ready = s.ready;
-        steps = subst (λ (d : DeviceSeen). new.engine.steps ≡ steps_in (replies d pool (story_at_start d) (take (at + 1) events))) (sym s.device)
-            (subst (λ (list : List Event). new.engine.steps ≡ steps_in (replies device pool (story_at_start device) list)) (sym more)
-            (steps-more device pool (take at events) event reply old.engine.steps new.engine.steps h.engine.steps s.steps (s.replied h.engine.stands)));
+        handed = subst (λ (list : List Event). new.engine.parent.handed ≡ all_frames_taken list) (sym more)
+            (handed-more (take at events) event old.engine.parent.handed new.engine.parent.handed h.engine.handed s.handed);
       };
       room = s.room ∙ h.room ∙ ap (λ (d : DeviceSeen). greatest_taken events * device_frame_bytes d) (sym s.device);
       line_room = s.line_room ∙ h.line_room;

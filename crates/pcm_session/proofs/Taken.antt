@@ -1,22 +1,18 @@
 -- A call that a session takes is one that its engine can take.
-use Rattle.std.proofs.Common.{◌≡◌, ℕ, ◌%◌, ◌<◌, ◌≤◌, true, Err, Ok, Result, arith}
+use Rattle.std.proofs.Common.{◌≡◌, ℕ, ◌+◌, ◌%◌, ◌<◌, ◌≤◌, true, arith}
 use Rattle.std.specs.Prelude.{◌&&◌, ◌==◌, nat_le, nat_lt}
 use Rattle.std.proofs.lemmas.Bool.{and_parts, eqb-true}
 use Rattle.std.proofs.lemmas.Bool.Decides.{nat_tests}
 use Rattle.pcm_oss.specs.declared.event.Event.{Event}
-use Rattle.pcm_oss.specs.declared.reply.Answer.{Answer}
-use Rattle.pcm_oss.specs.declared.reply.Errno.{Errno}
 use Rattle.pcm_oss.specs.declared.event.Event.TheVariants.{Open, Write, Poke, Read, Ioctl, Join, StartGroup, Close, Mixer, Intr}
 use Rattle.pcm_desk.specs.declared.limits.TheConstants.{DESCRIPTORS, READ_BYTES}
 use Rattle.pcm_desk.specs.Device.{DeviceSeen, device_settings, ring_frames}
-use Rattle.pcm_desk.specs.Events.{bytes_handed}
-use Rattle.pcm_engine.specs.declared.limits.TheConstants.{STEPS}
+use Rattle.pcm_desk.specs.Events.{bytes_handed, frames_taken}
+use Rattle.pcm_engine.specs.declared.limits.TheConstants.{LIFE}
 use Rattle.pcm_engine.specs.Brought.{IsAllowed, bytes_asked, samples_asked}
-use Rattle.pcm_engine.specs.Steps.{steps_after}
 use Rattle.pcm_numbers.specs.Devices.{is_rate}
 use Rattle.pcm_numbers.proofs.Judging.{rate-is}
 use Rattle.pcm_format.specs.Layouts.{channels_of}
-use Rattle.pcm_session.specs.declared.limits.TheConstants.{LIFE}
 use Rattle.pcm_session.specs.Taken.{has_right, is_descriptor, is_left, is_taken, is_allowed}
 
 descriptor_is : (fd : ℕ) → is_descriptor fd ≡ true → fd < DESCRIPTORS
@@ -47,36 +43,23 @@ allowed_is device (Intr frames) is =
     (below 0 frames both.0, at_most frames (ring_frames device) both.1)
 
 -- what an engine asks for
-pub record CanTake (device : DeviceSeen) (steps : ℕ) (event : Event) (bytes samples room : ℕ) : Type 0 where
+pub record CanTake (device : DeviceSeen) (handed : ℕ) (event : Event) (bytes samples room : ℕ) : Type 0 where
   pub within : IsAllowed device event
   pub bytes_are : bytes ≡ bytes_asked event
   pub samples_fit : samples ≤ samples_asked (device_settings device).layout event
   pub room_is : bytes_handed device event ≤ room
-  pub left : steps < STEPS
+  pub left : handed + frames_taken event ≤ LIFE
 
--- a step that is left is one that the engine has
-left_is : (steps : ℕ) (event : Event) → is_left steps event ≡ true → steps < STEPS
-left_is steps (Open fd way settings) is = omega (arith, below steps LIFE is)
-left_is steps (Write fd source at count) is = omega (arith, below steps LIFE is)
-left_is steps (Poke fd offset at count) is = omega (arith, below steps LIFE is)
-left_is steps (Read fd count) is = omega (arith, below steps LIFE is)
-left_is steps (Ioctl fd request) is = omega (arith, below steps LIFE is)
-left_is steps (Join fd group) is = omega (arith, below steps LIFE is)
-left_is steps (StartGroup fd group) is = omega (arith, below steps LIFE is)
-left_is steps (Close fd) is = below steps STEPS is
-left_is steps (Mixer request) is = omega (arith, below steps LIFE is)
-left_is steps (Intr frames) is = omega (arith, below steps LIFE is)
-
-pub can-take : (device : DeviceSeen) (steps : ℕ) (event : Event) (bytes samples room : ℕ) → is_taken device steps event bytes samples room ≡ true → CanTake device steps event bytes samples room
-can-take device steps event bytes samples room is =
+pub can-take : (device : DeviceSeen) (handed : ℕ) (event : Event) (bytes samples room : ℕ) → is_taken device handed event bytes samples room ≡ true → CanTake device handed event bytes samples room
+can-take device handed event bytes samples room is =
     let layout = (device_settings device).layout in
     let within = is_allowed device event in
     let same = bytes == bytes_asked event in
     let fits = nat_le samples (samples_asked layout event) in
     let whole = samples % channels_of layout == 0 in
     let holds = nat_le (bytes_handed device event) room in
-    let all = and_parts (has_right device event bytes samples && is_left steps event) holds is in
-    let most = and_parts (has_right device event bytes samples) (is_left steps event) all.0 in
+    let all = and_parts (has_right device event bytes samples && is_left handed event) holds is in
+    let most = and_parts (has_right device event bytes samples) (is_left handed event) all.0 in
     let right = and_parts (within && same && fits) whole most.0 in
     let some = and_parts (within && same) fits right.0 in
     let first = and_parts within same some.0 in
@@ -85,10 +68,5 @@ can-take device steps event bytes samples room is =
       bytes_are = eqb-true bytes (bytes_asked event) first.1;
       samples_fit = at_most samples (samples_asked layout event) some.1;
       room_is = at_most (bytes_handed device event) room all.1;
-      left = left_is steps event most.1;
+      left = at_most (handed + frames_taken event) LIFE most.1;
     }
-
--- a step leaves no more than an engine has, where one was left
-pub steps-within : (told : Result Answer Errno) (steps : ℕ) → steps < STEPS → steps_after told steps ≤ STEPS
-steps-within (Ok answer) steps left = omega (arith, left)
-steps-within (Err errno) steps left = omega (arith, left)

@@ -8,6 +8,7 @@ use Rattle.pcm_oss.specs.declared.reply.Answer.TheVariants.{Number}
 use Rattle.pcm_oss.specs.declared.reply.Errno.{Errno}
 use Rattle.pcm_oss.specs.declared.reply.Errno.TheVariants.{Inval}
 use Rattle.pcm_oss.specs.Replies.{Reply, bytes_due}
+use Rattle.pcm_fixed.specs.Fixed.{fixed_items}
 use Rattle.pcm_feeder.specs.Kept.{Kept}
 use Rattle.pcm_numbers.specs.Answers.{answer_numbers, call_fault_number, refusal_number}
 use Rattle.pcm_numbers.specs.declared.answers.AnswerNumbers.{AnswerNumbers}
@@ -20,7 +21,7 @@ use Rattle.pcm_engine.specs.Engines.{device_of}
 use Rattle.pcm_session.specs.declared.session.SessionOf.{SessionOf}
 use Rattle.pcm_session.specs.Steps.{IsCallStep}
 use Rattle.pcm_session.specs.Events.{event_for_open}
-use Rattle.pcm_session.specs.Taken.{fault_of, is_taken}
+use Rattle.pcm_session.specs.Taken.{fault_of, is_taken, unheard_room}
 
 -- the greatest number that a call answers
 abbrev pub most : ℕ
@@ -49,12 +50,12 @@ numbers_beside (Err errno) numbers = numbers
 -- whether an engine takes an event, if there is one, with so many bytes and samples and so much room
 abbrev pub is_asked : {B : Type 0} → EngineOf B → Option Event → ℕ → ℕ → ℕ → Bool
 is_asked engine None bytes samples room = false
-is_asked engine (Some event) bytes samples room = is_taken (device_of engine) engine.steps event bytes samples room
+is_asked engine (Some event) bytes samples room = is_taken (device_of engine) engine.parent.handed event bytes samples room
 
 -- and why it doesn't, where it doesn't
 abbrev pub asked_fault : {B : Type 0} → EngineOf B → Option Event → ℕ → ℕ → CallFault
 asked_fault engine None bytes samples = Argument
-asked_fault engine (Some event) bytes samples = fault_of (device_of engine) engine.steps event bytes samples
+asked_fault engine (Some event) bytes samples = fault_of (device_of engine) engine.parent.handed event bytes samples
 
 -- the step on the event that there is
 abbrev pub IsStepOf : {B : Type 0} → (B → Kept) → Option Event → List ℕ → List ℤ → EngineOf B → EngineOf B → Reply → List ℕ → Type 0
@@ -86,6 +87,12 @@ handed_number session frames samples room =
 abbrev pub Interrupts : {B : Type 0} → (B → Kept) → ℕ → List ℤ → List ℕ → SessionOf B → SessionOf B → Type 0
 Interrupts kept frames samples out old new =
     Takes kept (Some (Intr frames)) [] samples (length out) (take (handed_count old frames (length samples) (length out)) out) old new
+
+-- one with these samples whose bytes nobody hears
+abbrev pub Discards : {B : Type 0} → (B → Kept) → ℕ → List ℤ → SessionOf B → SessionOf B → Type 0
+Discards kept frames samples old new =
+    let room : ℕ = unheard_room (device_of old.engine) in
+    Takes kept (Some (Intr frames)) [] samples room (take (handed_count old frames (length samples) room) (fixed_items new.unheard)) old new
 
 -- the number that a call answers: that of its result, where it is a step, and else that of its fault
 abbrev pub number_where : Bool → (Result Answer Errno → ℤ) → CallFault → Result Answer Errno → ℤ

@@ -1,18 +1,17 @@
 -- Which calls a session takes: those that its engine can.
-use Rattle.std.specs.Prelude.{ℕ, ◌-◌, ◌%◌, Bool, true, not, ◌&&◌, ◌==◌, nat_le, nat_lt, if◌then◌else◌, Option, None, Some}
+use Rattle.std.specs.Prelude.{ℕ, ◌+◌, ◌-◌, ◌*◌, ◌%◌, Bool, true, not, ◌&&◌, ◌==◌, nat_le, nat_lt, if◌then◌else◌, Option, None, Some}
 use Rattle.pcm_numbers.specs.Devices.{is_rate}
 use Rattle.pcm_oss.specs.declared.event.Event.{Event}
-use Rattle.pcm_oss.specs.declared.event.Event.TheVariants.{Open, Read, StartGroup, Close, Intr}
+use Rattle.pcm_oss.specs.declared.event.Event.TheVariants.{Open, Read, StartGroup, Intr}
 use Rattle.pcm_desk.specs.declared.limits.TheConstants.{DESCRIPTORS, READ_BYTES}
-use Rattle.pcm_desk.specs.Device.{DeviceSeen, device_settings, ring_frames}
-use Rattle.pcm_desk.specs.Events.{bytes_handed}
+use Rattle.pcm_desk.specs.Device.{DeviceSeen, device_frame_bytes, device_settings, ring_frames}
+use Rattle.pcm_desk.specs.Events.{bytes_handed, frames_taken}
 use Rattle.pcm_desk.specs.Own.{descriptor_of}
-use Rattle.pcm_engine.specs.declared.limits.TheConstants.{STEPS}
+use Rattle.pcm_engine.specs.declared.limits.TheConstants.{LIFE}
 use Rattle.pcm_engine.specs.Brought.{bytes_asked, samples_asked}
 use Rattle.pcm_numbers.specs.declared.call_fault.CallFault.{CallFault}
 use Rattle.pcm_numbers.specs.declared.call_fault.CallFault.TheVariants.{Argument, Room, Worn}
 use Rattle.pcm_format.specs.Layouts.{channels_of}
-use Rattle.pcm_session.specs.declared.limits.TheConstants.{LIFE}
 
 abbrev pub is_descriptor : ℕ → Bool
 is_descriptor fd = nat_lt fd DESCRIPTORS
@@ -38,20 +37,23 @@ has_right device event bytes samples =
     && nat_le samples (samples_asked (device_settings device).layout event)
     && samples % channels_of (device_settings device).layout == 0
 
--- after so many steps there is one left for an event: a close may go on until the engine has taken all its steps
+-- where so many frames were handed over, as many are left as an event hands over
 abbrev pub is_left : ℕ → Event → Bool
-is_left steps (Close fd) = nat_lt steps STEPS
-is_left steps event = nat_lt steps LIFE
+is_left handed event = nat_le (handed + frames_taken event) LIFE
 
--- how many are left for other events than closes
-abbrev pub steps_left : ℕ → ℕ
-steps_left steps = LIFE - steps
+-- how many frames are left
+abbrev pub frames_left : ℕ → ℕ
+frames_left handed = LIFE - handed
 
--- an event comes with what it brings, a step is left for it, and there is room for what it hands over
+-- the room of what nobody hears: an interrupt takes all that the device's ring holds, at most
+abbrev pub unheard_room : DeviceSeen → ℕ
+unheard_room device = ring_frames device * device_frame_bytes device
+
+-- an event comes with what it brings, its frames are left, and there is room for what it hands over
 abbrev pub is_taken : DeviceSeen → ℕ → Event → ℕ → ℕ → ℕ → Bool
-is_taken device steps event bytes samples room = has_right device event bytes samples && is_left steps event && nat_le (bytes_handed device event) room
+is_taken device handed event bytes samples room = has_right device event bytes samples && is_left handed event && nat_le (bytes_handed device event) room
 
 -- why an event isn't taken, where it isn't
 abbrev pub fault_of : DeviceSeen → ℕ → Event → ℕ → ℕ → CallFault
-fault_of device steps event bytes samples =
-    if not (has_right device event bytes samples) then Argument else if not (is_left steps event) then Worn else Room
+fault_of device handed event bytes samples =
+    if not (has_right device event bytes samples) then Argument else if not (is_left handed event) then Worn else Room

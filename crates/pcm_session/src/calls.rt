@@ -3,8 +3,9 @@
 
 ghost use Rattle.std.specs.Prelude.{◌≡◌, ◌≤◌, [], length, drop, IfErr, IsOk, OnErr};
 ghost use Rattle.std.specs.Result.{is_ok};
-ghost use Rattle.pcm_engine.specs.Engines.{AreReady};
-ghost use Rattle.pcm_session.specs.Calls.{Interrupts, IsStepOf, MakesCall, asked_fault, beside, call_count, call_number, count_number, done_number, front_put, handed_count, handed_number, is_asked, open_number, read_into};
+ghost use Rattle.pcm_engine.specs.Engines.{AreReady, device_of};
+ghost use Rattle.pcm_session.specs.Calls.{Discards, Interrupts, IsStepOf, MakesCall, asked_fault, beside, call_count, call_number, count_number, done_number, front_put, handed_count, handed_number, is_asked, open_number, read_into};
+ghost use Rattle.pcm_session.specs.Taken.{unheard_room};
 ghost use Rattle.pcm_session.specs.Events.{event_for_close, event_for_ioctl, event_for_join, event_for_mixer, event_for_open, event_for_poke, event_for_read, event_for_start, event_for_write};
 
 use crate::events::{
@@ -183,6 +184,21 @@ pub fn interrupt<B: Feeder>(
         ≡ drop (handed_count session.old frames (length samples.now) (length out.old)) out.old }
 {
     match session.step(&Event::Intr { frames }, &[], samples, out) {
+        Ok(count) => call_count(count),
+        Err(fault) => call_fault_number(fault),
+    }
+}
+
+/// The device takes so many frames, as by `interrupt`, and nobody hears them: there is no room for what is handed over. Answers how many bytes
+/// these were.
+pub fn discard<B: Feeder>(session: &mut SessionOf<B>, frames: u32, samples: &[i32]) -> i32
+    requires ready { AreReady B.kind B.kept session.old.engine }
+    ensures ready { AreReady B.kind B.kept session.new.engine }
+    ensures discards { Discards B.kept frames samples.now session.old session.new }
+    ensures number { result ≡ handed_number session.old frames (length samples.now)
+        (unheard_room (device_of session.old.engine)) }
+{
+    match session.step_unheard(&Event::Intr { frames }, &[], samples) {
         Ok(count) => call_count(count),
         Err(fault) => call_fault_number(fault),
     }

@@ -1,8 +1,7 @@
 //! What holds of every session: the functions here have no work, and their contracts are the laws.
 
-ghost use Rattle.std.specs.Prelude.{◌≡◌, ◌+◌};
-ghost use Rattle.pcm_engine.specs.declared.limits.TheConstants.{STEPS};
-ghost use Rattle.pcm_session.specs.declared.limits.TheConstants.{LIFE};
+ghost use Rattle.std.specs.Prelude.{◌≡◌};
+ghost use Rattle.pcm_engine.specs.declared.limits.TheConstants.{LIFE};
 ghost use Rattle.pcm_session.specs.Runs.{RunScripts};
 
 use pcm_feeder::Feeder;
@@ -13,8 +12,7 @@ pub fn sessions_run_scripts<B: Feeder>()
     ensures { RunScripts B.kept }
 {}
 
-/// How many steps a session takes, and that its engine has some seventeen million more, which are for closes.
-pub fn steps_of_a_session()
-    ensures life { LIFE ≡ 34342961152 }
-    ensures steps { STEPS ≡ LIFE + 16777216 }
+/// How many frames a session hands over at most.
+pub fn life_of_a_session()
+    ensures life { LIFE ≡ 70368744177664 }
 {}

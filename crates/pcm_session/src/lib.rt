@@ -6,12 +6,12 @@ mod calls;
 mod events;
 mod judge;
 mod laws;
-mod limits;
 mod questions;
 mod session;
 
-pub use calls::{ask_mixer, close, interrupt, ioctl, join, open, poke, read, start, write};
-pub use laws::{sessions_run_scripts, steps_of_a_session};
-pub use limits::LIFE;
+pub use calls::{
+    ask_mixer, close, discard, interrupt, ioctl, join, open, poke, read, start, write,
+};
+pub use laws::{life_of_a_session, sessions_run_scripts};
 pub use questions::{SettingsNumbers, SlotNumbers};
 pub use session::SessionOf;

@@ -134,7 +134,7 @@ impl<B: Feeder> SessionOf<B> {
     /// # Errors
     ///
     /// The number of a wrong argument where there is no such descriptor, and else that of the refusal: a descriptor that isn't open, one that is mapped,
-    /// or one that can't go on within `FRAMES_MOST` frames.
+    /// or one that can't go on after `FRAMES_MOST` frames either.
     pub fn frames_until(&self, fd: u32, bytes: u32) -> Result<u64, i32>
         requires { AreReady B.kind B.kept self.now.engine }
         ensures { WaitTold (device_of self.now.engine) (desk_of self.now.engine) fd bytes result }

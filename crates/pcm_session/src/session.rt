@@ -3,18 +3,19 @@
 ghost use Rattle.std.specs.Prelude.{◌≡◌, ◌≤◌, true, false, IfErr, IfOk, IsErr, IsOk, Ok, OnErr, [], length, take, drop};
 ghost use Rattle.pcm_desk.specs.Device.{seen, IsInLimits};
 ghost use Rattle.pcm_desk.specs.Events.{bytes_handed};
-ghost use Rattle.pcm_engine.specs.declared.limits.TheConstants.{STEPS};
+ghost use Rattle.pcm_engine.specs.declared.limits.TheConstants.{LIFE};
 ghost use Rattle.pcm_engine.specs.Engines.{device_of, AreReady, Stands};
 ghost use Rattle.pcm_feeder.specs.Racks.{AreRacks, list_of};
+ghost use Rattle.pcm_fixed.specs.Fixed.{fixed_items, fixed_len};
 ghost use Rattle.pcm_session.specs.Steps.{IsCallStep};
-ghost use Rattle.pcm_session.specs.Taken.{fault_of, has_right, is_left, is_taken, steps_left};
+ghost use Rattle.pcm_session.specs.Taken.{fault_of, frames_left, has_right, is_left, is_taken, unheard_room};
 ghost use Rattle.pcm_wave.specs.declared.pool.Pool.{Pool};
 
 use crate::judge::is_allowed;
-use crate::limits::LIFE;
 use pcm_desk::Device;
-use pcm_engine::{EngineOf, STEPS, bytes_asked, bytes_handed, samples_asked};
+use pcm_engine::{EngineOf, LIFE, bytes_asked, bytes_handed, samples_asked};
 use pcm_feeder::{Feeder, RacksOf, Tables};
+use pcm_fixed::Fixed;
 use pcm_numbers::CallFault;
 use pcm_oss::{Answer, Errno, Event, ReplyBuf};
 use std::alloc::{AllocError, Global};
@@ -24,7 +25,9 @@ use std::alloc::{AllocError, Global};
 pub struct SessionOf<B> {
     pub(crate) engine: EngineOf<B>,
     reply: ReplyBuf,
-    ghost within: { engine.steps ≤ STEPS },
+    // what an interrupt hands over that nobody hears
+    unheard: Fixed<u8>,
+    ghost room: { fixed_len unheard ≡ unheard_room (device_of engine) },
 }
 
 impl<B: Feeder> SessionOf<B> {
@@ -39,14 +42,20 @@ impl<B: Feeder> SessionOf<B> {
         requires limits { IsInLimits (seen tables device) }
         requires kinds { AreRacks B.kind (list_of racks) }
         ensures device { IfOk result (λ session. device_of session.engine ≡ seen tables device) }
-        ensures steps { IfOk result (λ session. session.engine.steps ≡ 0) }
+        ensures handed { IfOk result (λ session. session.engine.parent.handed ≡ 0) }
         ensures ready { IfOk result (λ session. AreReady B.kind B.kept session.engine) }
         ensures stands { IfOk result (λ session. (pool : Pool) → Stands B.kept session.engine pool []) }
         ensures reply { IfOk result (λ session. session.reply ≡ record { result = Ok Answer.Done; bytes = [] }) }
     {
         let engine = EngineOf::new(alloc, device, tables, racks)?;
         let reply = ReplyBuf::new(alloc)?;
-        Ok(SessionOf { engine, reply })
+        let room = device.ring_frames as usize * device.settings.frame_bytes();
+        let unheard = Fixed::new(vec![in alloc; 0u8; room]?);
+        Ok(SessionOf {
+            engine,
+            reply,
+            unheard,
+        })
     }
 
     /// Takes one step on an event: with its bytes, if it is a write or a poke, and with what is captured, if it is an interrupt: samples at 32 bits,
@@ -56,7 +65,7 @@ impl<B: Feeder> SessionOf<B> {
     /// # Errors
     ///
     /// `Argument` where a number is outside its limits, or the event came with other bytes than it names, or with more samples than it captures
-    /// or a part of a frame. `Worn` where the engine has no step left for it, and `Room` where `out` is too small. Nothing has changed then.
+    /// or a part of a frame. `Worn` where the engine doesn't hand over as many frames any more, and `Room` where `out` is too small. Nothing has changed then.
     pub fn step(
         &mut self,
         event: &Event,
@@ -66,11 +75,11 @@ impl<B: Feeder> SessionOf<B> {
     ) -> Result<usize, CallFault>
         requires ready { AreReady B.kind B.kept self.old.engine }
         ensures ready { AreReady B.kind B.kept self.new.engine }
-        ensures taken { IsOk result → is_taken (device_of self.old.engine) self.old.engine.steps event.now
+        ensures taken { IsOk result → is_taken (device_of self.old.engine) self.old.engine.parent.handed event.now
             (length bytes.now) (length samples.now) (length out.old) ≡ true }
-        ensures refused { IsErr result → is_taken (device_of self.old.engine) self.old.engine.steps event.now
+        ensures refused { IsErr result → is_taken (device_of self.old.engine) self.old.engine.parent.handed event.now
             (length bytes.now) (length samples.now) (length out.old) ≡ false }
-        ensures fault { IfErr result (λ fault. fault ≡ fault_of (device_of self.old.engine) self.old.engine.steps event.now
+        ensures fault { IfErr result (λ fault. fault ≡ fault_of (device_of self.old.engine) self.old.engine.parent.handed event.now
             (length bytes.now) (length samples.now)) }
         ensures count { IfOk result (λ count. count ≡ bytes_handed (device_of self.old.engine) event.now) }
         ensures wrong { OnErr result ((self.new ≡ self.old) × (out.new ≡ out.old)) }
@@ -84,6 +93,39 @@ impl<B: Feeder> SessionOf<B> {
         let count = self
             .engine
             .step_with(event, bytes, samples, out, &mut self.reply);
+        Ok(count)
+    }
+
+    /// Takes one step as `step` does, and lets go what it hands over: nobody hears it. Returns how many device bytes these were.
+    ///
+    /// # Errors
+    ///
+    /// `Argument` and `Worn`, where `step` says so. Nothing has changed then.
+    pub fn step_unheard(
+        &mut self,
+        event: &Event,
+        bytes: &[u8],
+        samples: &[i32],
+    ) -> Result<usize, CallFault>
+        requires ready { AreReady B.kind B.kept self.old.engine }
+        ensures ready { AreReady B.kind B.kept self.new.engine }
+        ensures taken { IsOk result → is_taken (device_of self.old.engine) self.old.engine.parent.handed event.now
+            (length bytes.now) (length samples.now) (unheard_room (device_of self.old.engine)) ≡ true }
+        ensures refused { IsErr result → is_taken (device_of self.old.engine) self.old.engine.parent.handed event.now
+            (length bytes.now) (length samples.now) (unheard_room (device_of self.old.engine)) ≡ false }
+        ensures fault { IfErr result (λ fault. fault ≡ fault_of (device_of self.old.engine) self.old.engine.parent.handed event.now
+            (length bytes.now) (length samples.now)) }
+        ensures count { IfOk result (λ count. count ≡ bytes_handed (device_of self.old.engine) event.now) }
+        ensures wrong { OnErr result (self.new ≡ self.old) }
+        ensures step { IfOk result (λ count. IsCallStep B.kept event.now bytes.now samples.now
+            self.old.engine self.new.engine self.new.reply (take count (fixed_items self.new.unheard))) }
+    {
+        if !self.takes(event, bytes.len(), samples.len(), self.unheard_room()) {
+            return Err(self.fault_of(event, bytes.len(), samples.len()));
+        }
+        let count = self
+            .engine
+            .step_with(event, bytes, samples, &mut self.unheard, &mut self.reply);
         Ok(count)
     }
 
@@ -101,22 +143,30 @@ impl<B: Feeder> SessionOf<B> {
         self.reply.bytes()
     }
 
+    // The room of what nobody hears.
+    fn unheard_room(&self) -> usize
+        ensures { result ≡ unheard_room (device_of self.now.engine) }
+    {
+        let room: &[u8] = &self.unheard;
+        room.len()
+    }
+
     // Whether the engine can take an event with so many bytes and samples, and with so much room.
     fn takes(&self, event: &Event, bytes: usize, samples: usize, room: usize) -> bool
-        ensures { result ≡ is_taken (device_of self.now.engine) self.now.engine.steps event.now bytes samples room }
+        ensures { result ≡ is_taken (device_of self.now.engine) self.now.engine.parent.handed event.now bytes samples room }
     {
         self.has_right(event, bytes, samples)
-            && is_left(self.engine.steps(), event)
+            && is_left(self.engine.handed(), event)
             && bytes_handed(self.engine.device(), event) <= room
     }
 
     // Why it can't, where it can't.
     fn fault_of(&self, event: &Event, bytes: usize, samples: usize) -> CallFault
-        ensures { result ≡ fault_of (device_of self.now.engine) self.now.engine.steps event.now bytes samples }
+        ensures { result ≡ fault_of (device_of self.now.engine) self.now.engine.parent.handed event.now bytes samples }
     {
         if !self.has_right(event, bytes, samples) {
             CallFault::Argument
-        } else if !is_left(self.engine.steps(), event) {
+        } else if !is_left(self.engine.handed(), event) {
             CallFault::Worn
         } else {
             CallFault::Room
@@ -134,20 +184,21 @@ impl<B: Feeder> SessionOf<B> {
             && samples % device.settings.layout.channels() == 0
     }
 
-    /// How many steps are left for other calls than closes.
-    pub fn steps_left(&self) -> u64
-        ensures { result ≡ steps_left self.now.engine.steps }
+    /// How many frames the engine still hands over.
+    pub fn frames_left(&self) -> u64
+        ensures { result ≡ frames_left self.now.engine.parent.handed }
     {
-        LIFE.saturating_sub(self.engine.steps())
+        LIFE - self.engine.handed()
     }
 }
 
-// Whether there is a step left for an event after so many.
-fn is_left(steps: u64, event: &Event) -> bool
-    ensures { result ≡ is_left steps event.now }
+// Whether the frames are left that an event hands over, where so many were handed over before.
+fn is_left(handed: u64, event: &Event) -> bool
+    requires { handed ≤ LIFE }
+    ensures { result ≡ is_left handed event.now }
 {
     match event {
-        Event::Close { .. } => steps < STEPS,
-        _ => steps < LIFE,
+        Event::Intr { frames } => u64::from(*frames) <= LIFE - handed,
+        _ => true,
     }
 }

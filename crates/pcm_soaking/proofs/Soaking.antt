@@ -8,7 +8,7 @@ use Rattle.pcm_oss.specs.declared.event.Event.TheVariants.{Open, Write, Poke, Re
 use Rattle.pcm_oss.specs.Replies.{Reply}
 use Rattle.pcm_wave.specs.declared.pool.Pool.{Pool}
 use Rattle.pcm_desk.specs.Device.{DeviceSeen, device_frame_bytes}
-use Rattle.pcm_desk.specs.Events.{Fits, bytes_handed}
+use Rattle.pcm_desk.specs.Events.{Fits, bytes_handed, frames_taken}
 use Rattle.pcm_desk.specs.Usual.{usual_device}
 use Rattle.pcm_sound.specs.DeviceList.{device_text}
 use Rattle.pcm_sound.specs.StoryReplies.{replies, reply_to}
@@ -16,7 +16,6 @@ use Rattle.pcm_sound.specs.Story.{story_at_start, story_of}
 use Rattle.pcm_feeder.specs.declared.kind.Kind.{Kind}
 use Rattle.pcm_feeder.specs.Kept.{Kept}
 use Rattle.pcm_engine.specs.Engines.{AreReady, Stands, device_of}
-use Rattle.pcm_engine.specs.Steps.{steps_after}
 use Rattle.pcm_wave.specs.DataFiles.{DataFileSeen}
 use Rattle.pcm_script.specs.declared.script.Script.{Script}
 use Rattle.pcm_script.specs.Lines.{pool_of}
@@ -29,7 +28,7 @@ use Rattle.pcm_verdict.specs.Soaks.{soak_line, tally_line, tally_of}
 use Rattle.pcm_soaking.specs.declared.soak.SoakOf.{SoakOf}
 use Rattle.pcm_soaking.specs.Running.{CanRun}
 use Rattle.pcm_soaking.specs.Soaking.{HasSoaked, ring_room}
-use Rattle.pcm_soaking.proofs.Running.{length-push, length-replies, replies-more, steps-more}
+use Rattle.pcm_soaking.proofs.Running.{handed-more, length-push, length-replies, replies-more}
 
 -- ---- one event more in a tally
 
@@ -104,7 +103,7 @@ pub record CountsStep {B : Type 0} (kind : B → Kind) (kept : B → Kept) (old 
   pub device : device_of new.engine ≡ device_of old.engine
   pub ready : AreReady kind kept new.engine
   pub stands : Stands kept old.engine pool events → Stands kept new.engine pool (events ++ event ∷ [])
-  pub steps : new.engine.steps ≡ steps_after reply.result old.engine.steps
+  pub handed : new.engine.parent.handed ≡ old.engine.parent.handed + frames_taken event
   pub bytes : Stands kept old.engine pool events
       → device_text (device_of old.engine) pool (events ++ event ∷ []) ≡ device_text (device_of old.engine) pool events ++ piece
   pub replied : Stands kept old.engine pool events
@@ -137,7 +136,7 @@ soaked kind kept old new pool events event piece reply counted s h =
         device_is = s.device ∙ is;
         stands = s.stands h.engine.stands;
         ready = s.ready;
-        steps = steps-more usual_device pool events event reply old.engine.steps new.engine.steps h.engine.steps s.steps replied;
+        handed = handed-more events event old.engine.parent.handed new.engine.parent.handed h.engine.handed s.handed;
       };
       tally = s.heard ∙ ap (λ (tally : Tally). record tally { sum = tally.sum + total piece }) counts
           ∙ sym (tally_of-more usual_device pool events event piece bytes);

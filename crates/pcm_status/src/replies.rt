@@ -1,6 +1,6 @@
 //! What a request would be answered.
 
-ghost use Rattle.std.specs.Prelude.{◌≡◌, ◌<◌, ◌≤◌, Some, false};
+ghost use Rattle.std.specs.Prelude.{◌≡◌, ◌<◌, Some, false};
 ghost use Rattle.pcm_oss.specs.declared.event.Event.TheVariants.{Ioctl};
 ghost use Rattle.pcm_oss.specs.declared.event.Way.TheVariants.{Play};
 ghost use Rattle.pcm_desk.specs.declared.limits.TheConstants.{DESCRIPTORS};
@@ -8,7 +8,6 @@ ghost use Rattle.pcm_desk.specs.Device.{play_slots};
 ghost use Rattle.pcm_desk.specs.Desk.{asking, desk_here, ioctl_on, member_refusal, play_at};
 ghost use Rattle.pcm_desk.specs.Own.{slots_of};
 ghost use Rattle.pcm_desk.specs.PlayBooks.{is_play_free};
-ghost use Rattle.pcm_engine.specs.declared.limits.TheConstants.{STEPS};
 ghost use Rattle.pcm_engine.specs.Engines.{AreReady, desk_of, device_of};
 ghost use Rattle.pcm_status.specs.Statuses.{would};
 
@@ -21,7 +20,6 @@ use pcm_oss::{Answer, Errno, Request, Way};
 /// the next counts fragments, and no shortage is forgotten.
 pub fn reply_of<B: Feeder>(engine: &EngineOf<B>, fd: u8, request: Request) -> Result<Answer, Errno>
     requires fd { fd < DESCRIPTORS }
-    requires count { engine.now.steps ≤ STEPS }
     requires ready { AreReady B.kind B.kept engine.now }
     ensures { result ≡ would (device_of engine.now) (desk_of engine.now) (Ioctl fd request) }
 {
@@ -40,7 +38,6 @@ fn channel_reply<B: Feeder>(
     held: Held,
     request: Request,
 ) -> Result<Answer, Errno>
-    requires count { engine.now.steps ≤ STEPS }
     requires ready { AreReady B.kind B.kept engine.now }
     requires there { held.slot < slots_of (desk_of engine.now) held.way }
     requires taken { held.way ≡ Play
@@ -61,7 +58,6 @@ fn play_reply<B: Feeder>(
     slot: usize,
     request: Request,
 ) -> Result<Answer, Errno>
-    requires count { engine.now.steps ≤ STEPS }
     requires ready { AreReady B.kind B.kept engine.now }
     requires there { slot < play_slots (device_of engine.now) }
     requires taken { is_play_free (play_at (device_of engine.now) (desk_of engine.now) slot).state ≡ false }

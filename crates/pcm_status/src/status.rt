@@ -1,12 +1,11 @@
 //! How a channel and a slot are.
 
-ghost use Rattle.std.specs.Prelude.{◌≡◌, ◌<◌, ◌≤◌, IfSome};
+ghost use Rattle.std.specs.Prelude.{◌≡◌, ◌<◌, IfSome};
 ghost use Rattle.pcm_desk.specs.declared.limits.TheConstants.{DESCRIPTORS};
 ghost use Rattle.pcm_desk.specs.Own.{slots_of};
 ghost use Rattle.pcm_desk.specs.Device.{play_slots};
 ghost use Rattle.pcm_oss.specs.Fragments.{AreFragments};
 ghost use Rattle.pcm_oss.specs.declared.event.Way.TheVariants.{Play};
-ghost use Rattle.pcm_engine.specs.declared.limits.TheConstants.{STEPS};
 ghost use Rattle.pcm_rate.specs.Rates.{IsRatio};
 ghost use Rattle.pcm_engine.specs.Engines.{AreReady, desk_of, device_of};
 ghost use Rattle.pcm_status.specs.Statuses as statuses;
@@ -71,7 +70,6 @@ pub struct SlotStatus {
 /// How the channel of a descriptor is, if it is open.
 pub fn client_status<B: Feeder>(engine: &EngineOf<B>, fd: u8) -> Option<ChannelStatus>
     requires fd { fd < DESCRIPTORS }
-    requires count { engine.now.steps ≤ STEPS }
     requires ready { AreReady B.kind B.kept engine.now }
     ensures fragments { IfSome result (λ status. AreFragments status.fragments) }
     ensures is { result ≡ statuses.client_status (device_of engine.now) (desk_of engine.now) fd }
@@ -82,7 +80,6 @@ pub fn client_status<B: Feeder>(engine: &EngineOf<B>, fd: u8) -> Option<ChannelS
 
 // How a channel is that a descriptor holds.
 fn held_status<B: Feeder>(engine: &EngineOf<B>, held: Held) -> ChannelStatus
-    requires count { engine.now.steps ≤ STEPS }
     requires ready { AreReady B.kind B.kept engine.now }
     requires there { held.slot < slots_of (desk_of engine.now) held.way }
     ensures fragments { AreFragments result.fragments }
@@ -134,7 +131,6 @@ fn channel_status(
 
 /// How a slot of a way is, by its place among these.
 pub fn slot_status<B: Feeder>(engine: &EngineOf<B>, way: Way, place: usize) -> SlotStatus
-    requires count { engine.now.steps ≤ STEPS }
     requires ready { AreReady B.kind B.kept engine.now }
     requires there { place < slots_of (desk_of engine.now) way }
     ensures { result ≡ statuses.slot_status (device_of engine.now) (desk_of engine.now) way place }

@@ -9,7 +9,6 @@ ghost use Rattle.pcm_desk.specs.Device.{DeviceSeen, here_at, play_slots, record_
 ghost use Rattle.pcm_rate.specs.Rates.{IsRatio};
 ghost use Rattle.pcm_desk.specs.PlayBooks.{is_play_free, write_turn};
 ghost use Rattle.pcm_desk.specs.RecordBooks.{is_record_free, read_turn};
-ghost use Rattle.pcm_engine.specs.declared.limits.TheConstants.{STEPS};
 ghost use Rattle.pcm_engine.specs.Engines.{AreReady, desk_of, device_of};
 ghost use Rattle.pcm_status.specs.declared.limits.TheConstants.{FRAMES_MOST};
 ghost use Rattle.pcm_status.specs.Statuses.{counts};
@@ -31,7 +30,6 @@ use pcm_rate::Rate;
 /// frames either: nothing takes or brings frames, or so many bytes never fit.
 pub fn frames_until<B: Feeder>(engine: &EngineOf<B>, fd: u8, bytes: u32) -> Result<u64, Errno>
     requires fd { fd < DESCRIPTORS }
-    requires count { engine.now.steps ≤ STEPS }
     requires ready { AreReady B.kind B.kept engine.now }
     ensures { WaitOf (device_of engine.now) (desk_of engine.now) fd bytes (held_by (desk_of engine.now) fd) result }
 {
@@ -46,7 +44,6 @@ pub fn frames_until<B: Feeder>(engine: &EngineOf<B>, fd: u8, bytes: u32) -> Resu
 
 // After how many frames the client of a channel can go on.
 fn wait_of<B: Feeder>(engine: &EngineOf<B>, fd: u8, held: Held, bytes: u32) -> Result<u64, Errno>
-    requires count { engine.now.steps ≤ STEPS }
     requires ready { AreReady B.kind B.kept engine.now }
     requires held { held_by (desk_of engine.now) fd ≡ Some held }
     ensures { WaitHere (device_of engine.now) (desk_of engine.now) fd bytes result }
@@ -62,7 +59,6 @@ fn wait_of<B: Feeder>(engine: &EngineOf<B>, fd: u8, held: Held, bytes: u32) -> R
 
 // The least number found between those after which a client can't go on and those after which it can.
 fn first_between<B: Feeder>(engine: &EngineOf<B>, fd: u8, held: Held, bytes: u32) -> u64
-    requires count { engine.now.steps ≤ STEPS }
     requires ready { AreReady B.kind B.kept engine.now }
     requires held { held_by (desk_of engine.now) fd ≡ Some held }
     requires least { goes_on_after (device_of engine.now) (desk_of engine.now) fd bytes 0 ≡ false }
@@ -90,7 +86,6 @@ fn goes_on_after<B: Feeder>(
     bytes: u32,
     frames: u64,
 ) -> bool
-    requires count { engine.now.steps ≤ STEPS }
     requires ready { AreReady B.kind B.kept engine.now }
     requires held { held_by (desk_of engine.now) fd ≡ Some held }
     requires few { frames ≤ FRAMES_MOST }
@@ -105,7 +100,6 @@ fn goes_on_after<B: Feeder>(
 
 // The book of a slot that plays, after so many frames.
 fn play_book_after<B: Feeder>(engine: &EngineOf<B>, slot: usize, frames: u64) -> PlayBook
-    requires count { engine.now.steps ≤ STEPS }
     requires ready { AreReady B.kind B.kept engine.now }
     requires there { slot < play_slots (device_of engine.now) }
     requires taken { is_play_free (play_at (device_of engine.now) (desk_of engine.now) slot).state ≡ false }
@@ -143,7 +137,6 @@ fn book_mixed(book: PlayBook, rate: Rate, mixed: u64, more: u64) -> PlayBook
 
 // Where the mix and the device are after so many frames.
 fn here_after<B: Feeder>(engine: &EngineOf<B>, frames: u64) -> Here
-    requires count { engine.now.steps ≤ STEPS }
     requires ready { AreReady B.kind B.kept engine.now }
     requires few { frames ≤ FRAMES_MOST }
     ensures is { result ≡ here_at (device_of engine.now) ((desk_of engine.now).handed + frames) }
@@ -158,7 +151,6 @@ fn here_after<B: Feeder>(engine: &EngineOf<B>, frames: u64) -> Here
 
 // The book of a slot that records, after so many frames.
 fn record_book_after<B: Feeder>(engine: &EngineOf<B>, slot: usize, frames: u64) -> RecordBook
-    requires count { engine.now.steps ≤ STEPS }
     requires ready { AreReady B.kind B.kept engine.now }
     requires there { slot < record_slots (device_of engine.now) }
     requires taken { is_record_free (record_at (device_of engine.now) (desk_of engine.now) slot).state ≡ false }

@@ -92,10 +92,10 @@ class Engine:
         return self._device
 
     @property
-    def steps_left(self) -> int:
-        """How many steps the engine still takes: calls that it accepts. Closes go on behind them."""
+    def frames_left(self) -> int:
+        """How many frames the engine still hands over. Nothing but interrupts uses them up."""
         with self._lock:
-            return int(self._library.dsp_engine_steps_left(self._handle))
+            return int(self._library.dsp_engine_frames_left(self._handle))
 
     def open(self, descriptor: int, way: Way, format: Format = Format.U8, channels: int = 1, rate: int = 8000) -> int:
         """Opens a descriptor, 0 to 63. Answers the number of its slot."""
@@ -268,6 +268,12 @@ class Engine:
         place = (ctypes.c_int32 * len(captured)).from_buffer(captured) if captured else None
         count = self._call("interrupt", frames, place, len(captured), room, len(room))
         return room.raw[:count]
+
+    def discard(self, frames: int, samples: Iterable[int] = ()) -> int:
+        """The device takes so many frames, as by `interrupt`, and nobody hears them. Answers how many bytes these are."""
+        captured = samples_of(samples)
+        place = (ctypes.c_int32 * len(captured)).from_buffer(captured) if captured else None
+        return self._call("interrupt", fits(frames, "frames"), place, len(captured), None, 0)
 
     def _room_for(self, frames: int) -> int:
         """The bytes of so many frames, if the device can hand them over at once."""

@@ -9,7 +9,7 @@ from typing import Iterator
 from .refusals import refused
 
 VARIABLE = "DSP_ENGINE_LIBRARY"
-NAMES = ("libdsp_engine.so.1", "libdsp_engine.so", "libdsp_engine.dylib")
+NAMES = ("libdsp_engine.so.2", "libdsp_engine.so", "libdsp_engine.dylib")
 MAJOR, MINOR = 1, 1  # the version of the library that this package needs: a later minor one fits, too
 
 Handle = ctypes.c_void_p
@@ -82,7 +82,7 @@ PARAMETERS = {
     "close": [Handle, U32],
     "mixer": [Handle, U32, U32, U32, ctypes.POINTER(AnswerStruct)],
     "interrupt": [Handle, U32, ctypes.POINTER(ctypes.c_int32), SIZE, ctypes.c_void_p, SIZE],
-    "steps_left": [Handle],
+    "frames_left": [Handle],
     "settings": [Handle, U32, ctypes.POINTER(SettingsStruct)],
     "peek": [Handle, U32, U32, U32, ctypes.POINTER(AnswerStruct)],
     "slot": [Handle, U32, U32, ctypes.POINTER(SlotStruct)],
@@ -93,7 +93,7 @@ PARAMETERS = {
     "error": [ctypes.c_int32],
     "errno": [ctypes.c_int32],
 }
-RESULTS = {"destroy": None, "steps_left": ctypes.c_uint64, "frames_until": ctypes.c_int64, "version": U32, "error": ctypes.c_char_p}
+RESULTS = {"destroy": None, "frames_left": ctypes.c_uint64, "frames_until": ctypes.c_int64, "version": U32, "error": ctypes.c_char_p}
 
 
 def places() -> Iterator[str]:

@@ -268,10 +268,19 @@ impl Engine {
         Ok(&mut out[..count as usize])
     }
 
-    /// How many steps the engine still takes: calls that it accepts. Closes go on behind them.
-    pub fn steps_left(&mut self) -> u64 {
+    /// The device takes so many frames, as by `interrupt`, and nobody hears them. Answers how many bytes these are.
+    pub fn discard(&mut self, frames: u32, samples: &[i32]) -> Result<usize, Refusal> {
+        // SAFETY: so many samples stand there, and a null room of no bytes has what is handed over let go.
+        let count = accepted(unsafe {
+            raw::dsp_engine_interrupt(&mut self.handle, frames, samples.as_ptr(), samples.len(), std::ptr::null_mut(), 0)
+        })?;
+        Ok(count as usize)
+    }
+
+    /// How many frames the engine still hands over. Nothing but interrupts uses them up.
+    pub fn frames_left(&mut self) -> u64 {
         // SAFETY: see `open`.
-        unsafe { raw::dsp_engine_steps_left(&mut self.handle) }
+        unsafe { raw::dsp_engine_frames_left(&mut self.handle) }
     }
 
     /// How the channel of a descriptor is. No question is a step, and none changes anything.

@@ -76,7 +76,7 @@ extern "C" {
         out: *mut u8,
         room: usize,
     ) -> i32;
-    pub fn dsp_engine_steps_left(engine: &mut Handle) -> u64;
+    pub fn dsp_engine_frames_left(engine: &mut Handle) -> u64;
     pub fn dsp_engine_settings(engine: &mut Handle, fd: u32, settings: &mut SettingsNumbers) -> i32;
     pub fn dsp_engine_peek(engine: &mut Handle, fd: u32, request: u32, argument: u32, answer: &mut Answer) -> i32;
     pub fn dsp_engine_slot(engine: &mut Handle, way: u32, number: u32, slot: &mut SlotNumbers) -> i32;

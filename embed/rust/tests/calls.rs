@@ -119,7 +119,7 @@ fn numbers_outside_their_limits() {
     assert_eq!(engine.interrupt(2, &[0; 3], &mut out), Err(Refusal::WrongArgument));
     assert_eq!(engine.interrupt(16, &[], &mut out[..63]), Err(Refusal::ShortRoom));
     assert_eq!(engine.close(0), Err(Refusal::BadDescriptor));
-    assert_eq!(engine.steps_left(), 34342961152);
+    assert_eq!(engine.frames_left(), 70368744177664);
     assert_eq!(out, [9; 64]);
 }
 
@@ -140,6 +140,19 @@ fn an_engine_may_be_used_by_another_thread() {
     engine.open(0, Way::Play, Format::S16Le, 2, 48000).unwrap();
     let taken = std::thread::spawn(move || engine.write(0, &[0; 12])).join().unwrap();
     assert_eq!(taken, Ok(12));
+}
+
+#[test]
+fn what_nobody_hears_is_let_go() {
+    let mut engine = engine();
+    let mut out = [0; 64];
+    engine.open(0, Way::Play, Format::S16Le, 2, 48000).unwrap();
+    engine.write(0, &[7; 64]).unwrap();
+    engine.post(0).unwrap();
+    assert_eq!(engine.discard(17, &[]), Err(Refusal::WrongArgument));
+    assert_eq!(engine.discard(16, &[]), Ok(64));
+    engine.interrupt(16, &[], &mut out).unwrap();
+    assert_eq!(out, [7; 64]);
 }
 
 #[test]
@@ -171,5 +184,5 @@ fn questions_change_nothing() {
     assert_eq!(engine.slot_status(Way::Play, 0), Ok(Slot { state: SlotState::Held, frames: 3072 }));
     assert_eq!(engine.slot_status(Way::Map, 4), Ok(Slot { state: SlotState::Free, frames: 0 }));
     assert!(!engine.is_idle());
-    assert_eq!(engine.steps_left(), Engine::new(&Device::default(), &[], &[]).unwrap().steps_left() - 3);
+    assert_eq!(engine.frames_left(), Engine::new(&Device::default(), &[], &[]).unwrap().frames_left() - 1024);
 }

@@ -15,7 +15,7 @@ returns-clause-made c =
       made_is = sym c.device_from.ensures.value ∙ c.in-Some.is;
       tables_are = c.in_ok-tables.ensures;
       device_is = c.in_ok-session.ensures.device;
-      steps = c.in_ok-session.ensures.steps;
+      handed = c.in_ok-session.ensures.handed;
       stands = c.in_ok-session.ensures.stands;
     })
 

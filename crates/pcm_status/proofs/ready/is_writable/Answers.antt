@@ -10,8 +10,8 @@ use Rattle.pcm_status.specs.Statuses.{counts}
 use Rattle.pcm_status.proofs.Held.{at-way, play-safe, play-slot}
 use Rattle.pcm_status.proofs.ready.is_writable.Goals as goal
 
-pub play_book-requires : goal.play_book-requires
-play_book-requires g c = play-slot c.args.engine.now c.args.fd c.in-Some.held (sym c.held.ensures ∙ c.in-Some.is) c.in-Play.is
+pub play_book-requires-clause-there : goal.play_book-requires-clause-there
+play_book-requires-clause-there g c = play-slot c.args.engine.now c.args.fd c.in-Some.held (sym c.held.ensures ∙ c.in-Some.is) c.in-Play.is
 
 pub takes_whole-requires : goal.takes_whole-requires
 takes_whole-requires g c =

@@ -34,23 +34,22 @@ captured-requires g c =
     subst (λ (b : RecordBook). IsRate b.opening.settings.rate) (sym (c.record_book-book.ensures.is ∙ record_at-books device desk recorders c.args.slot channel refl there)) found.serves.rate in
     let own = c.record_rate.ensures.is ∙ ap (λ (b : RecordBook). record_rate_at device b) (sym c.record_book-book.ensures.is) in
     let safe = record-safe g.B.Feeder.kind g.B.Feeder.kept engine c.args.slot book c.requires.ready c.record_book-book.ensures.is in
-    let steps = c.requires.count in
     let few = c.requires.few in
     let captured = c.record_book-book.ensures.captured in
     let kept = c.record_book-book.ensures.kept in
     let most = record-few device book.opening.settings (book.captured + n) limits client in
-    let given = given-most device n book limits client safe (omega (arith, most, captured, steps, few)) in
+    let given = given-most device n book limits client safe (omega (arith, most, captured, few)) in
     let bytes = kept-most device n book (sym c.if-not-is_running.ensures) safe in
     record {
       keeps = record {
         ratio = c.record_rate.ensures.near.ratio;
-        captured = omega (arith, captured, steps, few);
+        captured = omega (arith, captured, few);
         read = safe.read;
         fill = safe.fill;
         fragments = safe.fragments;
       };
       given = subst (λ (rate : Rate). book.given + coming rate n book < 2 ^ 64) (sym own) given;
-      kept = subst (λ (rate : Rate). book.kept + keeping rate n book * frame_bytes book.opening.settings < 2 ^ 64) (sym own) (omega (arith, bytes, kept, steps));
+      kept = subst (λ (rate : Rate). book.kept + keeping rate n book * frame_bytes book.opening.settings < 2 ^ 64) (sym own) (omega (arith, bytes, kept));
     }
 
 pub returns : goal.returns

@@ -1,16 +1,14 @@
-use Rattle.std.proofs.Common.{rules, inl, ℕ, ℤ, ◌+◌, ◌*◌, List, [], get_or, length, length-take, take, sym, ap, ◌∙◌, subst, arith}
+use Rattle.std.proofs.Common.{rules, inl, ℕ, ℤ, ◌*◌, List, [], get_or, length, take, sym, ap, ◌∙◌, subst, arith}
 use Rattle.pcm_fixed.specs.declared.fixed.Fixed.{Fixed}
 use Rattle.pcm_fixed.specs.Fixed.{fixed_items}
 use Rattle.pcm_oss.specs.declared.event.Event.{Event}
 use Rattle.pcm_oss.specs.declared.event.Event.TheVariants.{Open, Write, Poke, Read, Ioctl, Join, StartGroup, Close, Mixer, Intr}
 use Rattle.pcm_format.specs.Layouts.{channels_of}
-use Rattle.pcm_oss.specs.declared.fragments.TheConstants.{RING_BYTES}
 use Rattle.pcm_desk.specs.declared.device.Device.{Device}
 use Rattle.pcm_desk.specs.Device.{IsDevice, seen}
 use Rattle.pcm_play.specs.declared.channel.PlayChannelOf.{PlayChannelOf}
 use Rattle.pcm_record.specs.declared.channel.RecordChannelOf.{RecordChannelOf}
 use Rattle.pcm_map.specs.declared.channel.MapChannelOf.{MapChannelOf}
-use Rattle.pcm_desk.specs.declared.limits.TheConstants.{MIX_FRAMES, RING_FRAMES}
 use Rattle.pcm_oss.specs.Replies.{Reply}
 use Rattle.pcm_desk.specs.Desk.{after, held_by, poke_on, write_on}
 use Rattle.pcm_desk.specs.Own.{HoldApart}
@@ -24,176 +22,148 @@ use Rattle.pcm_bus.specs.Slots.{Each, MapAreOf, PlayAreOf}
 use Rattle.pcm_vchan.specs.Slots.{MapKeeps, RecordAreOf}
 use Rattle.pcm_vchan.specs.Starts.{EachAt}
 use Rattle.pcm_engine.specs.Desks.{desk_with}
+use Rattle.pcm_engine.specs.Life.{KeepsPace}
 use Rattle.pcm_vchan.specs.declared.parent.ParentOf.{ParentOf}
 use Rattle.pcm_engine.specs.Engines.{samples_at_hand, device_of, desk_of, samples_most}
 use Rattle.pcm_engine.specs.Steps.{BusMoves, ChannelsMove, MapsMove, RecordersMove, bytes_answered}
 use Rattle.pcm_vchan.proofs.Channels.{map_books_of-passed, play_books_of-passed, record_books_of-captured}
 use Rattle.pcm_vchan.specs.Parents.{HasBus, map_channels, mixed_in, play_channels, record_channels, untouched}
-use Rattle.pcm_engine.proofs.Desks.{count-stays, count-within, desk_with-mixed}
+use Rattle.pcm_engine.proofs.Desks.{desk_with-mixed}
 use Rattle.pcm_vchan.proofs.Channels.{map-keeps-nothing}
 use Rattle.pcm_engine.proofs.Buses.{bus-same, bus-stays, mixes-few}
-use Rattle.pcm_engine.proofs.Fitting.{counts-fit}
-use Rattle.pcm_engine.proofs.InOrder.{can-be-asked, closable, here-seen, served}
-use Rattle.pcm_engine.proofs.Recording.{length-captured}
+use Rattle.pcm_engine.proofs.Fitting.{counts-fit, mixed-few}
+use Rattle.pcm_engine.proofs.InOrder.{bytes-counted, can-be-asked, closable, few-mixed, here-seen, map-pace, play-pace, record-pace, relies, served}
+use Rattle.pcm_engine.proofs.Pace.{pace-after}
 use Rattle.pcm_engine.proofs.engine.EngineOf.apply.Goals as goal
 
 pub invariant_of-self-in-Write : goal.invariant_of-self-in-Write
 invariant_of-self-in-Write g c =
     let old = c.args.self.now in
     let new = c.write.new.parent in
-    let same = c.write.ensures.output.slots_same in
     let output = c.write.ensures.output in
     record {
       apart = subst HoldApart (sym (c.write.ensures.turn.desk old.tables (c.here-here.ensures ∙ here-seen g.B.Feeder.kept old c.requires.ready.bus))) (apart-after (device_of old) (desk_of old) (Write c.in-Write.fd c.in-Write.source c.in-Write.at (length c.args.bytes.now)) old.apart);
+      pace = subst KeepsPace (sym (c.write.ensures.turn.desk old.tables (c.here-here.ensures ∙ here-seen g.B.Feeder.kept old c.requires.ready.bus))) (pace-after (device_of old) (desk_of old) (Write c.in-Write.fd c.in-Write.source c.in-Write.at (length c.args.bytes.now)) tt (relies g.B.Feeder.kind g.B.Feeder.kept old c.requires.ready) old.pace);
+      life = omega (arith, output.handed_same, old.life);
       own = c.write.ensures.own;
-      counted = count-within (λ (c : PlayChannelOf _). c.book.done + c.book.written) RING_BYTES old.steps (play_channels old.parent) (play_channels new) same
-          (λ slot other there. let more = (c.write.ensures.channels old.tables slot other there).grown in omega (arith, more)) old.counted;
-      given = count-within (λ (c : PlayChannelOf _). c.book.given) MIX_FRAMES old.steps (play_channels old.parent) (play_channels new) same
-          (λ slot other there. let more = (c.write.ensures.channels old.tables slot other there).given in omega (arith, more)) old.given;
       recorders_own = subst (λ (v : Fixed (RecordChannelOf _)). RecordAreOf new.device (fixed_items v)) (sym c.write.ensures.recorders) (subst (λ (d : Device). RecordAreOf d (record_channels old.parent)) (sym output.device_same) old.recorders_own);
       maps_own = subst (λ (v : Fixed (MapChannelOf _)). MapAreOf new.device (fixed_items v)) (sym c.write.ensures.maps) (subst (λ (d : Device). MapAreOf d (map_channels old.parent)) (sym output.device_same) old.maps_own);
-      maps_given = count-stays (λ (c : MapChannelOf _). c.book.given) MIX_FRAMES old.steps (map_channels old.parent) (map_channels new) (ap (λ (v : Fixed (MapChannelOf _)). fixed_items v) c.write.ensures.maps) old.maps_given;
-      kept = count-stays (λ (c : RecordChannelOf _). c.book.kept) RING_BYTES old.steps (record_channels old.parent) (record_channels new) (ap (λ (v : Fixed (RecordChannelOf _)). fixed_items v) c.write.ensures.recorders) old.kept;
-      captured_within = count-stays (λ (c : RecordChannelOf _). c.book.captured) RING_FRAMES old.steps (record_channels old.parent) (record_channels new) (ap (λ (v : Fixed (RecordChannelOf _)). fixed_items v) c.write.ensures.recorders) old.captured_within;
       captured_size = old.captured_size ∙ ap (λ (d : Device). d.ring_frames * channels_of d.settings.layout) (sym output.device_same);
       answered_size = old.answered_size;
-      mixed_within = omega (arith, output.mixed_same, old.mixed_within);
-      handed_within = omega (arith, output.handed_same, old.handed_within);
     }
 
 pub invariant_of-self-in-Ioctl : goal.invariant_of-self-in-Ioctl
 invariant_of-self-in-Ioctl g c =
     let old = c.args.self.now in
     let new = c.ioctl.new.parent in
-    let same = c.ioctl.ensures.output.slots_same in
     let output = c.ioctl.ensures.output in
     record {
       apart = subst HoldApart (sym c.ioctl.ensures.desk) (apart-after (device_of old) (desk_of old) (Ioctl c.in-Ioctl.fd c.in-Ioctl.request) old.apart);
+      pace = subst KeepsPace (sym c.ioctl.ensures.desk) (pace-after (device_of old) (desk_of old) (Ioctl c.in-Ioctl.fd c.in-Ioctl.request) tt (relies g.B.Feeder.kind g.B.Feeder.kept old c.requires.ready) old.pace);
+      life = omega (arith, output.handed_same, old.life);
       own = c.ioctl.ensures.own;
-      counted = count-within (λ (c : PlayChannelOf _). c.book.done + c.book.written) RING_BYTES old.steps (play_channels old.parent) (play_channels new) same
-          (λ slot other there. let more = (c.ioctl.ensures.channels slot other there).grown in omega (arith, more)) old.counted;
-      given = count-within (λ (c : PlayChannelOf _). c.book.given) MIX_FRAMES old.steps (play_channels old.parent) (play_channels new) same
-          (λ slot other there. let more = (c.ioctl.ensures.channels slot other there).given in omega (arith, more)) old.given;
       recorders_own = c.ioctl.ensures.recorders_own;
       maps_own = c.ioctl.ensures.maps_own;
-      maps_given = count-within (λ (c : MapChannelOf _). c.book.given) MIX_FRAMES old.steps (map_channels old.parent) (map_channels new) output.maps_same
-          (λ slot other there. let more = (c.ioctl.ensures.maps slot other there).moves.given in omega (arith, more)) old.maps_given;
-      kept = count-within (λ (c : RecordChannelOf _). c.book.kept) RING_BYTES old.steps (record_channels old.parent) (record_channels new) output.recorders_same
-          (λ slot other there. (c.ioctl.ensures.recorders slot other there).kept) old.kept;
-      captured_within = count-within (λ (c : RecordChannelOf _). c.book.captured) RING_FRAMES old.steps (record_channels old.parent) (record_channels new) output.recorders_same
-          (λ slot other there. let more = (c.ioctl.ensures.recorders slot other there).captured in omega (arith, more)) old.captured_within;
       captured_size = old.captured_size ∙ ap (λ (d : Device). d.ring_frames * channels_of d.settings.layout) (sym output.device_same);
       answered_size = old.answered_size;
-      mixed_within = omega (arith, output.mixed_same, old.mixed_within);
-      handed_within = omega (arith, output.handed_same, old.handed_within);
     }
 
 pub invariant_of-self-in-Join : goal.invariant_of-self-in-Join
 invariant_of-self-in-Join g c =
     let old = c.args.self.now in
     let new = c.join.new.parent in
-    let same = c.join.ensures.output.slots_same in
     let output = c.join.ensures.output in
     record {
       apart = subst HoldApart (sym c.join.ensures.desk) (apart-after (device_of old) (desk_of old) (Join c.in-Join.fd c.in-Join.group) old.apart);
+      pace = subst KeepsPace (sym c.join.ensures.desk) (pace-after (device_of old) (desk_of old) (Join c.in-Join.fd c.in-Join.group) tt (relies g.B.Feeder.kind g.B.Feeder.kept old c.requires.ready) old.pace);
+      life = omega (arith, output.handed_same, old.life);
       own = c.join.ensures.own;
-      counted = count-within (λ (c : PlayChannelOf _). c.book.done + c.book.written) RING_BYTES old.steps (play_channels old.parent) (play_channels new) same
-          (λ slot other there. let more = (c.join.ensures.channels slot other there).grown in omega (arith, more)) old.counted;
-      given = count-within (λ (c : PlayChannelOf _). c.book.given) MIX_FRAMES old.steps (play_channels old.parent) (play_channels new) same
-          (λ slot other there. let more = (c.join.ensures.channels slot other there).given in omega (arith, more)) old.given;
       recorders_own = c.join.ensures.recorders_own;
       maps_own = c.join.ensures.maps_own;
-      maps_given = count-within (λ (c : MapChannelOf _). c.book.given) MIX_FRAMES old.steps (map_channels old.parent) (map_channels new) output.maps_same
-          (λ slot other there. let more = (c.join.ensures.maps slot other there).moves.given in omega (arith, more)) old.maps_given;
-      kept = count-within (λ (c : RecordChannelOf _). c.book.kept) RING_BYTES old.steps (record_channels old.parent) (record_channels new) output.recorders_same
-          (λ slot other there. (c.join.ensures.recorders slot other there).kept) old.kept;
-      captured_within = count-within (λ (c : RecordChannelOf _). c.book.captured) RING_FRAMES old.steps (record_channels old.parent) (record_channels new) output.recorders_same
-          (λ slot other there. let more = (c.join.ensures.recorders slot other there).captured in omega (arith, more)) old.captured_within;
       captured_size = old.captured_size ∙ ap (λ (d : Device). d.ring_frames * channels_of d.settings.layout) (sym output.device_same);
       answered_size = old.answered_size;
-      mixed_within = omega (arith, output.mixed_same, old.mixed_within);
-      handed_within = omega (arith, output.handed_same, old.handed_within);
     }
 
 pub invariant_of-self-in-StartGroup : goal.invariant_of-self-in-StartGroup
 invariant_of-self-in-StartGroup g c =
     let old = c.args.self.now in
     let new = c.start_group.new.parent in
-    let same = c.start_group.ensures.output.slots_same in
     let output = c.start_group.ensures.output in
     record {
       apart = subst HoldApart (sym c.start_group.ensures.desk) (apart-after (device_of old) (desk_of old) (StartGroup c.in-StartGroup.fd c.in-StartGroup.group) old.apart);
+      pace = subst KeepsPace (sym c.start_group.ensures.desk) (pace-after (device_of old) (desk_of old) (StartGroup c.in-StartGroup.fd c.in-StartGroup.group) tt (relies g.B.Feeder.kind g.B.Feeder.kept old c.requires.ready) old.pace);
+      life = omega (arith, output.handed_same, old.life);
       own = c.start_group.ensures.own;
-      counted = count-within (λ (c : PlayChannelOf _). c.book.done + c.book.written) RING_BYTES old.steps (play_channels old.parent) (play_channels new) same
-          (λ slot other there. let more = (c.start_group.ensures.channels slot other there).grown in omega (arith, more)) old.counted;
-      given = count-within (λ (c : PlayChannelOf _). c.book.given) MIX_FRAMES old.steps (play_channels old.parent) (play_channels new) same
-          (λ slot other there. let more = (c.start_group.ensures.channels slot other there).given in omega (arith, more)) old.given;
       recorders_own = c.start_group.ensures.recorders_own;
       maps_own = c.start_group.ensures.maps_own;
-      maps_given = count-within (λ (c : MapChannelOf _). c.book.given) MIX_FRAMES old.steps (map_channels old.parent) (map_channels new) output.maps_same
-          (λ slot other there. let more = (c.start_group.ensures.maps slot other there).moves.given in omega (arith, more)) old.maps_given;
-      kept = count-within (λ (c : RecordChannelOf _). c.book.kept) RING_BYTES old.steps (record_channels old.parent) (record_channels new) output.recorders_same
-          (λ slot other there. (c.start_group.ensures.recorders slot other there).kept) old.kept;
-      captured_within = count-within (λ (c : RecordChannelOf _). c.book.captured) RING_FRAMES old.steps (record_channels old.parent) (record_channels new) output.recorders_same
-          (λ slot other there. let more = (c.start_group.ensures.recorders slot other there).captured in omega (arith, more)) old.captured_within;
       captured_size = old.captured_size ∙ ap (λ (d : Device). d.ring_frames * channels_of d.settings.layout) (sym output.device_same);
       answered_size = old.answered_size;
-      mixed_within = omega (arith, output.mixed_same, old.mixed_within);
-      handed_within = omega (arith, output.handed_same, old.handed_within);
     }
 
--- what an interrupt relies on holds of every channel, since few steps were taken
+-- what an interrupt relies on holds of every channel, since few frames were handed over
 pub interrupt-requires-clause-due : goal.interrupt-requires-clause-due
 interrupt-requires-clause-due g c =
     let old = c.args.self.now in
     let fits = rw c.in-Intr.is at c.requires.within in
-    let within = old.parent.within in
     let few = mixes-few old.tables c.in-Intr.frames old.parent c.requires.ready.bus.planned.limits fits.1 in
+    let mixed = few-mixed g.B.Feeder.kept old c.requires.ready.bus in
+    let handed = old.life in
     record {
       bus = c.requires.ready.bus;
       playing = λ slot other there.
-          let given = old.given slot other there in
-          let counted = old.counted slot other there in
+          let played = (play-pace old slot other there).played in
           record {
             own = old.own slot other there;
             ready = c.requires.ready.playing slot other there;
-            given = omega (arith, given, few, c.requires.count);
-            counted = omega (arith, counted, c.requires.count);
+            given = omega (arith, played, few, mixed);
+            counted = (let counted = bytes-counted g.B.Feeder.kind g.B.Feeder.kept old c.requires.ready slot other there in omega (arith, counted));
           };
       recording = λ slot other there.
-          let captured = old.captured_within slot other there in
-          let kept = old.kept slot other there in
+          let pace = record-pace old slot other there in
           record {
             own = old.recorders_own slot other there;
             ready = c.requires.ready.recording slot other there;
             captured = capture-fits old.tables c.in-Intr.frames (get_or (record_channels old.parent) slot other)
                 (subst (λ (d : Device). IsDevice (seen old.tables d)) (sym (old.recorders_own slot other there)) c.requires.ready.bus.planned.limits)
-                (omega (arith, captured, within, fits.1, c.requires.count));
-            kept = omega (arith, kept, c.requires.count);
+                (let captured = pace.captured in omega (arith, captured, old.parent.within, fits.1, handed));
+            kept = (let kept = pace.kept in omega (arith, kept, handed));
           };
       mapped = λ slot other there.
-          let given = old.maps_given slot other there in
+          let given = (map-pace old slot other there).given in
           record {
             own = old.maps_own slot other there;
             ready = c.requires.ready.mapped slot other there;
             counted = counts-fit old.tables (mixed_in old.tables c.in-Intr.frames old.parent) (get_or (map_channels old.parent) slot other)
                 (subst (λ (d : Device). IsDevice (seen old.tables d)) (sym (old.maps_own slot other there)) c.requires.ready.bus.planned.limits)
-                (omega (arith, given, few, c.requires.count));
+                (omega (arith, given, few, mixed-few g.B.Feeder.kept (device_of old) old.parent c.requires.ready.bus handed));
           };
     }
+
+-- the bytes that a write brings can be counted
+pub write-requires-clause-count : goal.write-requires-clause-count
+write-requires-clause-count g c = λ slot other there.
+    let old = c.args.self.now in
+    let counted = bytes-counted g.B.Feeder.kind g.B.Feeder.kept old c.requires.ready slot other there in
+    omega (arith, counted)
+
+-- nor does a close pass the counts
+pub close-requires-clause-count : goal.close-requires-clause-count
+close-requires-clause-count g c = λ slot other there.
+    let counted = bytes-counted g.B.Feeder.kind g.B.Feeder.kept c.args.self.now c.requires.ready slot other there in
+    omega (arith, counted)
 
 -- every channel is ready for a call
 pub open-requires-clause-served : goal.open-requires-clause-served
 open-requires-clause-served g c = served g.B.Feeder.kind g.B.Feeder.kept c.args.self.now c.requires.ready
 
 pub ioctl-requires-clause-able : goal.ioctl-requires-clause-able
-ioctl-requires-clause-able g c = can-be-asked g.B.Feeder.kind g.B.Feeder.kept c.args.self.now c.here-here.result c.requires.ready c.requires.count c.here-here.ensures
+ioctl-requires-clause-able g c = can-be-asked g.B.Feeder.kind g.B.Feeder.kept c.args.self.now c.here-here.result c.requires.ready c.here-here.ensures
 
 pub join-requires-clause-able : goal.join-requires-clause-able
-join-requires-clause-able g c = can-be-asked g.B.Feeder.kind g.B.Feeder.kept c.args.self.now c.here-here.result c.requires.ready c.requires.count c.here-here.ensures
+join-requires-clause-able g c = can-be-asked g.B.Feeder.kind g.B.Feeder.kept c.args.self.now c.here-here.result c.requires.ready c.here-here.ensures
 
 pub start_group-requires-clause-able : goal.start_group-requires-clause-able
-start_group-requires-clause-able g c = can-be-asked g.B.Feeder.kind g.B.Feeder.kept c.args.self.now c.here-here.result c.requires.ready c.requires.count c.here-here.ensures
+start_group-requires-clause-able g c = can-be-asked g.B.Feeder.kind g.B.Feeder.kept c.args.self.now c.here-here.result c.requires.ready c.here-here.ensures
 
 pub close-requires-clause-closable : goal.close-requires-clause-closable
 close-requires-clause-closable g c = closable g.B.Feeder.kind g.B.Feeder.kept c.args.self.now c.requires.ready
@@ -203,35 +173,19 @@ invariant_of-self-in-Intr g c =
     let old = c.args.self.now in
     let new = c.interrupt.new.parent in
     let fits = rw c.in-Intr.is at c.requires.within in
-    let same = c.interrupt.ensures.slots in
-    let within = old.parent.within in
-    let few = mixes-few old.tables c.in-Intr.frames old.parent c.requires.ready.bus.planned.limits fits.1 in
-    let books = play_books_of-passed (device_of old) old.parent.handed c.in-Intr.frames (play_channels old.parent) (play_channels new) same c.interrupt.ensures.books in
+    let books = play_books_of-passed (device_of old) old.parent.handed c.in-Intr.frames (play_channels old.parent) (play_channels new) c.interrupt.ensures.slots c.interrupt.ensures.books in
     let recorded = record_books_of-captured (device_of old) c.in-Intr.frames (record_channels old.parent) (record_channels new) c.interrupt.ensures.recorders_slots (λ slot other there. (c.interrupt.ensures.recorders slot other there).book) in
     let taken = map_books_of-passed (device_of old) old.parent.handed c.in-Intr.frames (map_channels old.parent) (map_channels new) c.interrupt.ensures.maps_slots (λ slot other there. (c.interrupt.ensures.maps slot other there).book) in
     let desk = desk_with-mixed (device_of old) old.parent new old.descriptors c.in-Intr.frames books recorded taken c.interrupt.ensures.mixer c.interrupt.ensures.handed c.interrupt.ensures.mixed in
-    let room : ℕ = samples_most old (Intr c.in-Intr.frames) in
-    let samples : List ℤ = take room c.deref.result.now in
-    let brought = length-captured old.parent.device.settings.layout c.in-Intr.frames samples (omega (arith, length-take room c.deref.result.now)) in
     record {
       apart = subst HoldApart (sym desk) (apart-after (device_of old) (desk_of old) (Intr c.in-Intr.frames) old.apart);
+      pace = subst KeepsPace (sym desk) (pace-after (device_of old) (desk_of old) (Intr c.in-Intr.frames) fits.0 (relies g.B.Feeder.kind g.B.Feeder.kept old c.requires.ready) old.pace);
+      life = omega (arith, c.interrupt.ensures.handed, rw c.in-Intr.is at c.requires.life);
       own = c.interrupt.ensures.own;
-      counted = count-within (λ (c : PlayChannelOf _). c.book.done + c.book.written) RING_BYTES old.steps (play_channels old.parent) (play_channels new) same
-          (λ slot other there. let more = (c.interrupt.ensures.channels slot other there).grown in omega (arith, more)) old.counted;
-      given = count-within (λ (c : PlayChannelOf _). c.book.given) MIX_FRAMES old.steps (play_channels old.parent) (play_channels new) same
-          (λ slot other there. let more = (c.interrupt.ensures.channels slot other there).given in omega (arith, more, few)) old.given;
       recorders_own = c.interrupt.ensures.recorders_own;
       maps_own = c.interrupt.ensures.maps_own;
-      maps_given = count-within (λ (c : MapChannelOf _). c.book.given) MIX_FRAMES old.steps (map_channels old.parent) (map_channels new) c.interrupt.ensures.maps_slots
-          (λ slot other there. let more = (c.interrupt.ensures.maps slot other there).moves.given in omega (arith, more, few)) old.maps_given;
-      kept = count-within (λ (c : RecordChannelOf _). c.book.kept) RING_BYTES old.steps (record_channels old.parent) (record_channels new) c.interrupt.ensures.recorders_slots
-          (λ slot other there. (c.interrupt.ensures.recorders slot other there).moves.kept) old.kept;
-      captured_within = count-within (λ (c : RecordChannelOf _). c.book.captured) RING_FRAMES old.steps (record_channels old.parent) (record_channels new) c.interrupt.ensures.recorders_slots
-          (λ slot other there. let more = (c.interrupt.ensures.recorders slot other there).moves.captured in omega (arith, more, brought, fits.1)) old.captured_within;
       captured_size = old.captured_size ∙ ap (λ (d : Device). d.ring_frames * channels_of d.settings.layout) (sym c.interrupt.ensures.device);
       answered_size = old.answered_size;
-      mixed_within = omega (arith, c.interrupt.ensures.mixed, old.mixed_within, few);
-      handed_within = omega (arith, c.interrupt.ensures.handed, old.handed_within, fits.1);
     }
 
 pub returns-in-Intr-clause-desk : goal.returns-in-Intr-clause-desk
@@ -342,58 +296,45 @@ returns-in-Intr-clause-channels g c =
     subst (λ (event : Event). ChannelsMove g.B.Feeder.kind g.B.Feeder.kept (device_of c.args.self.now) c.args.bytes.now c.args.self.now.parent.handed event (play_channels c.args.self.now.parent) (play_channels c.interrupt.new.parent)) (sym c.in-Intr.is)
     c.interrupt.ensures.channels
 
+pub returns-in-Intr-clause-recorders : goal.returns-in-Intr-clause-recorders
+returns-in-Intr-clause-recorders g c =
+    let old = c.args.self.now in
+    let new = c.interrupt.new.parent in
+    let n : ℕ = c.in-Intr.frames in
+    subst (λ (event : Event). RecordersMove g.B.Feeder.kind g.B.Feeder.kept (device_of old) (samples_at_hand old event) event (record_channels old.parent) (record_channels new)) (sym c.in-Intr.is)
+    (subst (λ (samples : List ℤ). RecordersMove g.B.Feeder.kind g.B.Feeder.kept (device_of old) (take (samples_most old (Intr n)) samples) (Intr n) (record_channels old.parent) (record_channels new)) c.deref.ensures.value
+    c.interrupt.ensures.recorders)
+
 pub invariant_of-self : goal.invariant_of-self
 invariant_of-self g c =
     let old = c.args.self.now in
     let new = c.open.new.parent in
-    let same = c.open.ensures.output.slots_same in
     let output = c.open.ensures.output in
     record {
       own = c.open.ensures.own;
       apart = subst HoldApart (sym c.open.ensures.desk) (apart-after (device_of old) (desk_of old) (Open c.in-Open.fd c.in-Open.way c.in-Open.settings) old.apart);
-      counted = count-within (λ (c : PlayChannelOf _). c.book.done + c.book.written) RING_BYTES old.steps (play_channels old.parent) (play_channels new) same
-          (λ slot other there. let more = (c.open.ensures.channels slot other there).grown in omega (arith, more)) old.counted;
-      given = count-within (λ (c : PlayChannelOf _). c.book.given) MIX_FRAMES old.steps (play_channels old.parent) (play_channels new) same
-          (λ slot other there. let more = (c.open.ensures.channels slot other there).given in omega (arith, more)) old.given;
+      pace = subst KeepsPace (sym c.open.ensures.desk) (pace-after (device_of old) (desk_of old) (Open c.in-Open.fd c.in-Open.way c.in-Open.settings) tt (relies g.B.Feeder.kind g.B.Feeder.kept old c.requires.ready) old.pace);
+      life = omega (arith, output.handed_same, old.life);
       recorders_own = c.open.ensures.recorders_own;
       maps_own = c.open.ensures.maps_own;
-      maps_given = count-within (λ (c : MapChannelOf _). c.book.given) MIX_FRAMES old.steps (map_channels old.parent) (map_channels new) output.maps_same
-          (λ slot other there. let more = (c.open.ensures.maps slot other there).moves.given in omega (arith, more)) old.maps_given;
-      kept = count-within (λ (c : RecordChannelOf _). c.book.kept) RING_BYTES old.steps (record_channels old.parent) (record_channels new) output.recorders_same
-          (λ slot other there. (c.open.ensures.recorders slot other there).kept) old.kept;
-      captured_within = count-within (λ (c : RecordChannelOf _). c.book.captured) RING_FRAMES old.steps (record_channels old.parent) (record_channels new) output.recorders_same
-          (λ slot other there. let more = (c.open.ensures.recorders slot other there).captured in omega (arith, more)) old.captured_within;
       captured_size = old.captured_size ∙ ap (λ (d : Device). d.ring_frames * channels_of d.settings.layout) (sym output.device_same);
       answered_size = old.answered_size;
-      mixed_within = omega (arith, output.mixed_same, old.mixed_within);
-      handed_within = omega (arith, output.handed_same, old.handed_within);
     }
 
 pub invariant_of-self-in-Close : goal.invariant_of-self-in-Close
 invariant_of-self-in-Close g c =
     let old = c.args.self.now in
     let new = c.close.new.parent in
-    let same = c.close.ensures.closed.output.slots_same in
     let output = c.close.ensures.closed.output in
     record {
       own = c.close.ensures.closed.own;
       apart = subst HoldApart (sym (c.close.ensures.desk old.tables c.requires.ready.playing (c.here-here.ensures ∙ here-seen g.B.Feeder.kept old c.requires.ready.bus))) (apart-after (device_of old) (desk_of old) (Close c.in-Close.fd) old.apart);
-      counted = count-within (λ (c : PlayChannelOf _). c.book.done + c.book.written) RING_BYTES old.steps (play_channels old.parent) (play_channels new) same
-          (λ slot other there. let more = (c.close.ensures.closed.channels old.tables slot other there).grown in omega (arith, more)) old.counted;
-      given = count-within (λ (c : PlayChannelOf _). c.book.given) MIX_FRAMES old.steps (play_channels old.parent) (play_channels new) same
-          (λ slot other there. let more = (c.close.ensures.closed.channels old.tables slot other there).given in omega (arith, more)) old.given;
+      pace = subst KeepsPace (sym (c.close.ensures.desk old.tables c.requires.ready.playing (c.here-here.ensures ∙ here-seen g.B.Feeder.kept old c.requires.ready.bus))) (pace-after (device_of old) (desk_of old) (Close c.in-Close.fd) tt (relies g.B.Feeder.kind g.B.Feeder.kept old c.requires.ready) old.pace);
+      life = omega (arith, output.handed_same, old.life);
       recorders_own = c.close.ensures.closed.recorders_own;
       maps_own = c.close.ensures.closed.maps_own;
-      maps_given = count-within (λ (c : MapChannelOf _). c.book.given) MIX_FRAMES old.steps (map_channels old.parent) (map_channels new) output.maps_same
-          (λ slot other there. let more = (c.close.ensures.closed.maps old.tables slot other there).moves.given in omega (arith, more)) old.maps_given;
-      kept = count-within (λ (c : RecordChannelOf _). c.book.kept) RING_BYTES old.steps (record_channels old.parent) (record_channels new) output.recorders_same
-          (λ slot other there. (c.close.ensures.closed.recorders old.tables slot other there).kept) old.kept;
-      captured_within = count-within (λ (c : RecordChannelOf _). c.book.captured) RING_FRAMES old.steps (record_channels old.parent) (record_channels new) output.recorders_same
-          (λ slot other there. let more = (c.close.ensures.closed.recorders old.tables slot other there).captured in omega (arith, more)) old.captured_within;
       captured_size = old.captured_size ∙ ap (λ (d : Device). d.ring_frames * channels_of d.settings.layout) (sym output.device_same);
       answered_size = old.answered_size;
-      mixed_within = omega (arith, output.mixed_same, old.mixed_within);
-      handed_within = omega (arith, output.handed_same, old.handed_within);
     }
 
 pub invariant_of-self-in-Read : goal.invariant_of-self-in-Read
@@ -404,20 +345,13 @@ invariant_of-self-in-Read g c =
     let stays = ap (λ (v : Fixed (PlayChannelOf _)). fixed_items v) c.answer_read.ensures.channels in
     record {
       apart = subst HoldApart (sym (c.answer_read.ensures.turn.desk old.tables)) (apart-after (device_of old) (desk_of old) (Read c.in-Read.fd c.in-Read.len) old.apart);
+      pace = subst KeepsPace (sym (c.answer_read.ensures.turn.desk old.tables)) (pace-after (device_of old) (desk_of old) (Read c.in-Read.fd c.in-Read.len) tt (relies g.B.Feeder.kind g.B.Feeder.kept old c.requires.ready) old.pace);
+      life = omega (arith, output.handed_same, old.life);
       own = subst (λ (v : Fixed (PlayChannelOf _)). PlayAreOf new.device (fixed_items v)) (sym c.answer_read.ensures.channels) (subst (λ (d : Device). PlayAreOf d (play_channels old.parent)) (sym output.device_same) old.own);
-      counted = count-stays (λ (c : PlayChannelOf _). c.book.done + c.book.written) RING_BYTES old.steps (play_channels old.parent) (play_channels new) stays old.counted;
-      given = count-stays (λ (c : PlayChannelOf _). c.book.given) MIX_FRAMES old.steps (play_channels old.parent) (play_channels new) stays old.given;
       recorders_own = c.answer_read.ensures.recorders_own;
       maps_own = subst (λ (v : Fixed (MapChannelOf _)). MapAreOf new.device (fixed_items v)) (sym c.answer_read.ensures.maps) (subst (λ (d : Device). MapAreOf d (map_channels old.parent)) (sym output.device_same) old.maps_own);
-      maps_given = count-stays (λ (c : MapChannelOf _). c.book.given) MIX_FRAMES old.steps (map_channels old.parent) (map_channels new) (ap (λ (v : Fixed (MapChannelOf _)). fixed_items v) c.answer_read.ensures.maps) old.maps_given;
-      kept = count-within (λ (c : RecordChannelOf _). c.book.kept) RING_BYTES old.steps (record_channels old.parent) (record_channels new) output.recorders_same
-          (λ slot other there. (c.answer_read.ensures.recorders old.tables slot other there).kept) old.kept;
-      captured_within = count-within (λ (c : RecordChannelOf _). c.book.captured) RING_FRAMES old.steps (record_channels old.parent) (record_channels new) output.recorders_same
-          (λ slot other there. let more = (c.answer_read.ensures.recorders old.tables slot other there).captured in omega (arith, more)) old.captured_within;
       captured_size = old.captured_size ∙ ap (λ (d : Device). d.ring_frames * channels_of d.settings.layout) (sym output.device_same);
       answered_size = old.answered_size;
-      mixed_within = omega (arith, output.mixed_same, old.mixed_within);
-      handed_within = omega (arith, output.handed_same, old.handed_within);
     }
 
 pub returns-in-Open-clause-bus : goal.returns-in-Open-clause-bus
@@ -512,7 +446,7 @@ returns-in-Intr-clause-turns g c =
     c.interrupt.ensures.turns
 
 pub interrupt-requires-clause-counts : goal.interrupt-requires-clause-counts
-interrupt-requires-clause-counts g c = inl (let within = c.args.self.now.mixed_within in omega (arith, within, c.requires.count))
+interrupt-requires-clause-counts g c = inl (let few = few-mixed g.B.Feeder.kept c.args.self.now c.requires.ready.bus in omega (arith, few))
 
 pub returns-in-Open-clause-channels : goal.returns-in-Open-clause-channels
 returns-in-Open-clause-channels g c =
@@ -588,19 +522,13 @@ invariant_of-self-in-Poke g c =
     let records = ap (λ (v : Fixed (RecordChannelOf _)). fixed_items v) c.poke.ensures.recorders in
     record {
       apart = subst HoldApart (sym (c.poke.ensures.turn.desk old.tables)) (apart-after (device_of old) (desk_of old) (Poke c.in-Poke.fd c.in-Poke.offset c.in-Poke.at (length c.args.bytes.now)) old.apart);
+      pace = subst KeepsPace (sym (c.poke.ensures.turn.desk old.tables)) (pace-after (device_of old) (desk_of old) (Poke c.in-Poke.fd c.in-Poke.offset c.in-Poke.at (length c.args.bytes.now)) tt (relies g.B.Feeder.kind g.B.Feeder.kept old c.requires.ready) old.pace);
+      life = omega (arith, output.handed_same, old.life);
       own = subst (λ (v : Fixed (PlayChannelOf _)). PlayAreOf new.device (fixed_items v)) (sym c.poke.ensures.channels) (subst (λ (d : Device). PlayAreOf d (play_channels old.parent)) (sym output.device_same) old.own);
-      counted = count-stays (λ (c : PlayChannelOf _). c.book.done + c.book.written) RING_BYTES old.steps (play_channels old.parent) (play_channels new) plays old.counted;
-      given = count-stays (λ (c : PlayChannelOf _). c.book.given) MIX_FRAMES old.steps (play_channels old.parent) (play_channels new) plays old.given;
       recorders_own = subst (λ (v : Fixed (RecordChannelOf _)). RecordAreOf new.device (fixed_items v)) (sym c.poke.ensures.recorders) (subst (λ (d : Device). RecordAreOf d (record_channels old.parent)) (sym output.device_same) old.recorders_own);
-      kept = count-stays (λ (c : RecordChannelOf _). c.book.kept) RING_BYTES old.steps (record_channels old.parent) (record_channels new) records old.kept;
-      captured_within = count-stays (λ (c : RecordChannelOf _). c.book.captured) RING_FRAMES old.steps (record_channels old.parent) (record_channels new) records old.captured_within;
       maps_own = c.poke.ensures.maps_own;
-      maps_given = count-within (λ (c : MapChannelOf _). c.book.given) MIX_FRAMES old.steps (map_channels old.parent) (map_channels new) output.maps_same
-          (λ slot other there. let more = (c.poke.ensures.maps old.tables slot other there).moves.given in omega (arith, more)) old.maps_given;
       captured_size = old.captured_size ∙ ap (λ (d : Device). d.ring_frames * channels_of d.settings.layout) (sym output.device_same);
       answered_size = old.answered_size;
-      mixed_within = omega (arith, output.mixed_same, old.mixed_within);
-      handed_within = omega (arith, output.handed_same, old.handed_within);
     }
 
 pub returns-in-Poke-clause-desk : goal.returns-in-Poke-clause-desk
@@ -651,18 +579,13 @@ invariant_of-self-in-Mixer g c =
     let is = c.ask_mixer.ensures.parent in
     record {
       apart = subst (λ (p : ParentOf _). HoldApart (desk_with p old.descriptors)) (sym is) (apart-after (device_of old) (desk_of old) (Mixer c.in-Mixer.request) old.apart);
+      pace = subst (λ (p : ParentOf _). KeepsPace (desk_with p old.descriptors)) (sym is) (pace-after (device_of old) (desk_of old) (Mixer c.in-Mixer.request) tt (relies g.B.Feeder.kind g.B.Feeder.kept old c.requires.ready) old.pace);
+      life = (let same = ap (λ (p : ParentOf _). p.handed) is in omega (arith, same, old.life));
       own = subst (λ (p : ParentOf _). PlayAreOf p.device (play_channels p)) (sym is) old.own;
-      counted = count-stays (λ (c : PlayChannelOf _). c.book.done + c.book.written) RING_BYTES old.steps (play_channels old.parent) (play_channels new) (ap play_channels is) old.counted;
-      given = count-stays (λ (c : PlayChannelOf _). c.book.given) MIX_FRAMES old.steps (play_channels old.parent) (play_channels new) (ap play_channels is) old.given;
       recorders_own = subst (λ (p : ParentOf _). RecordAreOf p.device (record_channels p)) (sym is) old.recorders_own;
       maps_own = subst (λ (p : ParentOf _). MapAreOf p.device (map_channels p)) (sym is) old.maps_own;
-      maps_given = count-stays (λ (c : MapChannelOf _). c.book.given) MIX_FRAMES old.steps (map_channels old.parent) (map_channels new) (ap map_channels is) old.maps_given;
-      kept = count-stays (λ (c : RecordChannelOf _). c.book.kept) RING_BYTES old.steps (record_channels old.parent) (record_channels new) (ap record_channels is) old.kept;
-      captured_within = count-stays (λ (c : RecordChannelOf _). c.book.captured) RING_FRAMES old.steps (record_channels old.parent) (record_channels new) (ap record_channels is) old.captured_within;
       captured_size = old.captured_size ∙ ap (λ (p : ParentOf _). p.device.ring_frames * channels_of p.device.settings.layout) (sym is);
       answered_size = old.answered_size;
-      mixed_within = (let same = ap (λ (p : ParentOf _). p.mixed) is in omega (arith, same, old.mixed_within));
-      handed_within = (let same = ap (λ (p : ParentOf _). p.handed) is in omega (arith, same, old.handed_within));
     }
 
 pub returns-in-Mixer-clause-device : goal.returns-in-Mixer-clause-device

@@ -11,7 +11,7 @@ use Rattle.pcm_record.specs.declared.channel.RecordChannelOf.{RecordChannelOf}
 use Rattle.pcm_map.specs.declared.channel.MapChannelOf.{MapChannelOf}
 use Rattle.pcm_vchan.specs.Parents.{map_channels, play_channels, record_channels}
 use Rattle.pcm_engine.specs.Engines.{desk_of}
-use Rattle.pcm_engine.specs.Views.{maps_none, plays_none, records_none}
+use Rattle.pcm_engine.specs.Views.{plays_none, records_none}
 use Rattle.pcm_engine.proofs.engine.EngineOf.is_idle.Goals as goal
 
 pub returns : goal.returns

@@ -1,17 +1,19 @@
 use Rattle.pcm_desk.specs.declared.device.Held.{Held}
 use Rattle.std.proofs.Common.{◌≡◌, ◌*◌, List, [], Option, None, Some, get_or, sym, ap, ◌∙◌, subst, arith}
-use Rattle.pcm_desk.specs.declared.play_book.PlayBook.{PlayBook}
+use Rattle.std.proofs.lemmas.List.Elements.{All-map}
 use Rattle.pcm_desk.proofs.Apart.{apart-shut}
 use Rattle.pcm_desk.proofs.Members.{waits-none}
 use Rattle.pcm_sound.proofs.Stories.{get_or-same}
 use Rattle.pcm_desk.specs.declared.device.Device.{Device}
-use Rattle.pcm_desk.specs.declared.map_book.MapBook.{MapBook}
-use Rattle.pcm_desk.specs.declared.record_book.RecordBook.{RecordBook}
 use Rattle.pcm_desk.specs.Desk.{play_unopened}
 use Rattle.pcm_desk.specs.Device.{IsInLimits, here_at, mixed_for, seen}
 use Rattle.pcm_format.specs.Layouts.{channels_of}
 use Rattle.pcm_sound.specs.Story.{story_at_start}
+use Rattle.pcm_play.specs.declared.channel.PlayChannelOf.{PlayChannelOf}
+use Rattle.pcm_record.specs.declared.channel.RecordChannelOf.{RecordChannelOf}
+use Rattle.pcm_map.specs.declared.channel.MapChannelOf.{MapChannelOf}
 use Rattle.pcm_engine.specs.Desks.{desk_with}
+use Rattle.pcm_engine.specs.Life.{MapKeepsPace, PlayKeepsPace, RecordKeepsPace}
 use Rattle.pcm_engine.specs.Stands.{RecordersStand}
 use Rattle.pcm_engine.proofs.InOrder.{books-start, ready-all}
 use Rattle.pcm_engine.proofs.Starting.{map-ready-unopened, parent-starts, ready-unopened, record-ready-unopened, record_books_of-unopened, recorders-start}
@@ -27,19 +29,19 @@ invariant_of-result g c =
       apart = apart-shut _ (λ fd held e. let none : None ≡ Some held = sym (get_or-same 64 fd None) ∙ sym (ap (λ (list : List (Option Held)). get_or list fd None) c.all_shut.ensures.held) ∙ e in cc);
       recorders_own = λ slot other there. (c.in_ok-parent.ensures.recording slot other there).device_is ∙ sym c.in_ok-parent.ensures.device;
       maps_own = λ slot other there. (c.in_ok-parent.ensures.mapped slot other there).device_is ∙ sym c.in_ok-parent.ensures.device;
-      counted = λ slot other there.
-          let book = (c.in_ok-parent.ensures.channels slot other there).book in
-          let none = ap (λ (b : PlayBook). b.written) book in
-          let before = ap (λ (b : PlayBook). b.done) book in
-          omega arith;
-      given = λ slot other there. let none = ap (λ (b : PlayBook). b.given) (c.in_ok-parent.ensures.channels slot other there).book in omega arith;
-      maps_given = λ slot other there. let none = ap (λ (b : MapBook). b.given) (c.in_ok-parent.ensures.mapped slot other there).book in omega arith;
-      kept = λ slot other there. let none = ap (λ (b : RecordBook). b.kept) (c.in_ok-parent.ensures.recording slot other there).book in omega arith;
-      captured_within = λ slot other there. let none = ap (λ (b : RecordBook). b.captured) (c.in_ok-parent.ensures.recording slot other there).book in omega arith;
+      pace = (let e = c.in_ok-parent.ensures in
+          let parent = c.in_ok-parent.parent in
+          record {
+            playing = All-map (PlayKeepsPace parent.mixed) (λ (channel : PlayChannelOf _). channel.book) (play_channels parent)
+                (λ slot other there. subst (PlayKeepsPace parent.mixed) (sym (e.channels slot other there).book) (record { played = omega arith }));
+            recording = All-map (RecordKeepsPace parent.handed) (λ (channel : RecordChannelOf _). channel.book) (record_channels parent)
+                (λ slot other there. subst (RecordKeepsPace parent.handed) (sym (e.recording slot other there).book) (record { captured = omega arith; kept = omega arith }));
+            mapped = All-map (MapKeepsPace parent.mixed) (λ (channel : MapChannelOf _). channel.book) (map_channels parent)
+                (λ slot other there. subst (MapKeepsPace parent.mixed) (sym (e.mapped slot other there).book) (record { given = omega arith }));
+          });
       captured_size = c.new-2.ensures.len ∙ c.in_ok-captured.ensures.len ∙ ap (λ n. c.args.device.ring_frames * n) c.channels.ensures ∙ ap (λ (d : Device). d.ring_frames * channels_of d.settings.layout) (sym c.in_ok-parent.ensures.device);
       answered_size = c.new-3.ensures.len ∙ c.in_ok-answered.ensures.len;
-      mixed_within = omega (arith, c.in_ok-parent.ensures.mixed);
-      handed_within = omega (arith, c.in_ok-parent.ensures.handed);
+      life = omega (arith, c.in_ok-parent.ensures.handed);
     }
 
 pub returns-clause-ready : goal.returns-clause-ready

@@ -22,7 +22,7 @@ returns-clause-stepped g c =
     let stepped = c.answer.ensures.stepped in
     record {
       device = stepped.device;
-      steps = stepped.steps;
+      handed = stepped.handed;
       ready = stepped.ready;
       desk = stepped.desk;
       result = stepped.result;

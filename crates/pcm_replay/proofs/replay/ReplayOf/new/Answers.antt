@@ -9,7 +9,7 @@ returns-clause-played g c = λ pool. record {
     device_is = refl;
     stands = c.in_ok-new.ensures.stands pool;
     ready = c.in_ok-new.ensures.ready;
-    steps = c.in_ok-new.ensures.steps;
+    handed = c.in_ok-new.ensures.handed;
   };
   line_room = c.new-4.ensures.len ∙ c.in_ok-vec-2.ensures.len;
   room = c.new-3.ensures.len ∙ c.in_ok-vec.ensures.len

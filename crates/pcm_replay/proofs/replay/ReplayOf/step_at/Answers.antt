@@ -1,6 +1,6 @@
-use Rattle.std.proofs.Common.{ℕ, List, take, refl, ◌∙◌, ap, arith, length-take-le}
+use Rattle.std.proofs.Common.{ℕ, List, take, refl, ◌∙◌, ap}
 use Rattle.pcm_engine.specs.Engines.{device_of}
-use Rattle.pcm_soaking.proofs.Running.{front, steps-few}
+use Rattle.pcm_soaking.proofs.Running.{front, life-left}
 use Rattle.pcm_replay.proofs.Plays.{handed-among, next-given, played}
 use Rattle.pcm_replay.proofs.replay.ReplayOf.step_at.Goals as goal
 
@@ -9,12 +9,10 @@ pub step-bytes-requires-clause-room : goal.step-bytes-requires-clause-room
 step-bytes-requires-clause-room g c =
     handed-among (device_of c.args.self.now.engine) c.args.events.now c.args.at _ _ _ c.requires.there refl (c.deref_mut.ensures.len ∙ c.requires.played.room)
 
--- the engine has a step left for it
-pub step-bytes-requires-clause-count : goal.step-bytes-requires-clause-count
-step-bytes-requires-clause-count g c =
-    let xs = c.args.events.now in
-    let few = steps-few g.B.Feeder.kind g.B.Feeder.kept c.args.self.now.engine _ c.args.pool.now (take c.args.at xs) c.requires.played.engine in
-    omega (arith, few, length-take-le c.args.at xs (omega (arith, c.requires.there)), c.requires.there, c.requires.events.count)
+-- the engine has the frames left that it takes
+pub step-bytes-requires-clause-life : goal.step-bytes-requires-clause-life
+step-bytes-requires-clause-life g c =
+    life-left g.B.Feeder.kind g.B.Feeder.kept c.args.self.now.engine _ c.args.pool.now c.args.events.now c.args.at _ c.requires.played.engine c.requires.events.fits c.requires.events.count c.requires.there
 
 pub returns-clause-played : goal.returns-clause-played
 returns-clause-played g c =
@@ -28,7 +26,7 @@ returns-clause-played g c =
       device = step.device;
       ready = step.ready;
       stands = step.stands events;
-      steps = step.steps;
+      handed = step.handed;
       bytes = step.bytes events;
       replied = step.reply events;
       room = refl;
@@ -52,7 +50,7 @@ returns-clause-next g c =
       device = step.device;
       ready = step.ready;
       stands = step.stands events;
-      steps = step.steps;
+      handed = step.handed;
       bytes = step.bytes events;
       replied = step.reply events;
       room = refl;

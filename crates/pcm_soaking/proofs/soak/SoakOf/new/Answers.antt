@@ -15,7 +15,7 @@ returns g c =
           device_is = c.in_ok-new.ensures.device ∙ ap device_seen c.default_config-config.ensures;
           stands = c.in_ok-new.ensures.stands pool;
           ready = c.in_ok-new.ensures.ready;
-          steps = c.in_ok-new.ensures.steps;
+          handed = c.in_ok-new.ensures.handed;
         };
         tally = c.none.ensures;
         within = IsWithin-none c.none.result c.none.ensures;

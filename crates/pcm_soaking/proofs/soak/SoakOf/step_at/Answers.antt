@@ -4,7 +4,7 @@ use Rattle.pcm_desk.specs.Usual.{usual_device}
 use Rattle.pcm_engine.specs.Engines.{device_of}
 use Rattle.pcm_soak.specs.Tallies.{total}
 use Rattle.pcm_soaking.specs.Soaking.{HasSoaked, ring_room}
-use Rattle.pcm_soaking.proofs.Running.{front, steps-few}
+use Rattle.pcm_soaking.proofs.Running.{front, life-left}
 use Rattle.pcm_soaking.proofs.Soaking.{handed-on, soaked}
 use Rattle.pcm_soaking.proofs.soak.SoakOf.step_at.Goals as goal
 
@@ -32,7 +32,7 @@ returns g c =
             device = step.device;
             ready = step.ready;
             stands = step.stands events;
-            steps = step.steps;
+            handed = step.handed;
             bytes = step.bytes events;
             replied = step.reply events;
             counts = c.count.ensures.counted;
@@ -60,9 +60,8 @@ slice_bounds-hear-end g c =
     let size : length (take c.step-count.result c.step-count.new.out) ≡ c.step-count.result = length-take-le c.step-count.result c.step-count.new.out (omega (arith, count, room)) in
     sym (ap (λ (bytes : List ℕ). length (take c.step-count.result bytes)) block ∙ size)
 
--- the engine has a step left for the event
-pub step-count-requires-clause-count : goal.step-count-requires-clause-count
-step-count-requires-clause-count g c =
-    let xs = c.args.events.now in
-    let few = steps-few g.B.Feeder.kind g.B.Feeder.kept c.args.self.now.engine _ c.args.pool.now (take c.args.at xs) c.requires.soaked.engine in
-    omega (arith, few, length-take-le c.args.at xs (omega (arith, c.requires.there)), c.requires.there, c.requires.events.count)
+-- the engine has the frames left that the event takes
+pub step-count-requires-clause-life : goal.step-count-requires-clause-life
+step-count-requires-clause-life g c =
+    let count = c.requires.events.count in
+    life-left g.B.Feeder.kind g.B.Feeder.kept c.args.self.now.engine _ c.args.pool.now c.args.events.now c.args.at _ c.requires.soaked.engine c.requires.events.fits (omega (arith, count)) c.requires.there

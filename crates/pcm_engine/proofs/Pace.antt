@@ -1,0 +1,447 @@
+-- No count of a desk runs ahead of what was mixed and handed over, whatever events come; and so all of them fit 64 bits for long.
+use Rattle.std.proofs.Common.{◌≡◌, ℕ, ℤ, zero, suc, ◌+◌, ◌*◌, ◌<◌, ◌≤◌, Bool, true, false, cond, All, List, length, get_or, Option, Some, inl, inr, refl, sym, ap, subst, arith}
+use Rattle.std.specs.Prelude.{eqb, nat_lt, nat_le, min, ◌&&◌}
+use Rattle.std.proofs.lemmas.Bool.{and_parts, cases_lt, eqb-true}
+use Rattle.std.proofs.lemmas.List.{get_or_default, get_or_past}
+use Rattle.std.proofs.lemmas.List.Elements.{All-map, All-set}
+use Rattle.std.proofs.Math.Nat.{mul-le-mul_right}
+use Rattle.pcm_format.specs.declared.settings.Settings.{Settings}
+use Rattle.pcm_format.specs.Frames.{frame_bytes}
+use Rattle.pcm_format.proofs.Streams.{frame_bytes-most}
+use Rattle.pcm_oss.specs.declared.event.Event.{Event}
+use Rattle.pcm_oss.specs.declared.event.Event.TheVariants.{Open, Write, Poke, Read, Ioctl, Join, StartGroup, Close, Mixer, Intr}
+use Rattle.pcm_oss.specs.declared.event.Way.{Way}
+use Rattle.pcm_oss.specs.declared.reply.Answer.TheVariants.{Got, Number}
+use Rattle.pcm_oss.specs.declared.reply.Errno.TheVariants.{Again, Busy, Inval}
+use Rattle.pcm_oss.specs.declared.request.Request.{Request}
+use Rattle.pcm_oss.specs.declared.request.Request.TheVariants.{SetTrigger}
+use Rattle.pcm_rate.specs.declared.rate.Rate.{Rate}
+use Rattle.pcm_rate.specs.Rates.{len}
+use Rattle.pcm_rate.proofs.Counts.{below_div_up}
+use Rattle.pcm_feeder.specs.Limits.{IsRate}
+use Rattle.pcm_plan.specs.Plans.{rate_in_plan}
+use Rattle.pcm_chain.specs.Counts.{IsNear}
+use Rattle.pcm_chain.proofs.Counting.{rate-near}
+use Rattle.pcm_group.specs.declared.sync_groups.Groups.{Groups}
+use Rattle.pcm_group.specs.Groups.{change_in}
+use Rattle.pcm_group.proofs.Members.{get_or-change_in, length-change_in, used-some}
+use Rattle.pcm_desk.specs.declared.device.Held.{Held}
+use Rattle.pcm_desk.specs.declared.here.Here.{Here}
+use Rattle.pcm_desk.specs.declared.map_book.MapBook.{MapBook}
+use Rattle.pcm_desk.specs.declared.map_book.MapState.{MapState}
+use Rattle.pcm_desk.specs.declared.map_book.MapState.TheVariants as map_states
+use Rattle.pcm_desk.specs.declared.opening.Opening.{Opening}
+use Rattle.pcm_desk.specs.declared.play_book.PlayBook.{PlayBook}
+use Rattle.pcm_desk.specs.declared.play_book.PlayState.{PlayState}
+use Rattle.pcm_desk.specs.declared.play_book.PlayState.TheVariants.{Free, Setup, Primed, Running, Draining}
+use Rattle.pcm_desk.specs.declared.record_book.RecordBook.{RecordBook}
+use Rattle.pcm_desk.specs.declared.record_book.RecordState.{RecordState}
+use Rattle.pcm_desk.specs.declared.record_book.RecordState.TheVariants as record_states
+use Rattle.pcm_desk.specs.declared.turn.Turn.{Turn}
+use Rattle.pcm_desk.specs.Device.{DeviceSeen, IsDevice, mix_settings, mixed_for, passed_for, play_plan_between}
+use Rattle.pcm_desk.specs.BookTurns.{doing, refused, telling}
+use Rattle.pcm_desk.specs.Openings.{fragment_bytes, ring_bytes}
+use Rattle.pcm_desk.specs.PlayBooks.{accepting, close_turn, closed_in, drained_in, finished, frames_written, giving, is_over, play_begun, play_dropped, play_emptied, play_fill_of, play_free_of, play_settled, refilled_in, started_at, started_in, takes_none, write_turn}
+use Rattle.pcm_desk.specs.PlayRequests.{play_ask, play_roused_in, play_stopped_in, play_with_trigger}
+use Rattle.pcm_desk.specs.RecordBooks as records
+use Rattle.pcm_desk.specs.RecordBooks.{captured_in, is_running, record_begun, record_fill_of}
+use Rattle.pcm_desk.specs.RecordRequests.{record_ask}
+use Rattle.pcm_desk.specs.RecordSafe.{RecordIsSafe}
+use Rattle.pcm_desk.specs.MapBooks.{map_begun, map_closed, map_refilled_in, poke_turn}
+use Rattle.pcm_desk.specs.MapRequests.{map_ask}
+use Rattle.pcm_desk.specs.MapSafe.{MapIsSafe}
+use Rattle.pcm_desk.specs.Desk.{Desk, DeskTurn, after, asking, both_bits, capturing, close_map, close_play, close_record, close_on, closing, desk_here, group_started, held_by, interrupt_turn, ioctl_on, leaving, map_at, map_mixing, map_passing, map_rate_at, map_turn, map_unopened, mixed_by, mixing, play_at, play_passing, play_rate_at, play_starting, play_turn, play_unopened, record_at, record_rate_at, record_starting, record_turn, record_unopened, refusing, with_map, with_play, with_record}
+use Rattle.pcm_desk.proofs.Grouping.{by-asking, by-joining, by-starting}
+use Rattle.pcm_desk.proofs.MapLeaves as map_leaves
+use Rattle.pcm_desk.proofs.PlayAsking.{Dropping, Ending, Noting, SettingUp, Starting, Stopping, ask-does, noting}
+use Rattle.pcm_desk.proofs.Ratios.{plan-between-fits}
+use Rattle.pcm_desk.proofs.RecordLeaves as record_leaves
+use Rattle.pcm_desk.proofs.Turning.{by-opening, by-turning}
+use Rattle.pcm_sound.proofs.Stories.{HaveRates}
+use Rattle.pcm_record.proofs.Capturing.{kept-most}
+use Rattle.pcm_engine.specs.Engines.{MapBooksAreSafe, RecordsAreSafe}
+use Rattle.pcm_engine.specs.Life.{KeepsPace, MapKeepsPace, PlayKeepsPace, RecordKeepsPace}
+
+-- ---- books that play
+
+-- what counts as much as a book before keeps the pace of as many frames
+paced : (mixed : ℕ) (old new : PlayBook) → new.done ≡ old.done → new.given ≡ old.given → PlayKeepsPace mixed old → PlayKeepsPace mixed new
+paced mixed old new done given p = record { played = (let before = p.played in omega (arith, done, given, before)) }
+
+-- one that counts no frame, and no more bytes
+rests : (mixed : ℕ) (old new : PlayBook) → new.done ≤ old.done → new.given ≡ 0 → PlayKeepsPace mixed old → PlayKeepsPace mixed new
+rests mixed old new done given p = record { played = (let before = p.played in omega (arith, done, given, before)) }
+
+-- a frame of the mix lasts no longer than 48 of a client
+frames-near : (rate : Rate) (n : ℕ) → IsNear rate → n ≤ 48 * len rate n
+frames-near rate n near =
+    let ends : n * rate.dst ≤ len rate n * rate.src =
+    elim (cases_lt (len rate n * rate.src) (n * rate.dst)) [
+      | inl more ↦ (let above : suc (len rate n) ≤ len rate n = (below_div_up (len rate n) (n * rate.dst) rate.src near.ratio.src).1 more in absurd (omega (arith, above)))
+      | inr most ↦ omega (arith, most)
+    ] in
+    let up = mul-le-mul_right {m = rate.src} {n = 48 * rate.dst} (len rate n) (omega (arith, near.src)) in
+    let all : n * rate.dst ≤ 48 * len rate n * rate.dst = omega (arith, ends, up) in
+    elim (cases_lt (48 * len rate n) n) [
+      | inl more ↦ (let past = mul-le-mul_right {m = suc (48 * len rate n)} {n = n} rate.dst (omega (arith, more)) in absurd (omega (arith, past, all, near.ratio.dst)))
+      | inr most ↦ omega (arith, most)
+    ]
+
+-- a run that was played whole had no more bytes than its frames of the mix allow
+finished_pace : (rate : Rate) (mixed : ℕ) (state : PlayState) (book : PlayBook) → IsNear rate → book.given ≡ len rate (frames_written book) → PlayKeepsPace mixed book → PlayKeepsPace mixed (finished state book)
+finished_pace rate mixed state book near all p =
+    let frames : ℕ = frames_written book in
+    let size : ℕ = frame_bytes book.opening.settings in
+    let few = frames-near rate frames near in
+    let up = mul-le-mul_right {m = frames} {n = 48 * book.given} size (omega (arith, few, all)) in
+    let wide = mul-le-mul_right {m = size} {n = 32} (48 * book.given) (frame_bytes-most book.opening.settings) in
+    let before = p.played in
+    record { played = omega (arith, before, up, wide) }
+
+over_all : (rate : Rate) (passed : ℤ) (book : PlayBook) → is_over rate passed book ≡ true → book.given ≡ len rate (frames_written book)
+over_all rate passed book over = eqb-true book.given (len rate (frames_written book)) (and_parts (eqb book.given (len rate (frames_written book))) _ over).0
+
+over_in : (b : Bool) (rate : Rate) (passed : ℤ) (mixed : ℕ) (state : PlayState) (book : PlayBook) → IsNear rate → is_over rate passed book ≡ b → PlayKeepsPace mixed book → PlayKeepsPace mixed (cond b (finished state book) book)
+over_in true rate passed mixed state book near over p = finished_pace rate mixed state book near (over_all rate passed book over) p
+over_in false rate passed mixed state book near over p = p
+
+settled_at : (state : PlayState) (rate : Rate) (passed : ℤ) (mixed : ℕ) (book : PlayBook) → IsNear rate → PlayKeepsPace mixed (record book { state = state }) → PlayKeepsPace mixed (play_settled rate passed (record book { state = state }))
+settled_at Free rate passed mixed book near p = p
+settled_at Setup rate passed mixed book near p = p
+settled_at Primed rate passed mixed book near p = p
+settled_at Running rate passed mixed book near p = p
+settled_at (Draining closed) rate passed mixed book near p =
+    let draining : PlayBook = record book { state = Draining closed } in
+    over_in (is_over rate passed draining) rate passed mixed (cond closed Free Setup) draining near refl p
+
+drained_primed : (b : Bool) (mixed at : ℕ) (book : PlayBook) → PlayKeepsPace mixed book → PlayKeepsPace mixed (cond b (started_at at (Draining false) book) (play_emptied Setup book))
+drained_primed true mixed at book p = paced mixed book (started_at at (Draining false) book) refl refl p
+drained_primed false mixed at book p = rests mixed book (play_emptied Setup book) (omega arith) refl p
+
+drained_at : (state : PlayState) (rate : Rate) (here : Here) (mixed : ℕ) (book : PlayBook) → IsNear rate → PlayKeepsPace mixed (record book { state = state }) → PlayKeepsPace mixed (drained_in rate here state (record book { state = state }))
+drained_at Free rate here mixed book near p = p
+drained_at Setup rate here mixed book near p = p
+drained_at Primed rate here mixed book near p = drained_primed (nat_lt 0 (frames_written book)) mixed here.mixed (record book { state = Primed }) p
+drained_at Running rate here mixed book near p =
+    settled_at (Draining false) rate here.passed mixed book near (paced mixed (record book { state = Running }) (record book { state = Draining false }) refl refl p)
+drained_at (Draining closed) rate here mixed book near p = p
+
+closed_at : (state : PlayState) (mixed : ℕ) (book : PlayBook) → PlayKeepsPace mixed (record book { state = state }) → PlayKeepsPace mixed (closed_in state (record book { state = state }))
+closed_at Free mixed book p = p
+closed_at Setup mixed book p = paced mixed (record book { state = Setup }) (record book { state = Free }) refl refl p
+closed_at Primed mixed book p = p
+closed_at Running mixed book p = p
+closed_at (Draining was) mixed book p = paced mixed (record book { state = Draining was }) (record book { state = Draining true }) refl refl p
+
+close_pace : (rate : Rate) (here : Here) (mixed : ℕ) (book : PlayBook) → IsNear rate → PlayKeepsPace mixed book → PlayKeepsPace mixed (close_turn rate here book)
+close_pace rate here mixed book near p =
+    let between : PlayBook = drained_in rate here book.state book in
+    closed_at between.state mixed between (drained_at book.state rate here mixed book near p)
+
+-- a write counts no frame
+started_pace : (b : Bool) (at mixed : ℕ) (more : PlayBook) → PlayKeepsPace mixed more → PlayKeepsPace mixed (cond b (started_at at Running more) (record more { state = Primed }))
+started_pace true at mixed more p = paced mixed more (started_at at Running more) refl refl p
+started_pace false at mixed more p = paced mixed more (record more { state = Primed }) refl refl p
+
+primed_pace : (b : Bool) (at mixed : ℕ) (more : PlayBook) → PlayKeepsPace mixed more
+    → PlayKeepsPace mixed (let primed : PlayBook = cond b (record more { state = Primed }) (record more { state = Setup }) in started_in at primed.state primed)
+primed_pace true at mixed more p = started_pace (more.opening.trigger && nat_le (fragment_bytes more.opening) (play_fill_of more)) at mixed more p
+primed_pace false at mixed more p = paced mixed more (record more { state = Setup }) refl refl p
+
+accepting_at : (state : PlayState) (at mixed accepted : ℕ) (book : PlayBook) → PlayKeepsPace mixed book → PlayKeepsPace mixed (accepting at accepted (record book { state = state }))
+accepting_at Free at mixed accepted book p = paced mixed book (accepting at accepted (record book { state = Free })) refl refl p
+accepting_at Setup at mixed accepted book p =
+    let more : PlayBook = record book { written = book.written + accepted } in
+    primed_pace (nat_lt 0 (book.written + accepted)) at mixed more (paced mixed book more refl refl p)
+accepting_at Primed at mixed accepted book p =
+    let more : PlayBook = record book { written = book.written + accepted } in
+    started_pace (more.opening.trigger && nat_le (fragment_bytes more.opening) (play_fill_of more)) at mixed more (paced mixed book more refl refl p)
+accepting_at Running at mixed accepted book p = paced mixed book (accepting at accepted (record book { state = Running })) refl refl p
+accepting_at (Draining closed) at mixed accepted book p = paced mixed book (accepting at accepted (record book { state = Draining closed })) refl refl p
+
+either : {X : Type 0} (P : X → Type 0) (b : Bool) (x y : X) → P x → P y → P (cond b x y)
+either P true x y px py = px
+either P false x y px py = py
+
+write_pace : (here : Here) (mixed length : ℕ) (book : PlayBook) → PlayKeepsPace mixed book → PlayKeepsPace mixed (write_turn here length book).book
+write_pace here mixed length book p =
+    let Paces : Turn PlayBook → Type 0 = λ turn. PlayKeepsPace mixed turn.book in
+    let accepted : ℕ = min length (play_free_of book) in
+    let taken : Turn PlayBook = telling (Number accepted) (accepting here.mixed accepted book) in
+    either Paces (takes_none book.state) (refused Busy book) (cond (nat_lt 0 length && eqb (play_free_of book) 0) (refused Again book) taken) p
+    (either Paces (nat_lt 0 length && eqb (play_free_of book) 0) (refused Again book) taken p (accepting_at book.state here.mixed mixed accepted book p))
+
+-- a request
+roused_primed : (b : Bool) (at mixed : ℕ) (book : PlayBook) → PlayKeepsPace mixed book → PlayKeepsPace mixed (cond b (started_at at Running book) book)
+roused_primed true at mixed book p = paced mixed book (started_at at Running book) refl refl p
+roused_primed false at mixed book p = p
+
+roused_at : (state : PlayState) (at mixed : ℕ) (book : PlayBook) → PlayKeepsPace mixed (record book { state = state }) → PlayKeepsPace mixed (play_roused_in at state (record book { state = state }))
+roused_at Free at mixed book p = p
+roused_at Setup at mixed book p = p
+roused_at Primed at mixed book p = roused_primed (nat_lt 0 (frames_written book)) at mixed (record book { state = Primed }) p
+roused_at Running at mixed book p = p
+roused_at (Draining closed) at mixed book p = p
+
+dropped_pace : (mixed : ℕ) (book : PlayBook) → PlayKeepsPace mixed (play_dropped book)
+dropped_pace mixed book = record { played = omega arith }
+
+stopped_at : (state : PlayState) (mixed : ℕ) (book : PlayBook) → PlayKeepsPace mixed (record book { state = state }) → PlayKeepsPace mixed (play_stopped_in state (record book { state = state }))
+stopped_at Free mixed book p = p
+stopped_at Setup mixed book p = p
+stopped_at Primed mixed book p = dropped_pace mixed (record book { state = Primed })
+stopped_at Running mixed book p = dropped_pace mixed (record book { state = Running })
+stopped_at (Draining closed) mixed book p = p
+
+ask_pace : (rate : Rate) (mix_rate : ℕ) (here : Here) (request : Request) (mixed : ℕ) (book : PlayBook) → IsNear rate → PlayKeepsPace mixed book → PlayKeepsPace mixed (play_ask rate mix_rate here request book).book
+ask_pace rate mix_rate here request mixed book near p =
+    let set : (trigger : Bool) → PlayKeepsPace mixed (play_with_trigger trigger book) = λ trigger. paced mixed book (play_with_trigger trigger book) refl refl p in
+    elim (ask-does rate mix_rate here request book) [
+      | SettingUp opening setup sets is ↦ subst (PlayKeepsPace mixed) (sym is) (paced mixed book (record book { opening = opening }) refl refl p)
+      | Noting told volume underruns n is ↦ subst (PlayKeepsPace mixed) (sym is) (paced mixed book (noting told volume underruns book) refl refl p)
+      | Starting trigger is ↦ subst (PlayKeepsPace mixed) (sym is) (roused_at book.state here.mixed mixed (play_with_trigger trigger book) (set trigger))
+      | Stopping bits asks off is ↦ subst (PlayKeepsPace mixed) (sym is) (stopped_at book.state mixed (play_with_trigger false book) (set false))
+      | Ending is ↦ subst (PlayKeepsPace mixed) (sym is) (drained_at book.state rate here mixed book near p)
+      | Dropping asks is ↦ subst (PlayKeepsPace mixed) (sym is) (dropped_pace mixed book)
+    ]
+
+-- an interrupt gives no more frames than it mixes
+more_mixed : (mixed frames : ℕ) (book : PlayBook) → PlayKeepsPace mixed book → PlayKeepsPace (mixed + frames) book
+more_mixed mixed frames book p = record { played = (let before = p.played in omega (arith, before)) }
+
+given_pace : (rate : Rate) (at mixed n : ℕ) (old new : PlayBook) → new.done ≡ old.done → new.given ≡ old.given + giving rate n old → PlayKeepsPace mixed old → PlayKeepsPace (mixed + n) new
+given_pace rate at mixed n old new done given p = record { played = (let before = p.played in omega (arith, done, given, before)) }
+
+refilled_at : (state : PlayState) (rate : Rate) (at mixed n : ℕ) (book : PlayBook) → PlayKeepsPace mixed (record book { state = state }) → PlayKeepsPace (mixed + n) (refilled_in rate at state n (record book { state = state }))
+refilled_at Free rate at mixed n book p = more_mixed mixed n (record book { state = Free }) p
+refilled_at Setup rate at mixed n book p = more_mixed mixed n (record book { state = Setup }) p
+refilled_at Primed rate at mixed n book p = more_mixed mixed n (record book { state = Primed }) p
+refilled_at Running rate at mixed n book p = given_pace rate at mixed n (record book { state = Running }) (refilled_in rate at Running n (record book { state = Running })) refl refl p
+refilled_at (Draining closed) rate at mixed n book p = given_pace rate at mixed n (record book { state = Draining closed }) (refilled_in rate at (Draining closed) n (record book { state = Draining closed })) refl refl p
+
+mixing_pace : (device : DeviceSeen) (at mixed n : ℕ) (book : PlayBook) → PlayKeepsPace mixed book → PlayKeepsPace (mixed + n) (mixing device at n book)
+mixing_pace device at mixed zero book p = more_mixed mixed zero book p
+mixing_pace device at mixed (suc n) book p = refilled_at book.state (play_rate_at device book) at mixed (suc n) book p
+
+refilled_opening : (state : PlayState) (rate : Rate) (at n : ℕ) (book : PlayBook) → (refilled_in rate at state n (record book { state = state })).opening ≡ book.opening
+refilled_opening Free rate at n book = refl
+refilled_opening Setup rate at n book = refl
+refilled_opening Primed rate at n book = refl
+refilled_opening Running rate at n book = refl
+refilled_opening (Draining closed) rate at n book = refl
+
+mixing_opening : (device : DeviceSeen) (at n : ℕ) (book : PlayBook) → (mixing device at n book).opening ≡ book.opening
+mixing_opening device at zero book = refl
+mixing_opening device at (suc n) book = refilled_opening book.state (play_rate_at device book) at (suc n) book
+
+pub near-rate : (device : DeviceSeen) (settings : Settings) → IsDevice device → IsRate settings.rate → IsNear (rate_in_plan (play_plan_between device settings))
+near-rate device settings d rate = rate-near (play_plan_between device settings) (plan-between-fits device settings d rate)
+
+passing_pace : (device : DeviceSeen) (handed mixed n : ℕ) (book : PlayBook) → IsDevice device → IsRate book.opening.settings.rate → PlayKeepsPace mixed book
+    → PlayKeepsPace (mixed + mixed_by device handed n) (play_passing device handed n book)
+passing_pace device handed mixed n book d rate p =
+    let frames : ℕ = mixed_by device handed n in
+    let at : ℕ = mixed_for device handed in
+    let between : PlayBook = mixing device at frames book in
+    let its : IsRate between.opening.settings.rate = subst (λ (opening : Opening). IsRate opening.settings.rate) (sym (mixing_opening device at frames book)) rate in
+    settled_at between.state (play_rate_at device between) (passed_for device (handed + n)) (mixed + frames) between (near-rate device between.opening.settings d its) (mixing_pace device at mixed frames book p)
+
+-- ---- books that record
+
+record_paced : (handed : ℕ) (old new : RecordBook) → new.captured ≤ old.captured → new.kept ≤ old.kept → RecordKeepsPace handed old → RecordKeepsPace handed new
+record_paced handed old new captured kept p = record { captured = (let before = p.captured in omega (arith, captured, before)); kept = (let before = p.kept in omega (arith, kept, before)) }
+
+record_ask_pace : (rate : Rate) (request : Request) (handed : ℕ) (book : RecordBook) → RecordIsSafe rate book → RecordKeepsPace handed book → RecordKeepsPace handed (record_ask request book).book
+record_ask_pace rate request handed book s p =
+    elim (record_leaves.record-ask-leaves rate request book s).counts [
+      | inl stays ↦ record_paced handed book (record_ask request book).book (omega (arith, stays.captured)) (omega (arith, stays.kept)) p
+      | inr ends ↦ record_paced handed book (record_ask request book).book (omega (arith, ends.captured)) (omega (arith, ends.kept)) p
+    ]
+
+read_pace : (length handed : ℕ) (book : RecordBook) → RecordKeepsPace handed book → RecordKeepsPace handed (records.read_turn length book).book
+read_pace length handed book p =
+    let got : ℕ = min length (record_fill_of book) in
+    let read : Turn RecordBook = telling (Got got) (record book { read = book.read + got }) in
+    either (λ turn. RecordKeepsPace handed turn.book) (nat_lt 0 length && eqb (record_fill_of book) 0) (refused Again book) read p
+    (record_paced handed book (record book { read = book.read + got }) (omega arith) (omega arith) p)
+
+captured_at : (state : RecordState) (device : DeviceSeen) (handed n : ℕ) (book : RecordBook) → book.state ≡ state → 0 < n → RecordIsSafe (record_rate_at device book) book → RecordKeepsPace handed book
+    → RecordKeepsPace (handed + n) (captured_in (record_rate_at device book) state n book)
+captured_at record_states.Free device handed n book e some s p = record { captured = (let before = p.captured in omega (arith, before)); kept = (let before = p.kept in omega (arith, before)) }
+captured_at record_states.Setup device handed n book e some s p = record { captured = (let before = p.captured in omega (arith, before)); kept = (let before = p.kept in omega (arith, before)) }
+captured_at record_states.Running device handed n book e some s p =
+    let more = kept-most device n book (ap is_running e) s in
+    record { captured = (let before = p.captured in omega (arith, before)); kept = (let before = p.kept in omega (arith, before, more, some)) }
+
+-- ---- mapped books
+
+map_paced : (mixed : ℕ) (old new : MapBook) → new.given ≤ old.given → MapKeepsPace mixed old → MapKeepsPace mixed new
+map_paced mixed old new given p = record { given = (let before = p.given in omega (arith, given, before)) }
+
+map_ask_pace : (rate : Rate) (request : Request) (mixed : ℕ) (book : MapBook) → MapIsSafe rate book → MapKeepsPace mixed book → MapKeepsPace mixed (map_ask request book).book
+map_ask_pace rate request mixed book s p =
+    elim (map_leaves.map-asked-leaves rate request book s).counts [
+      | inl stays ↦ map_paced mixed book (map_ask request book).book (omega (arith, stays.given)) p
+      | inr ends ↦ map_paced mixed book (map_ask request book).book (omega (arith, ends.given)) p
+    ]
+
+poke_pace : (offset count mixed : ℕ) (book : MapBook) → MapKeepsPace mixed book → MapKeepsPace mixed (poke_turn offset count book).book
+poke_pace offset count mixed book p = either (λ (turn : Turn MapBook). MapKeepsPace mixed turn.book) (nat_lt (ring_bytes book.opening) (offset + count)) (refused Inval book) (doing book) p p
+
+map_refilled_at : (state : MapState) (rate : Rate) (mixed n : ℕ) (book : MapBook) → MapKeepsPace mixed book → MapKeepsPace (mixed + n) (map_refilled_in rate state n book)
+map_refilled_at map_states.Free rate mixed n book p = record { given = (let before = p.given in omega (arith, before)) }
+map_refilled_at map_states.Setup rate mixed n book p = record { given = (let before = p.given in omega (arith, before)) }
+map_refilled_at map_states.Running rate mixed n book p = record { given = (let before = p.given in omega (arith, before)) }
+
+map_mixing_pace : (device : DeviceSeen) (mixed n : ℕ) (book : MapBook) → MapKeepsPace mixed book → MapKeepsPace (mixed + n) (map_mixing device n book)
+map_mixing_pace device mixed zero book p = record { given = (let before = p.given in omega (arith, before)) }
+map_mixing_pace device mixed (suc n) book p = map_refilled_at book.state (map_rate_at device book) mixed (suc n) book p
+
+-- ---- a desk
+
+-- what holds of each book, and of one that nobody has opened, holds of each slot
+at_slot : {X : Type 0} (P : X → Type 0) (books : List X) (slot : ℕ) (none : X) → P none → All P books → P (get_or books slot none)
+at_slot P books slot none unopened each =
+    elim (cases_lt slot (length books)) [
+      | inl there ↦ each slot none there
+      | inr past ↦ subst P (sym (get_or_past books slot none past)) unopened
+    ]
+
+play_slot : (device : DeviceSeen) (desk : Desk) (slot : ℕ) → KeepsPace desk → PlayKeepsPace desk.mixed (play_at device desk slot)
+play_slot device desk slot p = at_slot (PlayKeepsPace desk.mixed) desk.play slot (play_unopened device) (record { played = omega arith }) p.playing
+
+record_slot : (device : DeviceSeen) (desk : Desk) (slot : ℕ) → KeepsPace desk → RecordKeepsPace desk.handed (record_at device desk slot)
+record_slot device desk slot p = at_slot (RecordKeepsPace desk.handed) desk.recording slot (record_unopened device) (record { captured = omega arith; kept = omega arith }) p.recording
+
+map_slot : (device : DeviceSeen) (desk : Desk) (slot : ℕ) → KeepsPace desk → MapKeepsPace desk.mixed (map_at device desk slot)
+map_slot device desk slot p = at_slot (MapKeepsPace desk.mixed) desk.mapped slot (map_unopened device) (record { given = omega arith }) p.mapped
+
+-- one book is another
+play_set : (desk : Desk) (slot : ℕ) (book : PlayBook) → PlayKeepsPace desk.mixed book → KeepsPace desk → KeepsPace (with_play desk slot book)
+play_set desk slot book its p = record { playing = All-set (PlayKeepsPace desk.mixed) desk.play slot book its p.playing; recording = p.recording; mapped = p.mapped }
+
+record_set : (desk : Desk) (slot : ℕ) (book : RecordBook) → RecordKeepsPace desk.handed book → KeepsPace desk → KeepsPace (with_record desk slot book)
+record_set desk slot book its p = record { playing = p.playing; recording = All-set (RecordKeepsPace desk.handed) desk.recording slot book its p.recording; mapped = p.mapped }
+
+map_set : (desk : Desk) (slot : ℕ) (book : MapBook) → MapKeepsPace desk.mixed book → KeepsPace desk → KeepsPace (with_map desk slot book)
+map_set desk slot book its p = record { playing = p.playing; recording = p.recording; mapped = All-set (MapKeepsPace desk.mixed) desk.mapped slot book its p.mapped }
+
+-- descriptors, groups and volumes count nothing
+others : (desk : Desk) (descriptors : List (Option Held)) (groups : Groups) → KeepsPace desk → KeepsPace (record desk { descriptors = descriptors; groups = groups })
+others desk descriptors groups p = record { playing = p.playing; recording = p.recording; mapped = p.mapped }
+
+-- what an event relies on
+pub record ReliesOn (device : DeviceSeen) (desk : Desk) : Type 0 where
+  pub device_is : IsDevice device
+  pub rates : HaveRates device desk
+  pub records_safe : RecordsAreSafe device desk
+  pub maps_safe : MapBooksAreSafe device desk
+
+relies_others : (device : DeviceSeen) (desk : Desk) (groups : Groups) → ReliesOn device desk → ReliesOn device (record desk { groups = groups })
+relies_others device desk groups r = record { device_is = r.device_is; rates = r.rates; records_safe = r.records_safe; maps_safe = r.maps_safe }
+
+ioctl_pace : (device : DeviceSeen) (held : Option Held) (desk : Desk) (request : Request) → ReliesOn device desk → KeepsPace desk → KeepsPace (ioctl_on device held desk request).desk
+ioctl_pace device held desk request r p =
+    let here : Here = desk_here device desk in
+    by-turning KeepsPace (play_turn device (asking device here request) desk) (record_turn device (record_ask request) desk) (map_turn device (map_ask request) desk) held desk p
+    (λ slot. let old : PlayBook = play_at device desk slot in
+    play_set desk slot (asking device here request old).book (ask_pace (play_rate_at device old) (mix_settings device).rate here request desk.mixed old (near-rate device old.opening.settings r.device_is (r.rates slot)) (play_slot device desk slot p)) p)
+    (λ slot. let old : RecordBook = record_at device desk slot in
+    record_set desk slot (record_ask request old).book (record_ask_pace (record_rate_at device old) request desk.handed old (r.records_safe slot) (record_slot device desk slot p)) p)
+    (λ slot. let old : MapBook = map_at device desk slot in
+    map_set desk slot (map_ask request old).book (map_ask_pace (map_rate_at device old) request desk.mixed old (r.maps_safe slot) (map_slot device desk slot p)) p)
+
+-- all members of a group start
+change_pace : {X : Type 0} (P : X → Type 0) (group : ℕ) (how : X → X) (slots : List ℕ) (books : List X) → 0 < group → ((slot : ℕ) (other : X) → slot < length books → P (how (get_or books slot other))) → All P books
+    → All P (change_in group how slots books)
+change_pace P group how slots books some changed each = λ slot other there.
+    let within : slot < length books = omega (arith, there, length-change_in group how slots books) in
+    subst P (sym (get_or-change_in group how slots books slot other some within))
+    (either P (eqb (get_or slots slot 0) group) (how (get_or books slot other)) (get_or books slot other) (changed slot other within) (each slot other within))
+
+start_pace : (device : DeviceSeen) (desk : Desk) (group : ℕ) → 0 < group → ReliesOn device desk → KeepsPace desk → KeepsPace (group_started device desk group)
+start_pace device desk group some r p =
+    let here : Here = desk_here device desk in
+    record {
+      playing = change_pace (PlayKeepsPace desk.mixed) group (play_starting device here) desk.groups.play desk.play some
+          (λ slot other there.
+          let same : get_or desk.play slot other ≡ play_at device desk slot = get_or_default desk.play slot other (play_unopened device) there in
+          let old : PlayBook = get_or desk.play slot other in
+          let rate = subst (λ (book : PlayBook). IsRate book.opening.settings.rate) (sym same) (r.rates slot) in
+          ask_pace (play_rate_at device old) (mix_settings device).rate here (SetTrigger both_bits) desk.mixed old (near-rate device old.opening.settings r.device_is rate) (p.playing slot other there))
+          p.playing;
+      recording = change_pace (RecordKeepsPace desk.handed) group record_starting desk.groups.recording desk.recording some
+          (λ slot other there.
+          let same : get_or desk.recording slot other ≡ record_at device desk slot = get_or_default desk.recording slot other (record_unopened device) there in
+          let old : RecordBook = get_or desk.recording slot other in
+          record_ask_pace (record_rate_at device old) (SetTrigger both_bits) desk.handed old (subst (λ (book : RecordBook). RecordIsSafe (record_rate_at device book) book) (sym same) (r.records_safe slot)) (p.recording slot other there))
+          p.recording;
+      mapped = p.mapped;
+    }
+
+close_at : (device : DeviceSeen) (held : Option Held) (desk : Desk) (fd : ℕ) → ReliesOn device desk → KeepsPace desk → KeepsPace (close_on device held desk fd).desk
+close_at device held desk fd r p =
+    let here : Here = desk_here device desk in
+    by-turning KeepsPace (close_play device desk fd) (close_record device desk fd) (close_map device desk fd) held desk p
+    (λ slot. let old : PlayBook = play_at device desk slot in
+    let closed : Desk = with_play desk slot (closing device here old) in
+    others closed _ closed.groups (play_set desk slot (closing device here old) (close_pace (play_rate_at device old) here desk.mixed old (near-rate device old.opening.settings r.device_is (r.rates slot)) (play_slot device desk slot p)) p))
+    (λ slot. let book : RecordBook = records.closed (record_at device desk slot) in
+    let closed : Desk = with_record desk slot book in
+    others closed _ closed.groups (record_set desk slot book (record { captured = omega arith; kept = omega arith }) p))
+    (λ slot. let book : MapBook = map_closed (map_at device desk slot) in
+    let closed : Desk = with_map desk slot book in
+    others closed _ closed.groups (map_set desk slot book (record { given = omega arith }) p))
+
+interrupt_pace : (device : DeviceSeen) (desk : Desk) (n : ℕ) → 0 < n → ReliesOn device desk → KeepsPace desk → KeepsPace (interrupt_turn device desk n).desk
+interrupt_pace device desk n some r p =
+    let frames : ℕ = mixed_by device desk.handed n in
+    record {
+      playing = All-map (PlayKeepsPace (desk.mixed + frames)) (play_passing device desk.handed n) desk.play
+          (λ slot other there.
+          let same : get_or desk.play slot other ≡ play_at device desk slot = get_or_default desk.play slot other (play_unopened device) there in
+          let rate = subst (λ (book : PlayBook). IsRate book.opening.settings.rate) (sym same) (r.rates slot) in
+          passing_pace device desk.handed desk.mixed n (get_or desk.play slot other) r.device_is rate (p.playing slot other there));
+      recording = All-map (RecordKeepsPace (desk.handed + n)) (capturing device n) desk.recording
+          (λ slot other there.
+          let same : get_or desk.recording slot other ≡ record_at device desk slot = get_or_default desk.recording slot other (record_unopened device) there in
+          let old : RecordBook = get_or desk.recording slot other in
+          captured_at old.state device desk.handed n old refl some (subst (λ (book : RecordBook). RecordIsSafe (record_rate_at device book) book) (sym same) (r.records_safe slot)) (p.recording slot other there));
+      mapped = All-map (MapKeepsPace (desk.mixed + frames)) (map_passing device desk.handed n) desk.mapped
+          (λ slot other there. map_mixing_pace device desk.mixed frames (get_or desk.mapped slot other) (p.mapped slot other there));
+    }
+
+-- an interrupt hands some frames over
+abbrev pub HandsSome : Event → Type 0
+HandsSome (Intr n) = 0 < n
+HandsSome event = Unit {0}
+
+-- no book runs ahead, whatever event comes
+pub pace-after : (device : DeviceSeen) (desk : Desk) (event : Event) → HandsSome event → ReliesOn device desk → KeepsPace desk → KeepsPace (after device desk event).desk
+pace-after device desk (Open fd way settings) some r p =
+    by-opening (λ (w : Way) (d : Desk). KeepsPace d) way desk fd settings (λ w. p)
+    (λ slot found. let opened : Desk = with_play desk slot (play_begun settings) in others opened _ opened.groups (play_set desk slot (play_begun settings) (record { played = omega arith }) p))
+    (λ slot found. let opened : Desk = with_record desk slot (record_begun settings) in others opened _ opened.groups (record_set desk slot (record_begun settings) (record { captured = omega arith; kept = omega arith }) p))
+    (λ slot found. let opened : Desk = with_map desk slot (map_begun settings) in others opened _ opened.groups (map_set desk slot (map_begun settings) (record { given = omega arith }) p))
+pace-after device desk (Write fd source at count) some r p =
+    let here : Here = desk_here device desk in
+    by-turning KeepsPace (play_turn device (write_turn here count) desk) (λ slot. refusing desk Inval) (λ slot. refusing desk Inval) (held_by desk fd) desk p
+    (λ slot. play_set desk slot (write_turn here count (play_at device desk slot)).book (write_pace here desk.mixed count (play_at device desk slot) (play_slot device desk slot p)) p) (λ slot. p) (λ slot. p)
+pace-after device desk (Poke fd offset at count) some r p =
+    by-turning KeepsPace (λ slot. refusing desk Inval) (λ slot. refusing desk Inval) (map_turn device (poke_turn offset count) desk) (held_by desk fd) desk p (λ slot. p) (λ slot. p)
+    (λ slot. map_set desk slot (poke_turn offset count (map_at device desk slot)).book (poke_pace offset count desk.mixed (map_at device desk slot) (map_slot device desk slot p)) p)
+pace-after device desk (Read fd count) some r p =
+    by-turning KeepsPace (λ slot. refusing desk Inval) (record_turn device (records.read_turn count) desk) (λ slot. refusing desk Inval) (held_by desk fd) desk p (λ slot. p)
+    (λ slot. record_set desk slot (records.read_turn count (record_at device desk slot)).book (read_pace count desk.handed (record_at device desk slot) (record_slot device desk slot p)) p) (λ slot. p)
+pace-after device desk (Ioctl fd request) some r p =
+    by-asking device KeepsPace (held_by desk fd) desk request p (λ groups. ioctl_pace device (held_by desk fd) (record desk { groups = groups }) request (relies_others device desk groups r) (others desk desk.descriptors groups p))
+pace-after device desk (Join fd group) some r p =
+    by-joining device (λ (t : DeskTurn). KeepsPace t.desk) (held_by desk fd) desk group (λ errno. p)
+    (λ held number e resting. let asked : Desk = (ioctl_on device (Some held) desk (SetTrigger 0)).desk in others asked asked.descriptors _ (ioctl_pace device (Some held) desk (SetTrigger 0) r p))
+pace-after device desk (StartGroup fd group) some r p =
+    by-starting device (λ (t : DeskTurn). KeepsPace t.desk) (held_by desk fd) desk group (λ errno. p) (λ used ready. start_pace device desk group (used-some desk.groups group used) r p)
+pace-after device desk (Close fd) some r p =
+    let groups : Groups = leaving (held_by desk fd) desk.groups in
+    close_at device (held_by desk fd) (record desk { groups = groups }) fd (relies_others device desk groups r) (others desk desk.descriptors groups p)
+pace-after device desk (Mixer request) some r p = record { playing = p.playing; recording = p.recording; mapped = p.mapped }
+pace-after device desk (Intr n) some r p = interrupt_pace device desk n some r p

@@ -1,0 +1,53 @@
+use Rattle.std.proofs.Common.{◌≡◌, ◌++◌, List, ℕ, drop, length, take, sym, ◌∙◌, subst, arith}
+use Rattle.std.proofs.lemmas.List.{take-append-le, take_all}
+use Rattle.pcm_engine.specs.Engines.{device_of}
+use Rattle.pcm_fixed.specs.Fixed.{fixed_items, fixed_len}
+use Rattle.pcm_session.specs.Steps.{IsCallStep}
+use Rattle.pcm_session.proofs.Taken.{can-take}
+use Rattle.pcm_session.proofs.session.SessionOf.step_unheard.Goals as goal
+
+pub step_with-count-requires-clause-bytes : goal.step_with-count-requires-clause-bytes
+step_with-count-requires-clause-bytes g c =
+    let engine = c.args.self.now.engine in
+    (can-take (device_of engine) engine.parent.handed c.args.event.now (length c.args.bytes.now) (length c.args.samples.now) c.unheard_room.result (sym c.if-not-takes.ensures)).bytes_are
+
+pub step_with-count-requires-clause-samples : goal.step_with-count-requires-clause-samples
+step_with-count-requires-clause-samples g c =
+    let engine = c.args.self.now.engine in
+    (can-take (device_of engine) engine.parent.handed c.args.event.now (length c.args.bytes.now) (length c.args.samples.now) c.unheard_room.result (sym c.if-not-takes.ensures)).samples_fit
+
+-- what is handed over has room where nobody hears it
+pub step_with-count-requires-clause-room : goal.step_with-count-requires-clause-room
+step_with-count-requires-clause-room g c =
+    let session = c.args.self.now in
+    let engine = session.engine in
+    let fits = (can-take (device_of engine) engine.parent.handed c.args.event.now (length c.args.bytes.now) (length c.args.samples.now) c.unheard_room.result (sym c.if-not-takes.ensures)).room_is in
+    omega (arith, fits, c.unheard_room.ensures, session.room, c.deref_mut.ensures.len)
+
+pub step_with-count-requires-clause-life : goal.step_with-count-requires-clause-life
+step_with-count-requires-clause-life g c =
+    let engine = c.args.self.now.engine in
+    (can-take (device_of engine) engine.parent.handed c.args.event.now (length c.args.bytes.now) (length c.args.samples.now) c.unheard_room.result (sym c.if-not-takes.ensures)).left
+
+-- and stands there
+pub returns-clause-step : goal.returns-clause-step
+returns-clause-step g c =
+    let session = c.args.self.now in
+    let step = c.step_with-count in
+    let stepped = step.ensures.stepped in
+    let out = step.new.out in
+    let long : length out ≡ fixed_len session.unheard = step.auto.out ∙ c.deref_mut.ensures.len in
+    let there : take (fixed_len session.unheard) (out ++ drop (length out) (fixed_items session.unheard)) ≡ out =
+    take-append-le (fixed_len session.unheard) out (drop (length out) (fixed_items session.unheard)) (omega (arith, long)) ∙ take_all (fixed_len session.unheard) out (omega (arith, long)) in
+    subst (λ (bytes : List ℕ). IsCallStep g.B.Feeder.kept c.args.event.now c.args.bytes.now c.args.samples.now session.engine step.new.self step.new.reply (take step.result bytes)) (sym there)
+    (record {
+      device_same = stepped.device;
+      counts = stepped.handed;
+      desk = stepped.desk;
+      result = stepped.result;
+      refused = stepped.refused;
+      isolated = stepped.isolated;
+      read = stepped.read;
+      taken = stepped.taken;
+      called = step.ensures.called;
+    })
