@@ -32,8 +32,7 @@
  *
  * One engine may be used by one thread at a time. Two engines have nothing in common.
  *
- * The library's code is for processors of x86-64-v2, and doesn't test for one. dsp_engine_new and dsp_engine_create take 160 KB of
- * stack, and no other function more than 16 KB.
+ * The library's code is for processors of x86-64-v2, and doesn't test for one. No function takes more than 16 KB of stack.
  */
 #ifndef DSP_ENGINE_H
 #define DSP_ENGINE_H

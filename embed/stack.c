@@ -9,7 +9,7 @@
 
 #include "dsp_engine.h"
 
-enum { STACK = 1 << 20, PAINT = 0xa5, NEAR = 512, MOST_OF_NEW = 160 << 10, MOST_OF_OTHERS = 16 << 10 };
+enum { STACK = 1 << 20, PAINT = 0xa5, NEAR = 512, MOST = 16 << 10 };
 
 static union {
     long double most_aligned;
@@ -98,7 +98,5 @@ int main(void) {
 
     printf("bytes of stack: dsp_engine_new %lu, openings and writes %lu, interrupts and reads %lu, dsp_engine_free %lu\n",
            (unsigned long)of_new, (unsigned long)of_writes, (unsigned long)of_interrupts, (unsigned long)of_free);
-    return is_made && of_new <= MOST_OF_NEW && of_writes <= MOST_OF_OTHERS && of_interrupts <= MOST_OF_OTHERS && of_free <= MOST_OF_OTHERS
-               ? 0
-               : 1;
+    return is_made && of_new <= MOST && of_writes <= MOST && of_interrupts <= MOST && of_free <= MOST ? 0 : 1;
 }

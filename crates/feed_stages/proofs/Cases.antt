@@ -3,13 +3,13 @@ use Rattle.pcm_feeder.specs.declared.kind.Kind.{Kind}
 use Rattle.pcm_feeder.specs.declared.kind.Kind.TheVariants as kinds
 use Rattle.pcm_feeder.specs.declared.rack.SevenOf.{SevenOf}
 use Rattle.pcm_feeder.specs.Racks.{HaveKinds}
-use Rattle.feed_any.specs.declared.stage.AnyOf.{AnyOf}
 use Rattle.feed_any.specs.Stages.{by_stage}
+use Rattle.feed_stages.specs.declared.stage.Stage.{Stage}
 
 -- the kind of a stage, where each case holds one of its own kind
-abbrev pub kind_by_case : {M H L P V D E : Type 0} → AnyOf M H L P V D E → Kind
-kind_by_case = by_stage (λ _. kinds.Matrix) (λ _. kinds.Hold) (λ _. kinds.Linear) (λ _. kinds.Poly) (λ _. kinds.Volume) (λ _. kinds.Depth) (λ _. kinds.Eq)
+abbrev pub kind_by_case : Stage → Kind
+kind_by_case stage = by_stage (λ _. kinds.Matrix) (λ _. kinds.Hold) (λ _. kinds.Linear) (λ _. kinds.Poly) (λ _. kinds.Volume) (λ _. kinds.Depth) (λ _. kinds.Eq) stage.of.value
 
 -- each of seven such stages is of its place's kind
-abbrev pub HaveTheirKinds : {M H L P V D E : Type 0} → SevenOf (AnyOf M H L P V D E) → Type 0
+abbrev pub HaveTheirKinds : SevenOf Stage → Type 0
 HaveTheirKinds = HaveKinds kind_by_case

@@ -16,7 +16,7 @@ desk_with-mixed device old new descriptors n books recorded taken mixer handed m
   play = books i;
   recording = recorded i;
   mapped = taken i;
-  descriptors = descriptors.held;
+  descriptors = descriptors.held.value;
   groups = descriptors.groups;
   mixer = mixer i;
   handed = handed i;

@@ -1,7 +1,6 @@
 -- An opening of whichever way: which slot it takes, and what becomes of the desk.
 use Rattle.std.proofs.Common.{◌≡◌, ℕ, ◌≤◌, Option, Some, None, Result, Ok, length, refl, sym, ap, ◌∙◌}
 use Rattle.std.proofs.lemmas.List.{length-map}
-use Rattle.std.specs.Prelude.{slice_set}
 use Rattle.pcm_fixed.specs.declared.fixed.Fixed.{Fixed}
 use Rattle.pcm_fixed.specs.Fixed.{fixed_items}
 use Rattle.pcm_fixed.proofs.Items.{items-count}
@@ -25,7 +24,7 @@ use Rattle.pcm_vchan.specs.declared.parent.ParentOf.{ParentOf}
 use Rattle.pcm_vchan.specs.Slots.{record_books_of, slot_place}
 use Rattle.pcm_vchan.specs.Parents.{books_begun, map_books, play_books, play_channels, record_books, KeepsOutput, OpensMap, OpensPlay, OpensRecord}
 use Rattle.pcm_engine.specs.declared.descriptors.Descriptors.{Descriptors}
-use Rattle.pcm_engine.specs.Desks.{desk_with}
+use Rattle.pcm_engine.specs.Desks.{desk_with, with_held}
 use Rattle.pcm_engine.proofs.Turning.{opened-desk, opened-number, slot-found, told-behind}
 
 -- what an opening of whichever way says of a parent
@@ -59,7 +58,7 @@ opened-behind kind kept filters settings way old new result told opens is map =
 -- the desk is that of the rules
 pub opened-turn : {B : Type 0} (kind : B → Kind) (kept : B → Kept) (filters : Filters) (settings : Settings) (way : Way) (old new : ParentOf B) (result : Result ℕ Errno) (told fd : ℕ) (before after : Descriptors)
     → Opens kind kept filters settings way old new result → result ≡ Ok told → held_by (desk_with old before) fd ≡ None
-    → after ≡ record before { held = slice_set before.held fd (Some (record { way = way; slot = slot_place old.device.play_slots way told })) }
+    → after ≡ with_held before fd (Some (record { way = way; slot = slot_place old.device.play_slots way told }))
     → desk_with new after ≡ (open_turn (desk_with old before) fd way settings).desk
 opened-turn {B} kind kept filters settings Play old new result told fd before after opens is none set =
     let o = opens.play refl in
@@ -69,7 +68,7 @@ opened-turn {B} kind kept filters settings Play old new result told fd before af
       play = (o.begins.books ∙ ap (λ (found : Option ℕ). books_begun found (play_begun settings) (play_books old)) least) i;
       recording = ap (λ (v : Fixed (RecordChannelOf B)). record_books_of (fixed_items v)) o.others i;
       mapped = ap (λ (v : Fixed (MapChannelOf B)). map_books_of (fixed_items v)) o.mapped i;
-      descriptors = ap (λ (d : Descriptors). d.held) set i;
+      descriptors = ap (λ (d : Descriptors). d.held.value) set i;
       groups = ap (λ (d : Descriptors). d.groups) set i;
       mixer = opens.output.mixer_same i;
       handed = opens.output.handed_same i;
@@ -84,7 +83,7 @@ opened-turn {B} kind kept filters settings Record old new result told fd before 
       play = ap (λ (v : Fixed (PlayChannelOf B)). play_books_of (fixed_items v)) o.others i;
       recording = (o.begins.books ∙ ap (λ (found : Option ℕ). books_begun found (record_begun settings) (record_books old)) least) i;
       mapped = ap (λ (v : Fixed (MapChannelOf B)). map_books_of (fixed_items v)) o.mapped i;
-      descriptors = ap (λ (d : Descriptors). d.held) set i;
+      descriptors = ap (λ (d : Descriptors). d.held.value) set i;
       groups = ap (λ (d : Descriptors). d.groups) set i;
       mixer = opens.output.mixer_same i;
       handed = opens.output.handed_same i;
@@ -99,7 +98,7 @@ opened-turn {B} kind kept filters settings Map old new result told fd before aft
       play = ap (λ (v : Fixed (PlayChannelOf B)). play_books_of (fixed_items v)) o.others i;
       recording = ap (λ (v : Fixed (RecordChannelOf B)). record_books_of (fixed_items v)) o.recording i;
       mapped = (o.begins.books ∙ ap (λ (found : Option ℕ). books_begun found (map_begun settings) (map_books old)) least) i;
-      descriptors = ap (λ (d : Descriptors). d.held) set i;
+      descriptors = ap (λ (d : Descriptors). d.held.value) set i;
       groups = ap (λ (d : Descriptors). d.groups) set i;
       mixer = opens.output.mixer_same i;
       handed = opens.output.handed_same i;

@@ -114,7 +114,7 @@ pub record IsUnopened {B : Type 0} (kind : B → Kind) (kept : B → Kept) (filt
   pub recorders : record_books parent ≡ replicate device.record_slots (record_unopened (seen filters device))
   pub mapped : length (map_channels parent) ≡ device.map_slots
   pub maps : All (IsMapUnopened kind kept filters device) (map_channels parent)
-  pub shut : descriptors.held ≡ replicate DESCRIPTORS None
+  pub shut : descriptors.held.value ≡ replicate DESCRIPTORS None
   pub groups : descriptors.groups ≡ no_groups
   pub mixer : parent.mixer ≡ full_mixer
   pub made : HasMade kept (seen filters device) parent.bus.chain [] 0

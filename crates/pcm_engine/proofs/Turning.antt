@@ -134,7 +134,7 @@ pub desk-played : {B : Type 0} (device : DeviceSeen) (turn : PlayBook → Turn P
     → slot < length (play_channels parent) → lent ≡ get_or (play_channels parent) slot lent → new.book ≡ (turn lent.book).book
     → desk_with (with_channel parent slot new) descriptors ≡ (play_turn device turn (desk_with parent descriptors) slot).desk
 desk-played device turn parent descriptors slot lent new there is changed =
-    ap (λ (play : List PlayBook). record { play = play; recording = record_books parent; mapped = map_books parent; descriptors = descriptors.held; groups = descriptors.groups; mixer = parent.mixer; handed = parent.handed; mixed = parent.mixed })
+    ap (λ (play : List PlayBook). record { play = play; recording = record_books parent; mapped = map_books parent; descriptors = descriptors.held.value; groups = descriptors.groups; mixer = parent.mixer; handed = parent.handed; mixed = parent.mixed })
     (books-lent (λ (book : PlayBook). (turn book).book) parent slot lent new (play_unopened device) there is changed)
 
 -- and the reply
@@ -153,7 +153,7 @@ pub desk-recorded : {B : Type 0} (device : DeviceSeen) (turn : RecordBook → Tu
     → slot < length (record_channels parent) → lent ≡ get_or (record_channels parent) slot lent → new.book ≡ (turn lent.book).book
     → desk_with (with_recorder parent slot new) descriptors ≡ (record_turn device turn (desk_with parent descriptors) slot).desk
 desk-recorded device turn parent descriptors slot lent new there is changed =
-    ap (λ (recording : List RecordBook). record { play = play_books parent; recording = recording; mapped = map_books parent; descriptors = descriptors.held; groups = descriptors.groups; mixer = parent.mixer; handed = parent.handed; mixed = parent.mixed })
+    ap (λ (recording : List RecordBook). record { play = play_books parent; recording = recording; mapped = map_books parent; descriptors = descriptors.held.value; groups = descriptors.groups; mixer = parent.mixer; handed = parent.handed; mixed = parent.mixed })
     (record_books_of-set (λ (book : RecordBook). (turn book).book) (record_channels parent) slot lent new (record_unopened device) there is changed)
 
 pub reply-recorded : {B : Type 0} (device : DeviceSeen) (turn : RecordBook → Turn RecordBook) (parent : ParentOf B) (descriptors : Descriptors) (slot : ℕ) (lent : RecordChannelOf B) (answer : Result Answer Errno)
@@ -171,7 +171,7 @@ pub desk-mapped : {B : Type 0} (device : DeviceSeen) (turn : MapBook → Turn Ma
     → slot < length (map_channels parent) → lent ≡ get_or (map_channels parent) slot lent → new.book ≡ (turn lent.book).book
     → desk_with (with_map_channel parent slot new) descriptors ≡ (map_turn device turn (desk_with parent descriptors) slot).desk
 desk-mapped device turn parent descriptors slot lent new there is changed =
-    ap (λ (mapped : List MapBook). record { play = play_books parent; recording = record_books parent; mapped = mapped; descriptors = descriptors.held; groups = descriptors.groups; mixer = parent.mixer; handed = parent.handed; mixed = parent.mixed })
+    ap (λ (mapped : List MapBook). record { play = play_books parent; recording = record_books parent; mapped = mapped; descriptors = descriptors.held.value; groups = descriptors.groups; mixer = parent.mixer; handed = parent.handed; mixed = parent.mixed })
     (map_books_of-set (λ (book : MapBook). (turn book).book) (map_channels parent) slot lent new (map_unopened device) there is changed)
 
 pub reply-mapped : {B : Type 0} (device : DeviceSeen) (turn : MapBook → Turn MapBook) (parent : ParentOf B) (descriptors : Descriptors) (slot : ℕ) (lent : MapChannelOf B) (answer : Result Answer Errno)

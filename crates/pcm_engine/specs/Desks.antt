@@ -1,5 +1,5 @@
 -- What a parent and descriptors are to the rules: a desk. And what a call of a client makes of it.
-use Rattle.std.specs.Prelude.{◌≡◌, ℕ, List, All, Result, take}
+use Rattle.std.specs.Prelude.{◌≡◌, ℕ, List, All, Option, Result, slice_set, take}
 use Rattle.pcm_format.specs.declared.settings.Settings.{Settings}
 use Rattle.pcm_format.specs.Frames.{Frame}
 use Rattle.pcm_feeder.specs.declared.kind.Kind.{Kind}
@@ -29,12 +29,16 @@ desk_with parent descriptors = record {
   play = play_books parent;
   recording = record_books parent;
   mapped = map_books parent;
-  descriptors = descriptors.held;
+  descriptors = descriptors.held.value;
   groups = descriptors.groups;
   mixer = parent.mixer;
   handed = parent.handed;
   mixed = parent.mixed;
 }
+
+-- descriptors of which one holds a channel now, or none
+abbrev pub with_held : Descriptors → ℕ → Option Held → Descriptors
+with_held descriptors fd held = record descriptors { held = record descriptors.held { value = slice_set descriptors.held.value fd held } }
 
 -- ---- turns of the channel that a descriptor holds
 

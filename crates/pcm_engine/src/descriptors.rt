@@ -1,19 +1,22 @@
 //! Who holds which channel and who starts with whom, and what a descriptor is refused for.
 
-ghost use Rattle.std.specs.Prelude.{◌≡◌, ◌<◌, None, Some, replicate, slice_index_or, slice_set};
+ghost use Rattle.std.specs.Prelude.{◌≡◌, ◌<◌, IfOk, None, Some, replicate, slice_index_or};
 ghost use Rattle.pcm_oss.specs.declared.event.TheConstants.{SLOTS};
 ghost use Rattle.pcm_group.specs.Groups.{no_groups};
 ghost use Rattle.pcm_desk.specs.Desk.{leaving, left_by, member_refusal};
 ghost use Rattle.pcm_engine.specs.Descriptors.{holding, is_member_in, shut, slot_of};
+ghost use Rattle.pcm_engine.specs.Desks.{with_held};
 
 use pcm_desk::{DESCRIPTORS, Held};
 use pcm_group::Groups;
 use pcm_oss::{Errno, Request, SLOTS, Way};
+use std::alloc::{AllocError, Global};
 
 /// What each descriptor holds, if it is open, and which of these channels start together.
-#[derive(Clone, Copy, Debug)]
+#[derive(Drop)]
 pub struct Descriptors {
-    held: [Option<Held>; DESCRIPTORS],
+    // In a block of its own, so that an engine is moved by few bytes.
+    held: Box<[Option<Held>; DESCRIPTORS]>,
     groups: Groups,
 }
 
@@ -21,20 +24,22 @@ impl Descriptors {
     ghost use Rattle.pcm_desk.specs.declared.limits.TheConstants.{DESCRIPTORS};
 
     /// All are shut, and there is no group.
-    pub fn all_shut() -> Descriptors
-        ensures held { result.held ≡ replicate DESCRIPTORS None }
-        ensures groups { result.groups ≡ no_groups }
+    // Not inlined: the list stands on the stack only while it is made.
+    #[inline(never)]
+    pub fn all_shut(alloc: Global) -> Result<Descriptors, AllocError>
+        ensures held { IfOk result (λ made. made.held.value ≡ replicate DESCRIPTORS None) }
+        ensures groups { IfOk result (λ made. made.groups ≡ no_groups) }
     {
-        Descriptors {
-            held: [None; DESCRIPTORS],
+        Ok(Descriptors {
+            held: Box::new(alloc, [None; DESCRIPTORS])?,
             groups: Groups::new(),
-        }
+        })
     }
 
     /// That a descriptor is shut, and may be opened.
     pub fn shut(&self, fd: u8) -> Result<(), Errno>
         requires { fd < DESCRIPTORS }
-        ensures { result ≡ shut (slice_index_or self.now.held fd None) }
+        ensures { result ≡ shut (slice_index_or self.now.held.value fd None) }
     {
         match self.held[usize::from(fd)] {
             Some(_) => Err(Errno::Exist),
@@ -45,7 +50,7 @@ impl Descriptors {
     /// The channel that a descriptor holds, if it is open.
     pub fn held(&self, fd: u8) -> Option<Held>
         requires { fd < DESCRIPTORS }
-        ensures { result ≡ slice_index_or self.now.held fd None }
+        ensures { result ≡ slice_index_or self.now.held.value fd None }
     {
         self.held[usize::from(fd)]
     }
@@ -53,7 +58,7 @@ impl Descriptors {
     /// The channel that a descriptor holds, which is open.
     pub fn holding(&self, fd: u8) -> Result<Held, Errno>
         requires { fd < DESCRIPTORS }
-        ensures { result ≡ holding (slice_index_or self.now.held fd None) }
+        ensures { result ≡ holding (slice_index_or self.now.held.value fd None) }
     {
         match self.held[usize::from(fd)] {
             Some(held) => Ok(held),
@@ -64,7 +69,7 @@ impl Descriptors {
     /// The slot of the channel that a descriptor holds, which is of this way.
     pub fn slot_of(&self, fd: u8, way: Way) -> Result<usize, Errno>
         requires { fd < DESCRIPTORS }
-        ensures { result ≡ slot_of way (slice_index_or self.now.held fd None) }
+        ensures { result ≡ slot_of way (slice_index_or self.now.held.value fd None) }
     {
         let held = self.holding(fd)?;
         if held.way == way {
@@ -77,7 +82,7 @@ impl Descriptors {
     /// A descriptor holds a channel from now on, or none.
     pub fn set(&mut self, fd: u8, held: Option<Held>)
         requires { fd < DESCRIPTORS }
-        ensures { self.new ≡ record self.old { held = slice_set self.old.held fd held } }
+        ensures { self.new ≡ with_held self.old fd held }
     {
         self.held[usize::from(fd)] = held;
     }

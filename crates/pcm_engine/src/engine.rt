@@ -77,13 +77,14 @@ impl<B: Feeder> EngineOf<B> {
         ensures racks { IfOk result (λ engine. HasRacks B.mark (list_of racks) engine.parent) }
     {
         let parent = ParentOf::new(alloc, device, &tables, racks)?;
+        let descriptors = Descriptors::all_shut(alloc)?;
         let samples = device.ring_frames as usize * device.settings.layout.channels();
         let captured = vec![in alloc; 0i32; samples]?;
         let answered = vec![in alloc; 0u8; REPLY_BYTES]?;
         Ok(EngineOf {
             parent,
             tables,
-            descriptors: Descriptors::all_shut(),
+            descriptors,
             captured: Fixed::new(captured),
             answered: Fixed::new(answered),
         })

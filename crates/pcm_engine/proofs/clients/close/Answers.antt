@@ -1,5 +1,5 @@
 use Rattle.pcm_desk.specs.declared.device.Held.{Held}
-use Rattle.std.proofs.Common.{rules, [], Option, Some, None, set, get_or, sym, ap, ◌∙◌, arith}
+use Rattle.std.proofs.Common.{rules, [], Option, Some, None, get_or, sym, ap, ◌∙◌, arith}
 use Rattle.pcm_fixed.proofs.Items.{items-count}
 use Rattle.pcm_desk.specs.Device.{seen}
 use Rattle.pcm_desk.specs.Desk.{Desk, close_on, leaving, left, with_descriptor, held_by}
@@ -7,7 +7,7 @@ use Rattle.pcm_play.proofs.Moving.{moves-nothing}
 use Rattle.pcm_record.proofs.Moving as recorders
 use Rattle.pcm_vchan.specs.Parents.{map_channels, play_channels, record_channels}
 use Rattle.pcm_engine.specs.declared.descriptors.Descriptors.{Descriptors}
-use Rattle.pcm_engine.specs.Desks.{desk_with}
+use Rattle.pcm_engine.specs.Desks.{desk_with, with_held}
 use Rattle.pcm_vchan.proofs.Channels.{map-keeps-nothing}
 use Rattle.pcm_engine.proofs.Turning.{closes-held, held-few, map-there, play-there, record-there, holding-is}
 use Rattle.pcm_engine.proofs.clients.close.Goals as goal
@@ -30,9 +30,9 @@ returns-clause-desk g c =
     let held = c.in_ok-held.held in
     let device = seen filters parent.device in
     let parted : Descriptors = record descriptors { groups = leaving (Some held) descriptors.groups } in
-    let shut : Descriptors = record parted { held = set descriptors.held c.args.fd None } in
+    let shut : Descriptors = with_held parted c.args.fd None in
     let found = holding-is (held_by (desk_with parent descriptors) c.args.fd) held (sym c.holding.ensures ∙ c.in_ok-held.was) in
-    ap (desk_with c.close_channel-answer.new.parent) (c.set.ensures ∙ ap (λ (d : Descriptors). record d { held = set d.held c.args.fd None }) c.leave.ensures)
+    ap (desk_with c.close_channel-answer.new.parent) (c.set.ensures ∙ ap (λ (d : Descriptors). with_held d c.args.fd None) c.leave.ensures)
     ∙ ap (λ (d : Desk). with_descriptor d c.args.fd None) (c.close_channel-answer.ensures.desk filters parted ready at)
     ∙ closes-held device (desk_with parent parted) c.args.fd (held_by (desk_with parent parted) c.args.fd) held found
     ∙ ap (λ (h : Option Held). (close_on device (held_by (desk_with parent descriptors) c.args.fd) (left h (desk_with parent descriptors)) c.args.fd).desk) (sym found)

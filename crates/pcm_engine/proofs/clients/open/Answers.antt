@@ -1,5 +1,5 @@
 use Rattle.std.proofs.Common.{rules, ℕ, [], List, get_or, Some, ◌≤◌, refl, sym, ap, ◌∙◌, subst}
-use Rattle.std.specs.Prelude.{slice_set, IsOk}
+use Rattle.std.specs.Prelude.{IsOk}
 use Rattle.pcm_fixed.specs.declared.fixed.Fixed.{Fixed}
 use Rattle.pcm_fixed.specs.Fixed.{fixed_items}
 use Rattle.pcm_desk.specs.declared.device.Device.{Device}
@@ -8,7 +8,7 @@ use Rattle.pcm_bus.specs.Slots.{Each, MapAreOf, PlayAreOf}
 use Rattle.pcm_vchan.specs.Slots.{slot_place, MapKeeps, RecordAreOf}
 use Rattle.pcm_vchan.specs.Starts.{EachAt}
 use Rattle.pcm_vchan.specs.Parents.{map_channels, play_channels, record_channels, untouched}
-use Rattle.pcm_engine.specs.Desks.{desk_with, open_call}
+use Rattle.pcm_engine.specs.Desks.{desk_with, open_call, with_held}
 use Rattle.pcm_play.specs.declared.channel.PlayChannelOf.{PlayChannelOf}
 use Rattle.pcm_play.specs.Channels.{PlayMoves}
 use Rattle.pcm_play.proofs.Moving.{moves-nothing}
@@ -119,7 +119,7 @@ returns g c =
       output = search rules;
       refused = search rules;
       desk = opened-turn g.B.Feeder.kind g.B.Feeder.kept c.args.tables.now c.args.settings c.args.way parent c.open_slot.new.self c.open_slot.result told c.args.fd c.args.descriptors.now c.set.new.self
-          opens c.in_ok-number.was none (c.set.ensures ∙ ap (λ (slot : ℕ). record c.args.descriptors.now { held = slice_set c.args.descriptors.now.held c.args.fd (Some (record { way = c.args.way; slot = slot })) }) place);
+          opens c.in_ok-number.was none (c.set.ensures ∙ ap (λ (slot : ℕ). with_held c.args.descriptors.now c.args.fd (Some (record { way = c.args.way; slot = slot }))) place);
       reply =
           opened-reply g.B.Feeder.kind g.B.Feeder.kept c.args.tables.now c.args.settings c.args.way parent c.open_slot.new.self c.open_slot.result told c.args.fd c.args.descriptors.now opens c.in_ok-number.was none;
       channels =

@@ -26,7 +26,7 @@ invariant_of-result g c =
     let parent = c.in_ok-parent.parent in
     record {
       own = λ slot other there. (c.in_ok-parent.ensures.channels slot other there).device_is ∙ sym c.in_ok-parent.ensures.device;
-      apart = apart-shut _ (λ fd held e. let none : None ≡ Some held = sym (get_or-same 64 fd None) ∙ sym (ap (λ (list : List (Option Held)). get_or list fd None) c.all_shut.ensures.held) ∙ e in cc);
+      apart = apart-shut _ (λ fd held e. let none : None ≡ Some held = sym (get_or-same 64 fd None) ∙ sym (ap (λ (list : List (Option Held)). get_or list fd None) c.in_ok-descriptors.ensures.held) ∙ e in cc);
       recorders_own = λ slot other there. (c.in_ok-parent.ensures.recording slot other there).device_is ∙ sym c.in_ok-parent.ensures.device;
       maps_own = λ slot other there. (c.in_ok-parent.ensures.mapped slot other there).device_is ∙ sym c.in_ok-parent.ensures.device;
       pace = (let e = c.in_ok-parent.ensures in
@@ -62,7 +62,7 @@ returns-clause-ready g c = ready-all g.B.Feeder.kind g.B.Feeder.kept _
     let e = c.in_ok-parent.ensures in
     books-start c.args.tables parent.device (play_channels parent) slot (here_at (seen c.args.tables parent.device) parent.handed)
     (λ at other there. (e.channels at other there).book ∙ ap (λ (d : Device). play_unopened (seen c.args.tables d)) (sym e.device)))
-    (waits-none (seen c.args.tables c.in_ok-parent.parent.device) (desk_with c.in_ok-parent.parent c.all_shut.result) c.all_shut.ensures.groups)
+    (waits-none (seen c.args.tables c.in_ok-parent.parent.device) (desk_with c.in_ok-parent.parent c.in_ok-descriptors.descriptors) c.in_ok-descriptors.ensures.groups)
 
 pub returns-clause-stands : goal.returns-clause-stands
 returns-clause-stands g c = λ pool.
@@ -71,15 +71,15 @@ returns-clause-stands g c = λ pool.
     let books = record_books_of-unopened g.B.Feeder.kind g.B.Feeder.kept c.args.tables c.args.device (record_channels parent) e.recorders e.recording in
     let started = recorders-start g.B.Feeder.kind g.B.Feeder.kept c.args.tables c.args.device pool (record_channels parent) c.requires.limits.device_is e.recording in
     record {
-      playing = parent-starts g.B.Feeder.kind g.B.Feeder.kept c.args.tables c.args.device parent c.all_shut.result c.requires.limits.device_is (record {
+      playing = parent-starts g.B.Feeder.kind g.B.Feeder.kept c.args.tables c.args.device parent c.in_ok-descriptors.descriptors c.requires.limits.device_is (record {
         device_is = e.device;
         slots = e.slots;
         channels = e.channels;
         recorders = books;
         mapped = e.maps;
         maps = e.mapped;
-        shut = c.all_shut.ensures.held;
-        groups = c.all_shut.ensures.groups;
+        shut = c.in_ok-descriptors.ensures.held;
+        groups = c.in_ok-descriptors.ensures.groups;
         mixer = e.mixer;
         made = e.made;
         ring = e.ring;
