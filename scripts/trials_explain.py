@@ -1,4 +1,5 @@
 """Trials of tools/explain: sums, runs, lines and bytes, recordings, areas, groups, and clicks."""
+import json
 import struct
 
 from trials_shared import HALF, LOUD, ROOT, called, config_of, equal, put_wave, tool
@@ -199,4 +200,25 @@ def try_clicks(program, folder):
     equal("no clicks", called("explain", "--clicks", script, "--program", program)[1], "nothing jumps, is limited or falls silent\n")
 
 
-TRIALS = (try_explain, try_explain_runs, try_clicks, try_explain_a_mix, try_origins, try_other_origins)
+def two_of(folder, values):
+    """A script of two clients that play the same samples, and its configuration."""
+    put_wave(folder / "wave.wav", "s16le", 1, 48000, struct.pack(f"<{len(values)}h", *values))
+    (folder / "two.toml").write_text(f"[files]\nwave = {json.dumps(str(folder / 'wave.wav'))}\n")
+    lines = [word for at in (0, 1) for word in (f"open {at} play s16le 1 48000", f"ioctl {at} setfragment 0x00020010", f"send {at} wave 0 {2 * len(values)}", f"close {at}")]
+    (folder / "two").write_text("\n".join([*lines, *["intr 1024"] * (len(values) // 1024 + 2)]) + "\n")
+    return folder / "two", folder / "two.toml"
+
+
+def try_many_limits(program, folder):
+    """A sum that is limited at every second frame, by 40000 and more, and one that is for 18000 frames, whose first 16384 count."""
+    # sample 2 * k is 20000 + k % 2500, so the greatest are those of k = 2499 and 4999
+    script = two_of(folder, [0 if at % 2 else 20000 + at // 2 % 2500 for at in range(10000)])
+    wanted = [f"frame {1024 + 2 * k}, {(1024 + 2 * k) / 48000:.4f} s, is limited, by {2 * (20000 + k % 2500)}: a limit of the sum of slots 0 and 1, for 1 frames\n"
+              for k in (2499, 4999, 2498, 4998)]
+    equal("many limits", called("explain", "--clicks", "--most", 4, *script, "--program", program), (0, "".join(wanted), ""))
+    script = two_of(folder, [21000 if at == 5000 else 22000 if at == 17000 else 20000 for at in range(18000)])
+    equal("a long limit", called("explain", "--clicks", "--most", 1, *script, "--program", program)[1], (
+        "frame 1024, 0.0213 s, is limited, by 42000: a limit of the sum of slots 0 and 1, for 18000 frames\n"))
+
+
+TRIALS = (try_explain, try_explain_runs, try_clicks, try_many_limits, try_explain_a_mix, try_origins, try_other_origins)

@@ -1,6 +1,8 @@
 """Where OUT clicks: its frames jump, fall silent or come back, or the sum is limited; and why."""
 import bisect
 import collections
+import heapq
+import itertools
 import operator
 
 from commands import told
@@ -10,6 +12,8 @@ from scripts import value_of
 from sounds import full_scale, numbers_of, size_of
 from sums import given_by, limits_of, solos_of
 
+# the clients of each slot, what they give, where their own stages are limited, as 32 bits or None, and the rows where the mix is, or None
+Known = collections.namedtuple("Known", "solos given clipped limits")
 # a place: its frame, what happens there, how large that is, and, once it is known, why
 Click = collections.namedtuple("Click", "at does size why")
 # the frames among which one that jumps stands out, of which every so many are looked at for their mean, how many times that, and which part
@@ -28,7 +32,8 @@ def jumps(out, total, most):
         for frame, size in standing_out(samples, out.device.channels, enough) if out.jumps_by(begin, end, enough) else ():
             yield Click(begin + frame, "jumps", size, None)
             bisect.insort(sizes, size)
-            least = max(least, sizes[-most] if len(sizes) >= most else 0)
+            del sizes[:-most]
+            least = max(least, sizes[0] if len(sizes) == most else 0)
 
 
 def mean_step(samples, channels):
@@ -45,6 +50,16 @@ def standing_out(samples, channels, least):
         if not -least < step < least:
             found[at // channels] = max(found.get(at // channels, 0), abs(step))
     return found.items()
+
+
+def sizes_of(sound, frames):
+    """How large the greatest sample is of each of some frames, which are sorted."""
+    begin, samples, channels = 0, (), sound.device.channels
+    for at in frames:
+        if not begin <= at < begin + len(samples) // channels:
+            begin, samples = at, sound.samples(at, at + READ)
+        place = (at - begin) * channels
+        yield max(map(abs, samples[place:place + channels]))
 
 
 def silent_blocks(out, total):
@@ -85,16 +100,20 @@ def silences(out, total):
 class Clicks:
     """The places of a script at which it clicks, with what the clients give and are told there."""
 
-    def __init__(self, played, most, solos=None, given=None):
+    def __init__(self, played, most, known):
         self.played, self.ring = played, played.device.ring
-        self.solos = solos_of(played) if solos is None else solos
-        self.given = given_by(self.solos) if given is None else given
+        self.solos, self.given, self.clipped, self.limits = known
         self.rate = next(iter(self.given.values())).device.rate if self.given else played.device.rate
-        self.limits = limits_of(self.given, [(0, self.of_mix(played.total))]).rows
-        self.clipped = {slot: clipped(it) for slot, it in self.solos.items()}
-        self.places = self.found(most)
+        self.places, self.told = self.found(most), {}
+
+    def ask(self):
+        """Asks what the clients are told around the places."""
         frames = [it.at - self.ring for it in self.places]
-        self.told = {slot: around(it, frames, it.told((), cuts_at(played, frames))) for slot, it in self.solos.items()} if frames else {}
+        self.told = {slot: around(it, frames, it.told((), cuts_at(self.played, frames))) for slot, it in self.solos.items()} if frames else {}
+
+    def explained(self):
+        """The places with their causes."""
+        return [it._replace(why=why(self, it)) for it in self.places]
 
     def of_mix(self, frame):
         """The frame of the mix that goes with one of the device."""
@@ -107,22 +126,24 @@ class Clicks:
     def found(self, most):
         """The places, the loudest first."""
         out, total = self.played.out, self.played.total
-        limited = [Click(self.of_device(begin), "is limited", self.passed(begin, end), (None, end - begin)) for begin, end in self.limits]
-        for slot, sound in self.clipped.items():
-            rows = clipped_rows(sound, 0, self.of_mix(total))
-            limited += [Click(self.of_device(begin), "is limited", max(map(abs, self.given[slot].frame(begin))), (slot, end - begin)) for begin, end in rows]
         quiet = list(silences(out, total))
         taken = {it.at for it in quiet}
-        every = [*quiet, *(it for it in jumps(out, total, most) if it.at not in taken), *(it for it in limited if it.at < total)]
-        return sorted(every, key=lambda it: (-it.size, it.at))[:most]
+        loud = (it for it in jumps(out, total, most) if it.at not in taken)
+        limited = (it for it in itertools.chain(self.limited(), *map(self.stopped, self.clipped)) if it.at < total)
+        return heapq.nsmallest(most, itertools.chain(quiet, loud, limited), key=lambda it: (-it.size, it.at))
 
-    def passed(self, begin, end):
-        """How far the sum of all passes the limit in frames of the mix."""
-        end, total = min(end, begin + READ), None
-        for sound in self.given.values():
-            samples = sound.samples(begin, end)
-            total = samples if total is None else list(map(operator.add, total, samples))
-        return max(max(total), -min(total))
+    def limited(self):
+        """Where the sum is limited."""
+        rows = limits_of(self.given, [(0, self.of_mix(self.played.total))]).rows if self.limits is None else self.limits
+        for begin, end, level in zip(rows.begins, rows.ends, rows.levels):
+            yield Click(self.of_device(begin), "is limited", level, (None, end - begin))
+
+    def stopped(self, slot):
+        """Where a client's own stages are at their limit."""
+        rows = clipped_rows(self.clipped[slot], 0, self.of_mix(self.played.total))
+        sizes = sizes_of(self.given[slot], [begin for begin, _ in rows])
+        for (begin, end), size in zip(rows, sizes):
+            yield Click(self.of_device(begin), "is limited", size, (slot, end - begin))
 
     def steps(self, frame):
         """How much each slot jumps at a frame of the mix, the greatest first."""
@@ -218,10 +239,12 @@ def of_client(clicks, slot, frame):
     return f"a jump in what was written: {frame_of(clicks, slot, reached, frame)}"
 
 
-def clicks_of(played, most, solos=None, given=None):
-    """The places at which OUT clicks, the loudest first, with their causes; where the clients of each slot and what they give are known, by these."""
-    clicks = Clicks(played, most, solos, given)
-    return [it._replace(why=why(clicks, it)) for it in clicks.places]
+def clicks_of(played, most):
+    """The places at which OUT clicks, the loudest first, with their causes."""
+    solos = solos_of(played)
+    clicks = Clicks(played, most, Known(solos, given_by(solos), {slot: clipped(it) for slot, it in solos.items()}, None))
+    clicks.ask()
+    return clicks.explained()
 
 
 def told_click(played, it):

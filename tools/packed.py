@@ -4,15 +4,14 @@ import base64
 import functools
 import hashlib
 import math
-import operator
 import sys
 import zlib
 
 from commands import fail, told
-from sounds import WIDTH, full_scale
+from sounds import BLOCK, WIDTH, digits, full_scale
 
-# so many frames one number of the lowest level stands for, and so many times that one of each level above; shorter sounds have no levels
-BLOCK, TIMES, SHORT = 256, 4, 4096
+# a number of the lowest level stands for the frames of a block, and one of each level above for so many times that; shorter sounds have none
+TIMES, SHORT = 4, 4096
 # so many frames are packed as one
 CHUNK = 1 << 14
 # copies to listen to, the best first: every how many frames give one, and whether channels are joined
@@ -103,29 +102,26 @@ class Track:
 
     def extremes(self):
         """The least and the greatest of each block, channel by channel, in 16 bits."""
-        lows, highs = ([[] for _ in range(self.device.channels)] for _ in range(2))
         if self.frames < SHORT:
             return [], []
-        for begin, end in told(self.sound.parts(0, self.frames, PART), "the levels are made", self.frames):
-            for at, plane in enumerate(self.planes(begin, end)):
-                plane = highest(plane, WIDTH[self.device.format])
-                blocks = [plane[k:k + BLOCK] for k in range(0, len(plane), BLOCK)]
-                lows[at] += map(min, blocks)
-                highs[at] += map(max, blocks)
-        return lows, highs
+        blocks, count = self.sound.measured(), -(-self.frames // BLOCK)
+        return ([self.in_16_bits(it[:count]) for it in every] for every in (blocks.lows, blocks.highs))
+
+    def in_16_bits(self, samples):
+        width = WIDTH[self.device.format]
+        return samples if width == 2 else [it << 8 if width == 1 else it >> 8 * width - 16 for it in samples]
 
     def copy_size(self, every, is_joined):
         return self.frames * (1 if is_joined else self.device.channels) // every
 
     def put_copy(self, room, every, is_joined):
         """Holds a copy to listen to: the mean of some frames, in 8 bits that are finer where it is quiet."""
-        joins = self.device.channels if is_joined else 1
-        table = coded(every * joins)
+        table = coded(every * (self.device.channels if is_joined else 1))
         lanes = [bytearray() for _ in range(1 if is_joined else self.device.channels)]
         for begin, end in told(self.sound.parts(0, self.frames - self.frames % every, PART), "a copy to listen to is made", self.frames):
             planes = [highest(it, WIDTH[self.device.format]) for it in self.planes(begin, end)]
             for lane, which in zip(lanes, [planes] if is_joined else [[it] for it in planes]):
-                lane.extend(map(table.__getitem__, added([it[k::every] for it in which for k in range(every)])))
+                lane.extend(map(table.__getitem__, added(which, every)))
         name = room.put(b"".join(lanes))
         self.copy = {"every": every, "channels": len(lanes), "blob": name} if name else None
 
@@ -135,9 +131,19 @@ class Track:
                 "full": full_scale(self.device), "block": BLOCK, "times": TIMES, "levels": self.levels, "chunks": self.chunks, "copy": self.copy}
 
 
-def added(rows):
-    """The sums of rows of numbers, place by place: two rows at a time, which is faster than all at once."""
-    return functools.reduce(lambda total, row: list(map(operator.add, total, row)), rows)
+def added(planes, every):
+    """The sums of every so many samples of planes of 16 bits, each of which counts 32768 more. All are added together, as the digits of a
+    large number: first the upper and the lower half of each digit of 32 bits, and then digits that are neighbours."""
+    total, lower = 0, digits(0xFFFF, len(planes[0]) // 2)
+    for plane in planes:
+        both = int.from_bytes(little(plane), "little") ^ digits(0x80008000, len(plane) // 2)
+        total += (both & lower) + (both >> 16 & lower)
+    for times in range(1, every.bit_length() - 1):
+        total += total >> 16 * 2 ** times
+    sums = array.array("I", (total & (1 << 16 * len(planes[0])) - 1).to_bytes(2 * len(planes[0]), "little"))
+    if sys.byteorder == "big":
+        sums.byteswap()
+    return sums[::every // 2]
 
 
 def highest(plane, width):
@@ -156,10 +162,10 @@ def highest(plane, width):
 
 @functools.lru_cache(4)
 def coded(count):
-    """The codes of 8 bits by the sum of so many samples of 16 bits, those below 0 from the end: steps that grow with the level."""
+    """The codes of 8 bits by the sum of so many samples of 16 bits, each of which counts 32768 more: steps that grow with the level."""
     codes = bytes(min(round(127 * math.log1p(255 * it / 32768) / math.log(256)), 127) for it in range(32768))
     upper = b"".join(bytes([it]) * count for it in codes)
-    return upper + (upper[1:] + b"\x7f")[::-1].translate(bytes(-it % 256 for it in range(256)))
+    return (upper[1:] + b"\x7f")[::-1].translate(bytes(-it % 256 for it in range(256))) + upper
 
 
 class Packer:

@@ -9,7 +9,7 @@ import pathlib
 import re
 import shlex
 
-from clicks import clicks_of, told_click
+from clicks import Clicks, Known, told_click
 from commands import version
 from packed import Packer, Room, Track, little, packed
 from rows import rows_of
@@ -92,13 +92,15 @@ def fewer(rows, most=LIMITS):
 class Page:
     """What a page shows of a script."""
 
-    def __init__(self, shown, room, window):
-        self.shown, self.played, self.room, self.window = shown, shown.played, room, window
+    def __init__(self, shown, room, window, limits):
+        self.shown, self.played, self.room, self.window, self.limits = shown, shown.played, room, window, limits
         self.ring, self.tracks = shown.device.ring, []
         self.out = self.track("device", shown.out, shown.total + self.ring if shown.out.frames > shown.total else shown.total)
         self.heard = {slot: self.track(f"slot {slot}", it, self.out.frames) for slot, it in shown.heard.items()}
-        self.clicks = clicks_of(self.played, CLICKS, shown.solos, shown.given)
-        self.whys = Whys(shown, self.reasoned(), self.heard)
+        clicks = Clicks(self.played, CLICKS, Known(shown.solos, shown.given, shown.stages, None if shown.own else limits))
+        self.whys = Whys(shown, self.reasoned(clicks.places), self.heard)
+        clicks.told = self.whys.around
+        self.clicks = clicks.explained()
         self.sums, self.alongs = self.whys.tracks(), {}
         self.rows = self.rows_of()
 
@@ -106,10 +108,10 @@ class Page:
         self.tracks.append(Track(name, sound, min(frames, sound.frames)))
         return self.tracks[-1]
 
-    def reasoned(self):
+    def reasoned(self, clicks):
         """The frames that have their reasons: those of the window, as many as there may be, and those of clicks."""
         begin, end = self.window[0], min(self.window[1], self.shown.total)
-        return merged(sorted([(begin, min(end, begin + REASONED)), *((it.at, it.at + 1) for it in self.clicks)]))
+        return merged(sorted([(begin, min(end, begin + REASONED)), *((it.at, it.at + 1) for it in clicks)]))
 
     def rows_of(self):
         """The rows of the page, as those of a picture."""
@@ -138,7 +140,7 @@ class Page:
         """The frames of a slot or of the mix, which stand where they are mixed."""
         if not self.shown.own:
             return Source(track, self.ring, None)
-        return Source(self.track(f"{name}, as it is mixed", sound, sum(self.played.mixed())), 0, self.shown.along)
+        return Source(self.track(f"{name}, as it is mixed", sound, self.shown.mixed_frames()), 0, self.shown.along)
 
     def limited(self, rows, whose):
         """Bars of limits: where each begins and ends, and which frames of the mix these are."""
@@ -156,10 +158,8 @@ class Page:
         return self.row(row, [source], limited=limited, fills=rings, **bars)
 
     def mix_row(self, row):
-        shown = self.shown
-        frames = sum(self.played.mixed()) if shown.own else shown.total
-        limited = self.limited(limits_of(shown.given, [(0, frames)]).rows, "limited")
-        return self.row(row, [self.mixed_source("the mix", shown.mix, self.out)], limited=limited, marks=mixers(shown, None))
+        limited = self.limited(self.limits, "limited")
+        return self.row(row, [self.mixed_source("the mix", self.shown.mix, self.out)], limited=limited, marks=mixers(self.shown, None))
 
     def device_row(self, row):
         return self.row(row, [Source(self.out, 0, None)])
@@ -222,9 +222,12 @@ def file_of(title, told, blobs, drawn=""):
 
 def page(shown, text, names, window, megabytes):
     """The text of a page, which has so many megabytes at most."""
-    drawn = picture(shown, title_of(names))
+    for sound in (shown.out, *shown.heard.values()):
+        sound.measured()
+    limits = limits_of(shown.given, [(0, shown.mixed_frames())]).rows
+    drawn = picture(shown, title_of(names), limits)
     room = Room(megabytes * MEGABYTE - len(file_of("", "", {}, drawn)) - MARGIN)
-    it = Page(shown, room, window)
+    it = Page(shown, room, window, limits)
     told = it.told(names, text)
     room.left -= len(told_text(told))
     packer = Packer(it, room)

@@ -252,15 +252,15 @@ def measure(axis, rows):
     return [*together, *apart], peak
 
 
-def picture(shown, title):
-    """The picture of the frames that are shown as SVG."""
+def picture(shown, title, limits=None):
+    """The picture of the frames that are shown as SVG. Where it is known where the mix is limited, it is by that."""
     rows, axis = rows_of(shown), Axis([(shown.begin, shown.end)])
     lanes, peak = measure(axis, rows)
     kept = breaks_of(axis, lanes, events_of(shown))
     if kept != [(shown.begin, shown.end)]:
         axis = Axis(kept)
         lanes, peak = measure(axis, rows)
-    rows[1].limited = limits_of(shown.given, may_limit(axis, [it.lanes for it in rows[0].values()], shown.along)).rows
+    rows[1].limited = limits_of(shown.given, may_limit(axis, [it.lanes for it in rows[0].values()], shown.along)).rows if limits is None else limits
     drawing = Drawing(axis)
     drawing.text(12, 24, title, "title")
     ring = f"the device's ring has {shown.device.ring} frames"

@@ -66,7 +66,8 @@ class Shown:
         self.clients.sort(key=lambda it: it.opening.at)
         self.mix = self.mixed() if self.own else self.out.from_frame(self.device.ring)
         self.along = Along(self.segments())
-        self.clipped = {slot: clipped_rows(clipped(it), 0, self.total) for slot, it in self.solos.items()}
+        self.stages = {slot: clipped(it) for slot, it in self.solos.items()}
+        self.clipped = {slot: clipped_rows(it, 0, self.mixed_frames()) for slot, it in self.stages.items()}
 
     def window(self, first, last):
         """The frames that are shown: from one position to another, or all."""
@@ -95,6 +96,10 @@ class Shown:
     def of_slot(self, slot):
         """The openings that have a slot one after another, with what they are told."""
         return [it for it in self.clients if it.opening.slot == slot and it.opening.way != "rec"]
+
+    def mixed_frames(self):
+        """How many frames are mixed."""
+        return sum(self.played.mixed()) if self.own else self.total
 
     def mixed(self):
         """What is mixed, where that has a rate or channels of its own: by a device that has them, too."""

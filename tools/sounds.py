@@ -7,6 +7,7 @@ import os
 import sys
 
 from calls import WIDTHS, number, wave_of
+from commands import told
 
 # the settings of frames
 Device = collections.namedtuple("Device", "format channels rate ring block")
@@ -16,8 +17,8 @@ TYPES = {1: "b", 2: "h", 3: "i", 4: "i"}
 TURNED = bytes(byte ^ 128 for byte in range(256))
 SIGNS = bytes(255 * (byte >> 7) for byte in range(256))
 FEW = 200
-# how many frames are looked at in one go
-PART = 1 << 16
+# how many frames are looked at in one go; and of how many the least and the greatest sample is kept, where a sound is measured
+PART, BLOCK = 1 << 16, 256
 
 
 def size_of(device):
@@ -61,6 +62,7 @@ class Sound:
         self.file, self.device, self.begin, self.frame_size = open(path, "rb"), device, begin, size_of(device)
         left = os.fstat(self.file.fileno()).st_size - begin
         self.frames, self.rest = divmod(max(0, left if size is None else min(left, size)), self.frame_size)
+        self.whole, self.lead, self.blocks = self, 0, None
 
     def data(self, begin, end):
         """The bytes of frames, as far as there are some."""
@@ -88,7 +90,15 @@ class Sound:
 
     def from_frame(self, at):
         """The same frames from one of them on."""
-        return Sound(self.file.name, self.device, self.begin + at * self.frame_size)
+        found = Sound(self.file.name, self.device, self.begin + at * self.frame_size)
+        found.whole, found.lead = self.whole, self.lead + at
+        return found
+
+    def measured(self):
+        """The least and the greatest sample of each block, which is looked up once. From then on many frames are no more work than few."""
+        if self.blocks is None:
+            self.blocks = Blocks(self)
+        return self.blocks
 
     def jumps_by(self, begin, end, least):
         """Whether a sample among frames may differ by so much from that of the frame before: all are looked at together, as the digits
@@ -101,6 +111,13 @@ class Sound:
 
     def extremes(self, begin, end):
         """The least and the greatest sample of each channel among frames, of which there is one at least."""
+        for sound, lead in ((self, 0), (self.whole, self.lead)):
+            if sound.blocks and begin >= 0 and end - begin > 2 * BLOCK:
+                return sound.blocks.extremes(begin + lead, end + lead)
+        return self.looked_up(begin, end)
+
+    def looked_up(self, begin, end):
+        """The same, out of the samples."""
         device, width = self.device, WIDTH[self.device.format]
         samples = self.samples(begin, end)
         data = self.data(begin, end)
@@ -110,6 +127,35 @@ class Sound:
         tops = tops if device.format.startswith("u") else tops.translate(TURNED)
         return [(extreme(samples[k::device.channels], tops[k::device.channels], min),
                  extreme(samples[k::device.channels], tops[k::device.channels], max)) for k in range(device.channels)]
+
+
+class Blocks:
+    """The least and the greatest sample of each channel of each block of a sound."""
+
+    def __init__(self, sound):
+        self.sound, channels = sound, range(sound.device.channels)
+        code = TYPES[WIDTH[sound.device.format]]
+        self.lows, self.highs = ([array.array(code) for _ in channels] for _ in range(2))
+        for begin, end in told(sound.parts(), "sound is measured", sound.frames):
+            samples = sound.samples(begin, end)
+            for at in channels:
+                self.take(at, samples[at::len(channels)].tolist())
+
+    def take(self, channel, plane):
+        """Takes the next samples of a channel."""
+        blocks = [plane[k:k + BLOCK] for k in range(0, len(plane), BLOCK)]
+        self.lows[channel].extend(map(min, blocks))
+        self.highs[channel].extend(map(max, blocks))
+
+    def extremes(self, begin, end):
+        """The least and the greatest sample of each channel among frames: of whole blocks, and of the frames before and behind them."""
+        first, frames, channels = -(-begin // BLOCK), self.sound.frames, self.sound.device.channels
+        last = max(len(self.lows[0]) if end >= frames else end // BLOCK, first)
+        found = [self.sound.looked_up(*it) for it in ((begin, min(first * BLOCK, end)), (last * BLOCK, end)) if it[0] < it[1]]
+        found += [[(0, 0)] * channels] if end > frames else []
+        if first < last:
+            found.append([(min(self.lows[at][first:last]), max(self.highs[at][first:last])) for at in range(channels)])
+        return [(min(low for low, _ in it), max(high for _, high in it)) for it in zip(*found)]
 
 
 def highest_of(data, form):

@@ -1,5 +1,7 @@
 """What the slots of a script give to the mix, and where the sum of it is limited."""
+import array
 import collections
+import functools
 import itertools
 import operator
 
@@ -9,7 +11,8 @@ from sounds import full_scale, joined
 
 # the samples that were limited, by their number; the rows of frames that have one; and how far the sum would go without a limit
 Limits = collections.namedtuple("Limits", "count rows peak full")
-PART = 4096
+# so many frames are looked at in one go; and so many of the first ones of a row tell how far its sum goes
+PART, FIRST = 4096, 1 << 14
 
 
 def solos_of(played):
@@ -41,13 +44,56 @@ def limited_at(given, begin, end, full):
         total, plain = list(map(operator.add, total, samples)), list(map(operator.add, plain, samples))
         peak = max(peak, max(plain), -min(plain) - 1)
         if max(total) >= full or min(total) < -full:
-            yield which, [at for at, it in enumerate(total) if not -full <= it < full], peak
-            total = [min(max(it, -full), full - 1) for it in total]
+            places = [at for at, it in enumerate(total) if not -full <= it < full]
+            yield which, places, peak
+            for at in places:
+                total[at] = full - 1 if total[at] > 0 else -full
+
+
+class Rows:
+    """Rows of frames with how far the sum goes in the first frames of each, as they are found one after another."""
+
+    def __init__(self):
+        self.begins, self.ends, self.levels = (array.array("q") for _ in range(3))
+
+    def __len__(self):
+        return len(self.begins)
+
+    def __iter__(self):
+        return zip(self.begins, self.ends)
+
+    def take(self, rows, sounds):
+        """Takes rows of neighbouring frames: those that touch the last one are a part of it."""
+        rows = list(rows)
+        begin, end = (rows[0][0], rows[-1][1]) if rows else (0, 0)
+        total, channels = sums_of(sounds, begin, end), sounds[0].device.channels
+        for low, high in rows:
+            self.put(low, high, total[(low - begin) * channels:(high - begin) * channels], channels)
+
+    def put(self, begin, end, total, channels):
+        if self.ends and self.ends[-1] == begin:
+            self.ends[-1] = end
+            total = total[:max(self.begins[-1] + FIRST - begin, 0) * channels]
+            self.levels[-1] = max(self.levels[-1], *reached(total)) if total else self.levels[-1]
+        else:
+            self.begins.append(begin)
+            self.ends.append(end)
+            self.levels.append(max(reached(total)))
+
+
+def sums_of(sounds, begin, end):
+    """The sums of frames without a limit."""
+    return functools.reduce(lambda total, sound: list(map(operator.add, total, sound.samples(begin, end))), sounds[1:], sounds[0].samples(begin, end))
+
+
+def reached(total):
+    """How far sums go up and down."""
+    return max(total), -min(total)
 
 
 def limits_of(given, ranges):
     """Where the sum of what the slots give is limited, in rows of frames."""
-    sounds, count, rows, peak = list(given.values()), 0, [], 0
+    sounds, count, rows, peak = list(given.values()), 0, Rows(), 0
     full, channels = (full_scale(sounds[0].device), sounds[0].device.channels) if sounds else (1, 1)
     parts = (part for begin, end in ranges for part in sounds[0].parts(begin, end, PART)) if len(sounds) > 1 else ()
     for begin, end in told(parts, "limits are looked for", ranges[-1][1] if ranges else 1):
@@ -55,8 +101,8 @@ def limits_of(given, ranges):
             found = list(limited_at(sounds, begin, end, full))
             samples = sorted(set(itertools.chain.from_iterable(places for _, places, _ in found)))
             count, peak = count + len(samples), max([peak, *(it for _, _, it in found)])
-            rows += joined(sorted({begin + it // channels for it in samples}))
-    return Limits(count, merged(rows), peak, full)
+            rows.take(joined(sorted({begin + it // channels for it in samples})), sounds)
+    return Limits(count, rows, peak, full)
 
 
 def merged(rows):

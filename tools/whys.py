@@ -44,7 +44,7 @@ class Whys:
         self.shown, self.played, self.rows, self.heard = shown, shown.played, frames, heard
         self.asked, self.frames = Asked(shown.played), [at for begin, end in frames for at in range(begin, end)]
         self.explained = [Explained(self.asked, at) for at in self.frames]
-        self.summed = self.sums()
+        self.summed, self.around = self.sums(), {slot: self.told_around(it, [at.mixed_at for at in self.explained]) for slot, it in shown.solos.items()}
 
     def sums(self):
         """The sum after each slot, as a track."""
@@ -88,10 +88,14 @@ class Whys:
             found.append([frame for frame, needed in pairs if where[which] & {max(needed - 2, 0), needed - 1}])
         return found
 
+    def told_around(self, solo, frames):
+        """What a slot's client is told around each of some frames."""
+        cuts = cuts_at(self.played, frames)
+        return around(solo, frames, solo.told((), cuts) if cuts else [])
+
     def slot_lines(self, solo):
         """What a slot's client does at each frame, as lines."""
-        frames = [it.mixed_at for it in self.explained if it.mixed is not None]
-        found = around(solo, frames, solo.told((), cuts_at(self.played, frames))) if frames else {}
+        found = self.around[solo.slot]
         clipped = () if self.shown.own else self.shown.clipped[solo.slot]
         for it in self.explained:
             if it.mixed is None:
@@ -103,8 +107,7 @@ class Whys:
 
     def recording_lines(self, solo):
         """Which frame a recording gets as each is handed over."""
-        frames = [it.frame for it in self.explained if it.handed is not None]
-        found = around(solo, frames, solo.told((), cuts_at(self.played, frames))) if frames else {}
+        found = self.told_around(solo, [it.frame for it in self.explained])
         texts = ((it.frame, recording_words(it, solo, found[it.frame])) for it in self.explained if it.handed is not None)
         return ((frame, text) for frame, text in texts if text)
 
