@@ -1,7 +1,6 @@
 """What the slots of a script give to the mix, and where the sum of it is limited."""
 import array
 import collections
-import functools
 import itertools
 import operator
 
@@ -36,18 +35,34 @@ def may_pass(given, begin, end, full):
     return False
 
 
-def limited_at(given, begin, end, full):
-    """The places of the samples among frames at which a sum is limited, by the number of the slot; and the greatest size of a sum."""
-    total, plain, peak = given[0].samples(begin, end), given[0].samples(begin, end), 0
+def outside(sums, full):
+    """The places of the numbers that pass the limit, in their order."""
+    above = itertools.compress(itertools.count(), map(full.__le__, sums))
+    below = itertools.compress(itertools.count(), map((-full).__gt__, sums))
+    return sorted([*above, *below])
+
+
+def summed(given, begin, end, full):
+    """The places of the samples among frames at which a sum is limited, by the number of the slot, with the greatest size of a sum; and the
+    sums of all slots as they are without a limit."""
+    total, peak, found = given[0].samples(begin, end), 0, []
+    plain = total
     for which, sound in enumerate(given[1:], 1):
-        samples = sound.samples(begin, end)
-        total, plain = list(map(operator.add, total, samples)), list(map(operator.add, plain, samples))
+        samples, is_plain = sound.samples(begin, end), plain is total
+        total = list(map(operator.add, total, samples))
+        plain = total if is_plain else list(map(operator.add, plain, samples))
         peak = max(peak, max(plain), -min(plain) - 1)
         if max(total) >= full or min(total) < -full:
-            places = [at for at, it in enumerate(total) if not -full <= it < full]
-            yield which, places, peak
-            for at in places:
+            found.append((which, outside(total, full), peak))
+            total = [*total]
+            for at in found[-1][1]:
                 total[at] = full - 1 if total[at] > 0 else -full
+    return found, plain
+
+
+def limited_at(given, begin, end, full):
+    """The same, the places alone."""
+    return summed(given, begin, end, full)[0]
 
 
 class Rows:
@@ -62,13 +77,10 @@ class Rows:
     def __iter__(self):
         return zip(self.begins, self.ends)
 
-    def take(self, rows, sounds):
-        """Takes rows of neighbouring frames: those that touch the last one are a part of it."""
-        rows = list(rows)
-        begin, end = (rows[0][0], rows[-1][1]) if rows else (0, 0)
-        total, channels = sums_of(sounds, begin, end), sounds[0].device.channels
-        for low, high in rows:
-            self.put(low, high, total[(low - begin) * channels:(high - begin) * channels], channels)
+    def take(self, rows, first, total, channels):
+        """Takes rows of neighbouring frames, with the sums from one of the frames on: rows that touch the last one are a part of it."""
+        for begin, end in rows:
+            self.put(begin, end, total[(begin - first) * channels:(end - first) * channels], channels)
 
     def put(self, begin, end, total, channels):
         if self.ends and self.ends[-1] == begin:
@@ -79,11 +91,6 @@ class Rows:
             self.begins.append(begin)
             self.ends.append(end)
             self.levels.append(max(reached(total)))
-
-
-def sums_of(sounds, begin, end):
-    """The sums of frames without a limit."""
-    return functools.reduce(lambda total, sound: list(map(operator.add, total, sound.samples(begin, end))), sounds[1:], sounds[0].samples(begin, end))
 
 
 def reached(total):
@@ -98,10 +105,10 @@ def limits_of(given, ranges):
     parts = (part for begin, end in ranges for part in sounds[0].parts(begin, end, PART)) if len(sounds) > 1 else ()
     for begin, end in told(parts, "limits are looked for", ranges[-1][1] if ranges else 1):
         if may_pass(sounds, begin, end, full):
-            found = list(limited_at(sounds, begin, end, full))
-            samples = sorted(set(itertools.chain.from_iterable(places for _, places, _ in found)))
+            found, total = summed(sounds, begin, end, full)
+            samples = dict.fromkeys(sorted(itertools.chain.from_iterable(places for _, places, _ in found)))
             count, peak = count + len(samples), max([peak, *(it for _, _, it in found)])
-            rows.take(joined(sorted({begin + it // channels for it in samples})), sounds)
+            rows.take(joined(dict.fromkeys(begin + it // channels for it in samples)), begin, total, channels)
     return Limits(count, rows, peak, full)
 
 
