@@ -7,6 +7,7 @@ import math
 import sys
 import zlib
 
+from blocks import little, measured, numbers_of
 from commands import fail, told
 from sounds import BLOCK, WIDTH, digits, full_scale
 
@@ -27,13 +28,6 @@ AROUND = 1024
 def packed(data):
     """Bytes as a page holds them: deflated, as text."""
     return base64.b64encode(zlib.compress(data, 6)).decode()
-
-
-def little(numbers):
-    """The bytes of an array, the lowest first."""
-    if sys.byteorder == "big":
-        numbers.byteswap()
-    return numbers.tobytes()
 
 
 class Room:
@@ -104,7 +98,7 @@ class Track:
         """The least and the greatest of each block, channel by channel, in 16 bits."""
         if self.frames < SHORT:
             return [], []
-        blocks, count = self.sound.measured(), -(-self.frames // BLOCK)
+        blocks, count = measured(self.sound), -(-self.frames // BLOCK)
         return ([self.in_16_bits(it[:count]) for it in every] for every in (blocks.lows, blocks.highs))
 
     def in_16_bits(self, samples):
@@ -121,7 +115,7 @@ class Track:
         for begin, end in told(self.sound.parts(0, self.frames - self.frames % every, PART), "a copy to listen to is made", self.frames):
             planes = [highest(it, WIDTH[self.device.format]) for it in self.planes(begin, end)]
             for lane, which in zip(lanes, [planes] if is_joined else [[it] for it in planes]):
-                lane.extend(map(table.__getitem__, added(which, every)))
+                lane.extend(table[it] for it in added(which, every))
         name = room.put(b"".join(lanes))
         self.copy = {"every": every, "channels": len(lanes), "blob": name} if name else None
 
@@ -134,16 +128,14 @@ class Track:
 def added(planes, every):
     """The sums of every so many samples of planes of 16 bits, each of which counts 32768 more. All are added together, as the digits of a
     large number: first the upper and the lower half of each digit of 32 bits, and then digits that are neighbours."""
-    total, lower = 0, digits(0xFFFF, len(planes[0]) // 2)
+    count = len(planes[0]) // 2
+    total, lower = 0, digits(0xFFFF, count)
     for plane in planes:
-        both = int.from_bytes(little(plane), "little") ^ digits(0x80008000, len(plane) // 2)
+        both = int.from_bytes(little(plane), "little") ^ digits(0x80008000, count)
         total += (both & lower) + (both >> 16 & lower)
     for times in range(1, every.bit_length() - 1):
         total += total >> 16 * 2 ** times
-    sums = array.array("I", (total & (1 << 16 * len(planes[0])) - 1).to_bytes(2 * len(planes[0]), "little"))
-    if sys.byteorder == "big":
-        sums.byteswap()
-    return sums[::every // 2]
+    return numbers_of(total & (1 << 32 * count) - 1, count)[::every // 2]
 
 
 def highest(plane, width):

@@ -9,9 +9,10 @@ import pathlib
 import re
 import shlex
 
+from blocks import little, measured
 from clicks import Clicks, Known, told_click
 from commands import version
-from packed import Packer, Room, Track, little, packed
+from packed import Packer, Room, Track, packed
 from rows import rows_of
 from sheet import picture
 from shown import drops_of, joined_states, mixers_of, pokes_of, shortages_of, starts_of, states_of
@@ -223,7 +224,7 @@ def file_of(title, told, blobs, drawn=""):
 def page(shown, text, names, window, megabytes):
     """The text of a page, which has so many megabytes at most."""
     for sound in (shown.out, *shown.heard.values()):
-        sound.measured()
+        measured(sound)
     limits = limits_of(shown.given, [(0, shown.mixed_frames())]).rows
     drawn = picture(shown, title_of(names), limits)
     room = Room(megabytes * MEGABYTE - len(file_of("", "", {}, drawn)) - MARGIN)

@@ -17,6 +17,7 @@ class Asked:
         self.rates, self.own = rates_of(self.config), bool(rates_of(self.config))
         self.written = functools.lru_cache(64)(self.written_by)
         self.poked = functools.lru_cache(64)(self.poked_by)
+        self.ends = functools.lru_cache(64)(self.ends_of)
         self.known = {it.at: it for it in played.openings}
 
     def written_by(self, at):
@@ -26,6 +27,10 @@ class Asked:
     def poked_by(self, at, event):
         """What the opening of an event poked before another one."""
         return Poked(self.played, self.known[at], event)
+
+    def ends_of(self, at):
+        """The events of the opening of an event that end it softly."""
+        return [it for it in self.known[at].events if ends_softly(self.played.script.words(it))]
 
     def recorders(self):
         """Those that record, slot by slot."""
@@ -87,7 +92,7 @@ def frame_words(it, opening, reached, behind):
     last, ahead = taken - 1, lookahead(it.config)
     if last < 0:
         return f"no frame of its run {number + 1}, at {reached.settings.rate}, was taken by then"
-    ends = any(run.events[-1] < at < it.mixed and ends_softly(it.played.script.words(at)) for at in opening.events)
+    ends = any(run.events[-1] < at < it.mixed for at in it.asked.ends(opening.at))
     if ahead is None or ends and (taken + 1) * run.size > run.ends[-1]:
         wrote = named(it.played, written.place(number, last * run.size))
         return f"up to frame {last} of its run {number + 1}, at {reached.settings.rate}, was taken by then: {wrote}"

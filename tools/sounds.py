@@ -7,7 +7,6 @@ import os
 import sys
 
 from calls import WIDTHS, number, wave_of
-from commands import told
 
 # the settings of frames
 Device = collections.namedtuple("Device", "format channels rate ring block")
@@ -17,7 +16,7 @@ TYPES = {1: "b", 2: "h", 3: "i", 4: "i"}
 TURNED = bytes(byte ^ 128 for byte in range(256))
 SIGNS = bytes(255 * (byte >> 7) for byte in range(256))
 FEW = 200
-# how many frames are looked at in one go; and of how many the least and the greatest sample is kept, where a sound is measured
+# how many frames are looked at in one go; and of how many the least and the greatest sample is kept, where a sound is measured, by `blocks`
 PART, BLOCK = 1 << 16, 256
 
 
@@ -94,12 +93,6 @@ class Sound:
         found.whole, found.lead = self.whole, self.lead + at
         return found
 
-    def measured(self):
-        """The least and the greatest sample of each block, which is looked up once. From then on many frames are no more work than few."""
-        if self.blocks is None:
-            self.blocks = Blocks(self)
-        return self.blocks
-
     def jumps_by(self, begin, end, least):
         """Whether a sample among frames may differ by so much from that of the frame before: all are looked at together, as the digits
         of a large number, by their highest 16 bits."""
@@ -129,35 +122,6 @@ class Sound:
                  extreme(samples[k::device.channels], tops[k::device.channels], max)) for k in range(device.channels)]
 
 
-class Blocks:
-    """The least and the greatest sample of each channel of each block of a sound."""
-
-    def __init__(self, sound):
-        self.sound, channels = sound, range(sound.device.channels)
-        code = TYPES[WIDTH[sound.device.format]]
-        self.lows, self.highs = ([array.array(code) for _ in channels] for _ in range(2))
-        for begin, end in told(sound.parts(), "sound is measured", sound.frames):
-            samples = sound.samples(begin, end)
-            for at in channels:
-                self.take(at, samples[at::len(channels)].tolist())
-
-    def take(self, channel, plane):
-        """Takes the next samples of a channel."""
-        blocks = [plane[k:k + BLOCK] for k in range(0, len(plane), BLOCK)]
-        self.lows[channel].extend(map(min, blocks))
-        self.highs[channel].extend(map(max, blocks))
-
-    def extremes(self, begin, end):
-        """The least and the greatest sample of each channel among frames: of whole blocks, and of the frames before and behind them."""
-        first, frames, channels = -(-begin // BLOCK), self.sound.frames, self.sound.device.channels
-        last = max(len(self.lows[0]) if end >= frames else end // BLOCK, first)
-        found = [self.sound.looked_up(*it) for it in ((begin, min(first * BLOCK, end)), (last * BLOCK, end)) if it[0] < it[1]]
-        found += [[(0, 0)] * channels] if end > frames else []
-        if first < last:
-            found.append([(min(self.lows[at][first:last]), max(self.highs[at][first:last])) for at in range(channels)])
-        return [(min(low for low, _ in it), max(high for _, high in it)) for it in zip(*found)]
-
-
 def highest_of(data, form):
     """The highest 16 bits of each sample, without a sign, the lowest byte first."""
     width, is_big = WIDTH[form], form.endswith("be")
@@ -169,7 +133,7 @@ def highest_of(data, form):
     return bytes(found)
 
 
-@functools.lru_cache(8)
+@functools.lru_cache(64)
 def digits(value, count):
     """A number of so many digits of 32 bits, each the same."""
     return int.from_bytes(value.to_bytes(4, "little") * count, "little")
