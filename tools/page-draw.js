@@ -77,7 +77,6 @@ function placeRows(rows, height) {
 class Painter {
   constructor(page, axis) {
     [this.page, this.axis] = [page, axis];
-    this.into = [0, 0];
   }
 
   /** Draws all rows that are between two heights. */

@@ -79,7 +79,7 @@ function wholeLanes(track, begin, end) {
   for (let at = Math.max(begin, 0); at < Math.min(end, track.frames);) {
     const part = track.partOf(at), [first, last] = track.chunks[part], to = Math.min(last, end);
     lanes.forEach((lane, channel) => {
-      const samples = track.parts[part][channel];
+      const { samples } = track.parts[part][channel];
       for (let k = at; k < to; k += 1) lane[k - begin] = samples[k - first] / track.full;
     });
     at = to;

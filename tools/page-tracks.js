@@ -11,6 +11,49 @@ const LISTENED = Float32Array.from({ length: 256 }, (_, code) => {
   return Math.sign(value) * (Math.exp(Math.abs(value) / 127 * LEVEL) - 1) / 255;
 });
 
+// so many whole samples have their least and their greatest kept, where many are looked at
+const FEW = 32;
+
+/** Puts the least and the greatest of some numbers into two places, with what stands there. */
+function widen(numbers, begin, end, into) {
+  let [least, most] = [into[0], into[1]];
+  for (let at = begin; at < end; at += 1) {
+    const value = numbers[at];
+    if (value < least) least = value;
+    if (value > most) most = value;
+  }
+  into[0] = least;
+  into[1] = most;
+}
+
+/** The whole samples of a channel. */
+class Lane {
+  constructor(samples) {
+    this.samples = samples;
+    this.bounds = null;
+  }
+
+  /** Looks up the least and the greatest of every few samples, one behind the other. */
+  measure() {
+    const { samples } = this, count = Math.floor(samples.length / FEW), into = new Float64Array(2);
+    this.bounds = new samples.constructor(2 * count);
+    for (let at = 0; at < count; at += 1) {
+      into.fill(samples[at * FEW]);
+      widen(samples, at * FEW, (at + 1) * FEW, into);
+      this.bounds.set(into, 2 * at);
+    }
+  }
+
+  widen(begin, end, into) {
+    const first = Math.ceil(begin / FEW), last = Math.floor(end / FEW);
+    if (last - first < 2) return widen(this.samples, begin, end, into);
+    if (!this.bounds) this.measure();
+    widen(this.samples, begin, first * FEW, into);
+    widen(this.bounds, 2 * first, 2 * last, into);
+    return widen(this.samples, last * FEW, end, into);
+  }
+}
+
 class Track {
   constructor(told) {
     Object.assign(this, told);
@@ -30,8 +73,8 @@ class Track {
 
   /** Reads a part of the whole frames. */
   async readPart(at) {
-    const [begin, end, name] = this.chunks[at], numbers = new ARRAYS[this.width](await blob(name));
-    this.parts[at] = Array.from({ length: this.channels }, (_, channel) => numbers.subarray(channel * (end - begin), (channel + 1) * (end - begin)));
+    const [begin, end, name] = this.chunks[at], numbers = new ARRAYS[this.width](await blob(name)), count = end - begin;
+    this.parts[at] = Array.from({ length: this.channels }, (_, channel) => new Lane(numbers.subarray(channel * count, (channel + 1) * count)));
   }
 
   /** Reads the copy to listen to: of each of its channels the codes of its samples. */
@@ -66,7 +109,7 @@ class Track {
   /** The samples of a frame, or null where they aren't there. */
   frame(at) {
     const part = this.partOf(at);
-    return part < 0 ? null : this.parts[part].map((it) => it[at - this.chunks[part][0]]);
+    return part < 0 ? null : this.parts[part].map((it) => it.samples[at - this.chunks[part][0]]);
   }
 
   /** Puts the least and the greatest sample of a channel among frames into two places. Answers how well they are known. */
@@ -80,17 +123,12 @@ class Track {
   }
 
   exactly(begin, end, channel, into) {
-    let least = Infinity, most = -Infinity;
+    [into[0], into[1]] = [Infinity, -Infinity];
     for (let at = begin; at < end;) {
-      const part = this.partOf(at), [first, last] = this.chunks[part], lane = this.parts[part][channel], to = Math.min(last, end) - first;
-      for (let k = at - first; k < to; k += 1) {
-        if (lane[k] < least) least = lane[k];
-        if (lane[k] > most) most = lane[k];
-      }
-      at = last;
+      const part = this.partOf(at), chunk = this.chunks[part];
+      this.parts[part][channel].widen(at - chunk[0], Math.min(chunk[1], end) - chunk[0], into);
+      at = chunk[1];
     }
-    into[0] = least;
-    into[1] = most;
     return WHOLE;
   }
 
@@ -131,7 +169,7 @@ class Track {
 
   /** How far its samples reach on either side. */
   reach() {
-    const into = [0, 0], found = [0];
+    const into = new Float64Array(2), found = [0];
     for (let channel = 0; channel < this.channels; channel += 1) {
       if (this.pyramid.length) this.roughly(0, this.frames, channel, into, this.pyramid.length - 1);
       else if (!this.extremes(0, this.frames, channel, into)) continue;
@@ -174,7 +212,7 @@ class Source {
 
   /** Puts the least and the greatest samples of columns of an axis into two rows, and how well they are known. */
   columns(axis, count, last, channel, lows, highs, known) {
-    const wide = axis.seen() / count, into = [0, 0];
+    const wide = axis.seen() / count, into = new Float64Array(2);
     for (let x = 0, begin = Math.floor(axis.begin); x < count; x += 1) {
       const next = Math.floor(axis.begin + (x + 1) * wide), end = Math.min(Math.max(next, begin + 1), last);
       known[x] = begin < end ? this.extremes(Math.max(begin, 0), end, channel, into) : NOTHING;
