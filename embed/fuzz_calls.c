@@ -5,6 +5,10 @@
  * just what is handed over, captured silence written out. Both answer alike and hand over the same bytes, and at the end both are asked for all that
  * they tell: so what was refused has changed nothing. A call is answered as one that no engine takes exactly where a number is outside the limits of dsp_engine.h. And some sequences
  * are run as scripts by the program, which replies and hands over the same.
+ *
+ * Between the calls the first engine is asked questions. The other one is asked nothing then, or the same, or the same in other words: so a question has
+ * changed nothing, and is answered what the calls are. A request is answered as it was told before, and a client can go on after just as many frames as
+ * it was told to wait.
  */
 #include <stdio.h>
 #include <stdlib.h>
@@ -24,6 +28,9 @@ struct run {
     struct brought brought;
     struct got of_first;
     struct got of_second;
+    struct call asked;        /* the question right before a call, or another call */
+    int64_t asked_number;     /* and what it was answered */
+    struct dsp_answer asked_answer;
     struct script script;
     bool is_scripted;
     bool is_ending; /* behind the calls of the input: the second engine gets all calls, too */
@@ -42,17 +49,22 @@ static void must(bool is_right, const struct run *run, const struct call *call, 
     abort();
 }
 
-/* What the first engine answers is within what the call can be answered, and is no refusal of another kind. */
-static void check_number(const struct run *run, const struct call *call) {
+/* The greatest number that a question can be answered. */
+static int64_t most_told(uint32_t question) {
+    switch (question) {
+    case ASK_FRAMES_UNTIL:
+        return UINT32_MAX;
+    case ASK_IS_READY:
+        return DSP_READABLE;
+    default:
+        return question == ASK_IS_IDLE;
+    }
+}
+
+/* What the first engine answers is within what the call can be answered. */
+static void check_accepted(const struct run *run, const struct call *call) {
     const struct dsp_device *device = &run->setup->device;
     int64_t number = run->of_first.number;
-    must((number <= DSP_WRONG_ARGUMENT) == !call_is_right(call, device), run, call, "its numbers are judged otherwise");
-    must(number != DSP_NO_MEMORY, run, call, "it takes memory");
-    must(dsp_engine_error((int32_t)number) != NULL, run, call, "its answer has no text");
-    must((dsp_engine_errno((int32_t)number) == 0) == (number >= 0), run, call, "its answer has no errno");
-    if (number < 0) {
-        return;
-    }
     switch (call->kind) {
     case CALL_OPEN:
         must(number < 16, run, call, "there is no such slot");
@@ -67,25 +79,49 @@ static void check_number(const struct run *run, const struct call *call) {
     case CALL_INTERRUPT:
         must(number == (int64_t)call->numbers[FRAMES] * frame_bytes(device), run, call, "it hands over another number of bytes");
         break;
+    case CALL_ASK:
+        must(number <= most_told(call->numbers[QUESTION]), run, call, "it is told a greater number than there is");
+        break;
     default:
         must(number == 0, run, call, "it is answered a number");
         break;
     }
 }
 
+/* And is no refusal of another kind. */
+static void check_number(const struct run *run, const struct call *call) {
+    int64_t number = run->of_first.number;
+    int32_t refusal = number < 0 ? (int32_t)number : 0;
+    must((number <= DSP_WRONG_ARGUMENT) == !call_is_right(call, &run->setup->device), run, call, "its numbers are judged otherwise");
+    must(number != DSP_NO_MEMORY, run, call, "it takes memory");
+    must(dsp_engine_error(refusal) != NULL, run, call, "its answer has no text");
+    must((dsp_engine_errno(refusal) == 0) == (number >= 0), run, call, "its answer has no errno");
+    if (number >= 0) {
+        check_accepted(run, call);
+    }
+}
+
+/* Whether a call tells something in an answer, where it is accepted. */
+static bool is_answered(const struct call *call) {
+    bool is_peek = call->kind == CALL_ASK && call->numbers[QUESTION] == ASK_PEEK;
+    return !call->is_null && (is_peek || call->kind == CALL_IOCTL || call->kind == CALL_JOIN || call->kind == CALL_MIXER);
+}
+
 /* A call writes where it says, and nowhere where it was refused. */
 static void check_room(const struct run *run, const struct call *call) {
     const struct got *got = &run->of_first;
     bool fills = got->number >= 0 && (call->kind == CALL_READ || call->kind == CALL_INTERRUPT);
-    bool tells = got->number >= 0 && !call->is_null && (call->kind == CALL_IOCTL || call->kind == CALL_JOIN || call->kind == CALL_MIXER);
+    bool tells = got->number >= 0 && !call->is_null && call->kind == CALL_ASK;
+    size_t told = tells ? report_size(call->numbers[QUESTION]) : 0;
     must(is_marked(got, call, fills ? (size_t)got->number : 0), run, call, "it wrote where it must not");
-    must(is_answer_marked(got) != tells, run, call, "what is told beside its number isn't right");
+    must(is_answer_marked(got) != (got->number >= 0 && is_answered(call)), run, call, "what is told beside its number isn't right");
+    must(is_report_marked(got, told) && (told == 0 || !is_report_marked(got, 0)), run, call, "it is told something else");
 }
 
 /* A call that was accepted, with no more than was taken of it; one that was refused, as it is. */
-static struct call taken_of(const struct call *call, int32_t number, const struct dsp_device *device) {
+static struct call taken_of(const struct call *call, int64_t number, const struct dsp_device *device) {
     struct call taken = *call;
-    if (number < 0) {
+    if (number < 0 || call->kind == CALL_ASK) {
         return taken;
     }
     taken.is_null = false;
@@ -111,6 +147,8 @@ static void check_second(struct run *run, const struct call *call) {
     must(first->number == second->number, run, call, "the engines answer other numbers");
     must(call->is_null || memcmp(&first->answer, &second->answer, sizeof first->answer) == 0, run, call, "the engines tell other numbers");
     must(!fills || first->number < 0 || memcmp(first->out, second->out, (size_t)first->number) == 0, run, call, "the engines hand over other bytes");
+    must(call->kind != CALL_ASK || first->number < 0 || is_report_alike(call->numbers[QUESTION], &first->report, &second->report), run, call,
+         "the engines tell other things");
 }
 
 /* Moves the first engine to its other place, as a program may. */
@@ -122,7 +160,65 @@ static void move_first(struct run *run) {
     run->first = other;
 }
 
+/* The first engine is asked something, which is no step; and the other one nothing, the same, or the same in other words. */
+static void try_question(struct run *run, const struct call *call) {
+    const struct got *got = &run->of_first;
+    uint64_t left = dsp_engine_steps_left(run->first);
+
+    run->made += 1;
+    make_call(run->first, run->setup, call, &run->brought, &run->of_first);
+    count_call(call, got->number);
+    check_number(run, call);
+    check_room(run, call);
+    must(dsp_engine_steps_left(run->first) == left, run, call, "it is a step");
+    if (run->is_ending || call->seed % 4 == 1) {
+        check_second(run, call);
+    }
+    if (call->seed % 4 == 2) {
+        must(is_told_otherwise(run->second, &run->setup->device, call, got->number, &got->report), run, call, "another question tells otherwise");
+    }
+    run->asked = *call;
+    run->asked_number = got->number;
+    run->asked_answer = got->answer;
+}
+
+/* A request is answered what it was told to be. */
+static void check_peek(const struct run *run, const struct call *call) {
+    const uint32_t *asked = run->asked.numbers, *numbers = call->numbers;
+    if (call->kind != CALL_IOCTL || asked[FD] != numbers[FD] || asked[REQUEST] != numbers[REQUEST] || asked[ARGUMENT] != numbers[ARGUMENT]) {
+        return;
+    }
+    must(run->of_first.number == run->asked_number, run, call, "it was told another number before");
+    must(call->is_null || run->asked.is_null || memcmp(&run->of_first.answer, &run->asked_answer, sizeof run->asked_answer) == 0, run, call,
+         "it was told other numbers before");
+}
+
+/* Behind an interrupt a client can go on exactly where that has as many frames as it was told to wait for. */
+static void check_wait(const struct run *run, const struct call *call) {
+    int64_t before = run->asked_number, after = 0;
+    if (call->kind != CALL_INTERRUPT || run->of_first.number < 0) {
+        return;
+    }
+    after = dsp_engine_frames_until(run->first, run->asked.numbers[FD], run->asked.numbers[UNTIL]);
+    must(before < 0 ? after == before : (after == 0) == (before <= call->numbers[FRAMES]), run, call, "the wait before it was another one");
+}
+
+/* What was asked right before a call is so. */
+static void check_asked(struct run *run, const struct call *call) {
+    if (run->asked.kind == CALL_ASK && run->asked.numbers[QUESTION] == ASK_PEEK) {
+        check_peek(run, call);
+    }
+    if (run->asked.kind == CALL_ASK && run->asked.numbers[QUESTION] == ASK_FRAMES_UNTIL) {
+        check_wait(run, call);
+    }
+    run->asked = *call;
+}
+
 static void try_call(struct run *run, const struct call *call) {
+    if (call->kind == CALL_ASK) {
+        try_question(run, call);
+        return;
+    }
     run->made += 1;
     if (call->kind == CALL_NEW) {
         move_first(run);
@@ -132,6 +228,7 @@ static void try_call(struct run *run, const struct call *call) {
     count_call(call, run->of_first.number);
     check_number(run, call);
     check_room(run, call);
+    check_asked(run, call);
     if (run->of_first.number >= 0 || run->is_ending) {
         check_second(run, call);
     }
@@ -215,7 +312,7 @@ int LLVMFuzzerInitialize(int *count, char ***words) {
 
 int LLVMFuzzerTestOneInput(const uint8_t *bytes, size_t length) {
     static const struct setup usual = {.device = {DSP_S16_LE, 2, 48000, 0, 0, 1024, 4, 4, 0, 1}};
-    struct run run = {.places = {DSP_NO_ENGINE, DSP_NO_ENGINE}};
+    struct run run = {.places = {DSP_NO_ENGINE, DSP_NO_ENGINE}, .asked = {.kind = CALL_NEW}};
     struct input input = {bytes, length};
     struct setup setup;
     struct calls calls;

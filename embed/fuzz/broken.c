@@ -17,6 +17,9 @@ int32_t __real_dsp_engine_close(struct dsp_engine *engine, uint32_t fd);
 int32_t __real_dsp_engine_mixer(struct dsp_engine *engine, enum dsp_mixer_request request, uint32_t slot, uint32_t value,
                                 struct dsp_answer *answer);
 int32_t __real_dsp_engine_interrupt(struct dsp_engine *engine, uint32_t frames, const int32_t *samples, size_t count, void *out, size_t room);
+int32_t __real_dsp_engine_settings(struct dsp_engine *engine, uint32_t fd, struct dsp_settings *settings);
+int32_t __real_dsp_engine_position(struct dsp_engine *engine, uint32_t fd, struct dsp_position *position);
+int64_t __real_dsp_engine_frames_until(struct dsp_engine *engine, uint32_t fd, uint32_t bytes);
 
 /* Whether the library has this fault. */
 static bool has(const char *fault) {
@@ -102,4 +105,25 @@ int32_t __wrap_dsp_engine_interrupt(struct dsp_engine *engine, uint32_t frames, 
         ((uint8_t *)out)[number - 1] ^= 1;
     }
     return number;
+}
+
+int32_t __wrap_dsp_engine_settings(struct dsp_engine *engine, uint32_t fd, struct dsp_settings *settings) {
+    int32_t number = __real_dsp_engine_settings(engine, fd, settings);
+    if (number == 0 && has("settings-are-the-neighbours")) {
+        __real_dsp_engine_settings(engine, (fd + 1) % DESCRIPTORS, settings);
+    }
+    return number;
+}
+
+int32_t __wrap_dsp_engine_position(struct dsp_engine *engine, uint32_t fd, struct dsp_position *position) {
+    int32_t number = __real_dsp_engine_position(engine, fd, position);
+    if (number == 0 && has("a-question-tells-a-position")) {
+        __real_dsp_engine_ioctl(engine, fd, DSP_GETOPTR, 0, NULL);
+    }
+    return number;
+}
+
+int64_t __wrap_dsp_engine_frames_until(struct dsp_engine *engine, uint32_t fd, uint32_t bytes) {
+    int64_t number = __real_dsp_engine_frames_until(engine, fd, bytes);
+    return number > 0 && has("a-wait-is-one-more") ? number + 1 : number;
 }

@@ -186,6 +186,50 @@ static void take_interrupt(struct calls *calls, struct call *call) {
     calls->frames_left -= is_large ? 0 : lesser(frames, calls->frames_left);
 }
 
+/* Behind a question of what a request would be told that request, and behind one of a wait an interrupt. */
+static void take_next(struct calls *calls, const struct call *call) {
+    const struct call interrupt = {CALL_INTERRUPT, {0, 0, 0, 0, 0}, 0, 0, 0, false};
+    bool is_peek = call->numbers[QUESTION] == ASK_PEEK, is_wait = call->numbers[QUESTION] == ASK_FRAMES_UNTIL;
+
+    calls->has_next = (is_peek || is_wait) && take_chance(&calls->input, 160);
+    calls->next = is_peek ? *call : interrupt;
+    if (calls->has_next && is_wait) {
+        take_interrupt(calls, &calls->next);
+    }
+    if (is_peek) {
+        calls->next.kind = CALL_IOCTL;
+        calls->next.numbers[QUESTION] = 0;
+    }
+}
+
+/* How many bytes are waited for: few, fragments, or up to more than any ring has. */
+static uint32_t take_awaited(struct input *input) {
+    uint32_t chosen = take_byte(input);
+    return chosen < 140 ? 1 + chosen % 70 : chosen < 250 ? (uint32_t)take_length(input) : take_edge(input);
+}
+
+static void take_question(struct calls *calls, struct call *call) {
+    struct input *input = &calls->input;
+    call->numbers[QUESTION] = take_byte(input) % QUESTIONS;
+    switch (call->numbers[QUESTION]) {
+    case ASK_PEEK:
+        take_ioctl(input, call);
+        break;
+    case ASK_SLOT:
+        call->numbers[WAY] = take_chance(input, 8) ? take_edge(input) : take_byte(input) % WAYS;
+        call->numbers[SLOT] = take_chance(input, 8) ? take_edge(input) : take_byte(input) % 4;
+        break;
+    case ASK_FRAMES_UNTIL:
+        call->numbers[UNTIL] = take_awaited(input);
+        break;
+    default:
+        call->is_null = take_chance(input, 8);
+        break;
+    }
+    call->seed = take_byte(input);
+    take_next(calls, call);
+}
+
 static void take_numbers(struct calls *calls, struct call *call) {
     struct input *input = &calls->input;
     switch (call->kind) {
@@ -214,6 +258,9 @@ static void take_numbers(struct calls *calls, struct call *call) {
     case CALL_INTERRUPT:
         take_interrupt(calls, call);
         break;
+    case CALL_ASK:
+        take_question(calls, call);
+        break;
     default:
         break;
     }
@@ -230,6 +277,7 @@ static void take_call(struct calls *calls, struct call *call) {
         CALL_WRITE, CALL_POKE,  CALL_POKE,  CALL_READ,  CALL_READ,  CALL_READ,  CALL_IOCTL,     CALL_IOCTL,     CALL_IOCTL,
         CALL_IOCTL, CALL_IOCTL, CALL_IOCTL, CALL_IOCTL, CALL_JOIN,  CALL_START, CALL_CLOSE,     CALL_MIXER,     CALL_MIXER,
         CALL_JOIN,  CALL_START, CALL_NEW,   CALL_INTERRUPT, CALL_INTERRUPT, CALL_INTERRUPT, CALL_INTERRUPT, CALL_INTERRUPT, CALL_INTERRUPT,
+        CALL_ASK,   CALL_ASK,   CALL_ASK,   CALL_ASK,   CALL_ASK,   CALL_ASK,   CALL_ASK,       CALL_ASK,       CALL_ASK,
     };
     call->kind = (enum call_kind)take_one_of(&calls->input, kinds, COUNT_OF(kinds));
     if (has_descriptor(call->kind)) {
@@ -245,24 +293,29 @@ static const struct {
     {DSP_GETERROR, 0},   {DSP_GETOSPACE, 0},  {DSP_GETISPACE, 0}, {DSP_GETOPTR, 0}, {DSP_GETIPTR, 0},  {DSP_GETODELAY, 0}, {DSP_GETTRIGGER, 0},
     {DSP_GETPLAYVOL, 0}, {DSP_GETBLKSIZE, 0}, {DSP_SETFMT, 0},    {DSP_SPEED, 0},   {DSP_CHANNELS, 0}, {DSP_SETTRIGGER, 3},
 };
-enum { REQUESTS_ASKED = COUNT_OF(asked) };
+/* And the questions that it is asked first. */
+static const uint32_t questions[] = {ASK_SETTINGS, ASK_IS_READY, ASK_POSITION, ASK_FRAMES_UNTIL};
+enum { REQUESTS_ASKED = COUNT_OF(asked), QUESTIONS_ASKED = COUNT_OF(questions), OF_DESCRIPTOR = QUESTIONS_ASKED + REQUESTS_ASKED + GROUPS_ASKED + 1 };
 
-/* Asks a descriptor for one of these, then to start a group, and for what it has recorded. */
+/* Asks a descriptor one of these, then to start a group, and for what it has recorded. */
 static void ask_descriptor(uint32_t number, struct call *call) {
-    const uint32_t requests = REQUESTS_ASKED;
-    call->kind = number < requests ? CALL_IOCTL : number < requests + GROUPS_ASKED ? CALL_START : CALL_READ;
-    if (call->kind == CALL_IOCTL) {
-        call->numbers[REQUEST] = asked[number].request;
-        call->numbers[ARGUMENT] = asked[number].argument;
+    const uint32_t requests = QUESTIONS_ASKED, groups = requests + REQUESTS_ASKED, reads = groups + GROUPS_ASKED;
+    call->kind = number < requests ? CALL_ASK : number < groups ? CALL_IOCTL : number < reads ? CALL_START : CALL_READ;
+    if (call->kind == CALL_ASK) {
+        call->numbers[QUESTION] = questions[number];
+        call->numbers[UNTIL] = questions[number] == ASK_FRAMES_UNTIL ? READ_MOST : 0;
+    } else if (call->kind == CALL_IOCTL) {
+        call->numbers[REQUEST] = asked[number - requests].request;
+        call->numbers[ARGUMENT] = asked[number - requests].argument;
     } else if (call->kind == CALL_START) {
-        call->numbers[GROUP] = 1 + number - requests;
+        call->numbers[GROUP] = 1 + number - groups;
     }
     call->room = call->kind == CALL_READ ? READ_MOST : 0;
 }
 
 /* Asks a few descriptors and the mixer device for all that they tell, and then hears what is left. */
 static bool ask_call(uint32_t number, const struct dsp_device *device, struct call *call) {
-    const uint32_t of_descriptors = CLIENTS * (REQUESTS_ASKED + GROUPS_ASKED + 1), of_mixer = of_descriptors + 1 + CLIENTS;
+    const uint32_t of_descriptors = CLIENTS * OF_DESCRIPTOR, of_mixer = of_descriptors + 1 + CLIENTS;
 
     if (number < of_descriptors) {
         call->numbers[FD] = number % CLIENTS;
@@ -288,11 +341,16 @@ void begin_calls(struct calls *calls, struct input input, const struct setup *se
     calls->frames_left = is_light && device->ring_frames > FRAMES_TRIED ? device->ring_frames : FRAMES_TRIED;
     calls->made = 0;
     calls->asked = 0;
+    calls->has_next = false;
 }
 
 bool next_call(struct calls *calls, struct call *call) {
     const struct call nothing = {CALL_NEW, {0, 0, 0, 0, 0}, 0, 0, 0, false};
-    *call = nothing;
+    *call = calls->has_next ? calls->next : nothing;
+    if (calls->has_next) {
+        calls->has_next = false;
+        return true;
+    }
     if (calls->input.left > 0 && calls->made < MADE_MOST) {
         calls->made += 1;
         take_call(calls, call);

@@ -16,7 +16,23 @@ enum call_kind {
     CALL_MIXER,
     CALL_INTERRUPT,
     CALL_NEW, /* of an engine that is there */
+    CALL_ASK, /* a question */
     CALL_KINDS
+};
+
+enum question_kind {
+    ASK_SETTINGS,
+    ASK_PEEK,
+    ASK_SLOT,
+    ASK_IS_IDLE,
+    ASK_IS_READY,
+    ASK_READY,
+    ASK_FRAMES_UNTIL,
+    ASK_SPACE,
+    ASK_POSITION,
+    ASK_DELAY,
+    ASK_ERRORS,
+    QUESTIONS
 };
 
 /* The places of a call's numbers, which are those of the function's parameters behind the engine. */
@@ -34,6 +50,9 @@ enum call_number {
     MIXER_SLOT = 1,
     MIXER_VALUE = 2,
     FRAMES = 0,
+    SLOT = 2,
+    UNTIL = 1,
+    QUESTION = 4, /* which one it is, of a question */
     NUMBERS = 5
 };
 
@@ -49,7 +68,7 @@ struct call {
     uint32_t numbers[NUMBERS];
     size_t length; /* bytes that it brings, or samples */
     size_t room;   /* bytes that it has room for */
-    uint32_t seed; /* what it brings */
+    uint32_t seed; /* what it brings; of a question what the other engine is asked */
     bool is_null;  /* its pointer to bytes, to room or to an answer */
 };
 
@@ -60,6 +79,8 @@ struct calls {
     uint32_t frames_left; /* that interrupts may still take, so that no input takes long */
     uint32_t made;        /* that the input said */
     uint32_t asked;       /* behind them */
+    bool has_next;        /* behind a question the call that it told of */
+    struct call next;
 };
 
 /* The calls behind a setup, which is the one that the input began with. */

@@ -75,9 +75,45 @@ static bool interrupt_is_right(const struct call *call, const struct dsp_device 
            && call->room >= frames * frame_bytes(device) && !call->is_null;
 }
 
+/* Whether there is a slot of a way with a number. */
+static bool is_slot(uint32_t way, uint32_t number, const struct dsp_device *device) {
+    uint64_t mapped = (uint64_t)device->play_slots + device->map_slots;
+    switch (way) {
+    case DSP_PLAY:
+        return number < device->play_slots;
+    case DSP_RECORD:
+        return number < device->record_slots;
+    case DSP_MAP:
+        return device->play_slots <= number && number < mapped;
+    default:
+        return false;
+    }
+}
+
+/* Whether a question is of a descriptor, a request or a slot that there is, and has where to be told. */
+static bool question_is_right(const struct call *call, const struct dsp_device *device) {
+    const uint32_t *numbers = call->numbers;
+    switch (numbers[QUESTION]) {
+    case ASK_IS_IDLE:
+    case ASK_READY:
+        return true;
+    case ASK_SLOT:
+        return is_slot(numbers[WAY], numbers[SLOT], device) && !call->is_null;
+    case ASK_PEEK:
+        return numbers[FD] < DESCRIPTORS && numbers[REQUEST] < REQUESTS;
+    case ASK_IS_READY:
+    case ASK_FRAMES_UNTIL:
+        return numbers[FD] < DESCRIPTORS;
+    default:
+        return numbers[FD] < DESCRIPTORS && !call->is_null;
+    }
+}
+
 bool call_is_right(const struct call *call, const struct dsp_device *device) {
     const uint32_t *numbers = call->numbers;
     switch (call->kind) {
+    case CALL_ASK:
+        return question_is_right(call, device);
     case CALL_NEW:
         return false;
     case CALL_INTERRUPT:

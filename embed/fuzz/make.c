@@ -44,6 +44,7 @@ int32_t make_engine(struct dsp_engine *engine, const struct setup *setup) {
 static void mark(struct got *got, const struct call *call) {
     const struct dsp_answer marked = {answer_mark, answer_mark, answer_mark, answer_mark};
     got->answer = marked;
+    memset(&got->report, MARK, sizeof got->report);
     memset(got->out, MARK, call->room + GUARD);
 }
 
@@ -61,7 +62,16 @@ bool is_answer_marked(const struct got *got) {
     return answer->first == answer_mark && answer->second == answer_mark && answer->third == answer_mark && answer->fourth == answer_mark;
 }
 
-static int32_t number_of(struct dsp_engine *engine, const struct setup *setup, const struct call *call, const struct brought *brought,
+bool is_report_marked(const struct got *got, size_t from) {
+    for (size_t i = from; i < sizeof got->report.bytes; i += 1) {
+        if (got->report.bytes[i] != MARK) {
+            return false;
+        }
+    }
+    return true;
+}
+
+static int64_t number_of(struct dsp_engine *engine, const struct setup *setup, const struct call *call, const struct brought *brought,
                          struct got *got) {
     const uint32_t *numbers = call->numbers;
     const uint8_t *bytes = call->is_null ? NULL : brought->bytes;
@@ -89,6 +99,8 @@ static int32_t number_of(struct dsp_engine *engine, const struct setup *setup, c
         return dsp_engine_mixer(engine, (enum dsp_mixer_request)numbers[MIXER_REQUEST], numbers[MIXER_SLOT], numbers[MIXER_VALUE], answer);
     case CALL_INTERRUPT:
         return dsp_engine_interrupt(engine, numbers[FRAMES], brought->samples, call->length, out, call->room);
+    case CALL_ASK:
+        return ask_question(engine, call, &got->report, &got->answer);
     default:
         return make_engine(engine, setup);
     }

@@ -2,7 +2,7 @@
 #ifndef FUZZ_MAKE_H
 #define FUZZ_MAKE_H
 
-#include "call.h"
+#include "question.h"
 
 /* What a call brings: so many bytes, or samples and behind them silence. */
 struct brought {
@@ -13,8 +13,9 @@ struct brought {
 
 /* What a call came to. Before it all of it that the call could reach is marked. */
 struct got {
-    int32_t number;
+    int64_t number;
     struct dsp_answer answer;
+    union report report; /* of a question */
     uint8_t *out;
     size_t out_room; /* of all calls; GUARD bytes stand behind it */
 };
@@ -40,5 +41,8 @@ bool is_marked(const struct got *got, const struct call *call, size_t from);
 
 /* Whether the answer is still marked. */
 bool is_answer_marked(const struct got *got);
+
+/* Whether what questions are told is still marked, from a byte on. */
+bool is_report_marked(const struct got *got, size_t from);
 
 #endif

@@ -215,10 +215,10 @@ static void put_accepted(struct script *script, const struct call *call, const s
     switch (call->kind) {
     case CALL_OPEN:
     case CALL_WRITE:
-        fprintf(to, " %" PRId32, got->number);
+        fprintf(to, " %" PRId64, got->number);
         break;
     case CALL_READ:
-        fprintf(to, " %" PRId32 " ", got->number);
+        fprintf(to, " %" PRId64 " ", got->number);
         put_hex(to, got->out, (size_t)got->number);
         break;
     case CALL_IOCTL:
@@ -239,7 +239,7 @@ static void put_accepted(struct script *script, const struct call *call, const s
     }
 }
 
-void put_call(struct script *script, const struct call *call, int32_t number, const struct brought *brought, const struct got *got) {
+void put_call(struct script *script, const struct call *call, int64_t number, const struct brought *brought, const struct got *got) {
     /* an open is answered so for its frames alone, and no line has such */
     bool is_no_step = call->kind == CALL_OPEN && number == DSP_INVALID;
     if (number < DSP_EXISTS || is_no_step) {

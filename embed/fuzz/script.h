@@ -23,8 +23,8 @@ struct script {
 /* Begins a script of a setup. Answers false where no configuration has it, or no program is named by FUZZ_CALLS_PROGRAM. */
 bool begin_script(struct script *script, const struct setup *setup);
 
-/* Writes a call that was answered so, with what it brought and got. One that no engine takes is no line. */
-void put_call(struct script *script, const struct call *call, int32_t number, const struct brought *brought, const struct got *got);
+/* Writes a call that was answered so, with what it brought and got. One that no engine takes is no line, and no question is. */
+void put_call(struct script *script, const struct call *call, int64_t number, const struct brought *brought, const struct got *got);
 
 /* Ends the script. Answers false where the program replies or hands over something else; the files are left then. */
 bool end_script(struct script *script);

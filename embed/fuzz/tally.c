@@ -7,7 +7,7 @@
 
 #include "dsp_engine.h"
 
-enum { REQUESTS = 20, MIXER_REQUESTS = 5, KINDS = CALL_KINDS + REQUESTS + MIXER_REQUESTS, ANSWERS = 16 };
+enum { REQUESTS = 20, MIXER_REQUESTS = 5, ASKED = CALL_KINDS + REQUESTS + MIXER_REQUESTS, KINDS = ASKED + QUESTIONS, ANSWERS = 16 };
 
 static unsigned long counts[COUNTS];
 
@@ -29,18 +29,22 @@ static uint32_t kind_of(const struct call *call) {
     if (call->kind == CALL_MIXER && call->numbers[MIXER_REQUEST] < MIXER_REQUESTS) {
         return CALL_KINDS + REQUESTS + call->numbers[MIXER_REQUEST];
     }
-    return call->kind;
+    return call->kind == CALL_ASK ? ASKED + call->numbers[QUESTION] : call->kind;
 }
 
-void count_call(const struct call *call, int32_t number) {
+void count_call(const struct call *call, int64_t number) {
     uint32_t answer = number < 0 ? (uint32_t)-number % ANSWERS : 0;
     reached[kind_of(call) * ANSWERS + answer] += 1;
+    if (call->kind == CALL_ASK) {
+        count_one(COUNT_QUESTIONS);
+        return;
+    }
     count_one(COUNT_CALLS);
     count_one(number >= 0 ? COUNT_ACCEPTED : number >= DSP_EXISTS ? COUNT_REFUSED : COUNT_WRONG);
 }
 
 void tell_counts(void) {
-    static const char *const names[] = {"sequences", "calls", "accepted", "refused", "wrong", "replayed"};
+    static const char *const names[] = {"sequences", "calls", "accepted", "refused", "wrong", "replayed", "questions"};
     fputs("tried:", stderr);
     for (int i = 0; i < COUNTS; i += 1) {
         fprintf(stderr, " %s %lu", names[i], counts[i]);

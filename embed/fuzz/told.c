@@ -22,7 +22,14 @@ static const char head[] =
     "enum { MOST = 1 << 24 };\n\n"
     "static uint8_t *bytes, *out;\n"
     "static int32_t *samples;\n"
-    "static struct dsp_answer answer;\n\n"
+    "static struct dsp_answer answer;\n"
+    "static struct dsp_settings settings;\n"
+    "static struct dsp_slot slot;\n"
+    "static struct dsp_space space;\n"
+    "static struct dsp_position position;\n"
+    "static struct dsp_errors errors;\n"
+    "static uint64_t writable, readable;\n"
+    "static uint32_t delay;\n\n"
     "static const uint8_t *some_bytes(size_t length, uint32_t seed) {\n"
     "    for (size_t i = 0; i < length; i += 1) {\n"
     "        seed = seed * 1664525u + 1013904223u;\n"
@@ -37,8 +44,8 @@ static const char head[] =
     "    }\n"
     "    return samples;\n"
     "}\n\n"
-    "static void told(int32_t number) {\n"
-    "    printf(\"%ld: %llu %llu %llu %llu\\n\", (long)number, (unsigned long long)answer.first, (unsigned long long)answer.second,\n"
+    "static void told(int64_t number) {\n"
+    "    printf(\"%lld: %llu %llu %llu %llu\\n\", (long long)number, (unsigned long long)answer.first, (unsigned long long)answer.second,\n"
     "           (unsigned long long)answer.third, (unsigned long long)answer.fourth);\n"
     "    answer = (struct dsp_answer){0, 0, 0, 0};\n"
     "}\n\n";
@@ -128,6 +135,32 @@ static void tell_asked(FILE *to, const struct call *call) {
     }
 }
 
+/* A question that has a number or none beside its descriptor. */
+static void tell_question(FILE *to, const struct call *call) {
+    static const char *const names[QUESTIONS] = {"settings", "peek", "slot", "is_idle", "is_ready", "ready", "frames_until", "space", "position", "delay", "errors"};
+    static const char *const told[QUESTIONS] = {"&settings", "&answer", "&slot", NULL, NULL, "&writable, &readable", NULL, "&space", "&position", "&delay", "&errors"};
+    const uint32_t *numbers = call->numbers, question = numbers[QUESTION];
+    fprintf(to, "dsp_engine_%s(&engine", names[question]);
+    if (question == ASK_SLOT) {
+        fputs(", ", to);
+        tell_named(to, "dsp_way", ways, sizeof ways / sizeof ways[0], numbers[WAY]);
+        fprintf(to, ", %" PRIu32 "u", numbers[SLOT]);
+    } else if (question != ASK_IS_IDLE && question != ASK_READY) {
+        fprintf(to, ", %" PRIu32 "u", numbers[FD]);
+    }
+    if (question == ASK_PEEK) {
+        fputs(", ", to);
+        tell_named(to, "dsp_request", requests, sizeof requests / sizeof requests[0], numbers[REQUEST]);
+    }
+    if (question == ASK_PEEK || question == ASK_FRAMES_UNTIL) {
+        fprintf(to, ", %" PRIu32 "u", numbers[question == ASK_PEEK ? ARGUMENT : UNTIL]);
+    }
+    if (told[question] != NULL) {
+        fprintf(to, ", %s", !call->is_null ? told[question] : question == ASK_READY ? "NULL, NULL" : "NULL");
+    }
+    fputs(")", to);
+}
+
 static void tell_open(FILE *to, const uint32_t *numbers) {
     fprintf(to, "dsp_engine_open(&engine, %" PRIu32 ", ", numbers[FD]);
     tell_named(to, "dsp_way", ways, sizeof ways / sizeof ways[0], numbers[WAY]);
@@ -162,6 +195,9 @@ void tell_call(FILE *to, const struct call *call) {
     case CALL_INTERRUPT:
         fprintf(to, "dsp_engine_interrupt(&engine, %" PRIu32 ", some_samples(%zu, %" PRIu32 "u), %zu, %s, %zu)", numbers[FRAMES],
                 call->length, call->seed, call->length, call->is_null ? "NULL" : "out", call->room);
+        break;
+    case CALL_ASK:
+        tell_question(to, call);
         break;
     case CALL_NEW:
         fputs("dsp_engine_new(&engine, &device, NULL, 0, NULL, 0, NULL, 0)", to);
