@@ -245,6 +245,19 @@ class Painter {
     pen.lineTo(x, floor - most * scale);
     pen.lineTo(x, floor);
     pen.fill();
+    if (!isDense) this.unasked(levels, places, first, floor, scale);
+  }
+
+  /** Where interrupts lie between two moments, the most of both, paler: what waited between them wasn't asked. */
+  unasked(levels, places, first, floor, scale) {
+    const { axis, page, pen } = this, { ends } = page.script;
+    pen.globalAlpha = 0.4;
+    for (let at = first + 1; at < levels.length && places[at - 1] <= axis.end; at += 1) {
+      const left = Math.max(axis.across(places[at - 1]), -1), right = Math.min(axis.across(places[at]), axis.width + 1);
+      const most = Math.max(levels[at - 1][1], levels[at][1]) * scale;
+      if (countBelow(ends, places[at]) > countUpTo(ends, places[at - 1])) pen.fillRect(left, floor - most, right - left, most);
+    }
+    pen.globalAlpha = 1;
   }
 
   /** Draws the marks of a row, of those of a kind that touch each other the first. */
