@@ -190,6 +190,7 @@ def look_at_media(tab):
         equal(f"the ground where it is {scheme}", tab.value(ground), wanted)
     tab.resize(380, 700)
     equal("a narrow window", tab.value("document.documentElement.scrollWidth"), 380)
+    equal("rings in it", tab.value("[...document.querySelectorAll('.ring')].filter((it) => it.getBoundingClientRect().left < 0).length"), 0)
     tab.ask("Emulation.setEmulatedMedia", media="print")
     shown_parts = "['picture', 'stage'].map((it) => document.getElementById(it).checkVisibility())"
     equal("what is printed", (tab.value(shown_parts), tab.value("document.getElementById('picture').naturalWidth")), ([True, False], 1000))

@@ -32,7 +32,15 @@ class Stage {
     button.setAttribute("aria-label", `Play ${row.name}`);
     made.append(button, ...row.words.map((it) => { const word = element("span", "word", it); word.title = it; return word; }));
     row.names.forEach((name, channel) => made.append(this.placed("lane-name", name, row.lane * (channel + 0.5) - 7)));
-    if (row.fills) made.append(this.placed("ring", `${grouped(row.fills.most)} of ${grouped(row.fills.size)} bytes`, row.bottom - row.top - 18));
+    if (row.fills) made.append(this.ringOf(row));
+    return made;
+  }
+
+  /** How much of a row's ring was filled at most. */
+  ringOf(row) {
+    const made = this.placed("ring", `${grouped(row.fills.most)} of ${grouped(row.fills.size)}`, row.bottom - row.top - 18);
+    made.title = "the most that waited, and the size of the ring, in bytes";
+    made.append(element("span", "unit", " bytes"));
     return made;
   }
 
