@@ -168,19 +168,19 @@ def try_live_breaks(program, folder):
 KNOWN = "open * | ok * | ok *   # the slot\nopen * map* | refused busy | ok *   # it is opened to play, and mapped then\nmixer * | not performed | *\n"
 
 
-def performed(folder, script, config):
+def performed(folder, script, config, more=()):
     """What tools/perform prints of a script under tools/live, step by step."""
     files = keys_of(config.read_text()) if config else {}
     waves = [f"{key.partition('.')[2]}={path}" for key, path in files.items() if key.startswith("files.")]
     words = ["--step", "--unchecked", "--script", folder / "again", *(["--config", config] if config else []), "--", folder / "perform"]
-    options = ["--step-file", "/dev/dsp.step", "--block", files.get("device.hw_block", "256")]
+    options = ["--step-file", "/dev/dsp.step", "--block", files.get("device.hw_block", "256"), *more]
     return tool("live", *words, *options, script, "/dev/dsp", *waves, folder=script.parent)
 
 
 def try_perform(program, folder):
     """Each script that needs no filter, performed under tools/live step by step, is answered as a run answers it."""
-    subprocess.run(["cc", "-std=gnu99", "-Wall", "-Wextra", "-Werror", "-O1", "-I", ROOT / "embed", "-o", folder / "perform", ROOT / "tools" / "perform.c"],
-                   check=True)
+    subprocess.run(["cc", "-std=gnu99", "-Wall", "-Wextra", "-Werror", "-O1", "-pthread", "-I", ROOT / "embed", "-o", folder / "perform",
+                    ROOT / "tools" / "perform.c"], check=True)
     (folder / "known").write_text(KNOWN)
     for script in (it for top in ("examples", "corpus") for it in sorted(ROOT.glob(f"{top}/*/*.script")) if it.parent.name != "faults"):
         config = next(iter(config_of(script)), None)
@@ -191,10 +191,12 @@ def try_perform(program, folder):
         if ran.returncode:
             continue
         (folder / "replies").write_text(ran.stdout)
-        status, said = performed(folder, script, config)
-        (folder / "performed").write_text(said)
-        words = ["--replies", folder / "performed", folder / "replies", script, "--known", folder / "known"]
-        equal(f"perform {script.name}", (status, tool("compare", *words)[0]), (0, 0))
+        # the examples as where a call may wait, too
+        for more in ((), ("--wait", "10000")) if script.parent.parent.name == "examples" else ((),):
+            status, said = performed(folder, script, config, more)
+            (folder / "performed").write_text(said)
+            words = ["--replies", folder / "performed", folder / "replies", script, "--known", folder / "known"]
+            equal(f"perform {script.name} {more}", (status, tool("compare", *words)[0]), (0, 0))
 
 
 def try_hold(program, folder):

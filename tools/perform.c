@@ -1,19 +1,25 @@
 /*
  * Performs the lines of a script as calls on /dev/dsp, and prints what each is answered as `dsp_replay run` prints it:
  *
- *     perform [--step-file FILE] [--block N] SCRIPT [DEVICE [NAME=WAVE]..]
+ *     perform [--step-file FILE] [--block N] [--wait N] SCRIPT [DEVICE [NAME=WAVE]..]
  *
  * All descriptors are opened without waiting. An interrupt of N frames of 48000 a second is a wait for as long, or, with --step-file, the
  * number N written into FILE, where something moves the time of a card by it. NAME=WAVE is a wave that lines send. What a system doesn't
  * tell, the slot of an open, is the least one that isn't open, and what it has no call for is told as `not performed`.
  *
- * It is for Linux and FreeBSD, and needs no more than their C libraries: cc -Iembed tools/perform.c -o perform
+ * A system has calls that wait all the same, as a close until all is played. With --wait such a call goes on beside the next lines once it
+ * took N milliseconds. It is answered `waits`, and where it ended before the script did, `waits, then` and its answer. All replies come at
+ * the end then.
+ *
+ * It is for Linux and FreeBSD, and needs no more than their C libraries: cc -pthread -Iembed tools/perform.c -o perform
  */
 #define _GNU_SOURCE
 #include "dsp_oss.h"
 
 #include <errno.h>
 #include <fcntl.h>
+#include <poll.h>
+#include <pthread.h>
 #include <stdbool.h>
 #include <stdint.h>
 #include <stdio.h>
@@ -31,7 +37,8 @@
 #define REQUEST(name) DSP_OSS_LINUX_##name
 #endif
 
-enum { DESCRIPTORS = 64, WORDS = 8, RATE = 48000, BLOCK = 256, RING = 16384, FRAGMENTS = 0x4000c, LINE_MOST = 16384, WAVES = 64, MOST = 131072 };
+enum { DESCRIPTORS = 64, WORDS = 8, RATE = 48000, BLOCK = 256, RING = 16384, FRAGMENTS = 0x4000c, LINE_MOST = 16384, WAVES = 64, MOST = 131072,
+       SETTLES = 500000 };
 enum way { PLAY, RECORD, MAP, WAYS };
 
 /* What is open of a descriptor of the script. */
@@ -50,14 +57,31 @@ struct wave {
     size_t size;
 };
 
+/* A line that may go on beside the next ones. */
+struct job {
+    char *line;
+    int ends[2]; /* a pipe that is written to when the line has ended */
+    bool waits;
+    char *text; /* its reply */
+    size_t size;
+    pthread_t thread;
+    struct job *next;
+};
+
 static struct {
     const char *device, *mixer, *step_file;
     struct open list[DESCRIPTORS];
     struct wave waves[WAVES];
     size_t wave_count;
+    struct job *jobs, *last;
+    bool waits; /* whether a call has waited */
     unsigned long events;
     uint32_t block; /* the frames of an interrupt that names none */
+    int wait;       /* the milliseconds after which a call goes on beside the next lines, or 0 */
 } all = {.device = "/dev/dsp", .mixer = "/dev/mixer", .block = BLOCK};
+
+/* Where replies go: those of a job into its text. */
+static __thread FILE *said;
 
 static void fail(const char *what, const char *name) {
     fprintf(stderr, "perform: %s: %s\n", name, what);
@@ -73,7 +97,8 @@ static uint32_t number_of(const char *word) {
 /* Cuts a line at its blanks. Answers how many words it has in front of a comment. */
 static int cut(char *line, char **words) {
     int count = 0;
-    for (char *word = strtok(line, " \t\r\n"); word && *word != '#' && count < WORDS; word = strtok(NULL, " \t\r\n")) {
+    char *rest;
+    for (char *word = strtok_r(line, " \t\r\n", &rest); word && *word != '#' && count < WORDS; word = strtok_r(NULL, " \t\r\n", &rest)) {
         words[count++] = word;
     }
     return count;
@@ -118,11 +143,11 @@ static void reply_refused(int fault) {
     } names[] = {{EAGAIN, "again"}, {EBUSY, "busy"}, {EBADF, "badf"}, {EEXIST, "exist"}, {EINVAL, "inval"}};
     for (size_t k = 0; k < sizeof names / sizeof names[0]; k += 1) {
         if (names[k].fault == fault) {
-            printf("refused %s\n", names[k].name);
+            fprintf(said, "refused %s\n", names[k].name);
             return;
         }
     }
-    printf("refused by errno %d\n", fault);
+    fprintf(said, "refused by errno %d\n", fault);
 }
 
 /* What a call is answered: a number, or its refusal. */
@@ -130,7 +155,7 @@ static void reply(long answer) {
     if (answer < 0) {
         reply_refused(errno);
     } else {
-        printf("ok %ld\n", answer);
+        fprintf(said, "ok %ld\n", answer);
     }
 }
 
@@ -138,7 +163,7 @@ static void reply_done(int answer) {
     if (answer < 0) {
         reply_refused(errno);
     } else {
-        puts("ok");
+        fputs("ok\n", said);
     }
 }
 
@@ -167,10 +192,15 @@ static int set(int fd, unsigned long request, uint32_t value) {
     return ioctl(fd, request, &number);
 }
 
-/* Maps what a channel plays out of, as large as its ring. */
+/* Maps what a channel plays out of, as large as its ring. Some kernels take settings with the next question alone, and map only behind that. */
 static bool has_area(struct open *it, uint32_t ring) {
+    int size = 0;
     if (it->area) {
         munmap(it->area, it->ring);
+    }
+    if (it->way == MAP && ioctl(it->fd, REQUEST(GETBLKSIZE), &size) < 0) {
+        it->area = NULL;
+        return false;
     }
     void *area = it->way == MAP ? mmap(NULL, ring, PROT_READ | PROT_WRITE, MAP_SHARED, it->fd, 0) : NULL;
     it->area = area == MAP_FAILED ? NULL : area;
@@ -249,11 +279,12 @@ static void do_open(char **words, int count) {
 }
 
 static void do_close(struct open *it) {
+    int fd = it->fd;
     if (it->area) {
         munmap(it->area, it->ring);
     }
     it->used = false;
-    reply_done(close(it->fd));
+    reply_done(close(fd));
 }
 
 /* ---- bytes ---- */
@@ -273,17 +304,17 @@ static void do_send(const struct open *it, char **words) {
 }
 
 static void do_read(const struct open *it, size_t count) {
-    static uint8_t bytes[MOST];
+    static __thread uint8_t bytes[MOST];
     ssize_t got = read(it->fd, bytes, count < MOST ? count : MOST);
     if (got < 0) {
         reply_refused(errno);
         return;
     }
-    printf("ok %zd %s", got, got ? "" : "-");
+    fprintf(said, "ok %zd %s", got, got ? "" : "-");
     for (ssize_t k = 0; k < got; k += 1) {
-        printf("%02x", bytes[k]);
+        fprintf(said, "%02x", bytes[k]);
     }
-    putchar('\n');
+    fputc('\n', said);
 }
 
 static void do_poke(const struct open *it, uint32_t offset, const uint8_t *bytes, size_t count) {
@@ -292,7 +323,7 @@ static void do_poke(const struct open *it, uint32_t offset, const uint8_t *bytes
         return;
     }
     memcpy(it->area + offset, bytes, count);
-    puts("ok");
+    fputs("ok\n", said);
 }
 
 /* ---- requests ---- */
@@ -327,20 +358,20 @@ union argument {
 static void reply_told(enum form form, const union argument *is) {
     switch (form) {
     case SPACE:
-        printf("ok fragments=%d fragstotal=%d fragsize=%d bytes=%d\n", is->space.fragments, is->space.fragstotal, is->space.fragsize,
+        fprintf(said, "ok fragments=%d fragstotal=%d fragsize=%d bytes=%d\n", is->space.fragments, is->space.fragstotal, is->space.fragsize,
                is->space.bytes);
         break;
     case PLACE:
-        printf("ok bytes=%u blocks=%d ptr=%d\n", (unsigned)is->place.bytes, is->place.blocks, is->place.ptr);
+        fprintf(said, "ok bytes=%u blocks=%d ptr=%d\n", (unsigned)is->place.bytes, is->place.blocks, is->place.ptr);
         break;
     case ERRORS:
-        printf("ok underruns=%d overruns=%d\n", is->errors.play_underruns, is->errors.rec_overruns);
+        fprintf(said, "ok underruns=%d overruns=%d\n", is->errors.play_underruns, is->errors.rec_overruns);
         break;
     case NOTHING:
-        puts("ok");
+        fputs("ok\n", said);
         break;
     default:
-        printf("ok %u\n", (unsigned)is->number);
+        fprintf(said, "ok %u\n", (unsigned)is->number);
     }
 }
 
@@ -368,7 +399,7 @@ static void do_ioctl(struct open *it, const char *name, const char *word) {
 static void do_mixer(char **words, int count) {
     int fd = strcmp(words[1], "master") == 0 ? open(all.mixer, O_RDWR) : -1;
     if (fd < 0) {
-        puts("not performed");
+        fputs("not performed\n", said);
         return;
     }
     int value = count > 2 ? (int)number_of(words[2]) : 0, answer = ioctl(fd, count > 2 ? SOUND_MIXER_WRITE_VOLUME : SOUND_MIXER_READ_VOLUME, &value);
@@ -395,7 +426,7 @@ static void do_interrupt(uint32_t frames) {
 
 /* What a line does to a descriptor that is open. */
 static void do_on(struct open *it, char **words, int count) {
-    static uint8_t bytes[LINE_MOST];
+    static __thread uint8_t bytes[LINE_MOST];
     if (strcmp(words[0], "write") == 0) {
         reply(write(it->fd, bytes, bytes_of(words[2], bytes)));
     } else if (strcmp(words[0], "send") == 0) {
@@ -413,7 +444,6 @@ static void do_on(struct open *it, char **words, int count) {
 }
 
 static void perform(char **words, int count) {
-    printf("%lu: ", ++all.events);
     if (strcmp(words[0], "intr") == 0) {
         do_interrupt(count > 1 ? number_of(words[1]) : all.block);
     } else if (strcmp(words[0], "mixer") == 0) {
@@ -424,6 +454,80 @@ static void perform(char **words, int count) {
         reply_refused(EBADF);
     } else {
         do_on(open_of(words[1]), words, count);
+    }
+}
+
+/* Performs a line, if it is an event. */
+static void perform_line(char *line) {
+    char *words[WORDS];
+    int count = cut(line, words);
+    if (count > 0) {
+        perform(words, count);
+    }
+}
+
+static const char *first_word(const char *line) {
+    return line + strspn(line, " \t\r\n");
+}
+
+static bool is_event(const char *line) {
+    return *first_word(line) && *first_word(line) != '#';
+}
+
+/* ---- lines that wait ---- */
+
+static void *do_job(void *given) {
+    struct job *job = given;
+    said = open_memstream(&job->text, &job->size);
+    if (!said) {
+        fail(strerror(errno), "--wait");
+    }
+    perform_line(job->line);
+    fclose(said);
+    return write(job->ends[1], "", 1) == 1 ? job : NULL;
+}
+
+static bool has_ended(const struct job *job, int milliseconds) {
+    struct pollfd end = {.fd = job->ends[0], .events = POLLIN};
+    return poll(&end, 1, milliseconds) > 0;
+}
+
+/* Lets what waits go on to where it waits again, for some nanoseconds. */
+static void settle(void) {
+    static const struct timespec lasts = {0, SETTLES};
+    for (const struct job *job = all.waits ? all.jobs : NULL; job; job = job->next) {
+        if (job->waits && !has_ended(job, 0)) {
+            nanosleep(&lasts, NULL);
+            return;
+        }
+    }
+}
+
+/* Performs a line by itself, and waits for its end only so long. */
+static void begin_job(const char *line) {
+    struct job *job = calloc(1, sizeof *job);
+    if (!job || !(job->line = strdup(line)) || pipe(job->ends) != 0 || pthread_create(&job->thread, NULL, do_job, job) != 0) {
+        fail("no memory, descriptor or thread is left for a line", "--wait");
+    }
+    *(all.last ? &all.last->next : &all.jobs) = job;
+    all.last = job;
+    job->waits = !has_ended(job, strncmp(first_word(line), "intr", 4) == 0 ? -1 : all.wait);
+    all.waits = all.waits || job->waits;
+    if (!job->waits) {
+        pthread_join(job->thread, NULL);
+        close(job->ends[0]);
+        close(job->ends[1]);
+    }
+    settle();
+}
+
+static void tell_jobs(void) {
+    for (const struct job *job = all.jobs; job; job = job->next) {
+        fprintf(said, "%lu: %s", ++all.events, job->waits ? "waits" : job->text);
+        if (job->waits) {
+            bool ended = has_ended(job, 0);
+            fprintf(said, "%s%s", ended ? ", then " : "\n", ended ? job->text : "");
+        }
     }
 }
 
@@ -455,21 +559,39 @@ static void take_option(char *name, char *value) {
         all.step_file = value;
     } else if (strcmp(name, "--block") == 0 && number_of(value) > 0) {
         all.block = number_of(value);
+    } else if (strcmp(name, "--wait") == 0 && number_of(value) > 0) {
+        all.wait = (int)number_of(value);
     } else {
         fail("no option", name);
     }
 }
 
-int main(int count, char **words) {
+/* Performs all lines of a script. */
+static void perform_all(FILE *script) {
     static char line[LINE_MOST];
-    char *cut_words[WORDS];
+    while (fgets(line, sizeof line, script)) {
+        if (!is_event(line)) {
+            continue;
+        }
+        if (all.wait) {
+            begin_job(line);
+        } else {
+            fprintf(said, "%lu: ", ++all.events);
+            perform_line(line);
+        }
+    }
+    tell_jobs();
+}
+
+int main(int count, char **words) {
     int at = 1;
+    said = stdout;
     for (; count > at + 2 && strncmp(words[at], "--", 2) == 0; at += 2) {
         take_option(words[at], words[at + 1]);
     }
     FILE *script = at < count ? fopen(words[at], "r") : NULL;
     if (at >= count) {
-        fputs("usage: perform [--step-file FILE] [--block N] SCRIPT [DEVICE [NAME=WAVE]..]\n", stderr);
+        fputs("usage: perform [--step-file FILE] [--block N] [--wait N] SCRIPT [DEVICE [NAME=WAVE]..]\n", stderr);
         return 2;
     }
     if (!script) {
@@ -479,11 +601,6 @@ int main(int count, char **words) {
     for (int k = at + 2; k < count; k += 1) {
         take_wave(words[k]);
     }
-    while (fgets(line, sizeof line, script)) {
-        int found = cut(line, cut_words);
-        if (found > 0) {
-            perform(cut_words, found);
-        }
-    }
+    perform_all(script);
     return fflush(stdout) == 0 && !ferror(script) ? 0 : 1;
 }
