@@ -57,16 +57,19 @@ def side_by_side(plane):
 
 def folded(samples, count):
     """The least and the greatest sample of each block, out of so many digits: half of them are laid upon the others, until one row is left."""
-    low = high = samples
+    count //= 2
+    low, high = sorted_pairs(samples, count)
     while count > PART // BLOCK // 2:
         count //= 2
-        low, high = lesser(*halves(low, count), count), greater(*halves(high, count), count)
+        low, high = sorted_pairs(low, count)[0], sorted_pairs(high, count)[1]
     return [numbers_of(it, count) for it in (low, high)]
 
 
-def halves(number, count):
-    """The lower and the upper half of a number, of so many digits each."""
-    return number & (1 << 32 * count) - 1, number >> 32 * count
+def sorted_pairs(number, count):
+    """The lesser and the greater ones of the digits of both halves of a number, of so many digits each."""
+    one, other = number & (1 << 32 * count) - 1, number >> 32 * count
+    by = excess(one, other, count)
+    return one - by, other + by
 
 
 def excess(one, other, count):
@@ -74,14 +77,6 @@ def excess(one, other, count):
     by = (one | digits(1 << 16, count)) - other
     is_more = by & digits(1 << 16, count)
     return by & is_more - (is_more >> 16)
-
-
-def greater(one, other, count):
-    return other + excess(one, other, count)
-
-
-def lesser(one, other, count):
-    return one - excess(one, other, count)
 
 
 def numbers_of(number, count):
