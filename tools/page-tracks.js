@@ -61,6 +61,7 @@ class Track {
     this.parts = told.chunks.map(() => null);
     this.shift = 2 ** Math.max(0, Math.log2(told.full) - 15);
     this.pyramid = [];
+    this.sizes = told.levels.map((_, level) => told.block * told.times ** level);
   }
 
   /** Reads the levels: of each the least and the greatest of each channel, one after another. */
@@ -150,15 +151,15 @@ class Track {
   /** The level whose blocks are as large as so many frames, or smaller. */
   levelFor(frames) {
     let level = 0;
-    for (let size = this.block * this.times; size <= frames && level + 1 < this.pyramid.length; size *= this.times) level += 1;
+    while (level + 1 < this.sizes.length && this.sizes[level + 1] <= frames) level += 1;
     return level;
   }
 
   roughly(begin, end, channel, into, level) {
-    const size = this.block * this.times ** level, lows = this.pyramid[level][2 * channel], highs = this.pyramid[level][2 * channel + 1];
-    const last = Math.min(Math.ceil(end / size), lows.length);
-    let least = Infinity, most = -Infinity;
-    for (let at = Math.floor(begin / size); at < last; at += 1) {
+    const size = this.sizes[level], lows = this.pyramid[level][2 * channel], highs = this.pyramid[level][2 * channel + 1];
+    const first = Math.floor(begin / size), last = Math.min(Math.ceil(end / size), lows.length);
+    let least = lows[first], most = highs[first];
+    for (let at = first + 1; at < last; at += 1) {
       if (lows[at] < least) least = lows[at];
       if (highs[at] > most) most = highs[at];
     }
