@@ -23,13 +23,15 @@ static const char head[] =
     "static uint8_t *bytes, *out;\n"
     "static int32_t *samples;\n"
     "static struct dsp_answer answer;\n"
-    "static struct dsp_settings settings;\n"
-    "static struct dsp_slot slot;\n"
-    "static struct dsp_space space;\n"
-    "static struct dsp_position position;\n"
-    "static struct dsp_errors errors;\n"
-    "static uint64_t writable, readable;\n"
-    "static uint32_t delay;\n\n"
+    "static struct {\n"
+    "    struct dsp_settings settings;\n"
+    "    struct dsp_slot slot;\n"
+    "    struct dsp_space space;\n"
+    "    struct dsp_position position;\n"
+    "    struct dsp_errors errors;\n"
+    "    uint64_t writable, readable;\n"
+    "    uint32_t delay;\n"
+    "} asked;\n\n"
     "static const uint8_t *some_bytes(size_t length, uint32_t seed) {\n"
     "    for (size_t i = 0; i < length; i += 1) {\n"
     "        seed = seed * 1664525u + 1013904223u;\n"
@@ -138,7 +140,8 @@ static void tell_asked(FILE *to, const struct call *call) {
 /* A question that has a number or none beside its descriptor. */
 static void tell_question(FILE *to, const struct call *call) {
     static const char *const names[QUESTIONS] = {"settings", "peek", "slot", "is_idle", "is_ready", "ready", "frames_until", "space", "position", "delay", "errors"};
-    static const char *const told[QUESTIONS] = {"&settings", "&answer", "&slot", NULL, NULL, "&writable, &readable", NULL, "&space", "&position", "&delay", "&errors"};
+    static const char *const told[QUESTIONS] = {"&asked.settings", "&answer", "&asked.slot", NULL, NULL, "&asked.writable, &asked.readable", NULL,
+                                                "&asked.space", "&asked.position", "&asked.delay", "&asked.errors"};
     const uint32_t *numbers = call->numbers, question = numbers[QUESTION];
     fprintf(to, "dsp_engine_%s(&engine", names[question]);
     if (question == ASK_SLOT) {
