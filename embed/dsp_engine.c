@@ -183,7 +183,7 @@ static const struct meaning meanings[] = {
     [-1 - DSP_NULL_POINTER] = {EFAULT, "a pointer is null that may not be"},
     [-1 - DSP_NOT_AN_ENGINE] = {ENXIO, "there is no engine, or one already where one is to be made"},
     [-1 - DSP_SHORT_ROOM] = {ERANGE, "the room for what is handed over is too small"},
-    [-1 - DSP_WORN_OUT] = {EOVERFLOW, "the engine has handed over all its frames"},
+    [-1 - DSP_WORN_OUT] = {EOVERFLOW, "the engine doesn't hand over as many frames any more"},
 };
 
 static struct meaning meaning_of(int32_t answer) {

@@ -64,7 +64,7 @@ extern "C" {
 #define DSP_EXISTS (-5)
 /* There is no memory. Only dsp_engine_new and dsp_engine_create answer it. */
 #define DSP_NO_MEMORY (-6)
-/* A number is outside its limits, or captured samples end with a part of a frame. */
+/* A number is outside its limits, or captured samples are more than the frames have, or end with a part of a frame. */
 #define DSP_WRONG_ARGUMENT (-7)
 /* A pointer is null that may not be. */
 #define DSP_NULL_POINTER (-8)
@@ -315,8 +315,8 @@ int32_t dsp_engine_mixer(struct dsp_engine *engine, enum dsp_mixer_request reque
 /*
  * The device takes so many frames, 1 to those of its ring. Answers how many bytes they are: they stand at the front of out, whose room they
  * need. With them come the frames that the device captured meanwhile: samples of 32 bits, as many as the device has channels for each frame,
- * frame by frame. There may be fewer, or none and then null: behind them is silence. Where out is null and room is 0, nobody hears the frames:
- * all is as with room, and the bytes are let go.
+ * frame by frame. There may be fewer, and never more, or none and then null: after them is silence. Where out is null and room is 0, nobody hears
+ * the frames: all is as with room, also the answer, and the bytes are let go.
  */
 int32_t dsp_engine_interrupt(struct dsp_engine *engine, uint32_t frames, const int32_t *samples, size_t sample_count, void *out,
                              size_t room);

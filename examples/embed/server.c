@@ -25,7 +25,7 @@ static void set_up(struct client *clients) {
     }
 }
 
-/* The bytes for which a client waits: those that it sends next, or behind the last one those of a drain that is over. */
+/* The bytes for which a client waits: those that it sends next, or, once it has sent all, the one that fits when its drain is over. */
 static uint32_t awaited(const struct client *client) {
     return client->left == 0 ? 1 : client->left < PART ? client->left : PART;
 }
@@ -91,6 +91,7 @@ static uint32_t serve_all(struct dsp_engine *engine, struct client *clients, FIL
         for (uint32_t fd = 0; fd < CLIENTS; fd += 1) {
             if (can_go_on(clients, &clients[fd], frames)) {
                 shortages += serve(engine, fd, &clients[fd]);
+                /* where it has no slot or is gone this is below 0, and `due` isn't looked at */
                 clients[fd].due = frames + (uint64_t)dsp_engine_frames_until(engine, fd, awaited(&clients[fd]));
                 *turns += 1;
             }
