@@ -10,7 +10,7 @@ from .refusals import refused
 
 VARIABLE = "DSP_ENGINE_LIBRARY"
 NAMES = ("libdsp_engine.so.2", "libdsp_engine.so", "libdsp_engine.dylib")
-MAJOR, MINOR = 1, 1  # the version of the library that this package needs: a later minor one fits, too
+MAJOR, MINOR = 2, 0  # the version of the library that this package needs: a later minor one fits, too
 
 Handle = ctypes.c_void_p
 U32 = ctypes.c_uint32
