@@ -61,7 +61,8 @@ def program_of(named):
         found = tried()
         say(f"the program isn't built: {found.relative_to(ROOT)} is taken, which scripts/try keeps, unproved and slow")
     if found is None:
-        fail(f"no program at {', '.join(map(str, PLACES))}: scripts/build makes it, and --program PATH names another")
+        places = ", ".join(map(str, PLACES))
+        fail(f"no program at {places}: scripts/build makes it, scripts/try an unproved one, and --program PATH names another")
     if not found.is_file() or not os.access(found, os.X_OK):
         fail(f"{found}: no program that can be run; --program names one")
     return found.resolve()
