@@ -160,17 +160,17 @@ static void move_first(struct run *run) {
     run->first = other;
 }
 
-/* The first engine is asked something, which is no step; and the other one nothing, the same, or the same in other words. */
+/* The first engine is asked something, which uses nothing up; and the other one nothing, the same, or the same in other words. */
 static void try_question(struct run *run, const struct call *call) {
     const struct got *got = &run->of_first;
-    uint64_t left = dsp_engine_steps_left(run->first);
+    uint64_t left = dsp_engine_frames_left(run->first);
 
     run->made += 1;
     make_call(run->first, run->setup, call, &run->brought, &run->of_first);
     count_call(call, got->number);
     check_number(run, call);
     check_room(run, call);
-    must(dsp_engine_steps_left(run->first) == left, run, call, "it is a step");
+    must(dsp_engine_frames_left(run->first) == left, run, call, "it uses frames up");
     if (run->is_ending || call->seed % 4 == 1) {
         check_second(run, call);
     }

@@ -20,7 +20,7 @@ int32_t __real_dsp_engine_interrupt(struct dsp_engine *engine, uint32_t frames, 
 int32_t __real_dsp_engine_settings(struct dsp_engine *engine, uint32_t fd, struct dsp_settings *settings);
 int32_t __real_dsp_engine_position(struct dsp_engine *engine, uint32_t fd, struct dsp_position *position);
 int64_t __real_dsp_engine_frames_until(struct dsp_engine *engine, uint32_t fd, uint32_t bytes);
-uint64_t __real_dsp_engine_steps_left(struct dsp_engine *engine);
+uint64_t __real_dsp_engine_frames_left(struct dsp_engine *engine);
 
 /* Whether the library has this fault. */
 static bool has(const char *fault) {
@@ -129,7 +129,7 @@ int64_t __wrap_dsp_engine_frames_until(struct dsp_engine *engine, uint32_t fd, u
     return number > 0 && has("a-wait-is-one-more") ? number + 1 : number;
 }
 
-/* That a question is a step doesn't tell the fault here: what it changes has to. */
-uint64_t __wrap_dsp_engine_steps_left(struct dsp_engine *engine) {
-    return has("a-question-tells-a-position") ? 1 : __real_dsp_engine_steps_left(engine);
+/* That a question uses frames up is not the fault here: what it changes has to show it. */
+uint64_t __wrap_dsp_engine_frames_left(struct dsp_engine *engine) {
+    return has("a-question-tells-a-position") ? 1 : __real_dsp_engine_frames_left(engine);
 }

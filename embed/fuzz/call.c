@@ -182,7 +182,7 @@ static void take_interrupt(struct calls *calls, struct call *call) {
     call->room += room < 200 ? 0 : room < 250 ? room % 4 : 0;
     call->room -= room >= 250 && call->room > 0 ? 1 : 0;
     call->seed = take_byte(input) * 2654435761u;
-    call->is_null = take_chance(input, 2);
+    call->is_null = take_chance(input, 2) && call->room != 0;
     calls->frames_left -= is_large ? 0 : lesser(frames, calls->frames_left);
 }
 

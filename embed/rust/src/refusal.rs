@@ -30,7 +30,7 @@ pub enum Refusal {
     NotAnEngine,
     /// The room for what is handed over is too small.
     ShortRoom,
-    /// The engine has taken all its steps.
+    /// The engine doesn't hand over as many frames any more.
     WornOut,
     /// A number that this crate doesn't know.
     Other(i32),

@@ -131,7 +131,7 @@ fn refusals_have_numbers_texts_and_errnos() {
     assert!(!refusal.to_string().is_empty());
     let system = std::io::Error::from(Refusal::Again);
     assert_eq!(system.kind(), std::io::ErrorKind::WouldBlock);
-    assert_eq!(Engine::version().0, 1);
+    assert_eq!(Engine::version().0, 2);
 }
 
 #[test]
