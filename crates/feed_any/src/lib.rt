@@ -1,5 +1,5 @@
 //! A stage of any of seven types, without a box.
-//! It does what the stage does that it holds, and is of that one's kind.
+//! It does what the stage in it does, and is of that stage's kind.
 #![tactic(auto)]
 
 mod stage;
