@@ -1,4 +1,4 @@
--- Sections are gone through one after another: what is left to be done comes to the same.
+-- Sections are gone through one after another: what is left to be done gives the same.
 use Rattle.std.proofs.Common.{◌≡◌, ◌<◌, ◌≤◌, ◌+◌, ◌-◌, ◌*◌, ◌/◌, ℕ, zero, suc, ℤ, List, [], ◌∷◌, ◌++◌, length, take, drop, get_or, set, replicate, All, refl, sym, ap, ◌∙◌, append_assoc, arith}
 use Rattle.std.proofs.Math.Nat.{mul-div_cancel}
 use Rattle.std.proofs.lemmas.List.{append-nil, drop_all, drop_at, drop_more, drop-set-lt, length-take-le, take_all, take_at, take_more_set, replicate-append-replicate}
@@ -91,7 +91,7 @@ front-more at lasts new within =
     ∙ flat_map-append frames_kept (take at lasts) (new ∷ [])
     ∙ ap (λ list. pair_frames (take at lasts) ++ list) (append-nil (frames_kept new))
 
--- after one more section what is left comes to the same
+-- after one more section what is left gives the same
 pub record GoesOn (c n at : ℕ) (sections : List Section) (lasts after : List LastFrames) (more made : List Frame) : Type 0 where
   pub left : sections_on c (drop at sections) (pair_frames (window n at lasts)) more ≡ sections_on c (drop (at + 1) sections) (pair_frames (window n (at + 1) after)) made
   pub kept : pair_frames (take at lasts) ++ past_behind c (drop at sections) (pair_frames (window n at lasts)) more
@@ -131,7 +131,7 @@ goes-on c at sections lasts new d e more made above below room pairs is eaten =
           ∙ ap (λ list. pair_frames (take (at + 1) (set lasts at new)) ++ past_behind c left (pair_frames (window n (at + 1) (set lasts at new))) list) (sym is);
     }
 
--- ---- behind the last section
+-- ---- after the last section
 
 -- nothing is left to be done
 pub none-left : (c : ℕ) (sections : List Section) (tail more : List Frame) → sections_on c (drop (length sections) sections) tail more ≡ more
@@ -176,6 +176,6 @@ at-any (x ∷ list) (suc i) d e within = at-any list i d e (omega (arith, within
 pub pair-on : (c : ℕ) (last new : LastFrames) → IsPair c last → new.frames ≡ last.frames → new.channels ≡ last.channels → IsPair c new
 pair-on c last new is frames channels = record { two = frames ∙ is.two; width = channels ∙ is.width }
 
--- its samples, as a section is told them
+-- its samples, as they are passed to a section
 pub pair-frames : (c : ℕ) (last : LastFrames) (samples : List ℤ) → IsPair c last → frames_of last.channels samples ≡ frames_kept last → frames_of c samples ≡ frames_kept last
 pair-frames c last samples is same = ap (λ w. frames_of w samples) (sym is.width) ∙ same

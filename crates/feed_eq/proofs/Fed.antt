@@ -1,4 +1,4 @@
--- What a feed of the equaliser comes to.
+-- What a feed of the equaliser does.
 use Rattle.std.proofs.Common.{◌≡◌, ◌<◌, ◌≤◌, ◌+◌, ◌*◌, ◌/◌, ◌%◌, min, ℕ, ℤ, pos, ◌+ℤ◌, ◌-ℤ◌, List, length, take, Some, refl, sym, ap, ◌∙◌, arith}
 use Rattle.std.proofs.Math.Nat.{mul-le-mul_right, div-mul-le_self}
 use Rattle.std.proofs.lemmas.Int.{ints}

@@ -23,13 +23,13 @@ frame-sample c samples k j below within =
     ∙ get_or-take c (drop (k * c) samples) j (pos 0) within
     ∙ get_or-drop (k * c) samples j (pos 0)
 
--- samples behind two frames
+-- samples after two frames
 pub sample-behind : (c : ℕ) (front samples : List ℤ) (k j : ℕ) → length front ≡ 2 * c → sample_in c (front ++ samples) (k + 2) j ≡ sample_in c samples k j
 sample-behind c front samples k j two =
     let place : (k + 2) * c + j ≡ length front + (k * c + j) = omega (arith, two) in
     ap (λ p. get_or (front ++ samples) p (pos 0)) place ∙ get_or-append-add front samples (k * c + j) (pos 0)
 
--- what a channel adds behind the two frames in front
+-- what a channel adds after the two frames in front
 pub lane-front : (section : Section) (c : ℕ) (input output samples made : List ℤ) (channel : ℕ) (lane : Lane) → channel < c → length input ≡ 2 * c → length output ≡ 2 * c
     → IsLaneAt section c input output 0 channel lane → IsLaneAt section c (input ++ samples) (output ++ made) 0 channel lane
 lane-front section c input output samples made channel lane within first second at =

@@ -19,11 +19,11 @@ sum-of-product a b is fits =
     let within = sample-within (2 ^ 29) a b is fits in
     record { least = omega (arith, ints, within.least); most = omega (arith, ints, within.most) }
 
--- a sum of so few fits
+-- a sum of at most seven products fits
 pub sum-fits : (n : ℕ) (z : ℤ) → n ≤ 7 → IsSumOf n z → FitsSigned w64 z
 sum-fits n z few is = fits-long z (record { least = omega (arith, ints, few, is.least); most = omega (arith, ints, few, is.most) })
 
--- two sums, and what they come to
+-- two sums and their sum, each of which fits 64 bits
 pub record AreBoth (m n : ℕ) (a b : ℤ) : Type 0 where
   pub first : FitsSigned w64 a
   pub second : FitsSigned w64 b

@@ -4,7 +4,7 @@ use Rattle.pcm_format.specs.Frames.{Frame}
 use Rattle.pcm_feeder.specs.declared.last_frames.LastFrames.{LastFrames}
 use Rattle.pcm_feeder.specs.LastFrames.{frames_kept}
 
--- two frames of so many channels
+-- two frames of `channels` channels
 pub record IsPair (channels : ℕ) (last : LastFrames) : Type 0 where
   pub two : last.frames ≡ 2
   pub width : last.channels ≡ channels

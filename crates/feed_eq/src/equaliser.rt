@@ -9,8 +9,8 @@ ghost use Rattle.feed_eq.specs.Pairs.{IsPair};
 use crate::pass::pass;
 use pcm_feeder::{LastFrames, SECTIONS, Section};
 
-/// So many sections on frames of so many channels: the last two frames of the input, and behind
-/// them those of each section's outputs.
+/// What sections keep of frames of `channels` channels: the last two frames of the input, and
+/// after them those of each section's outputs.
 #[derive(Drop)]
 pub struct Equaliser {
     pub channels: usize,

@@ -7,7 +7,7 @@ ghost use Rattle.feed_eq.specs.Added.{added, IsSumOf};
 
 use pcm_feeder::{Section, product, scaled_down};
 
-/// What the frames behind a channel add to its next sum, and to the one after that. The two stand
+/// What the last frames of a channel add to its next sum, and to the one after that. The two stand
 /// for the last two inputs and outputs, of which each sum has a share.
 #[derive(Clone, Copy)]
 pub struct Lane {
@@ -20,7 +20,7 @@ pub struct Lane {
 impl Lane {
     ghost use Rattle.feed_eq.specs.Lanes.{IsLaneAt};
 
-    /// A channel behind the last two frames of a section's input and of its output.
+    /// A channel after the last two frames of a section's input and of its output.
     pub fn of(
         section: Section,
         input: &[i32],

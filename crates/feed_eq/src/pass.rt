@@ -9,7 +9,7 @@ ghost use Rattle.feed_eq.specs.Lanes.{HoldsChannels, IsLaneAt, IsPassed, PutsCha
 use crate::lane::Lane;
 use pcm_feeder::Section;
 
-/// Puts samples through a section, behind the last two frames of its input and of its outputs.
+/// Puts samples through a section, after the last two frames of its input and of its outputs.
 pub fn pass(section: Section, channels: usize, input: &[i32], output: &[i32], samples: &mut [i32])
     requires section { IsSection section }
     requires some { 0 < channels }

@@ -20,7 +20,7 @@ pass-requires-clause-whole_frames c =
     ∙ ap (λ k. k % n) (length-take-le (m * n) c.args.input.now (front-within n m c.args.input.now within))
     ∙ mul-mod_left m n
 
--- what a feed comes to
+-- what a feed does
 done : (c : goal.After-output-1) → Does c.in-Some.fitted.channels c.in-Some.fitted.sections c.args.tables.now (tail_of c.in-Some.fitted) (frames_of c.in-Some.fitted.channels c.args.input.now) c.min-frames.result
     (fed (kept_when c.args.self.now.fitted) c.args.tables.now c.args.pull.gain c.args.input.now c.args.pull.want)
 done c =

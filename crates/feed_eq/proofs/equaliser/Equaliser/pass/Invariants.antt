@@ -6,7 +6,7 @@ use Rattle.feed_eq.specs.Equalisers.{tail_of}
 use Rattle.feed_eq.proofs.Equalising.{window}
 use Rattle.feed_eq.proofs.equaliser.Equaliser.pass.Given as goal
 
--- what is left to be done comes to what is asked
+-- what is left to be done gives what is asked
 abbrev pub invariant-loop-at : goal.invariant-loop-at
 invariant-loop-at l = record {
   room : length l.lasts ≡ 5;
