@@ -8,7 +8,7 @@ use pcm_format::put_at_depth;
 /// Takes samples of 32 bits to fewer bits.
 pub type DepthFeeder = MapFeeder<Depth>;
 
-/// So many bits for each sample of frames of so many channels.
+/// The bits of each sample of the output, and the channels of a frame.
 #[derive(Drop)]
 pub struct Depth {
     bits: u32,
