@@ -11,7 +11,7 @@ pub record CanBlend (channels : ℕ) (kept input : List ℤ) (place : ℕ) (outp
   pub there : place * channels ≤ length input
   pub room : length output ≡ channels
 
--- the point on the line from the frame at a place to the next, so many parts of a whole past it
+-- the point on the line from the frame at a place to the next, `parts` parts of a whole past it
 abbrev pub point_on_line : ℕ → List ℤ → List ℤ → ℕ → ℕ → ℕ → Frame
 point_on_line channels kept input place whole parts =
     blended whole parts (frame_behind channels kept input place)

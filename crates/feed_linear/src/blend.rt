@@ -16,7 +16,7 @@ pub struct Blend {
 }
 
 impl Blend {
-    /// The point so many parts past the frame.
+    /// The point `parts` parts past the frame.
     pub fn at(whole: Reciprocal, parts: u32) -> Blend
         requires { parts ≤ whole.divisor }
         ensures whole { result.whole ≡ whole }
