@@ -69,7 +69,7 @@ impl FrameMap for Matrix {
 }
 
 impl Matrix {
-    // Puts frames of so many channels, by the loop of that count and the other.
+    // Puts frames of `TAKEN` channels, by the loop of that count and the other.
     fn put_from<const TAKEN: usize>(&self, input: &[i32], frames: usize, output: &mut [i32])
         requires taken { TAKEN ≡ channels_of self.now.from }
         requires input { frames * TAKEN ≤ length input.now }
@@ -87,7 +87,7 @@ impl Matrix {
         }
     }
 
-    // Puts frames of so many channels as frames of so many. Both counts are constants of the loop, and
+    // Puts frames of `TAKEN` channels as frames of `GIVEN`. Both counts are constants of the loop, and
     // what it calls is inlined: so what is done to one frame is straight code.
     fn put_each<const TAKEN: usize, const GIVEN: usize>(
         &self,
