@@ -36,7 +36,7 @@ frame-put c p frame new has is =
     map-range-same (λ channel. window_sample new channel p) (λ channel. get_or frame channel (pos 0)) c is
     ∙ sym (fill_by_all (λ channel. get_or frame channel (pos 0)) frame c (pos 0) has (λ k below. refl))
 
--- frames whose first t are those behind the first before, and whose last is new
+-- frames without the first of those before, and with a new last one
 moved-by : (c t at next : ℕ) (frame old new : List ℤ) → ((i : ℕ) → i < t → window_frame c new (next + i) ≡ window_frame c old (at + (1 + i))) → window_frame c new (next + t) ≡ frame
     → frames_from c (suc t) new next ≡ moved_on (frames_from c (suc t) old at) (frame ∷ [])
 moved-by c t at next frame old new same last =

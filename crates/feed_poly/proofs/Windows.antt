@@ -59,7 +59,7 @@ eaten-more tail now new c from k input above order there before after =
     ∙ moved-more tail (drop from (take k list)) (get_or list k [] ∷ [])
     ∙ ap (moved_on tail) (part-more from k list [] order below)
 
--- frames up to a place, and those up to one behind it
+-- frames up to a place, then those up to a later one
 pub eaten-on : (tail now new list : List Frame) (from to : ℕ) → from ≤ to → now ≡ moved_on tail (take from list) → new ≡ moved_on now (drop from (take to list)) → new ≡ moved_on tail (take to list)
 eaten-on tail now new list from to order before after =
     after

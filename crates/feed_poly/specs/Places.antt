@@ -7,7 +7,7 @@ use Rattle.pcm_format.specs.Frames.{Frame}
 abbrev pub window_sample : List ℤ → ℕ → ℕ → ℤ
 window_sample samples channel place = slice_index_or samples (channel * 128 + place) (pos 0)
 
--- of each channel, what lies at the first places lies again so many places behind
+-- of each channel, what lies at the first `taps` places lies again `taps` places later
 abbrev pub IsTwice : ℕ → List ℤ → Type 0
 IsTwice taps samples =
     (channel place : ℕ) → channel < 8 → place < taps
@@ -18,12 +18,12 @@ abbrev pub window_frame : ℕ → List ℤ → ℕ → Frame
 window_frame channels samples place =
     map (λ channel. window_sample samples channel place) (range_with_len 0 channels)
 
--- so many frames from a place on
+-- `count` frames from a place on
 abbrev pub frames_from : ℕ → ℕ → List ℤ → ℕ → List Frame
 frames_from channels count samples at =
     map (λ i. window_frame channels samples (at + i)) (range_with_len 0 count)
 
--- the first n channels of a frame were written at a place, and so many places behind it
+-- the first n channels of a frame were written at a place, and `taps` places later
 pub record ArePut (taps at : ℕ) (frame : List ℤ) (n : ℕ) (old new : List ℤ) : Type 0 where
   pub size : length new ≡ length old
   pub first : (channel : ℕ) → channel < n

@@ -12,7 +12,7 @@ use std::alloc::{AllocError, Global};
 /// Gives each output by the row of a filter for its phase, out of the frames around it.
 pub type PolyFeeder = RateFeeder<Polyphase>;
 
-/// The last frames, so many of a feed's among them already, and the place of the filter.
+/// The last frames, how many of a feed's are among them already, and the place of the filter.
 #[derive(Drop)]
 pub struct Polyphase {
     window: Window,
@@ -90,7 +90,7 @@ impl Interpolator for Polyphase {
     }
 }
 
-// Which of so many rows is that of a point.
+// Which of `phases` rows is that of a point.
 fn row_at(point: Point, phases: usize) -> usize
     requires phases { phases ≤ PHASES }
     requires some { 1 ≤ phases }

@@ -38,7 +38,7 @@ impl<'a> Row<'a> {
         }
     }
 
-    /// Writes the frame that comes of the frames of a window.
+    /// Writes the frame that this row makes of the frames of a window.
     pub fn put_frame(self, channels: usize, window: &Window, output: &mut [i32])
         requires channels { channels ≡ window.now.channels }
         requires taps { length self.coefs.now ≡ window.now.taps }
@@ -50,7 +50,7 @@ impl<'a> Row<'a> {
         }
     }
 
-    // The sample that comes of a channel's samples.
+    // The sample that the row makes of a channel's samples.
     fn sample(self, samples: &[i32]) -> i32
         requires { length samples.now ≡ length self.coefs.now }
         ensures { result ≡ scaled_down self.entry.shift (weighted self.entry.coefs.now samples.now) }

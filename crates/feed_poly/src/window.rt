@@ -50,7 +50,7 @@ impl Window {
         })
     }
 
-    /// Begins again with so many silent frames.
+    /// Begins again with `taps` silent frames.
     pub fn clear(&mut self, channels: usize, taps: usize)
         requires limits { AreChannels channels }
         requires some { 1 ≤ taps }
@@ -65,7 +65,7 @@ impl Window {
         self.at = 0;
     }
 
-    /// Takes the frames of the input from one place to another in, for as many that are the oldest.
+    /// Takes in the frames of the input from one place to another, in place of as many of the oldest.
     pub fn eat(&mut self, input: &[i32], from: usize, to: usize)
         requires order { from ≤ to }
         requires there { to * self.old.channels ≤ length input.now }
@@ -80,7 +80,7 @@ impl Window {
         }
     }
 
-    // Takes a frame in for the oldest.
+    // Takes in a frame, in place of the oldest.
     fn push(&mut self, frame: &[i32])
         requires { length frame.now ≡ self.old.channels }
         ensures frames { window_frames self.new ≡ moved_on (window_frames self.old) (frame.now ∷ []) }
@@ -110,7 +110,7 @@ impl Window {
     }
 }
 
-// Writes each sample of a frame at a place of its channel, and again so many places behind.
+// Writes each sample of a frame at a place of its channel, and again `taps` places later.
 fn put_twice(samples: &mut [i32], taps: usize, at: usize, frame: &[i32])
     requires size { length samples.old ≡ 1024 }
     requires most { taps ≤ TAPS }
