@@ -76,7 +76,7 @@ output-channels (ByFilter channels table taps) tables dst parts before input pla
     let filter = table_at tables table in
     length-map-range_with_len (filtered filter taps (parts * filter.phases / dst) (λ a. stream_of channels (before ++ frames_of channels input) (place +ℤ a))) 0 channels
 
--- frames that come behind frames kept
+-- frames that come after frames kept
 pub all-channels : (c : ℕ) (before : List Frame) (input : List ℤ) → HaveChannels c before → HaveChannels c (before ++ frames_of c input)
 all-channels c before input kept =
     let P : Frame → Type 0 = λ f. length f ≡ c in

@@ -6,7 +6,7 @@ use Rattle.pcm_feeder.specs.declared.stage.Spec.TheVariants as specs
 use Rattle.pcm_feeder.specs.Filters.{Filters}
 use Rattle.pcm_feeder.specs.Stages.{Converter, table_at, held, on_line, filtered_frame}
 
--- by the frame itself, on the line to the next, or by the filter at a place, which has so many taps
+-- by the frame itself, on the line to the next, or by the filter at a place, with its number of taps
 pub data Method : Type 0 where
   ByFrame : ℕ → Method
   ByLine : ℕ → Method

@@ -18,7 +18,7 @@ pub record Seen : Type 0 where
   pub tail : List Frame
   pub passed : ℕ
 
--- the frames kept, after so many of the input were taken in for as many that are the oldest
+-- the frames kept, after the first `passed` of the input replaced as many of the oldest
 abbrev pub tail_after : Method → List Frame → List ℤ → ℕ → List Frame
 tail_after method before input passed =
     moved_on before (take passed (frames_of (channels_by method) input))
@@ -36,7 +36,7 @@ output_by method tables before input point =
     (around_place method before input
     (pos (history_by method + point.needed) -ℤ pos (1 + lookahead_by method)))
 
--- the frames kept by an interpolator, after so many more were taken in
+-- the frames kept by an interpolator, after `eaten` more were taken in
 abbrev pub tail_past : Seen → List ℤ → ℕ → List Frame
 tail_past seen input eaten = tail_after seen.method seen.tail input eaten
 
@@ -49,7 +49,7 @@ abbrev pub GivesOutput : Seen → Filters → List ℤ → Point → Frame → T
 GivesOutput seen tables input point output = (before : List Frame)
     → HasKept seen input before → output ≡ output_by seen.method tables before input point
 
--- the last frames are those kept before the feed, after so many of the input were taken in
+-- the last frames are those kept before the feed, after the first `passed` of the input were taken in
 abbrev pub TakesIn : Seen → List ℤ → ℕ → List Frame → Type 0
 TakesIn seen input passed tail = (before : List Frame)
     → HasKept seen input before → tail ≡ tail_after seen.method before input passed
@@ -71,7 +71,7 @@ abbrev pub PutsNext : Pace → Seen → Filters → List ℤ → ℕ → List �
 PutsNext pace seen tables input count old new =
     new ≡ written (next_frames seen.method tables pace seen.tail input count) old
 
--- so many frames allow so many outputs
+-- `eaten` frames are enough for `count` outputs
 abbrev pub AreEnough : Pace → ℕ → ℕ → Type 0
 AreEnough pace eaten count =
     reach (rate_by pace) (phase_by pace) count ≤ natural (ahead_by pace +ℤ pos eaten)

@@ -39,8 +39,8 @@ impl Fitted {
         }
     }
 
-    /// Puts the next frames at the front of the output, as many as are given, and takes the frames
-    /// eaten in. Answers where the output after them lies.
+    /// Puts the next frames at the front of the output, as many as are given, and takes in the frames
+    /// eaten. Returns where the output after them lies.
     pub fn put_frames<I: Interpolator>(
         &self,
         interpolator: &mut I,
@@ -65,7 +65,7 @@ impl Fitted {
         }
     }
 
-    // The walk over outputs of so many channels. Each call has it for itself: where the call names
+    // The walk over outputs of `channels` channels. Each call has it for itself: where the call names
     // their number, no loop over channels is left in it.
     #[inline(always)]
     fn walk<I: Interpolator>(

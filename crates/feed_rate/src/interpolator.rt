@@ -61,7 +61,7 @@ pub trait Interpolator: Drop {
         ensures passed { (seen self.new).passed ≤ point.needed }
         ensures method { (seen self.new).method ≡ (seen self.old).method };
 
-    /// Ends a feed: takes the frames of the input up to a place in, for as many that are the oldest.
+    /// Ends a feed: takes in the frames of the input up to a place, in place of as many of the oldest.
     fn eat(&mut self, input: &[i32], eaten: usize)
         requires order { (seen self.old).passed ≤ eaten }
         requires there { eaten * channels_by (seen self.old).method ≤ length input.now }

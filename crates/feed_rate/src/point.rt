@@ -4,8 +4,8 @@ ghost use Rattle.std.specs.Prelude.{◌≡◌, ◌<◌};
 
 use pcm_num::Reciprocal;
 
-/// Where an output lies: past so many frames of the input that it needs, and so many parts of a
-/// whole past the frame under it.
+/// Where an output lies: how many frames of the input it needs, and how many parts of a whole it
+/// lies past the frame under it.
 #[derive(Clone, Copy)]
 pub struct Point {
     pub needed: usize,
@@ -15,7 +15,7 @@ pub struct Point {
 }
 
 impl Point {
-    /// The point that needs so many frames, so many parts past the one under it.
+    /// The point that needs `needed` frames, `parts` parts of a whole past the one under it.
     pub fn at(needed: usize, whole: Reciprocal, parts: u32) -> Point
         requires { parts < whole.divisor }
         ensures needed { result.needed ≡ needed }
