@@ -1,4 +1,4 @@
--- What whoever drives one stage after another needs: buffers with frames at their front, and stages that follow each other.
+-- What a caller that drives one stage after another needs: buffers with frames at their front, and stages that follow each other.
 use Rattle.std.proofs.Common.{◌≡◌, ◌≤◌, ◌<◌, ◌+◌, ◌*◌, ◌%◌, ℕ, ℤ, pos, negsuc, ◌<ℤ◌, List, ◌++◌, length, take, drop, map, get_or, refl, sym, ap, ◌∙◌, arith}
 use Rattle.std.proofs.Math.Nat.{mul-le-mul_right, mul-mod_left}
 use Rattle.std.proofs.lemmas.Int.{ints}

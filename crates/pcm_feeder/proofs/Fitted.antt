@@ -107,7 +107,7 @@ eaten-least rate kept o (suc j) above =
 
 -- ---- the bounds
 
--- so the next output is never too far behind
+-- so the frames eaten are never too far past the next output
 pub ahead-most-after : (rate : Rate) (kept : Kept) (o want : ℕ) → 0 < rate.src → 0 < rate.dst → kept.phase < rate.dst → kept.ahead ≤ℤ pos (1 + rate.lookahead)
     → (kept.ahead +ℤ pos (eaten_by rate kept.phase kept.ahead o want) -ℤ pos (step_of rate kept.phase (given_by rate kept.phase kept.ahead o want))) ≤ℤ pos (1 + rate.lookahead)
 ahead-most-after rate kept o zero src dst phase most =

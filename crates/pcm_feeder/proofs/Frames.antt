@@ -139,7 +139,7 @@ frames_of-samples settings bytes =
     (omega (arith, mul-le-mul_right c below, div-add-mod' (length (samples settings.format bytes)) c, length-samples settings.format bytes)))
     ∙ ap (λ z. map (frame_at settings bytes) (range_with_len 0 z)) count
 
--- one more frame behind those that were written
+-- one more frame after those that were written
 pub written-more : (list : List Frame) (frame : Frame) (old : List ℤ) (n : ℕ) → length (interleaved list) ≡ n
     → take n (written list old) ++ (frame ++ drop (n + length frame) (written list old)) ≡ written (list ++ frame ∷ []) old
 written-more list frame old n count =

@@ -1,4 +1,4 @@
--- The last frames of a list, at its begin and with more behind it.
+-- The last frames of a list, at its begin and with more after it.
 use Rattle.std.proofs.Common.{◌≡◌, ℕ, List, [], ◌++◌, length, drop, replicate, sym, ap, ◌∙◌, arith}
 use Rattle.std.proofs.lemmas.List.{length-append, length-drop, drop-drop, append-nil}
 use Rattle.std.proofs.lemmas.List.Elements.{All-append, All-drop}

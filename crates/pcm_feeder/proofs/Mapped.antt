@@ -1,4 +1,4 @@
--- Frames that are put through a function one by one, and written one behind another.
+-- Frames that are put through a function one by one, and written one after another.
 use Rattle.std.proofs.Common.{◌≡◌, ◌<◌, ◌≤◌, ◌+◌, ◌*◌, ◌/◌, ℕ, ℤ, List, [], ◌∷◌, ◌++◌, length, map, take, drop, get_or, sym, ap, ◌∙◌, arith}
 use Rattle.std.proofs.Math.Nat.{le-div_iff_mul-le}
 use Rattle.std.proofs.lemmas.List.{length-map, length-take-le, drop-drop, map-append}
@@ -42,6 +42,6 @@ put-more f taken given k samples old output piece gives within before is long =
     ∙ ap (λ frame. written (list ++ frame ∷ []) old) is
     ∙ ap (λ all. written all old) (sym (map-append f frames (frame_in taken samples k ∷ [])) ∙ ap (map f) (sym (take-more taken k samples within)))
 
--- so many frames whose samples are there are whole
+-- k frames whose samples are all there are whole
 pub frames-there : (c n k : ℕ) → 0 < c → k * c ≤ n → k ≤ n / c
 frames-there c n k above fits = (le-div_iff_mul-le {k = c} {x = k} {y = n} above).1 fits

@@ -1,4 +1,4 @@
--- Sections over a list, and over more frames behind it.
+-- Sections over a list, and over more frames after it.
 use Rattle.std.proofs.Common.{◌≡◌, ◌<◌, ◌≤◌, ◌+◌, ◌*◌, ℕ, zero, suc, ℤ, pos, negsuc, neg_ℤ, ◌+ℤ◌, ◌-ℤ◌, ◌≤ℤ◌, ◌<ℤ◌, List, [], ◌∷◌, ◌++◌, length, map, take, drop, get_or, replicate, inl, inr, refl, sym, ap, ◌∙◌, append_assoc, arith}
 use Rattle.std.specs.List.{range_with_len}
 use Rattle.std.proofs.lemmas.Bool.{cases_lt}
@@ -16,7 +16,7 @@ use Rattle.pcm_feeder.proofs.Streams.{history-append, stream-append, stream-drop
 
 -- ---- the next outputs of a section
 
--- the outputs behind those before
+-- the outputs after those before
 abbrev pub next : Section → ℕ → List Frame → Stream → ℕ → List Frame
 next s c before x zero = []
 next s c before x (suc n) = next s c before x n ++ section_frame s c x (stream_of c (before ++ next s c before x n)) (pos (length before + n)) ∷ []
@@ -49,7 +49,7 @@ next-channels s c before x (suc n) =
 
 -- ---- what an output rests on
 
--- frames behind two lists that end alike
+-- frames after two lists that end alike
 joined-same : (c : ℕ) (before other new : List Frame) (a : ℤ) → neg_ℤ (pos 2) ≤ℤ a
     → ((b : ℤ) → neg_ℤ (pos 2) ≤ℤ b → b <ℤ pos 0 → stream_of c before (pos (length before) +ℤ b) ≡ stream_of c other (pos (length other) +ℤ b))
     → a <ℤ pos 0 → stream_of c (before ++ new) (pos (length before + length new) +ℤ a) ≡ stream_of c (other ++ new) (pos (length other + length new) +ℤ a)
@@ -82,7 +82,7 @@ frame-same s c x y z w k l here one two first second =
     ∙ ap (λ f. weighed_frame s c (y l) (y (l -ℤ pos 1)) (y (l -ℤ pos 2)) f (z (k -ℤ pos 2))) first
     ∙ ap (λ f. weighed_frame s c (y l) (y (l -ℤ pos 1)) (y (l -ℤ pos 2)) (w (l -ℤ pos 1)) f) second
 
--- and on no output behind it
+-- and on no output after it
 frame-longer : (s : Section) (c : ℕ) (x : Stream) (list more : List Frame) (p : ℕ) → p ≤ length list
     → section_frame s c x (stream_of c list) (pos p) ≡ section_frame s c x (stream_of c (list ++ more)) (pos p)
 frame-longer s c x list more p within =
@@ -164,7 +164,7 @@ length-through s c x = ap length (through-next s c x) ∙ length-next s c [] (st
 pub through-channels : (s : Section) (c : ℕ) (x : List Frame) → HaveChannels c (through_section c s x)
 through-channels s c x = rw (through-next s c x) (next-channels s c [] (stream_of c x) (length x))
 
--- the last two frames of a list, and those behind them
+-- the last two frames of a list, and those after them
 tail-stream : (c : ℕ) (x more : List Frame) (a : ℤ) → neg_ℤ (pos 2) ≤ℤ a → stream_of c (last_frames c 2 x ++ more) (pos 2 +ℤ a) ≡ stream_of c (x ++ more) (pos (length x) +ℤ a)
 tail-stream c x more a least = by_place (pos 2 +ℤ a) refl
   where
@@ -329,7 +329,7 @@ behind-channels c (s ∷ rest) tail more tails mores =
     (moved-channels c input more (All-take P 2 tail tails) mores)
     (behind-channels c rest (drop 2 tail) new left news)
 
--- so many sections
+-- there are n sections
 pub length-sections_of : (tables : Filters) (n : ℕ) → length (sections_of tables n) ≡ n
 length-sections_of tables n = length-map-range_with_len (section_at tables) 0 n
 

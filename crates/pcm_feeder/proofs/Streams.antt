@@ -6,7 +6,7 @@ use Rattle.std.proofs.lemmas.List.{get_or-take, get_or-drop, get_or-append-add, 
 use Rattle.pcm_format.specs.Frames.{Frame}
 use Rattle.pcm_feeder.specs.Streams.{silence, stream_of, HaveChannels}
 
--- what is cut off behind a place doesn't change it
+-- what is cut off after a place doesn't change it
 pub stream-take : (c n : ℕ) (frames : List Frame) (place : ℤ) → place <ℤ pos n → stream_of c (take n frames) place ≡ stream_of c frames place
 stream-take c n frames (pos k) below = get_or-take n frames k (silence c) (omega (arith, ints))
 stream-take c n frames (negsuc k) below = refl
@@ -35,12 +35,12 @@ history-append t s x more =
     let within : length x ≤ length (replicate t s ++ x) = omega (arith, length-append (replicate t s) x) in
     sym (drop-append-le (length x) (replicate t s ++ x) more within) ∙ ap (drop (length x)) (append_assoc (replicate t s) x more)
 
--- frames behind a list change no place before them
+-- frames after a list change no place before them
 pub stream-append : (c : ℕ) (x more : List Frame) (place : ℤ) → place <ℤ pos (length x) → stream_of c (x ++ more) place ≡ stream_of c x place
 stream-append c x more (pos k) below = get_or_append_left x more (silence c) k (omega (arith, ints))
 stream-append c x more (negsuc k) below = refl
 
--- silence behind a list changes no place
+-- silence after a list changes no place
 pub stream-silence-after : (c n : ℕ) (x : List Frame) (place : ℤ) → stream_of c (x ++ replicate n (silence c)) place ≡ stream_of c x place
 stream-silence-after c n x (negsuc k) = refl
 stream-silence-after c n x (pos k) =

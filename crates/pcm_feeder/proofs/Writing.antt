@@ -1,4 +1,4 @@
--- What a converter needs to write its next frames: they are there, one stands behind another, and the last ones stay.
+-- What a converter needs to write its next frames: they are there, one stands after another, and the last ones stay.
 use Rattle.std.proofs.Common.{◌≡◌, ◌<◌, ◌≤◌, ◌+◌, ◌-◌, ◌*◌, ◌/◌, ◌%◌, ℕ, zero, suc, ℤ, pos, ◌+ℤ◌, ◌-ℤ◌, List, [], ◌∷◌, ◌++◌, length, map, take, drop, get_or, None, Some, sym, ap, ◌∙◌, arith}
 use Rattle.std.specs.List.{range_with_len}
 use Rattle.std.proofs.Math.Nat.{mul-div_cancel, mul-le-mul_right, mul-mod_left, div-mul-le_self, div-le_self, lt_of_mul-lt-mul_right}
@@ -91,7 +91,7 @@ step-short pace (suc j) count offered step at within enough =
     let reached = natural-above (ahead_by pace +ℤ pos offered) (reach rate phase (suc j)) (omega arith) (omega arith) in
     omega (arith, ints, reached, at.frames, step-more rate phase j dst, div-le_self rate.src rate.dst, pace.paced.source.most, pace.bounds.most)
 
--- ---- one frame behind another
+-- ---- one frame after another
 
 -- one frame more was written
 write-more : (c : ℕ) (next : ℕ → Frame) (frame : Frame) (old : List ℤ) (j : ℕ) → ((k : ℕ) → length (next k) ≡ c) → frame ≡ next j
@@ -174,7 +174,7 @@ frame-behind c kept input place above even there past =
     ∙ ap (λ n. take c (drop n (kept ++ input))) same
     ∙ frame-among c kept input place above even there
 
--- the last frames, after so many were eaten
+-- the last frames, after n more were eaten
 pub frames-moved : (c n : ℕ) (kept input : List ℤ) → 0 < c → length kept % c ≡ 0 → n ≤ length input / c
     → frames_of c (drop (length (take (n * c) input)) (kept ++ take (n * c) input)) ≡ moved_on (frames_of c kept) (take n (frames_of c input))
 frames-moved c n kept input above even within =

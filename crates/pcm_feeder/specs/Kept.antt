@@ -47,7 +47,7 @@ past_after (Eq channels sections) tables tail eaten =
     past_behind channels (sections_of tables sections) tail eaten
 past_after _ tables tail eaten = []
 
--- a feeder that has eaten the frames x and given so many, all with these tables
+-- a feeder that has eaten the frames x and given `given` frames, all with these tables
 pub record StandsFor (spec : Spec) (tables : Filters) (kept : Kept) (x : List Frame) (given : ℕ)
     : Type 0 where
   pub fitted : kept.spec ≡ Some spec

@@ -8,7 +8,7 @@ use Rattle.pcm_feeder.specs.Streams.{frames_of, moved_on}
 abbrev pub frames_kept : LastFrames → List Frame
 frames_kept last = frames_of last.channels (take last.len last.samples)
 
--- the frames, after so many of the input were eaten
+-- the frames, after `eaten` frames of the input were eaten
 abbrev pub kept_after_eating : LastFrames → List ℤ → ℕ → List Frame
 kept_after_eating last input eaten =
     moved_on (frames_kept last) (take eaten (frames_of last.channels input))

@@ -9,7 +9,7 @@ use Rattle.pcm_feeder.specs.declared.stage.Spec.TheVariants.{Hold, Linear, Poly,
 use Rattle.pcm_feeder.specs.declared.table.Table.{Table}
 use Rattle.pcm_feeder.specs.Filters.{Filters}
 
--- a coefficient at most so far from 0
+-- a coefficient no farther from 0 than a bound
 pub record IsCoefWithin (most : ℤ) (number : ℤ) : Type 0 where
   pub low : neg_ℤ most ≤ℤ number
   pub high : number ≤ℤ most
@@ -59,7 +59,7 @@ pub record IsSection (section : Section) : Type 0 where
   pub a1 : IsSectionCoef section.a1
   pub a2 : IsSectionCoef section.a2
 
--- at most so many filters and sections
+-- the filters and sections of a run: no more of them than may be, and each within its limits
 pub record AreFilters (filters : Filters) : Type 0 where
   pub count : length filters.list ≤ FILTERS
   pub each : All IsTable filters.list

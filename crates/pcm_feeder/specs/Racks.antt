@@ -59,7 +59,7 @@ IsRack kind rack = HaveKinds kind (boxes_of rack)
 abbrev pub AreRacks : {B : Type 0} → (B → Kind) → List (RackOf B) → Type 0
 AreRacks kind racks = All (IsRack kind) racks
 
--- what tells boxes from others, place by place
+-- the marks of boxes, by which a proof knows one from another, place by place
 abbrev pub marks_of : {B : Type 0} → (B → ℕ) → SevenOf B → SevenOf ℕ
 marks_of mark seven = record {
   matrix = mark seven.matrix;

@@ -31,7 +31,7 @@ section_frame section channels x y k =
     weighed_frame section channels
     (x k) (x (k -ℤ pos 1)) (x (k -ℤ pos 2)) (y (k -ℤ pos 1)) (y (k -ℤ pos 2))
 
--- a section's outputs over the inputs x: those before, and the next ones behind them
+-- a section's outputs over the inputs x: those before, then the next ones
 abbrev pub outputs_behind : Section → ℕ → List Frame → Stream → ℕ → List Frame
 outputs_behind section channels before x zero = before
 outputs_behind section channels before x (suc n) =
@@ -55,7 +55,7 @@ section_at tables place =
     slice_index_or tables.sections place
     (record { shift = 1; b0 = pos 0; b1 = pos 0; b2 = pos 0; a1 = pos 0; a2 = pos 0 })
 
--- so many sections
+-- the first `sections` sections
 abbrev pub sections_of : Filters → ℕ → List Section
 sections_of tables sections = map (section_at tables) (range_with_len 0 sections)
 
@@ -68,12 +68,12 @@ past_of_sections channels (section ∷ rest) x =
     last_frames channels 2 x
     ++ past_of_sections channels rest (through_section channels section x)
 
--- what a section makes of more frames, behind the last two of its input and of its outputs
+-- what a section makes of more frames, after the last two of its input and of its outputs
 abbrev pub section_on : ℕ → Section → List Frame → List Frame → List Frame → List Frame
 section_on channels section input output more =
     drop 2 (outputs_behind section channels output (stream_of channels (input ++ more)) (length more))
 
--- what sections make of more frames, behind the last two of the input and of each one's outputs
+-- what sections make of more frames, after the last two of the input and of each one's outputs
 abbrev pub sections_on : ℕ → List Section → List Frame → List Frame → List Frame
 sections_on channels [] tail more = more
 sections_on channels (section ∷ rest) tail more =

@@ -111,7 +111,7 @@ conv (Eq channels sections) tables gain x k =
     stream_of channels (through_sections channels (sections_of tables sections) (frames_until x (k + 1)))
     (pos k)
 
--- so many outputs, from output `from` on
+-- `count` outputs, from output `from` on
 abbrev pub outputs : Spec → Filters → Gain → Stream → ℕ → ℕ → List Frame
 outputs spec tables gain x from count = map (conv spec tables gain x) (range_with_len from count)
 

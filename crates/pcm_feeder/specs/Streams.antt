@@ -30,7 +30,7 @@ frames_of channels samples =
     map (λ k. take channels (drop (k * channels) samples))
     (range_with_len 0 (length samples / channels))
 
--- the frame at a place of samples that lie behind others
+-- the frame at a place of samples that follow others
 abbrev pub frame_behind : ℕ → List ℤ → List ℤ → ℕ → Frame
 frame_behind channels kept input place =
     stream_of channels (frames_of channels kept ++ frames_of channels input) (pos place)

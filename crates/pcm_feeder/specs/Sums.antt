@@ -1,4 +1,4 @@
--- Sums of products, and the samples that they come to.
+-- Sums of products, and the samples that they are scaled down to.
 use Rattle.std.specs.Prelude.{ℕ, ◌-◌, ◌^◌, ℤ, pos, ◌+ℤ◌, List, fold}
 use Rattle.pcm_num.specs.Floor.{floor_div}
 use Rattle.pcm_num.specs.Limit.{clamped}

@@ -79,7 +79,7 @@ frames_by (Depth bits channels) kept tables gain input given = map (at_bits bits
 frames_by (Eq channels sections) kept tables gain input given =
     sections_on channels (sections_of tables sections) kept.tail (take given input)
 
--- what is kept after so many frames were eaten and given
+-- what is kept after `eaten` frames were eaten and `given` frames were given
 abbrev pub kept_after : Spec → Filters → Kept → List Frame → ℕ → ℕ → Kept
 kept_after spec tables kept input eaten given = record {
   spec = Some spec;
@@ -131,7 +131,7 @@ abbrev pub CanBeFed : Kept → Filters → Gain → List ℤ → ℕ → List �
 CanBeFed kept tables gain input want output =
     IsSomeAnd kept.spec (λ spec. CanFeed spec tables gain input want output)
 
--- What a feed means to whoever knows the frames x that were eaten and how many were given: both go
+-- What a feed means to a caller that knows the frames x that were eaten and how many were given: both go
 -- on as far as the counts say, and the frames given are the stage's outputs over all frames eaten.
 pub record Continues (spec : Spec) (tables : Filters) (gain : Gain) (x : List Frame) (before : ℕ)
     (input : List Frame) (want : ℕ) (turn : Turn) : Type 0 where

@@ -1,4 +1,4 @@
-//! The interface that every stage meets.
+//! The interface of every stage.
 
 use crate::{Kind, Moved, Pull, Spec, Tables};
 
@@ -16,7 +16,7 @@ pub trait Feeder: Drop {
 
     ghost kept: { Self → Kept };
 
-    // What tells it from other stages, in a proof that follows it. No call changes it.
+    // The mark by which a proof knows it among other stages. No call changes it.
     ghost mark: { Self → ℕ };
 
     /// What the stage does, which never changes.
@@ -31,8 +31,8 @@ pub trait Feeder: Drop {
         ensures kind { kind self.new ≡ kind self.old }
         ensures mark { mark self.new ≡ mark self.old };
 
-    /// Eats frames of `input`, no more than the frames wanted use, and gives at most so many at the
-    /// front of `output`. Both hold interleaved samples. Takes no memory.
+    /// Eats frames of `input`, no more than the frames wanted use, and puts at most the frames wanted
+    /// at the front of `output`. Both hold interleaved samples. Takes no memory.
     fn feed(&mut self, tables: &Tables, pull: Pull, input: &[i32], output: &mut [i32]) -> Moved
         requires { CanBeFed (kept self.old) tables.now pull.gain input.now pull.want output.old }
         ensures eaten { result.eaten

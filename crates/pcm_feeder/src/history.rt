@@ -1,4 +1,4 @@
-//! The last frames that a converter keeps, and those that come behind them.
+//! The last frames that a converter keeps, and those that come after them.
 
 ghost use Rattle.std.specs.Prelude.{◌≡◌, ◌<◌, ◌≤◌, ◌+◌, ◌*◌, ◌%◌, ◌++◌, length, drop};
 ghost use Rattle.pcm_feeder.specs.Streams.{frame_behind};

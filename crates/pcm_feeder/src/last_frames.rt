@@ -22,7 +22,7 @@ pub struct LastFrames {
 impl LastFrames {
     ghost use Rattle.pcm_feeder.specs.LastFrames.{frames_kept, kept_after_eating};
 
-    /// So many frames of silence.
+    /// `frames` frames of silence.
     pub fn silent(frames: usize, channels: usize) -> LastFrames
         requires few { frames ≤ 2 }
         requires limits { AreChannels channels }
@@ -46,7 +46,7 @@ impl LastFrames {
         &self.samples[..self.len]
     }
 
-    /// Takes the first frames of the input in, so many, for as many that are the oldest.
+    /// Takes in the first `eaten` frames of the input, in place of as many of the oldest.
     pub fn eat(&mut self, input: &[i32], eaten: usize)
         requires { eaten * self.old.channels ≤ length input.now }
         ensures kept { frames_kept self.new ≡ kept_after_eating self.old input.now eaten }

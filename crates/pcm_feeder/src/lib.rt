@@ -1,4 +1,4 @@
-//! One stage of a chain, behind one interface: what it is fitted to, and what it eats and gives.
+//! One stage of a chain, under one interface: what it is fitted to, and what it eats and gives.
 //! Whatever box stands in a rack gives the frames of one function of all frames that it has eaten.
 #![tactic(auto)]
 

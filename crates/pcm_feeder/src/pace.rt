@@ -161,7 +161,7 @@ impl Pace {
         self.dst
     }
 
-    /// The pace after so many frames were eaten and the outputs up to a step given.
+    /// The pace after `eaten` frames were eaten and the outputs up to a step given.
     pub fn moved(mut self, eaten: usize, step: Step) -> Pace
         requires below { step.phase < parts_of self }
         requires eaten { eaten < 2 ^ 62 }

@@ -6,7 +6,8 @@ ghost use Rattle.pcm_feeder.specs.declared.rack.TheConstants.{RACKS};
 use crate::{Feeder, Kind};
 use std::alloc::{AllocError, AllocFailed, Global};
 
-/// How many racks a run has: one for each slot that plays or is mapped, one for each that records, and one for the way from the mix to the device.
+/// How many racks a run has: one for each slot that plays or is mapped, one for each that records, and one for the way from the mix
+/// to the device.
 pub const RACKS: usize = 33;
 
 /// The boxes of a rack, one for each kind of stage.
@@ -28,7 +29,7 @@ pub struct WrongKind {
     pub found: Kind,
 }
 
-/// Boxes whose kinds were tried.
+/// Boxes whose kinds were checked.
 #[derive(Drop)]
 pub struct RackOf<B> {
     boxes: SevenOf<B>,
@@ -39,7 +40,7 @@ impl<B: Feeder> RackOf<B> {
     ghost use Rattle.pcm_feeder.specs.Racks.{HaveKinds, IsRack, AreRacks, boxes_of};
     ghost use Rattle.pcm_feeder.specs.Racks.{IsFirstWrong, IsRackFault, places_of};
 
-    /// Tries the boxes in the order of their places. They are dropped where one is refused.
+    /// Checks the boxes in the order of their places. They are dropped where one is refused.
     pub fn new(seven: SevenOf<B>) -> Result<RackOf<B>, WrongKind>
         ensures same { IfOk result (λ rack. boxes_of rack ≡ seven) }
         ensures kinds { IfOk result (IsRack B.kind) }
@@ -55,7 +56,7 @@ impl<B: Feeder> RackOf<B> {
         Ok(RackOf { boxes: seven })
     }
 
-    /// Hands the boxes out.
+    /// Gives the boxes.
     pub fn into_boxes(self) -> SevenOf<B>
         ensures same { result ≡ boxes_of self }
         ensures kinds { IsRack B.kind self → HaveKinds B.kind result }
@@ -132,7 +133,7 @@ impl<T: Drop> From<AllocFailed<T>> for RackFault {
     }
 }
 
-/// The racks of a run: 0 to 15 serve the slots that play, mapped ones behind the others, 16 to 31 those that record, and 32 the way from
+/// The racks of a run: 0 to 15 serve the slots that play, mapped ones after the others, 16 to 31 those that record, and 32 the way from
 /// the mix to the device.
 #[derive(Drop)]
 pub struct RacksOf<B> {
@@ -144,7 +145,7 @@ impl<B: Feeder> RacksOf<B> {
     ghost use Rattle.std.specs.Prelude.{map};
     ghost use Rattle.pcm_feeder.specs.Racks.{AreRacks, IsRackFault, list_of, rack_count, boxes_of};
 
-    /// Takes the racks of a run over. They are dropped where there are more or fewer.
+    /// Takes the racks of a run. They are dropped where there are more or fewer.
     pub fn new(racks: Vec<RackOf<B>>) -> Result<RacksOf<B>, WrongCount>
         ensures same { IfOk result (λ made. list_of made ≡ racks.items) }
         ensures count { IfOk result (λ _. vec_len racks ≡ rack_count) }
@@ -174,7 +175,7 @@ impl<B: Feeder> RacksOf<B> {
         }
     }
 
-    /// Hands the racks out in their order.
+    /// Gives the racks in their order.
     pub fn into_list(self) -> Vec<RackOf<B>>
         ensures same { result.items ≡ list_of self }
         ensures count { vec_len result ≡ rack_count }

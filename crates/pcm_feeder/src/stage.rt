@@ -1,4 +1,4 @@
-//! What a stage is fitted to, and what a feed is told and answers.
+//! What a stage is fitted to, and what a feed is given and returns.
 
 ghost use Rattle.std.specs.Prelude.{◌≡◌};
 
@@ -73,7 +73,7 @@ pub const UNITY: Gain = Gain {
     right: 65536,
 };
 
-/// What is wanted of a stage at once: at most so many frames, at a gain.
+/// What is wanted of a stage at once: at most `want` frames, at a gain.
 #[derive(Clone, Copy)]
 pub struct Pull {
     pub gain: Gain,

@@ -1,4 +1,4 @@
-//! Sums of products, and the samples that they come to.
+//! Sums of products, and the samples that they are scaled down to.
 
 ghost use Rattle.std.specs.Prelude.{◌≡◌, ◌≤◌, ◌-◌, ◌*◌, ◌^◌, pos, neg_ℤ, ◌*ℤ◌, ◌≤ℤ◌};
 ghost use Rattle.pcm_feeder.specs.declared.limits.TheConstants.{SHIFT_MOST};

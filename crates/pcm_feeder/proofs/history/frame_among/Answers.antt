@@ -1,4 +1,4 @@
--- A frame lies among those kept, or behind them.
+-- A frame lies among those kept, or after them.
 use Rattle.pcm_feeder.proofs.Writing.{frame-kept, frame-behind}
 use Rattle.pcm_feeder.proofs.history.frame_among.Goals as goal
 
