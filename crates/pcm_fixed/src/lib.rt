@@ -1,4 +1,4 @@
-//! Lists of a fixed length. They hold what events fill: whoever has one can write its elements, and
+//! Lists of a fixed length. They hold what events fill: anyone who has one can write its elements, and
 //! can't get at its allocator.
 #![tactic(auto)]
 
