@@ -1,4 +1,4 @@
--- Each value of a format's range has one spelling. Said of width, order and sign, and not of each format.
+-- Each value of a format's range has one spelling. Proved by width, order and sign, not format by format.
 use Rattle.std.proofs.Common.{◌≡◌, ℕ, zero, suc, ◌+◌, ◌*◌, ◌-◌, ◌/◌, ◌%◌, ◌^◌, ◌<◌, ◌≤◌, Bool, true, false, List, [], ◌∷◌, length, reverse, ℤ, pos, negsuc, ◌+ℤ◌, ◌-ℤ◌, ◌*ℤ◌, ◌≤ℤ◌, cond, arith, ap, refl, sym, subst, ◌∙◌, lit<, lit≤}
 use Rattle.std.specs.List.{All, flat_map}
 use Rattle.std.proofs.Math.Nat.{pow-suc, zero-mul, zero-div}

@@ -1,4 +1,4 @@
--- Samples and frames that stand one after another in bytes: how many, which, and in a part or with more bytes behind.
+-- Samples and frames that stand one after another in bytes: how many, which, and in a part or with more bytes after them.
 use Rattle.std.proofs.Common.{◌≡◌, ℕ, ◌+◌, ◌*◌, ◌-◌, ◌/◌, ◌<◌, ◌≤◌, List, ◌++◌, length, map, take, drop, get_or, arith, ap, refl, sym, ◌∙◌}
 use Rattle.std.proofs.Math.Nat.{mul-le-mul_right, mul-div_cancel, mul-pos, mul_assoc}
 use Rattle.std.specs.List.{range_with_len, flat_map}
@@ -46,7 +46,7 @@ length-positions _ = refl
 pub length-samples : (format : Format) (bytes : List ℕ) → length (samples format bytes) ≡ length bytes / bytes_of format
 length-samples format bytes = length-map-range_with_len (sample_at format bytes) 0 (length bytes / bytes_of format)
 
--- more bytes behind change no whole sample
+-- bytes that follow change no whole sample
 pub sample_at-append : (format : Format) (bytes more : List ℕ) (i : ℕ) → (i + 1) * bytes_of format ≤ length bytes → sample_at format (bytes ++ more) i ≡ sample_at format bytes i
 sample_at-append format bytes more i within =
     let w = bytes_of format in
@@ -54,7 +54,7 @@ sample_at-append format bytes more i within =
     let here : w ≤ length (drop (i * w) bytes) = omega (arith, length-drop (i * w) bytes) in
     ap (loaded format) (ap (take w) (drop-append-le (i * w) bytes more before) ∙ take-append-le w (drop (i * w) bytes) more here)
 
--- nor does a cut behind it
+-- nor does a cut after it
 pub sample_at-take : (format : Format) (n : ℕ) (bytes : List ℕ) (i : ℕ) → (i + 1) * bytes_of format ≤ n → sample_at format (take n bytes) i ≡ sample_at format bytes i
 sample_at-take format n bytes i within =
     let w = bytes_of format in
@@ -83,7 +83,7 @@ sample-within k c i w n below within =
     let up : k * c + i + 1 ≤ (k + 1) * c = omega arith in
     omega (arith, mul-le-mul_right w up, mul_assoc (k + 1) c w)
 
--- more bytes behind change no whole frame
+-- bytes that follow change no whole frame
 pub frame_at-append : (settings : Settings) (bytes more : List ℕ) (k : ℕ) → (k + 1) * frame_bytes settings ≤ length bytes → frame_at settings (bytes ++ more) k ≡ frame_at settings bytes k
 frame_at-append settings bytes more k within =
     let c = channels_of settings.layout in

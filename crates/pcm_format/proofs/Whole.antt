@@ -5,7 +5,7 @@ use Rattle.pcm_format.specs.declared.settings.Settings.{Settings}
 use Rattle.pcm_format.specs.Frames.{whole_frames, frame_bytes}
 use Rattle.pcm_format.proofs.Streams.{frame_bytes-above}
 
--- the bytes of so many frames are there
+-- n whole frames have all their bytes there
 pub frames_fit : (settings : Settings) (bytes n : ℕ) → n ≤ whole_frames settings bytes → n * frame_bytes settings ≤ bytes
 frames_fit settings bytes n h = (le-div_iff_mul-le {k = frame_bytes settings} {x = n} {y = bytes} (frame_bytes-above settings)).0 h
 
@@ -13,7 +13,7 @@ frames_fit settings bytes n h = (le-div_iff_mul-le {k = frame_bytes settings} {x
 pub frame_fits : (settings : Settings) (bytes k : ℕ) → k < whole_frames settings bytes → (k + 1) * frame_bytes settings ≤ bytes
 frame_fits settings bytes k h = frames_fit settings bytes (k + 1) (omega arith)
 
--- so many frames whose bytes are there are whole
+-- n frames whose bytes are all there are whole
 pub frames_there : (settings : Settings) (bytes n : ℕ) → n * frame_bytes settings ≤ bytes → n ≤ whole_frames settings bytes
 frames_there settings bytes n h = (le-div_iff_mul-le {k = frame_bytes settings} {x = n} {y = bytes} (frame_bytes-above settings)).1 h
 

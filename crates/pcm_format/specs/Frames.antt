@@ -15,7 +15,7 @@ Frame = List ℤ
 abbrev pub frame_bytes : Settings → ℕ
 frame_bytes settings = channels_of settings.layout * bytes_of settings.format
 
--- how many whole frames so many bytes hold
+-- how many whole frames a number of bytes holds
 abbrev pub whole_frames : Settings → ℕ → ℕ
 whole_frames settings bytes = bytes / frame_bytes settings
 

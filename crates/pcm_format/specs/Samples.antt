@@ -10,7 +10,7 @@ abbrev pub number_of : List ℕ → ℕ
 number_of [] = 0
 number_of (byte ∷ bytes) = byte + 256 * number_of bytes
 
--- so many bytes of a number, the lowest byte first
+-- the lowest `count` bytes of a number, the lowest byte first
 abbrev pub low_bytes : ℕ → ℕ → List ℕ
 low_bytes zero number = []
 low_bytes (suc count) number = number % 256 ∷ low_bytes count (number / 256)
@@ -56,7 +56,7 @@ spelled format value = in_order format (low_bytes (bytes_of format) (number_for 
 abbrev pub scale_of : ℕ → ℕ
 scale_of bits = 2 ^ (32 - bits)
 
--- a sample of so many bits at 32
+-- a sample of `bits` bits at 32
 abbrev pub at_full : ℕ → ℤ → ℤ
 at_full bits sample = sample *ℤ pos (scale_of bits)
 

@@ -8,7 +8,7 @@ ghost use Rattle.pcm_format.specs.Samples.{at_depth, at_full};
 use crate::Format;
 use crate::sample::at_full;
 
-/// A sample at so many bits, rounded down.
+/// A sample of 32 bits at `bits` bits, rounded down.
 pub fn at_depth(sample: i32, bits: u32) -> i32
     requires least { 1 ≤ bits }
     requires most { bits ≤ 32 }
@@ -18,7 +18,7 @@ pub fn at_depth(sample: i32, bits: u32) -> i32
     sample >> (32 - bits)
 }
 
-/// Puts each sample, brought to so many bits.
+/// Puts each sample into `out` at `bits` bits, rounded down.
 pub fn put_at_depth(samples: &[i32], bits: u32, out: &mut [i32])
     requires lengths { length out.old ≡ length samples.now }
     requires least { 1 ≤ bits }
@@ -30,7 +30,7 @@ pub fn put_at_depth(samples: &[i32], bits: u32, out: &mut [i32])
     }
 }
 
-/// Brings each sample of a format's bits to 32.
+/// Brings each sample from the format's bits to 32.
 pub fn bring_to_full(samples: &mut [i32], format: Format)
     requires { All (FitsBits (bits_of format)) samples.old }
     ensures { samples.new ≡ map (at_full (bits_of format)) samples.old }

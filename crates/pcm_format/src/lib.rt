@@ -1,5 +1,5 @@
-//! The words that every layer speaks of sound: sample formats, channel layouts, settings, and lists of bytes.
-//! A sample is told by its value and its one spelling, for all fourteen formats at once.
+//! The types of sound that every layer uses: sample formats, channel layouts, settings, and lists of bytes.
+//! A sample is defined by its value and its one spelling, for all fourteen formats at once.
 #![tactic(auto)]
 
 mod bytes;

@@ -9,7 +9,7 @@ use Rattle.pcm_format.specs.Formats.{bits_of}
 use Rattle.pcm_format.specs.Samples.{at_full}
 use Rattle.pcm_format.proofs.depth.bring_to_full.Goals as goal
 
--- the samples behind one that is changed fit still
+-- the samples after one that is changed still fit
 still-fit : (bits : ℕ) (samples : List ℤ) (i : ℕ) (value : ℤ) → i < length samples → All (FitsBits bits) (drop i samples) → All (FitsBits bits) (drop (i + 1) (set samples i value))
 still-fit bits samples i value h fit =
     let next : suc i ≡ i + 1 = omega arith in
