@@ -9,7 +9,7 @@ ghost use Rattle.pcm_gain.specs.Gains.{at_gains, scaled, AreGains};
 use pcm_feeder::Gain;
 use pcm_format::Layout;
 
-/// The gain of each channel of a layout: that of its side, or the mean of both. What follows them is of no use.
+/// The gain of each channel of a layout: that of its side, or the mean of both. Elements past them are unused.
 pub fn side_gains(layout: Layout, gain: Gain) -> [u32; 8]
     requires { IsGain gain }
     ensures { take (channels_of layout) result ≡ map (side_gain gain) (positions_of layout) }
