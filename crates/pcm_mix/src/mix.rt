@@ -21,7 +21,7 @@ pub fn mix_into(acc: &mut [i32], add: &[i32], bits: u32)
     }
 }
 
-// The least sample of so many bits.
+// The least sample of `bits` bits.
 fn least_sample(bits: u32) -> i32
     requires least { 1 ≤ bits }
     requires most { bits ≤ 32 }
@@ -30,7 +30,7 @@ fn least_sample(bits: u32) -> i32
     clamp_bits(i64::from(i32::MIN), bits)
 }
 
-// The greatest sample of so many bits.
+// The greatest sample of `bits` bits.
 fn greatest_sample(bits: u32) -> i32
     requires least { 1 ≤ bits }
     requires most { bits ≤ 32 }
