@@ -16,7 +16,7 @@ pub fn reduce(src: u32, dst: u32) -> (u32, u32)
     (src / divisor, dst / divisor)
 }
 
-// Euclid's walk, by remainders.
+// Euclid's algorithm, by remainders.
 fn gcd(a: u32, b: u32) -> u32
     requires { 0 < a }
     ensures divisor { IsGcd a b result }

@@ -1,4 +1,4 @@
-//! A count times a fraction of rates, whole and rest.
+//! A count times a fraction of rates: quotient and remainder.
 ghost use Rattle.std.specs.Prelude.{◌≡◌, ◌<◌, ◌*◌, ◌/◌, ◌%◌, ◌^◌};
 
 /// `k` times `src` divided by `dst`, rounded down, and the remainder.
