@@ -71,7 +71,7 @@ need_grows rate (suc c) (suc e) dst h =
     let below : c ≤ e = omega arith in
     omega (arith, div_grows (c * rate.src) (e * rate.src) rate.dst dst (mul-le-mul_right rate.src below))
 
--- outputs behind others need as many frames as last as long, but for one, and those that are read ahead
+-- n outputs after c others need at most the frames that last as long, one more, and the lookahead
 pub need-apart : (rate : Rate) (c n : ℕ) → 0 < rate.dst → need rate (c + n) ≤ need rate c + n * rate.src / rate.dst + 1 + rate.lookahead
 need-apart rate zero zero dst = omega arith
 need-apart rate zero (suc n) dst =

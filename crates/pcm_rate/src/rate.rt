@@ -33,7 +33,7 @@ impl Rate {
         quotient(parts, self.dst) + 1 + u128::from(self.lookahead)
     }
 
-    /// How many outputs so many frames of the input allow while more may come.
+    /// How many outputs `frames` frames of the input allow while more may come.
     pub fn can(self, frames: u64) -> u128
         requires { 0 < self.src }
         ensures { result ≡ can self frames }
@@ -41,7 +41,7 @@ impl Rate {
         self.len(frames.saturating_sub(u64::from(self.lookahead)))
     }
 
-    /// How many outputs last as long as so many frames of the input.
+    /// How many outputs last as long as `frames` frames of the input.
     pub fn len(self, frames: u64) -> u128
         requires { 0 < self.src }
         ensures { result ≡ len self frames }
