@@ -7,7 +7,7 @@ pub record Ring : Type 0 where
   pub size : ℕ
   pub max : ℕ
 
--- a ring with so much room, all of which may wait, in which nothing does
+-- an empty ring with room for n bytes, all of which may wait
 abbrev pub empty_ring : ℕ → Ring
 empty_ring n = record { bytes = []; size = n; max = n }
 
