@@ -38,7 +38,7 @@ find-places_from test (suc count) bytes p =
     (λ head. find-cons test (HasHead bytes) p rest (has_head-within bytes p head)
     (find-cond test (HasHead bytes) (has_body bytes p) (places_from count bytes (next_place bytes p)) (λ _. find-places_from test count bytes (next_place bytes p))))
 
--- the body that a "data" chunk tells is within the bytes
+-- the body that a "data" chunk states is within the bytes
 body_told-within : (bytes : List ℕ) (settings : Settings) (p : ℕ) → HasHead bytes p → IfOk (body_told bytes settings p) (HasWave bytes)
 body_told-within bytes settings p head =
     let wave = wave_with settings (body_begin p) (min (size_at bytes p) (length bytes - body_begin p)) in

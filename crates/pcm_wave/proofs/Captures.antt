@@ -1,4 +1,4 @@
--- What is recorded: the frames of a body, and silence behind them.
+-- What is recorded: the frames of a body, then silence.
 use Rattle.std.proofs.Common.{◌≡◌, ℕ, zero, suc, ◌+◌, ◌-◌, ◌*◌, ◌<◌, ◌≤◌, Bool, true, false, nat_lt, List, ◌++◌, length, take, drop, replicate, min, slice_index_or, get_or, pos, Option, Some, None, arith, ap, refl, sym, subst, ◌∙◌}
 use Rattle.std.specs.Prelude.{All, IfSome}
 use Rattle.std.specs.List.{flat_map, range_with_len}
@@ -61,7 +61,7 @@ silent-frames channels f a (suc n) silent =
     ∙ replicate-append-replicate channels (n * channels) (pos 0)
     ∙ ap (λ m. replicate m (pos 0)) more
 
--- so many frames of a body that are there
+-- frames of a body that are all there
 there-frames : (settings : Settings) (body : List ℕ) (from first count : ℕ) → (0 < count → first ≡ from) → first + count ≤ whole_frames settings (length body)
     → flat_map (frame_at settings body) (range_with_len first count) ≡ flat_map (frame_or_silence settings body) (range_with_len from count)
 there-frames settings body from first zero same there = refl
@@ -162,12 +162,12 @@ frame-bits settings bytes k below there =
 silence-bits : (channels : ℕ) → All (FitsBits 32) (replicate channels (pos 0))
 silence-bits channels = All-replicate (FitsBits 32) channels (pos 0) (record { low = omega (arith, ints); high = omega (arith, ints) })
 
--- each frame of a body, and the silence behind them
+-- each frame of a body, and the silence after them, has 32 bits
 pub body-bits : (settings : Settings) (body : List ℕ) (k : ℕ) → All (λ byte. byte < 256) body → All (FitsBits 32) (frame_or_silence settings body k)
 body-bits settings body k below =
     either-frame (λ frame. All (FitsBits 32) frame) settings body k (λ there. frame-bits settings body k below there) (silence-bits (channels_of settings.layout))
 
--- where all of it has 32 bits, so have so many frames
+-- where every captured frame has 32 bits, so have those that are loaded
 pub captured_frames-bits : (layout : Layout) (pool : Pool) (from count : ℕ) → ((k : ℕ) → All (FitsBits 32) (captured_frame layout pool k))
     → All (λ frame. All (FitsBits 32) frame) (captured_frames layout pool from count)
 captured_frames-bits layout pool from count fits =

@@ -19,7 +19,7 @@ use Rattle.pcm_wave.specs.Walks.{place_behind, known_behind, as_known}
 use Rattle.pcm_wave.specs.Waves.{wave_of, wave_with, settings_told, settings_from, checked, format_of_bits, format_told, or_unsupported, open_size, body_told}
 use Rattle.pcm_wave.proofs.Walks.{found_from, found_from-data, found_from-next}
 
--- ---- bytes with a "fmt " chunk of 16 bytes and a "data" chunk behind it
+-- ---- bytes with a "fmt " chunk of 16 bytes, then a "data" chunk
 
 record IsWritten (bytes : List ℕ) (settings : Settings) (size : ℕ) : Type 0 where
   long : 44 + size ≤ length bytes
@@ -76,7 +76,7 @@ layout_of-channels_of Four = refl
 layout_of-channels_of Six = refl
 layout_of-channels_of Eight = refl
 
--- settings within the limits are what they tell
+-- settings within the limits pass the check as they are
 checked-same : (settings : Settings) → RATE_LEAST ≤ settings.rate → settings.rate ≤ RATE_MOST → checked settings (frame_bytes settings) ≡ Some settings
 checked-same settings least most =
     let low : nat_le RATE_LEAST settings.rate ≡ true = grind (arith, nat_tests) in
@@ -133,6 +133,6 @@ pub header-read : (settings : Settings) (frames : ℕ) (body rest : List ℕ) �
 header-read settings frames body rest is least most small same =
     written-read (header_of settings frames ++ body ++ rest) settings (length body) (header-written settings frames body rest is least most small same)
 
--- the body stands behind the header
+-- the body stands after the header
 pub body-read : (settings : Settings) (frames : ℕ) (body rest : List ℕ) → take (length body) (drop 44 (header_of settings frames ++ body ++ rest)) ≡ body
 body-read settings frames body rest = take_at body rest (length body) refl

@@ -20,7 +20,7 @@ use Rattle.pcm_wave.proofs.Bodies.{find-cons, find-cond}
 abbrev pub rest_from : List ℕ → ℕ → List ℕ
 rest_from bytes p = places_from (length bytes) bytes p
 
--- a count that is enough for the bytes behind a place gives all
+-- a count that is enough for the bytes after a place gives all places
 places_from-enough : (n m : ℕ) (bytes : List ℕ) (p : ℕ) → length bytes ≤ n + p → length bytes ≤ m + p → places_from n bytes p ≡ places_from m bytes p
 places_from-enough zero zero bytes p few many = refl
 places_from-enough zero (suc m) bytes p few many =
@@ -42,7 +42,7 @@ rest_from-none bytes p none =
       | suc n ↦ ap (λ b. cond b (p ∷ cond (has_body bytes p) (places_from n bytes (next_place bytes p)) []) []) none
     ]
 
--- a place with a head, and the places behind the chunk
+-- a place with a head, then the places after the chunk
 rest_from-head : (bytes : List ℕ) (p : ℕ) → has_head bytes p ≡ true → rest_from bytes p ≡ p ∷ rest_from bytes (place_behind bytes p)
 rest_from-head bytes p head =
     let within : p + 8 ≤ length bytes = grind (arith, nat_tests) in
@@ -58,7 +58,7 @@ rest_from-head bytes p head =
     ∙ ap (λ b. cond b (p ∷ cond (has_body bytes p) (places_from (length bytes - 1) bytes (next_place bytes p)) []) []) head
     ∙ ap (λ l. p ∷ l) behind
 
--- the place behind a chunk is greater
+-- the place after a chunk is greater
 place_behind-above : (bytes : List ℕ) (p : ℕ) → has_head bytes p ≡ true → p + 8 ≤ place_behind bytes p
 place_behind-above bytes p head =
     let within : p + 8 ≤ length bytes = grind (arith, nat_tests) in
@@ -81,7 +81,7 @@ found_from-end bytes (Some settings) p none = ap (found_in bytes (Some settings)
 
 -- ---- one chunk more
 
--- the places behind a chunk are greater
+-- the places after a chunk are greater
 find-above : (test : ℕ → Bool) (count : ℕ) (bytes : List ℕ) (p q : ℕ) → p < q → IfSome (find test (places_from count bytes q)) (λ found. p < found)
 find-above test zero bytes p q below = tt
 find-above test (suc count) bytes p q below =
@@ -90,7 +90,7 @@ find-above test (suc count) bytes p q below =
     (λ _. find-cons test (λ found. p < found) q (cond (has_body bytes q) rest []) below
     (find-cond test (λ found. p < found) (has_body bytes q) rest (λ _. find-above test count bytes p (next_place bytes q) (omega arith))))
 
--- a "data" chunk that is found behind a place isn't before it
+-- a "data" chunk that is found after a place isn't before it
 none-before : (body : Option ℕ) (p : ℕ) → IfSome body (λ found. p < found) → stands_before body p ≡ false
 none-before None p above = refl
 none-before (Some body) p above = grind (arith, nat_tests)
@@ -123,7 +123,7 @@ found_from-data bytes (Some settings) p head is =
     ap (found_in bytes (Some settings)) (rest_from-head bytes p head)
     ∙ ap (λ b. body_behind bytes (Ok settings) (cond b (Some p) (find (λ q. stands_at bytes q (codes "data")) rest))) is
 
--- what is found behind another chunk, or the fault of its format
+-- what is found after another chunk, or the fault of its format
 abbrev found_behind : List ℕ → Result (Option Settings) WaveFault → List ℕ → Result Wave WaveFault
 found_behind bytes (Ok known) rest = found_in bytes known rest
 found_behind bytes (Err fault) rest = Err fault
@@ -151,7 +151,7 @@ found_from-other bytes (Some settings) p head other =
     ap (found_in bytes (Some settings)) (rest_from-head bytes p head)
     ∙ ap (λ b. body_behind bytes (Ok settings) (cond b (Some p) (find (λ q. stands_at bytes q (codes "data")) rest))) other
 
--- another chunk leaves the wave to those behind it
+-- another chunk leaves the wave to those after it
 pub found_from-next : (bytes : List ℕ) (known next : Option Settings) (p : ℕ) → has_head bytes p ≡ true → stands_at bytes p (codes "data") ≡ false
     → known_behind bytes known p ≡ Ok next → found_from bytes known p ≡ found_from bytes next (place_behind bytes p)
 found_from-next bytes known next p head other is =

@@ -3,7 +3,7 @@ use Rattle.std.specs.Prelude.{ℕ, zero, suc, ◌+◌, ◌%◌, Bool, ◌&&◌, 
 use Rattle.std.specs.Str.{bytes_eq}
 use Rattle.pcm_format.specs.Samples.{number_of}
 
--- the number that so many bytes spell, from a place on
+-- the number that `count` bytes spell, from a place on
 abbrev pub number_at : List ℕ → ℕ → ℕ → ℕ
 number_at bytes at count = number_of (take count (drop at bytes))
 
@@ -11,7 +11,7 @@ number_at bytes at count = number_of (take count (drop at bytes))
 abbrev pub stands_at : List ℕ → ℕ → List ℕ → Bool
 stands_at bytes at word = bytes_eq (take (length word) (drop at bytes)) word
 
--- the size of the chunk at a place, as its head tells it
+-- the size of the chunk at a place, as its head states it
 abbrev pub size_at : List ℕ → ℕ → ℕ
 size_at bytes p = number_at bytes (p + 4) 4
 
@@ -23,7 +23,7 @@ has_head bytes p = nat_le (p + 8) (length bytes)
 abbrev pub body_begin : ℕ → ℕ
 body_begin p = p + 8
 
--- where the body ends, as the chunk's size tells
+-- where the body ends, by the chunk's size
 abbrev pub body_end : List ℕ → ℕ → ℕ
 body_end bytes p = body_begin p + size_at bytes p
 
@@ -31,11 +31,11 @@ body_end bytes p = body_begin p + size_at bytes p
 abbrev pub has_body : List ℕ → ℕ → Bool
 has_body bytes p = nat_le (body_end bytes p) (length bytes)
 
--- the place behind a chunk: a body of an odd size has a byte of padding behind it
+-- the place after a chunk: a byte of padding follows a body of an odd size
 abbrev pub next_place : List ℕ → ℕ → ℕ
 next_place bytes p = body_end bytes p + size_at bytes p % 2
 
--- the places of at most so many chunks, from a place on; behind a body that isn't all there stands none
+-- the places of at most `count` chunks, from a place on; a body that isn't all there is followed by none
 abbrev pub places_from : ℕ → List ℕ → ℕ → List ℕ
 places_from zero bytes p = []
 places_from (suc count) bytes p =

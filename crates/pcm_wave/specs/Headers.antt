@@ -9,15 +9,15 @@ use Rattle.pcm_format.specs.Layouts.{channels_of}
 use Rattle.pcm_format.specs.Samples.{low_bytes}
 use Rattle.pcm_wave.specs.declared.written.TheConstants.{BODY_BYTES}
 
--- the bytes of the frames that a header tells
+-- how many bytes the frames of a wave have
 abbrev pub body_size : Settings → ℕ → ℕ
 body_size settings frames = frames * frame_bytes settings
 
--- the byte of padding behind a body of an odd size
+-- the byte of padding after a body of an odd size
 abbrev pub padding : ℕ → ℕ
 padding size = size % 2
 
--- the header for so many frames: the form, the "fmt " chunk, and the head of the "data" chunk
+-- the header for `frames` frames: the form, the "fmt " chunk, and the head of the "data" chunk
 abbrev pub header_of : Settings → ℕ → List ℕ
 header_of settings frames =
     let size = body_size settings frames in
@@ -31,6 +31,6 @@ header_of settings frames =
 abbrev pub IsWaveFormat : Format → Type 0
 IsWaveFormat format = (format ≡ U8) ⊎ ((format ≡ S16Le) ⊎ ((format ≡ S24Le) ⊎ (format ≡ S32Le)))
 
--- as much as a header may tell
+-- a header can state the size of this body
 abbrev pub IsBody : Settings → ℕ → Type 0
 IsBody settings frames = body_size settings frames ≤ BODY_BYTES

@@ -1,4 +1,4 @@
--- What comes of a body behind its header, whatever stands behind it.
+-- What is read of a header and a body, whatever bytes follow.
 use Rattle.std.specs.Prelude.{◌≡◌, ◌≤◌, ℕ, List, ◌++◌, length, take, drop, Ok}
 use Rattle.pcm_format.specs.declared.settings.Settings.{Settings}
 use Rattle.pcm_format.specs.declared.settings.TheConstants.{RATE_LEAST, RATE_MOST}

@@ -21,7 +21,7 @@ abbrev pub source_bytes : Pool → Source → List ℕ
 source_bytes pool Inline = pool.inline_bytes
 source_bytes pool (File place) = body_in (slice_get pool.files place)
 
--- so many bytes of a source, from a place on
+-- `count` bytes of a source, from a place on
 abbrev pub bytes_at : Pool → Source → ℕ → ℕ → List ℕ
 bytes_at pool source at count = take count (drop at (source_bytes pool source))
 
@@ -30,7 +30,7 @@ abbrev pub HasSource : Pool → Source → Type 0
 HasSource pool Inline = Unit {0}
 HasSource pool (File place) = place < length pool.files
 
--- a source that a pool has, with so many bytes from a place on
+-- a source that a pool has, with `count` bytes from a place on
 pub record HasBytes (pool : Pool) (source : Source) (at count : ℕ) : Type 0 where
   pub has : HasSource pool source
   pub within : at + count ≤ length (source_bytes pool source)
@@ -69,6 +69,6 @@ frame_or_silence settings body k = slice_index_or (frames settings body) k (sile
 abbrev pub captured_frame : Layout → Pool → ℕ → Frame
 captured_frame layout pool k = slice_index_or (capture_frames pool) k (silent_frame layout)
 
--- so many of them, from frame `from` on
+-- `count` of them, from frame `from` on
 abbrev pub captured_frames : Layout → Pool → ℕ → ℕ → List Frame
 captured_frames layout pool from count = map (captured_frame layout pool) (range_with_len from count)

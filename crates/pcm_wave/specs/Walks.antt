@@ -1,4 +1,4 @@
--- A walk over the chunks: what it knows behind each of them, and what a "data" chunk gives.
+-- A walk over the chunks: what it knows after each of them, and what a "data" chunk gives.
 use Rattle.std.specs.Prelude.{ℕ, if◌then◌else◌, List, length, codes, Option, Some, None, Result, Ok, Err}
 use Rattle.pcm_format.specs.declared.settings.Settings.{Settings}
 use Rattle.pcm_wave.specs.declared.wave.Wave.{Wave}
@@ -12,12 +12,12 @@ abbrev pub as_known : Result Settings WaveFault → Result (Option Settings) Wav
 as_known (Ok settings) = Ok (Some settings)
 as_known (Err fault) = Err fault
 
--- the settings that are known behind a chunk: those of the first "fmt " chunk
+-- the settings that are known after a chunk: those of the first "fmt " chunk
 abbrev pub known_behind : List ℕ → Option Settings → ℕ → Result (Option Settings) WaveFault
 known_behind bytes (Some settings) p = Ok (Some settings)
 known_behind bytes None p = if stands_at bytes p (codes "fmt ") then as_known (format_told bytes p) else Ok None
 
--- the place behind a chunk: the end of the bytes, where its body isn't all there
+-- the place after a chunk: the end of the bytes, where its body isn't all there
 abbrev pub place_behind : List ℕ → ℕ → ℕ
 place_behind bytes p = if has_body bytes p then next_place bytes p else length bytes
 

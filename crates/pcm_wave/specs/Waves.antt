@@ -1,4 +1,4 @@
--- Which bytes are a wave: what its "fmt " chunk tells, and where the body of its "data" chunk stands.
+-- Which bytes are a wave: what its "fmt " chunk states, and where the body of its "data" chunk stands.
 use Rattle.std.specs.Prelude.{ℕ, ◌+◌, ◌-◌, Bool, false, ◌&&◌, ◌||◌, ◌==◌, nat_le, nat_lt, if◌then◌else◌, List, [], ◌∷◌, length, codes, min, Option, Some, None, Result, Ok, Err}
 use Rattle.pcm_format.specs.declared.format.Format.{Format}
 use Rattle.pcm_format.specs.declared.format.Format.TheVariants.{U8, S16Le, S24Le, S32Le}
@@ -16,7 +16,7 @@ use Rattle.pcm_wave.specs.Chunks.{number_at, stands_at, size_at, body_begin, has
 abbrev pub settings_of : Wave → Settings
 settings_of wave = record { format = wave.format; layout = wave.layout; rate = wave.rate }
 
--- the wave in these settings whose body has so many bytes from a place on
+-- the wave in these settings whose body has `len` bytes from a place on
 abbrev pub wave_with : Settings → ℕ → ℕ → Wave
 wave_with settings at len = record { format = settings.format; layout = settings.layout; rate = settings.rate; at = at; len = len }
 
@@ -35,13 +35,13 @@ extensible_tag = 0xFFFE
 abbrev pub pcm_name : List ℕ
 pcm_name = 1 ∷ 0 ∷ 0 ∷ 0 ∷ 0 ∷ 0 ∷ 0x10 ∷ 0 ∷ 0x80 ∷ 0 ∷ 0 ∷ 0xAA ∷ 0 ∷ 0x38 ∷ 0x9B ∷ 0x71 ∷ []
 
--- whether a body of "fmt " of a size tells of integer PCM, plainly or as an extensible format
+-- whether a body of "fmt " of a size states integer PCM, plainly or as an extensible format
 abbrev pub is_pcm : List ℕ → ℕ → ℕ → Bool
 is_pcm bytes at size =
     number_at bytes at 2 == pcm_tag
     || (number_at bytes at 2 == extensible_tag && (nat_le 40 size && stands_at bytes (at + 24) pcm_name))
 
--- the format of samples of so many bits
+-- the format of samples of a number of bits
 abbrev pub format_of_bits : ℕ → Option Format
 format_of_bits bits =
     if bits == 8 then Some U8
@@ -50,7 +50,7 @@ format_of_bits bits =
     else if bits == 32 then Some S32Le
     else None
 
--- settings whose rate is within the limits, and whose frames have so many bytes
+-- settings whose rate is within the limits, and whose frames have `align` bytes
 abbrev pub checked : Settings → ℕ → Option Settings
 checked settings align =
     if nat_le RATE_LEAST settings.rate && (nat_le settings.rate RATE_MOST && frame_bytes settings == align) then Some settings else None
@@ -60,7 +60,7 @@ abbrev pub settings_from : Option Format → Option Layout → ℕ → ℕ → O
 settings_from (Some format) (Some layout) rate align = checked (record { format = format; layout = layout; rate = rate }) align
 settings_from format layout rate align = None
 
--- the settings that a body of "fmt " tells, of a size and at a place
+-- the settings that a body of "fmt " states, of a size and at a place
 abbrev pub settings_told : List ℕ → ℕ → ℕ → Option Settings
 settings_told bytes at size =
     if nat_le 16 size && is_pcm bytes at size
@@ -72,7 +72,7 @@ abbrev pub or_unsupported : Option Settings → Result Settings WaveFault
 or_unsupported None = Err Unsupported
 or_unsupported (Some settings) = Ok settings
 
--- what the "fmt " chunk at a place tells
+-- what the "fmt " chunk at a place states
 abbrev pub format_told : List ℕ → ℕ → Result Settings WaveFault
 format_told bytes p =
     if has_body bytes p then or_unsupported (settings_told bytes (body_begin p) (size_at bytes p)) else Err Truncated
@@ -88,7 +88,7 @@ body_told bytes settings p =
     then Ok (wave_with settings (body_begin p) (min (size_at bytes p) (length bytes - body_begin p)))
     else Err Truncated
 
--- the "data" chunk's body behind a "fmt " chunk that told these settings, or was refused
+-- the "data" chunk's body after a "fmt " chunk that stated these settings, or was refused
 abbrev pub body_behind : List ℕ → Result Settings WaveFault → Option ℕ → Result Wave WaveFault
 body_behind bytes (Err fault) place = Err fault
 body_behind bytes (Ok settings) None = Err NoData

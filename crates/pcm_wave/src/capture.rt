@@ -1,4 +1,4 @@
-//! What is recorded from: the frames of a data file, and silence behind them.
+//! What is recorded: the frames of a data file, then silence.
 
 ghost use Rattle.std.specs.Prelude.{◌≡◌, ◌+◌, ◌*◌, ◌≤◌, ℕ, All, length, option_map};
 ghost use Rattle.std.specs.List.{flat_map, range_with_len};
@@ -11,7 +11,7 @@ use crate::{DataFile, Pool};
 use pcm_format::{Layout, Settings, load_frames};
 
 impl Pool {
-    /// Loads so many frames of what is recorded, from frame `from` on. All of them are silent where nothing is.
+    /// Loads `frames` frames of what is recorded, from frame `from` on. Without a file to record from, all are silent.
     pub fn load_captured(&self, layout: Layout, from: u64, frames: usize, out: &mut [i32])
         requires captures { IsCaptureIn layout self.now }
         requires room { length out.old ≡ frames * channels_of layout }
@@ -36,7 +36,7 @@ impl Pool {
     }
 }
 
-// Loads so many frames of a body, from frame `from` on, and silence where it has no more.
+// Loads `frames` frames of a body, from frame `from` on, and silence where it has no more.
 fn load_from(settings: Settings, body: &[u8], from: u64, frames: usize, out: &mut [i32])
     requires room { length out.old ≡ frames * channels_of settings.layout }
     ensures loaded { out.new
@@ -51,7 +51,7 @@ fn load_from(settings: Settings, body: &[u8], from: u64, frames: usize, out: &mu
     behind.fill(0);
 }
 
-// Loads so many frames of a body, from frame `first` on.
+// Loads `count` frames of a body, from frame `first` on.
 fn load_part(settings: Settings, body: &[u8], first: usize, count: usize, out: &mut [i32])
     requires room { length out.old ≡ count * channels_of settings.layout }
     requires there { (first + count) * frame_bytes settings ≤ length body.now }

@@ -21,7 +21,7 @@ pub(crate) fn has_body(bytes: &[u8], place: usize) -> bool
     size_at(bytes, place) <= bytes.len() - (place + HEAD_BYTES)
 }
 
-// The size of the chunk at a place, as its head tells it.
+// The size of the chunk at a place, as its head states it.
 pub(crate) fn size_at(bytes: &[u8], place: usize) -> usize
     requires { IsTrue (has_head bytes.now place) }
     ensures value { result ≡ size_at bytes.now place }

@@ -1,4 +1,4 @@
-//! What the "fmt " chunk of a wave tells.
+//! What the "fmt " chunk of a wave states.
 
 ghost use Rattle.std.specs.Prelude.{◌≡◌, ◌+◌, ◌≤◌, IsTrue, length};
 ghost use Rattle.pcm_wave.specs.Chunks.{has_head};
@@ -18,7 +18,7 @@ const PCM_NAME: [u8; 16] = [
     1, 0, 0, 0, 0, 0, 0x10, 0, 0x80, 0, 0, 0xAA, 0, 0x38, 0x9B, 0x71,
 ];
 
-// The settings that the "fmt " chunk at a place tells.
+// The settings that the "fmt " chunk at a place states.
 pub(crate) fn format_told(bytes: &[u8], place: usize) -> Result<Settings, WaveFault>
     requires { IsTrue (has_head bytes.now place) }
     ensures { result ≡ format_told bytes.now place }
@@ -29,7 +29,7 @@ pub(crate) fn format_told(bytes: &[u8], place: usize) -> Result<Settings, WaveFa
     settings_told(bytes, place + HEAD_BYTES, size_at(bytes, place)).ok_or(WaveFault::Unsupported)
 }
 
-// The settings that a body of "fmt " tells.
+// The settings that a body of "fmt " states.
 fn settings_told(bytes: &[u8], at: usize, size: usize) -> Option<Settings>
     requires { at + size ≤ length bytes.now }
     ensures { result ≡ settings_told bytes.now at size }
@@ -48,7 +48,7 @@ fn settings_told(bytes: &[u8], at: usize, size: usize) -> Option<Settings>
     checked(settings, u16_at(bytes, at + 12) as usize)
 }
 
-// Whether a body of "fmt " tells of integer PCM, plainly or as an extensible format.
+// Whether a body of "fmt " states integer PCM, plainly or as an extensible format.
 fn is_pcm(bytes: &[u8], at: usize, size: usize) -> bool
     requires within { at + size ≤ length bytes.now }
     requires tag { 2 ≤ size }
@@ -58,7 +58,7 @@ fn is_pcm(bytes: &[u8], at: usize, size: usize) -> bool
     tag == PCM_TAG || (tag == EXTENSIBLE_TAG && size >= 40 && stands_at(bytes, at + 24, &PCM_NAME))
 }
 
-// The format of samples of so many bits.
+// The format of samples of a number of bits.
 fn format_of_bits(bits: u32) -> Option<Format>
     ensures { result ≡ format_of_bits bits }
 {
@@ -71,7 +71,7 @@ fn format_of_bits(bits: u32) -> Option<Format>
     }
 }
 
-// Settings whose rate is within the limits, and whose frames have so many bytes.
+// Settings whose rate is within the limits, and whose frames have `align` bytes.
 fn checked(settings: Settings, align: usize) -> Option<Settings>
     ensures { result ≡ checked settings align }
 {

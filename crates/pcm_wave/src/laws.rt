@@ -8,7 +8,7 @@ ghost use Rattle.pcm_wave.specs.Headers.{IsWaveFormat, header_of};
 ghost use Rattle.pcm_wave.specs.Laws.{IsReadBack, BodyStands};
 ghost use Rattle.pcm_wave.specs.Waves.{wave_end, wave_of};
 
-/// What is written is read back: the same settings and the same body, whatever stands behind it.
+/// What is written is read back: the same settings and the same body, whatever bytes follow.
 pub fn what_is_written_is_read_back()
     ensures wave { (settings : Settings) (frames : ℕ) (body : List ℕ) → IsReadBack settings frames body }
     ensures body { (settings : Settings) (frames : ℕ) (body : List ℕ) → BodyStands settings frames body }

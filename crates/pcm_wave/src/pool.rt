@@ -29,7 +29,7 @@ pub struct Pool {
 }
 
 impl Pool {
-    /// So many bytes of a source, from byte `at` on.
+    /// `len` bytes of a source, from byte `at` on.
     pub fn bytes_at(&self, source: Source, at: u32, len: u32) -> &[u8]
         requires { HasBytes self.now source at len }
         ensures bytes { result.now ≡ bytes_at self.now source at len }

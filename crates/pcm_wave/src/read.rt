@@ -13,7 +13,7 @@ use pcm_format::Settings;
 // Where the first chunk stands.
 const FIRST_CHUNK: usize = 12;
 
-// A body of such a size or more ends with the bytes: its writer didn't know the end.
+// A body that states this size or more may end with the bytes: its writer didn't know the end.
 const OPEN_SIZE: usize = 0x7F000000;
 
 /// The wave that the bytes of a file are. The body isn't copied: it stays where it stands.
@@ -42,7 +42,7 @@ fn is_riff(bytes: &[u8]) -> bool
     stands_at(bytes, 0, b"RIFF") && stands_at(bytes, 8, b"WAVE")
 }
 
-// The settings that are known behind the chunk at a place: those of the first "fmt " chunk.
+// The settings that are known after the chunk at a place: those of the first "fmt " chunk.
 fn known_behind(
     bytes: &[u8],
     known: Option<Settings>,
@@ -58,7 +58,7 @@ fn known_behind(
     }
 }
 
-// The place behind a chunk, and the end of the bytes where its body isn't all there.
+// The place after a chunk: the end of the bytes, where its body isn't all there.
 fn place_behind(bytes: &[u8], place: usize) -> usize
     requires { IsTrue (has_head bytes.now place) }
     ensures { result ≡ place_behind bytes.now place }

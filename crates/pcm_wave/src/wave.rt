@@ -1,4 +1,4 @@
-//! What a wave is, and why bytes are none.
+//! What a wave is, and why bytes aren't one.
 
 ghost use Rattle.std.specs.Prelude.{◌≡◌};
 

@@ -17,7 +17,7 @@ pub const BODY_BYTES: u32 = 268435456;
 const FORM: [u8; HEADER_BYTES] =
     *b"RIFF\0\0\0\0WAVEfmt \x10\0\0\0\x01\0\0\0\0\0\0\0\0\0\0\0\0\0\0\0data\0\0\0\0";
 
-/// The header of a wave of so many frames. Behind a body of an odd size it tells of a byte of padding.
+/// The header of a wave of `frames` frames. Its form's size counts the byte of padding after a body of an odd size.
 pub fn header(settings: &Settings, frames: u32) -> [u8; HEADER_BYTES]
     requires format { IsWaveFormat settings.now.format }
     requires rate { settings.now.rate ≤ RATE_MOST }
