@@ -29,7 +29,7 @@ near-change src dst channels lookahead is near =
       lookahead = near;
     }
 
--- so many outputs need few frames
+-- c outputs need at most 48 frames each, and 33 more
 pub need-near : (rate : Rate) (c : ℕ) → IsNear rate → need rate c ≤ 48 * c + 33
 need-near rate zero near = omega arith
 need-near rate (suc c) near =
@@ -410,7 +410,7 @@ pub record Blocks (rate : Rate) (ended : Bool) (n quiet given waiting want : ℕ
   pub past : 0 < quiet → (ended ≡ true) × (waiting ≡ 0)
   pub goes : Goes rate ended (record { eaten = n; given = given }) waiting want advance
 
--- the silence so far comes behind all frames
+-- the silence so far comes after all frames
 still : (rate : Rate) (ended : Bool) (n quiet given waiting want : ℕ) (advance : Advance) → Blocks rate ended n quiet given waiting want advance → (quiet ≡ 0) ⊎ ((ended ≡ true) × (advance.eaten ≡ 0) × (waiting ≡ 0))
 still rate ended n zero given waiting want advance h = inl refl
 still rate ended n (suc quiet) given waiting want advance h =
@@ -483,7 +483,7 @@ offers-given rate ended n quiet given waiting want advance h =
       | inr enough ↦ omega arith
     ]
 
--- the silence behind them all
+-- the silence after them all
 pub offers-silent : (rate : Rate) (ended : Bool) (n quiet given waiting want : ℕ) (advance : Advance) → Blocks rate ended n quiet given waiting want advance
     → quiet + advance.silent ≡ need rate (given + advance.given) - (n + advance.eaten)
 offers-silent rate ended n quiet given waiting want advance h =

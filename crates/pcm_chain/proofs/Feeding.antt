@@ -59,7 +59,7 @@ channels-given (Eq channels sections) is = is.within
 
 -- ---- the frames of one feed
 
--- what keeps no sound is told by its spec, its phase and its distance
+-- what keeps no sound is known by its spec, its phase and its distance
 kept-is : (kept : Kept) (spec : Option Spec) → kept.spec ≡ spec → kept.phase ≡ 0 → kept.ahead ≡ pos 0 → kept.tail ≡ []
     → kept ≡ record { spec = spec; phase = 0; ahead = pos 0; tail = [] }
 kept-is kept spec fitted phase ahead tail =
@@ -160,7 +160,7 @@ written-front n c samples out room =
     ap (λ k. take (n * c) samples ++ drop k out) (sym (length-take-le (n * c) samples room))
     ∙ ap (λ list. list ++ drop (length list) out) (sym same)
 
--- ---- one stage, and those behind it
+-- ---- one stage, and those after it
 
 -- frames go through stages whatever other boxes keep
 through-same : (old mid : Spec → Kept) (tables : Filters) (gain : Gain) (want : ℕ) (specs : List Spec) (input : List Frame) → All (λ spec. mid spec ≡ old spec) specs
@@ -192,7 +192,7 @@ others-keep : {B : Type 0} (kept : B → Kept) (old mid : SevenOf B) (spec : Spe
     → ((other : Spec) → kind_of other ≢ kind_of spec → kept_in kept mid other ≡ kept_in kept old other) → All (λ s. kept_in kept mid s ≡ kept_in kept old s) rest
 others-keep kept old mid spec rest differ others k d below = others (get_or rest k d) (λ same. differ k d below (sym same))
 
--- what the stages behind the first one ask
+-- what the stages after the first one require
 pub record AskOn {B : Type 0} (kept : B → Kept) (boxes : SevenOf B) (filters : Filters) (given want source space : ℕ) (rest : List Spec) : Type 0 where
   pub limits : All IsSpec rest
   pub distinct : AreDistinct rest

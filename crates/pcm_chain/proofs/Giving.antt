@@ -32,7 +32,7 @@ use Rattle.pcm_chain.proofs.Pushing.{parted-frames}
 
 -- ---- a block
 
--- so many frames are so many samples
+-- k frames have all their samples there
 pub frames-within : (c k : ℕ) (samples : List ℤ) → k ≤ length (frames_of c samples) → k * c ≤ length samples
 frames-within c k samples within =
     let count = length-frames_of c samples in
@@ -66,7 +66,7 @@ block-gives kept tables want input old new advance start out x given h stands en
 
 -- ---- all blocks
 
--- the frames behind those eaten
+-- the frames after those eaten
 pub rest-frames : (plan now : PlanSeen) (eaten source : ℕ) (samples : List ℤ) → now ≡ plan → source ≡ channels_of plan.source → eaten ≤ length (pushed_frames plan samples)
     → pushed_frames now (take (length samples - eaten * source) (drop (eaten * source) samples)) ≡ drop eaten (pushed_frames plan samples)
 rest-frames plan now eaten source samples same width within =

@@ -38,7 +38,7 @@ use Rattle.pcm_chain.proofs.Waiting.{replicate-add}
 
 -- ---- a block
 
--- the frames that a block offers to the first stage: those that it takes out of the ring, and silence behind them
+-- the frames that a block offers to the first stage: those that it takes out of the ring, and silence after them
 abbrev pub offered : ℕ → Advance → List Frame → List Frame
 offered channels advance waiting = take advance.eaten waiting ++ replicate advance.silent (silence channels)
 
@@ -46,7 +46,7 @@ length-offered : (c : ℕ) (advance : Advance) (waiting : List Frame) → advanc
 length-offered c advance waiting within =
     omega (arith, length-append (take advance.eaten waiting) (replicate advance.silent (silence c)), length-take-le advance.eaten waiting within, length-replicate advance.silent (silence c))
 
--- silence that was eaten stays behind all frames
+-- silence that was eaten stays after all frames
 moved-behind : (c quiet : ℕ) (advance : Advance) (x waiting : List Frame) → (0 < quiet → advance.eaten ≡ 0)
     → (x ++ replicate quiet (silence c)) ++ offered c advance waiting ≡ (x ++ take advance.eaten waiting) ++ replicate (quiet + advance.silent) (silence c)
 moved-behind c zero advance x waiting none =
@@ -236,7 +236,7 @@ nothing-pulled kept tables gain ended waiting chain x quiet before out stands pa
     eats zero silent past = omega (arith, silent, ap (need rate) same)
     eats (suc quiet) silent past = let none = ap length (past (omega arith)).1 in omega (arith, none)
 
--- more frames behind those that were written
+-- more frames after those that were written
 pub written-behind : (list more : List Frame) (old out : List ℤ) (at : ℕ) → out ≡ written list old → length (interleaved list) ≡ at
     → take at out ++ written more (drop at out) ≡ written (list ++ more) old
 written-behind list more old out at is start =
@@ -262,7 +262,7 @@ put-end at out piece =
 pub end-taken : (at : ℕ) (out : List ℤ) → take (length out - at) (drop at out) ≡ drop at out
 end-taken at out = take_all (length out - at) (drop at out) (omega (arith, length-drop at out))
 
--- what is known of a second pull behind a first one that gave all that it was asked for
+-- what is known of a second pull after a first one that gave all that it was asked for
 pub record GoesOn {B : Type 0} (kept : B → Kept) (tables : Filters) (gain : Gain) (ended : Bool) (asked more : ℕ) (waiting : List Frame) (old mid new : ChainOf B) (x : List Frame) (before : ℕ)
     (first second : Pulled) (start middle part : List ℤ) : Type 0 where
   pub full : first.given ≡ asked

@@ -169,7 +169,7 @@ block-records {B = B} kept tables input old new x start out h stands = record { 
     frames : out ≡ written (recs plan tables (x ++ input) before m) start
     frames = pulls.frames
 
--- so it is told of the calls of a block
+-- this follows from the contracts of a block's calls
 pub whole-is : {B : Type 0} (kept : B → Kept) (tables : Filters) (input offers : List Frame) (old new : ChainOf B) (start out : List ℤ) (rate : Rate) (frames : ℕ) (advance : Advance) (stages : List Spec)
     → rate ≡ rate_in_plan (plan_in old) → length input ≡ frames → advance ≡ eats_all rate (counts_in old) frames → stages ≡ (plan_in old).stages → offers ≡ input
     → plan_in new ≡ plan_in old → HaveChannels (channels_of (plan_in old).source) input
@@ -256,11 +256,11 @@ pub copied-frames : (c n source : ℕ) (samples items : List ℤ) → source ≡
 copied-frames c n source samples items same long loaded =
     ap (λ k. frames_of k (take (n * k) items)) same ∙ ap (λ k. frames_of c (take k items)) (sym long) ∙ ap (frames_of c) loaded
 
--- so many they are
+-- there are n of them
 pub count-frames : (c n : ℕ) (samples : List ℤ) → 0 < c → length samples ≡ n * c → length (frames_of c samples) ≡ n
 count-frames c n samples above long = length-frames_of c samples ∙ ap (λ k. k / c) long ∙ mul-div_cancel n above
 
--- frames of so many bits are samples of so many
+-- frames of `bits` bits are samples of as many
 pub interleaved-bits : (bits : ℕ) (list : List Frame) → HaveBits bits list → All (FitsBits bits) (interleaved list)
 interleaved-bits bits [] have = All-nil (FitsBits bits)
 interleaved-bits bits (frame ∷ list) have =
@@ -281,7 +281,7 @@ spelled-interleaved format (frame ∷ list) =
 
 -- ---- pieces of what is pushed
 
--- whole frames are so many samples
+-- n samples of whole frames are n / c frames of c samples
 pub whole-samples : (n c : ℕ) → n % c ≡ 0 → n ≡ n / c * c
 whole-samples n c whole = omega (arith, whole, div-add-mod' n c)
 
@@ -319,7 +319,7 @@ nothing-pushed kept tables format chain x bytes stands =
       bytes = sym (append-nil bytes);
     }
 
--- as many frames have room behind the first ones as are left
+-- after `count` frames there is room for `count` fewer
 pub room-left : (free size count : ℕ) → 0 < size → count ≤ free / size → (free - count * size) / size ≡ free / size - count
 room-left free size count above within =
     let fits = mul-le-mul_right size within in
@@ -327,7 +327,7 @@ room-left free size count above within =
     let more = div_more (free - count * size) free size count above (omega (arith, fits, most)) in
     omega (arith, more)
 
--- what is known of a second push behind a first one
+-- what is known of a second push after a first one
 pub record PushesOn {B : Type 0} (kept : B → Kept) (tables : Filters) (format : Format) (input : List Frame) (eaten more : ℕ) (old mid new : ChainOf B) (x : List Frame) (room : ℕ)
     (first second : Pushed) (bytes_old bytes_mid bytes_new : List ℕ) : Type 0 where
   pub plan : plan_in mid ≡ plan_in old
@@ -410,7 +410,7 @@ pushes-on {B = B} kept tables format input eaten more old mid new x room first s
         let fits : start + first.kept ≤ can rate (length y) = omega (arith, first-came, up, ap (can rate) long) in
         sym (outs-append plan tables unity y piece start first.kept h.is fits) ∙ ap (λ list. recs plan tables list start first.kept) joined
 
-    -- the others begin behind them, or there is no room for one
+    -- the others begin after them, or there is no room for one
     late : recs plan tables all (can rate (length y)) second.kept ≡ recs plan tables all (start + first.kept) second.kept
     late =
         let one = h.one in

@@ -34,7 +34,7 @@ use Rattle.pcm_chain.proofs.Standing.{given-grows}
 
 -- ---- counts
 
--- Stages that have eaten so many frames and given so many are offered frames, all of which they eat, and give m of those wanted.
+-- Stages that have eaten `eaten` frames and given `before` frames are offered more, all of which they eat, and give m of those wanted.
 pub record Asks (rate : Rate) (eaten before offered want m : ℕ) : Type 0 where
   pub all : eaten + offered ≡ max eaten (min (eaten + offered) (need rate (before + want)))
   pub gives : m ≡ min want (can rate (eaten + offered) - before)
@@ -208,7 +208,7 @@ given-stream spec tables gain x given (pos k) fixed has below =
     let output = has.frames k (silence (channels_out spec)) (omega (arith, ints)) in
     output.1 ∙ conv-gain spec tables output.0 gain (stream_of (channels_in spec) x) k fixed
 
--- what the stages behind the first one make of what it gave
+-- what the stages after the first one make of what it gave
 record IsHeard (tables : Filters) (gain : Gain) (spec : Spec) (specs : List Spec) (x given : List Frame) (before m : ℕ) : Type 0 where
   heard : (k : ℕ) → k < m → through tables gain specs (stream_of (channels_out spec) given) (pos (before + k))
       ≡ through tables gain specs (all_outputs spec tables gain (stream_of (channels_in spec) x)) (pos (before + k))
@@ -275,7 +275,7 @@ heard-by keeps tables gain want (Depth bits channels) specs x middle input befor
 heard-by keeps tables gain want (Eq channels sections) specs x middle input before m limits late rest has h =
     heard-early keeps tables gain want (Eq channels sections) specs x middle input before m (λ (same : kinds.Eq ≡ kinds.Volume). cc) limits has h
 
--- the gain is late behind the first stage too
+-- the gain is late after the first stage too
 late-tail : (spec : Spec) (specs : List Spec) → GainIsLate (spec ∷ specs) → GainIsLate specs
 late-tail (Matrix from to) specs late = late
 late-tail (Hold src dst channels) specs late = late

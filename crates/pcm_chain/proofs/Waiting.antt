@@ -24,7 +24,7 @@ use Rattle.pcm_chain.specs.Pulls.{waiting_frames}
 
 -- ---- the frames of bytes from a later frame on
 
--- a frame of what is left once so many frames are gone
+-- a frame of what is left once n frames are gone
 frame_at-drop : (settings : Settings) (bytes : List ℕ) (n i : ℕ) → frame_at settings (drop (n * frame_bytes settings) bytes) i ≡ frame_at settings bytes (n + i)
 frame_at-drop settings bytes n i =
     let f = settings.format in
@@ -68,7 +68,7 @@ frames-waiting settings bytes n within = frames_of-samples settings (drop (n * f
 abbrev settings_of : Layout → Format → Settings
 settings_of layout format = record { format = format; layout = layout; rate = 0 }
 
--- so many whole frames wait
+-- how many whole frames wait
 pub length-waiting : (plan : PlanSeen) (format : Format) (bytes : List ℕ)
     → length (waiting_frames plan format bytes) ≡ length bytes / (channels_of plan.source * bytes_of format)
 length-waiting plan format bytes =
@@ -94,14 +94,14 @@ pub bytes-wait : (plan : PlanSeen) (format : Format) (bytes : List ℕ) (n : ℕ
 bytes-wait plan format bytes n within =
     frames_fit (settings_of plan.source format) (length bytes) n (omega (arith, length-waiting plan format bytes))
 
--- so many are counted
+-- a ring's fill gives their number
 pub waiting-count : (plan : PlanSeen) (format : Format) (bytes : List ℕ) (source : Layout) (fill c w : ℕ) → fill ≡ length bytes → c ≡ channels_of source → source ≡ plan.source → w ≡ bytes_of format
     → fill / (c * w) ≡ length (waiting_frames plan format bytes)
 waiting-count plan format bytes source fill c w filled channels layout width =
     ap (λ z. z / (c * w)) filled ∙ ap (λ z. length bytes / (z * w)) (channels ∙ ap channels_of layout) ∙ ap (λ z. length bytes / (channels_of plan.source * z)) width
     ∙ sym (length-waiting plan format bytes)
 
--- behind the first frames that wait the others do
+-- once the first frames are gone, the others wait
 pub waiting-drop : (plan : PlanSeen) (format : Format) (bytes : List ℕ) (n : ℕ) → n ≤ length (waiting_frames plan format bytes)
     → waiting_frames plan format (drop (n * (channels_of plan.source * bytes_of format)) bytes) ≡ drop n (waiting_frames plan format bytes)
 waiting-drop plan format bytes n within =
@@ -126,7 +126,7 @@ frames_of-silence c n above =
         let all : c + n * c ≡ suc n * c = omega arith in
         ap (λ rest. silence c ++ rest) (joined n) ∙ replicate-add c (n * c) (pos 0) ∙ ap (λ k. replicate k (pos 0)) all
 
--- what was loaded for a block is the first frames that wait, with silence behind them
+-- what was loaded for a block is the first frames that wait, with silence after them
 pub loaded-frames : (plan : PlanSeen) (format : Format) (bytes : List ℕ) (eaten silent c : ℕ) (samples_now : List ℤ) → c ≡ channels_of plan.source → eaten ≤ length (waiting_frames plan format bytes)
     → take (eaten * c + silent * c) samples_now ≡ samples format (take (eaten * c * bytes_of format) bytes) ++ replicate (silent * c) (pos 0)
     → first_frames (eaten + silent) c samples_now ≡ take eaten (waiting_frames plan format bytes) ++ replicate silent (silence c)

@@ -28,7 +28,7 @@ boxes_in chain = chain.boxes
 abbrev pub IsOfKinds : {B : Type 0} → (B → Kind) → ChainOf B → Type 0
 IsOfKinds kind chain = HaveKinds kind (boxes_in chain)
 
--- what tells its boxes from others
+-- the marks of its boxes
 abbrev pub marks_in : {B : Type 0} → (B → ℕ) → ChainOf B → SevenOf ℕ
 marks_in mark chain = marks_of mark (boxes_in chain)
 
@@ -58,14 +58,14 @@ pub record HasGiven (spec : Spec) (tables : Filters) (x given : List Frame) : Ty
   pub frames : (k : ℕ) (other : Frame) → k < length given
       → IsOutput spec tables (stream_of (channels_in spec) x) k (slice_index_or given k other)
 
--- stages that stand for the frames x: each has eaten what the one before it has given, and the last has given so many
+-- stages that stand for the frames x: each has eaten what the one before it has given, and the last has given `given` frames
 abbrev pub StagesStand : (Spec → Kept) → Filters → List Spec → List Frame → ℕ → Type 0
 StagesStand keeps tables [] x given = length x ≡ given
 StagesStand keeps tables (spec ∷ specs) x given =
     (middle : List Frame) × StandsFor spec tables (keeps spec) x (length middle) × HasGiven spec tables x middle × StagesStand keeps tables specs middle given
 
--- A chain that has eaten the frames x and so many frames of silence behind them, and has given so many frames. Silence is
--- eaten only as far as the frames given need it.
+-- A chain that has eaten the frames x and then `zeros` frames of silence, and has given `given` frames. Silence is eaten only
+-- as far as the frames given need it.
 pub record ChainStands {B : Type 0} (kept : B → Kept) (tables : Filters) (chain : ChainOf B)
     (x : List Frame) (zeros given : ℕ) : Type 0 where
   pub fits : IsPlan (plan_in chain)

@@ -29,20 +29,20 @@ pub record AreBounded (rate : Rate) (counts : Counts) : Type 0 where
   pub in_time : InTime rate counts
   pub few : counts.given ≤ RATE_MOST
 
--- how many frames went into the stages: those eaten, and silence behind them where outputs needed it
+-- how many frames went into the stages: those eaten, and silence after them where outputs needed it
 abbrev pub fed_in_all : Rate → Counts → ℕ
 fed_in_all rate counts = max counts.eaten (need rate counts.given)
 
--- so many outputs need no more than a block's frames
+-- `want` more outputs need no more than a block's frames
 abbrev pub NeedABlock : Rate → Counts → ℕ → Type 0
 NeedABlock rate counts want =
     need rate (counts.given + want) ≤ fed_in_all rate counts + BLOCK_FRAMES
 
--- so many frames allow fewer outputs than have room in a block
+-- `frames` more frames allow fewer outputs than have room in a block
 abbrev pub AllowABlock : Rate → Counts → ℕ → Type 0
 AllowABlock rate counts frames = can rate (counts.eaten + frames) < counts.given + BLOCK_FRAMES
 
--- What a block of at most `want` outputs moves, where so many frames wait: it eats what the outputs need, as far as that waits;
+-- What a block of at most `want` outputs moves, where `waiting` frames wait: it eats what the outputs need, as far as that waits;
 -- it gives what is allowed then; and it eats silence where outputs need more.
 pub record Goes (rate : Rate) (ended : Bool) (counts : Counts) (waiting want : ℕ) (advance : Advance) : Type 0 where
   pub eaten : advance.eaten ≡ min waiting (need rate (counts.given + want) - fed_in_all rate counts)
@@ -50,7 +50,7 @@ pub record Goes (rate : Rate) (ended : Bool) (counts : Counts) (waiting want : �
   pub silent : advance.silent ≡ need rate (counts.given + advance.given) - (fed_in_all rate counts + advance.eaten)
 
 -- All frames eaten and given, and the counts that stand for them: on both sides as much was left out as lasts equally long.
--- Where the rate is changed it is left out behind the first output alone.
+-- Where the rate is changed, something is left out only after the first output.
 pub record StandFor (rate : Rate) (counts : Counts) (eaten given : ℕ) : Type 0 where
   pub eaten_before : ℕ
   pub given_before : ℕ
@@ -69,7 +69,7 @@ abbrev pub StandOn : Rate → Counts → Advance → Counts → Type 0
 StandOn rate counts advance new = (eaten given : ℕ) → StandFor rate counts eaten given
     → StandFor rate new (eaten + advance.eaten) (given + advance.given)
 
--- what a block moves that eats so many frames, and gives all outputs that are sure then
+-- what a block moves that eats `frames` frames, and gives all outputs that are sure then
 abbrev pub eats_all : Rate → Counts → ℕ → Advance
 eats_all rate counts frames = record {
   eaten = frames;

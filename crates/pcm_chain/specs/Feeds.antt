@@ -1,4 +1,4 @@
--- What frames come to on their way through stages that are fed one after another.
+-- What stages that are fed one after another make of frames.
 use Rattle.std.specs.Prelude.{◌≡◌, ◌≤◌, ℕ, ◌*◌, ℤ, List, [], ◌∷◌, length, take}
 use Rattle.pcm_format.specs.Frames.{Frame}
 use Rattle.pcm_feeder.specs.declared.stage.Gain.{Gain}
@@ -52,7 +52,7 @@ AreFed old new tables gain want (spec ∷ specs) input =
     (new spec ≡ (turn_in old tables gain want spec input).kept)
     × AreFed old new tables gain want specs (turn_in old tables gain want spec input).frames
 
--- Frames went through stages: each keeps what it does then, and so many frames came out and stand at
+-- Frames went through stages: each keeps what it does then, and `count` frames came out and stand at
 -- the front of an output.
 pub record GoneThrough (old new : Spec → Kept) (tables : Filters) (gain : Gain) (want : ℕ)
     (stages : List Spec) (input : List Frame) (count : ℕ) (before after : List ℤ) : Type 0 where
@@ -60,7 +60,7 @@ pub record GoneThrough (old new : Spec → Kept) (tables : Filters) (gain : Gain
   pub given : count ≡ length (fed_through old tables gain want stages input)
   pub out : after ≡ written (fed_through old tables gain want stages input) before
 
--- stages that take frames of so many channels, and whose last one has room for so many frames
+-- stages that take frames of `source` channels, and whose last one has room for `want` frames
 pub record HaveRoom (source : ℕ) (specs : List Spec) (want room : ℕ) : Type 0 where
   pub target : ℕ
   pub follow : Follow source specs target

@@ -14,7 +14,7 @@ use Rattle.pcm_chain.specs.Chains.{plan_in, ChainStands}
 use Rattle.pcm_chain.specs.Pulls.{Pulls}
 use Rattle.pcm_chain.specs.Pushes.{pushed_frames}
 
--- A chain has eaten just the frames x that those given need, and no silence behind them.
+-- A chain has eaten just the frames x that those given need, and no silence after them.
 pub record GivesExactly {B : Type 0} (kept : B → Kept) (tables : Filters) (chain : ChainOf B)
     (x : List Frame) (given : ℕ) : Type 0 where
   pub stands : ChainStands kept tables chain x 0 given
@@ -24,12 +24,12 @@ pub record GivesExactly {B : Type 0} (kept : B → Kept) (tables : Filters) (cha
 abbrev pub filling_frames : PlanSeen → List ℤ → ℕ
 filling_frames plan out = length out / channels_of plan.target
 
--- samples are just as many frames as `count` outputs need behind those given
+-- samples are just as many frames as `count` outputs need after those given
 abbrev pub AreJustEnough : PlanSeen → List ℤ → ℕ → ℕ → Type 0
 AreJustEnough plan input given count = length (pushed_frames plan input)
     ≡ need (rate_in_plan plan) (given + count) - need (rate_in_plan plan) given
 
--- what a chain may be handed for `count` frames: it has eaten just the frames that those given need, and these are what the next ones do
+-- what a chain may be given for `count` frames: it has eaten just the frames that those given need, and these are what the next ones need
 pub record CanGive {B : Type 0} (kept : B → Kept) (tables : Filters) (chain : ChainOf B)
     (input : List ℤ) (count : ℕ) : Type 0 where
   pub frames : List Frame
@@ -37,14 +37,14 @@ pub record CanGive {B : Type 0} (kept : B → Kept) (tables : Filters) (chain : 
   pub gives : GivesExactly kept tables chain frames given
   pub enough : AreJustEnough (plan_in chain) input given count
 
--- What a give of frames means to whoever knows the frames x that were eaten before and how many were
--- given: all are eaten, and the plan's next frames over all of them fill the buffer.
+-- What a give of frames does to a chain that has eaten the frames x and given `given` frames: all are
+-- eaten, and the plan's next frames over all of them fill the buffer.
 pub record GivesNext {B : Type 0} (kept : B → Kept) (tables : Filters) (input : List Frame) (count : ℕ)
     (old new : ChainOf B) (x : List Frame) (given : ℕ) (out : List ℤ) : Type 0 where
   pub exactly : GivesExactly kept tables new (x ++ input) (given + count)
   pub frames : out ≡ interleaved (recs (plan_in old) tables (x ++ input) given count)
 
--- a give of samples means that to whoever knows them
+-- a give of samples does that, whatever the frames x and `given`
 abbrev pub GivesOn : {B : Type 0} → (B → Kept) → Filters → List ℤ → ℕ
     → ChainOf B → ChainOf B → List ℤ → Type 0
 GivesOn kept tables input count old new out =
@@ -52,7 +52,7 @@ GivesOn kept tables input count old new out =
     → AreJustEnough (plan_in old) input given count
     → GivesNext kept tables (pushed_frames (plan_in old) input) count old new x given out
 
--- a block is a pull at a gain of one that gives all that it is asked for, to whoever knows that the input suffices
+-- a block is a pull at a gain of one that gives all that it is asked for, where the input suffices
 abbrev pub GivesABlock : {B : Type 0} → (B → Kept) → Filters → ℕ → List ℤ
     → ChainOf B → ChainOf B → ℕ → List ℤ → List ℤ → Type 0
 GivesABlock kept tables want input old new eaten out_old out_new =

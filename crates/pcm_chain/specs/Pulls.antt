@@ -26,14 +26,14 @@ waiting_frames plan format bytes = frames_of (channels_of plan.source) (samples 
 abbrev pub IsPastTheEnd : Bool → ℕ → List Frame → Type 0
 IsPastTheEnd ended zeros waiting = 0 < zeros → IsTrue ended × (waiting ≡ [])
 
--- How far a pull goes, for whoever knows that n frames were eaten before and so many given. So many
+-- How far a pull goes where n frames were eaten and `before` frames given before it, and `waiting`
 -- frames wait.
 pub record PullsAsFar (rate : Rate) (ended : Bool) (want n waiting before : ℕ) (pulled : Pulled)
     : Type 0 where
   pub given : pulled.given ≡ min want (allowed_in_all ended rate (n + waiting) - before)
   pub eaten : n + pulled.eaten ≡ max n (min (n + waiting) (need rate (before + want)))
 
--- where a chain stands behind a pull: silence was eaten only where nothing more comes and all that waited was eaten
+-- where a chain stands after a pull: silence was eaten only where nothing more comes and all that waited was eaten
 pub record StandsBehind {B : Type 0} (kept : B → Kept) (tables : Filters) (ended : Bool)
     (waiting : List Frame) (chain : ChainOf B) (x : List Frame) (before : ℕ) (pulled : Pulled)
     : Type 0 where
@@ -41,8 +41,8 @@ pub record StandsBehind {B : Type 0} (kept : B → Kept) (tables : Filters) (end
   pub stands : ChainStands kept tables chain (x ++ take pulled.eaten waiting) zeros (before + pulled.given)
   pub ends : 0 < zeros → IsTrue ended × (pulled.eaten ≡ length waiting)
 
--- What a pull means to whoever knows the frames x that were eaten before and how many were given:
--- it goes as far as the counts say, and the frames given are the plan's over all frames.
+-- What a pull does to a chain that has eaten the frames x and given `before` frames: it goes as far
+-- as the counts say, and the frames given are the plan's over all frames.
 pub record Pulls {B : Type 0} (kept : B → Kept) (tables : Filters) (gain : Gain) (ended : Bool)
     (want : ℕ) (waiting : List Frame) (old new : ChainOf B) (x : List Frame) (before : ℕ)
     (pulled : Pulled) (out_old out_new : List ℤ) : Type 0 where
@@ -50,7 +50,7 @@ pub record Pulls {B : Type 0} (kept : B → Kept) (tables : Filters) (gain : Gai
   pub frames : out_new ≡ written (outs (plan_in old) tables gain (x ++ waiting) before pulled.given) out_old
   pub stands : StandsBehind kept tables ended waiting new x before pulled
 
--- a pull means that to whoever knows them, where silence was eaten only past the end
+-- a pull does that, whatever the frames x and `before`, where silence was eaten only past the end
 abbrev pub PullsOn : {B : Type 0} → (B → Kept) → Filters → Gain → Bool → ℕ → Format → Ring
     → ChainOf B → ChainOf B → Pulled → List ℤ → List ℤ → Type 0
 PullsOn kept tables gain ended want format ring old new pulled out_old out_new =

@@ -16,7 +16,7 @@ use Rattle.pcm_chain.specs.declared.chain.ChainOf.{ChainOf}
 use Rattle.pcm_chain.specs.declared.chain.Pushed.{Pushed}
 use Rattle.pcm_chain.specs.Chains.{plan_in, ChainStands}
 
--- A chain that records has eaten the frames x, with no silence behind them, and has given all outputs
+-- A chain that records has eaten the frames x, with no silence after them, and has given all outputs
 -- that they allow.
 abbrev pub HasRecorded : {B : Type 0} → (B → Kept) → Filters → ChainOf B → List Frame → Type 0
 HasRecorded kept tables chain x =
@@ -43,9 +43,9 @@ room_for plan format ring = free_bytes ring / (channels_of plan.target * bytes_o
 abbrev pub pushed_frames : PlanSeen → List ℤ → List Frame
 pushed_frames plan samples = frames_of (channels_of plan.source) samples
 
--- What a push of frames means to whoever knows the frames x that were recorded before: all are eaten,
--- and all frames come that the plan allows by then. The first ones are kept: they are spelled behind
--- the bytes that wait.
+-- What a push of frames does to a chain that has recorded the frames x: all are eaten, and all frames
+-- come that the plan allows by then. The first ones are kept: they are spelled after the bytes that
+-- wait.
 pub record Pushes {B : Type 0} (kept : B → Kept) (tables : Filters) (format : Format)
     (input : List Frame) (old new : ChainOf B) (x : List Frame) (pushed : Pushed)
     (bytes_old bytes_new : List ℕ) : Type 0 where
@@ -55,7 +55,7 @@ pub record Pushes {B : Type 0} (kept : B → Kept) (tables : Filters) (format : 
   pub bytes : bytes_new ≡ bytes_old ++ spelled_frames format
       (recs (plan_in old) tables (x ++ input) (can (rate_in_plan (plan_in old)) (length x)) pushed.kept)
 
--- a push of samples means that to whoever knows them
+-- a push of samples does that, whatever the frames x
 abbrev pub PushesOn : {B : Type 0} → (B → Kept) → Filters → Format → List ℤ
     → ChainOf B → ChainOf B → Pushed → Ring → Ring → Type 0
 PushesOn kept tables format input old new pushed ring_old ring_new =

@@ -7,11 +7,11 @@ use Rattle.pcm_format.specs.Samples.{samples, spelled}
 use Rattle.pcm_plan.specs.Plans.{PlanSeen}
 use Rattle.pcm_ring.specs.Ring.{Ring}
 
--- how many bytes so many frames of a plan's source are, in a format
+-- how many bytes `frames` frames of a plan's source are, in a format
 abbrev pub taken_bytes : PlanSeen → Format → ℕ → ℕ
 taken_bytes plan format frames = frames * (channels_of plan.source * bytes_of format)
 
--- and so many of its target
+-- and frames of its target
 abbrev pub put_bytes : PlanSeen → Format → ℕ → ℕ
 put_bytes plan format frames = frames * (channels_of plan.target * bytes_of format)
 
@@ -19,16 +19,16 @@ put_bytes plan format frames = frames * (channels_of plan.target * bytes_of form
 abbrev pub without_bytes : ℕ → Ring → Ring
 without_bytes count ring = record ring { bytes = drop count ring.bytes }
 
--- a ring with samples spelled behind what waits in it
+-- a ring with samples spelled after what waits in it
 abbrev pub with_samples : Format → List ℤ → Ring → Ring
 with_samples format list ring =
     record ring { bytes = ring.bytes ++ flat_map (spelled format) list }
 
--- so many bytes more wait in a ring
+-- `count` more bytes wait in a ring
 abbrev pub GrowsBy : ℕ → Ring → Ring → Type 0
 GrowsBy count old new = length new.bytes ≡ length old.bytes + count
 
--- the oldest samples of a ring, and silent ones behind them
+-- the oldest samples of a ring, and silent ones after them
 abbrev pub staged : Format → ℕ → ℕ → Ring → List ℤ
 staged format count silent ring =
     samples format (take (count * bytes_of format) ring.bytes) ++ replicate silent (pos 0)

@@ -163,7 +163,7 @@ impl<B: Feeder> ChainOf<B> {
         pulled
     }
 
-    // A pull of so few frames that those eaten for them make a block, where so many wait.
+    // Pulls `want` frames, few enough for those that they need to fit in a block, where `waiting` frames wait.
     fn pull_block(
         &mut self,
         tables: &Tables,
@@ -221,7 +221,7 @@ impl<B: Feeder> ChainOf<B> {
         }
     }
 
-    /// Puts all frames of `input` through the chain, and the frames that come of them behind what waits in a ring. Those that have
+    /// Puts all frames of `input` through the chain, and the frames that come of them after what waits in a ring. Those that have
     /// no room there are lost: the first ones are kept, and no part of one. Takes no memory.
     pub fn push(
         &mut self,
@@ -262,7 +262,7 @@ impl<B: Feeder> ChainOf<B> {
         pushed
     }
 
-    // A push of so few frames that they make a block, and so do those that come of them.
+    // Pushes few enough frames for them to fit in a block, and for those that come of them to do so too.
     fn push_block(
         &mut self,
         tables: &Tables,
@@ -342,7 +342,7 @@ impl<B: Feeder> ChainOf<B> {
         }
     }
 
-    // A give of so few frames that those eaten for them make a block, where so many wait. Answers how many were eaten.
+    // Gives `want` frames, few enough for those that they need to fit in a block, where `waiting` frames wait. Returns how many were eaten.
     fn give_block(
         &mut self,
         tables: &Tables,

@@ -16,7 +16,7 @@ pub struct Counts {
     pub given: u64,
 }
 
-/// What a block moves, in frames: those that it eats out of a ring, the silence that it eats behind them, and those that it
+/// What a block moves, in frames: those that it eats out of a ring, the silence that it eats after them, and those that it
 /// gives.
 #[derive(Clone, Copy, Debug, PartialEq, Eq)]
 pub struct Advance {
@@ -57,7 +57,7 @@ impl Counts {
         self.eaten.max(rate.need(self.given) as u64)
     }
 
-    /// What a block of at most `want` outputs moves, where so many frames wait.
+    /// What a block of at most `want` outputs moves, where `waiting` frames wait.
     pub fn advance(self, rate: Rate, ended: bool, waiting: usize, want: usize) -> Advance
         requires near { IsNear rate }
         requires bounded { AreBounded rate self }
@@ -80,7 +80,7 @@ impl Counts {
         }
     }
 
-    // How many of `want` outputs so many frames allow in all.
+    // How many of `want` more outputs are given, once `frames` frames in all are eaten.
     fn gives(self, rate: Rate, ended: bool, frames: u64, want: usize) -> usize
         requires { IsNear rate }
         ensures { result ≡ min want (allowed_in_all ended rate frames - self.given) }
@@ -94,8 +94,8 @@ impl Counts {
         more.min(want as u128) as usize
     }
 
-    /// How many of so many frames make a block that is eaten whole: no more outputs come of it than
-    /// have room in a block, and one more.
+    /// How many of `offered` frames make a block that is eaten whole: the outputs that come of it, and
+    /// one more, have room in a block.
     pub fn piece(self, rate: Rate, offered: usize) -> usize
         requires near { IsNear rate }
         requires bounded { AreBounded rate self }
@@ -110,7 +110,7 @@ impl Counts {
         offered.min(BLOCK_FRAMES).min(more as usize)
     }
 
-    /// What a block of so many frames moves that is eaten whole.
+    /// What a block of `frames` frames moves that is eaten whole.
     pub fn advance_whole(self, rate: Rate, frames: usize) -> Advance
         requires near { IsNear rate }
         requires bounded { AreBounded rate self }
@@ -126,7 +126,7 @@ impl Counts {
         }
     }
 
-    /// The counts after a block, without whole periods of so many frames and outputs.
+    /// The counts after a block, without whole periods: `period` is how many frames and outputs one has.
     pub fn after(self, rate: Rate, period: (u32, u32), advance: Advance) -> Counts
         requires near { IsNear rate }
         requires bounded { AreBounded rate self }

@@ -52,7 +52,7 @@ fn fit_stage<B: Feeder>(boxes: &mut SevenOf<B>, spec: Spec)
 }
 
 /// Puts the first `frames` frames of a staging, each of `source` channels, through stages that each give to the next one. The
-/// last one gives at most `want` frames to the front of `out`. Answers how many these are.
+/// last one gives at most `want` frames to the front of `out`. Returns how many these are.
 pub fn feed_stages<B: Feeder>(
     boxes: &mut SevenOf<B>,
     stages: &[Spec],
@@ -114,7 +114,7 @@ pub fn feed_stages<B: Feeder>(
     )
 }
 
-// Feeds the first `frames` frames of `input` to the box of a stage, which gives frames to the front of `output`. Answers how many
+// Feeds the first `frames` frames of `input` to the box of a stage, which gives frames to the front of `output`. Returns how many
 // these are.
 fn feed_stage<B: Feeder>(
     boxes: &mut SevenOf<B>,

@@ -44,7 +44,7 @@ impl Staging {
         Ok(Staging { now, next, bytes })
     }
 
-    /// Moves the oldest `count` samples of a ring to the front of `now`, and puts `silent` ones behind them.
+    /// Moves the oldest `count` samples of a ring to the front of `now`, and puts `silent` ones after them.
     pub fn load(&mut self, ring: &mut ByteRing, format: Format, count: usize, silent: usize)
         requires within { count + silent ≤ BLOCK_SAMPLES }
         requires waiting { count * bytes_of format ≤ length ring.old.bytes }
@@ -65,7 +65,7 @@ impl Staging {
         copy_front(samples, &mut self.now);
     }
 
-    /// Spells the first of `count` frames behind what waits in a ring, as many as have room. Answers how many these are.
+    /// Spells the first of `count` frames after what waits in a ring, as many as have room. Returns how many these are.
     pub fn spell(
         &mut self,
         samples: &[i32],
@@ -126,7 +126,7 @@ fn copy_front(samples: &[i32], frames: &mut [i32])
     }
 }
 
-// Spells samples behind what waits in a ring that has room for them. The bytes are scratch.
+// Spells samples after what waits in a ring that has room for them. The bytes are scratch.
 fn spell_behind(ring: &mut ByteRing, format: Format, samples: &[i32], bytes: &mut [u8])
     requires bytes { length samples.now * bytes_of format ≤ length bytes.old }
     requires room { length samples.now * bytes_of format ≤ free_bytes ring.old }

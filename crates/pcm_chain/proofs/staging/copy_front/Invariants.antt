@@ -2,7 +2,7 @@ use Rattle.std.proofs.Common.{◌≡◌, take, length, All}
 use Rattle.pcm_num.specs.Limit.{FitsBits}
 use Rattle.pcm_chain.proofs.staging.copy_front.Given as goal
 
--- so many samples were copied, each of which has 32 bits
+-- the first i samples were copied, each of which has 32 bits
 abbrev pub invariant-loop-i : goal.invariant-loop-i
 invariant-loop-i l = record {
   size : length l.frames ≡ length l.fn.frames;

@@ -12,7 +12,7 @@ use Rattle.pcm_chain.specs.Pulls.{Pulls}
 use Rattle.pcm_chain.specs.Pushes.{pushed_frames}
 use Rattle.pcm_chain.proofs.chain.ChainOf.give.Given as goal
 
--- so many frames were asked for, and given where the input suffices
+-- `asked` frames were asked for, and given where the input suffices
 abbrev pub invariant-loop-asked : goal.invariant-loop-asked
 invariant-loop-asked g l = record {
   within : l.asked ≤ l.want;

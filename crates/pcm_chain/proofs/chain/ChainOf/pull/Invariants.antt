@@ -7,7 +7,7 @@ use Rattle.pcm_chain.specs.Chains.{boxes_in, plan_in, AreFitted, ChainStands}
 use Rattle.pcm_chain.specs.Pulls.{waiting_frames, IsPastTheEnd, Pulls}
 use Rattle.pcm_chain.proofs.chain.ChainOf.pull.Given as goal
 
--- so many frames were asked for, and pulled as far as that
+-- `asked` frames were asked for, and the loop has done what one pull of them does
 abbrev pub invariant-loop-asked : goal.invariant-loop-asked
 invariant-loop-asked g l = record {
   within : l.asked ≤ l.want;

@@ -8,7 +8,7 @@ use Rattle.pcm_chain.specs.Chains.{boxes_in, plan_in}
 use Rattle.pcm_chain.specs.Pushes.{pushed_frames, room_for, HasRecorded, HasRecordedSome, Pushes}
 use Rattle.pcm_chain.proofs.chain.ChainOf.push.Given as goal
 
--- so many frames were eaten, and those that came of them were kept as far as there was room
+-- `eaten` frames were eaten, and the frames made of them were kept as far as there was room
 abbrev pub invariant-loop-eaten : goal.invariant-loop-eaten
 invariant-loop-eaten g l = record {
   within : l.eaten ≤ l.frames;
