@@ -96,7 +96,7 @@ get_or-change_in group how (its ∷ slots) [] slot none some there = absurd (ome
 get_or-change_in group how (its ∷ slots) (book ∷ books) zero none some there = refl
 get_or-change_in group how (its ∷ slots) (book ∷ books) (suc slot) none some there = get_or-change_in group how slots books slot none some (omega arith)
 
--- of the slots from one on: it is so of that one, and of those behind it
+-- of the slots from one on: it is so of that one, and of those after it
 pub all_in-drop : {B : Type 0} (group : ℕ) (so : B → Bool) (slots : List ℕ) (books : List B) (slot : ℕ) (none : B) → 0 < group → slot < length books
     → all_in group so (drop slot slots) (drop slot books) ≡ ((not (eqb (get_or slots slot 0) group) || so (get_or books slot none)) && all_in group so (drop (slot + 1) slots) (drop (slot + 1) books))
 all_in-drop {B = B} group so [] books slot none some there =

@@ -1,4 +1,4 @@
-//! Groups of channels that start together: who is a member of which, what a join comes to, and who starts with whom.
+//! Groups of channels that start together: which channel is a member of which, what a join gives, and who starts with whom.
 #![tactic(auto)]
 
 mod sync_groups;
