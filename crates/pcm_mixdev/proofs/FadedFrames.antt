@@ -51,7 +51,7 @@ pub faded-interleaved : (layout : Layout) (gain : Gain) (list : List Frame) → 
 faded-interleaved layout gain list have =
     ap (λ (frames : List Frame). interleaved (map (at_gain layout gain) frames)) (frames_of-interleaved (channels_of layout) list (channels_of-above layout) have)
 
--- so are frames that are told by their places
+-- so are frames that are given by their places
 pub faded-joined : (layout : Layout) (gain : Gain) (frame : ℕ → Frame) (a n : ℕ) → ((k : ℕ) → k < n → length (frame (a + k)) ≡ channels_of layout)
     → faded layout gain (flat_map frame (range_with_len a n)) ≡ flat_map (λ k. at_gain layout gain (frame k)) (range_with_len a n)
 faded-joined layout gain frame a n have =

@@ -21,7 +21,7 @@ length-first gains k samples within =
     length-interleaved n (map (at_gains gains) list) (All-map P (at_gains gains) list (λ i d below. length-at_gains gains (get_or list i d) (have i d below)))
     ∙ ap (λ (c : ℕ). c * n) (length-map list (at_gains gains) ∙ length-take-le k all (omega (arith, length-frames_of n samples)))
 
--- the frames behind them are as they were
+-- the frames after them are as they were
 pub rest-stays : (gains : List ℕ) (k : ℕ) (samples now : List ℤ) → k + 1 ≤ length samples / length gains
     → now ≡ written (map (at_gains gains) (take k (frames_of (length gains) samples))) samples → drop (k * length gains) now ≡ drop (k * length gains) samples
 rest-stays gains k samples now within is =

@@ -31,7 +31,7 @@ is_muted mixer slot = slice_index_or mixer.muted slot false
 
 -- ---- requests
 
--- a request is accepted whose volume is one, whose slot is among so many, and whose mute is 0 or 1
+-- a request is accepted if its volume is one, its slot is below `slots`, and its mute is 0 or 1
 abbrev pub may_ask : ℕ → MixRequest → Bool
 may_ask slots (SetMaster volume) = is_volume volume
 may_ask slots GetMaster = true
@@ -46,7 +46,7 @@ asked_mixer (SetSlot slot volume) mixer = record mixer { volumes = slice_set mix
 asked_mixer (Mute slot on) mixer = record mixer { muted = slice_set mixer.muted slot (on == 1) }
 asked_mixer request mixer = mixer
 
--- and what it is told: a volume, unless it mutes
+-- and its answer: a volume, unless it mutes
 abbrev pub told_mixer : MixRequest → Levels → Answer
 told_mixer (SetMaster volume) mixer = Number volume
 told_mixer GetMaster mixer = Number mixer.master
@@ -54,7 +54,7 @@ told_mixer (SetSlot slot volume) mixer = Number volume
 told_mixer (GetSlot slot) mixer = Number (slot_volume mixer slot)
 told_mixer (Mute slot on) mixer = Done
 
--- the mixer after a request, beside so many slots
+-- the mixer after a request, where there are `slots` slots
 abbrev pub mixer_after : ℕ → MixRequest → Levels → Levels
 mixer_after slots request mixer = if may_ask slots request then asked_mixer request mixer else mixer
 

@@ -5,7 +5,7 @@ ghost use Rattle.pcm_mixdev.specs.Mixers.{may_ask};
 
 use pcm_oss::{MixRequest, is_volume};
 
-/// Whether a request is accepted, beside so many slots.
+/// Whether a request is accepted, where there are `slots` slots.
 pub fn may_ask(slots: u32, request: MixRequest) -> bool
     ensures { result ≡ may_ask slots request }
 {

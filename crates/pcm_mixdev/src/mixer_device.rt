@@ -44,7 +44,7 @@ impl MixDev {
         }
     }
 
-    /// A request, beside so many slots: those that play, and behind them those of mapped areas. A volume that isn't one, a slot that isn't
+    /// A request, where there are `slots` slots: those that play, then those of mapped areas. A volume that isn't one, a slot that isn't
     /// among these, and a mute that is neither 0 nor 1 are invalid, and change nothing.
     pub fn ask(&mut self, slots: u32, request: MixRequest) -> Result<Answer, Errno>
         requires { slots ≤ SLOTS }
