@@ -15,7 +15,7 @@ ring_size fragments = fragments.count * fragment_size fragments
 abbrev pub log_asked : ℕ → ℕ
 log_asked arg = max (min (arg % 65536) 16) 4
 
--- how many fragments are asked for where so many fit: 0 asks for all, and every other number for at least two
+-- how many fragments are asked for where `most` fit: 0 asks for all, and every other number for at least two
 abbrev pub count_asked : ℕ → ℕ → ℕ
 count_asked most zero = most
 count_asked most (suc asked) = min (max (suc asked) 2) most

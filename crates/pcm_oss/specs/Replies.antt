@@ -1,4 +1,4 @@
--- What an event is answered.
+-- The reply to an event.
 use Rattle.std.specs.Prelude.{ℕ, List, Result, Ok}
 use Rattle.pcm_oss.specs.declared.reply.Answer.{Answer}
 use Rattle.pcm_oss.specs.declared.reply.Answer.TheVariants.{Got}

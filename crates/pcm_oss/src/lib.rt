@@ -1,5 +1,5 @@
-//! The words of the Open Sound System: what clients ask by events and requests, and what these are answered.
-//! Fragments and volumes are told as the numbers that requests carry.
+//! The types of the Open Sound System: what clients ask by events and requests, and the replies.
+//! Fragments and volumes are the numbers that requests carry.
 #![tactic(auto)]
 
 mod event;

@@ -1,6 +1,6 @@
 //! What is asked of the mixer device, which needs no descriptor.
 
-/// A request of the mixer device. Volumes are numbers as those of a channel, and slots go by the numbers that openings are told.
+/// A request of the mixer device. Volumes are numbers as those of a channel, and slots have the numbers that opens return.
 #[derive(Clone, Copy, Debug, PartialEq, Eq)]
 pub enum MixRequest {
     /// `SOUND_MIXER_WRITE_VOLUME`: the volume of all that is mixed.

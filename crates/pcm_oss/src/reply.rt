@@ -1,4 +1,4 @@
-//! What an event is answered.
+//! The reply to an event.
 
 ghost use Rattle.std.specs.Prelude.{◌≡◌, ◌≤◌, [], length, take, IfOk};
 ghost use Rattle.pcm_oss.specs.Replies.{bytes_due};
@@ -22,7 +22,7 @@ pub enum Errno {
     Exist,
 }
 
-/// What an accepted event is answered.
+/// The answer to an accepted event.
 #[derive(Clone, Copy, Debug, PartialEq, Eq)]
 pub enum Answer {
     Done,
@@ -34,7 +34,7 @@ pub enum Answer {
         fragsize: u32,
         bytes: u32,
     },
-    /// A position: bytes since the opening or its last halt, fragments that were passed since it was told last, and the
+    /// A position: bytes since the opening or its last halt, fragments that were passed since the last such answer, and the
     /// place in the ring.
     Pointer {
         bytes: u64,
@@ -46,7 +46,7 @@ pub enum Answer {
         underruns: u32,
         overruns: u32,
     },
-    /// How many bytes a read got, which stand beside the answer.
+    /// How many bytes a read got; the bytes themselves stand beside the answer.
     Got(u32),
 }
 

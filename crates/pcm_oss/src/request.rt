@@ -39,8 +39,8 @@ pub enum Request {
     GetPlayVol,
     /// `SNDCTL_DSP_POST`: start now.
     Post,
-    /// `SNDCTL_DSP_SYNC`: no more comes for now, play what is there.
+    /// `SNDCTL_DSP_SYNC`: drain. No more is written for now, and what waits is played.
     Sync,
-    /// `SNDCTL_DSP_HALT`: drop what is there.
+    /// `SNDCTL_DSP_HALT`: drop what waits.
     Halt,
 }
