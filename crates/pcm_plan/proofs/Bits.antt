@@ -31,7 +31,7 @@ use Rattle.pcm_plan.specs.Plans.{converting, depth_stages, plan_record}
 use Rattle.pcm_plan.specs.Through.{through, rec, recs}
 use Rattle.pcm_plan.proofs.Fits.{each-converting, each-converter}
 
--- a frame of samples of so many bits
+-- a frame of samples of `bits` bits
 abbrev FrameHasBits : ℕ → Frame → Type 0
 FrameHasBits bits frame = All (FitsBits bits) frame
 

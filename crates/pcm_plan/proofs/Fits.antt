@@ -85,7 +85,7 @@ differ : (n m : ℕ) (before after : List Spec) → n ≢ m → HaveRank n befor
 differ n m before after other first second k d within i e below same =
     other (sym (first k d within) ∙ ap rank_of same ∙ second i e below)
 
--- one stage at most changes the rate, where none behind it does
+-- one stage at most changes the rate, where none does
 pub one-rate-unrated : (specs : List Spec) → All IsUnrated specs → HaveOneRate specs
 one-rate-unrated [] all = tt
 one-rate-unrated (Matrix from to ∷ specs) all = one-rate-unrated specs (All-tail IsUnrated (Matrix from to) specs all)
@@ -271,7 +271,7 @@ play-ratio tables quality client device from to =
 
 -- ---- the order of the stages
 
--- stages that lead from channels to channels, at most so many
+-- at most `most` stages, which lead from one number of channels to another
 record IsRow (from to most : ℕ) (row : List Spec) : Type 0 where
   follow : Follow from row to
   distinct : AreDistinct row
@@ -412,7 +412,7 @@ play-end tables layout bits =
       unrated = All-append IsUnrated (equaliser_stages tables c) rest level last.unrated;
     }
 
--- the gain comes behind the converter
+-- the gain comes after the converter
 late-matrix : (from to : Layout) (rest : List Spec) → GainIsLate rest → GainIsLate (matrix_stages from to ++ rest)
 late-matrix from to rest late =
     cond_both (channels_of from == channels_of to) [] (Matrix from to ∷ []) (λ row. GainIsLate (row ++ rest)) (λ same. late) (λ other. late)

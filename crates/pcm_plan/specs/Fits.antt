@@ -44,7 +44,7 @@ pub record TurnsEach (spec : Spec) : Type 0 where
   pub unrated : IsUnrated spec
   pub nothing : history spec ≡ 0
 
--- behind the volume, whose gain may change, each stage turns each frame by itself
+-- after the volume, whose gain may change, each stage turns each frame by itself
 abbrev pub GainIsLate : List Spec → Type 0
 GainIsLate [] = Unit {0}
 GainIsLate (Volume layout ∷ specs) = All TurnsEach specs
@@ -76,6 +76,6 @@ HaveNoVolume specs = All (λ spec. kind_of spec ≢ kinds.Volume) specs
 abbrev pub HaveTables : List Spec → Filters → Type 0
 HaveTables specs tables = All (λ spec. HasTable spec tables) specs
 
--- each sample of frames has at most so many bits
+-- each sample of frames has at most `bits` bits
 abbrev pub HaveBits : ℕ → List Frame → Type 0
 HaveBits bits frames = All (λ frame. All (FitsBits bits) frame) frames

@@ -59,12 +59,12 @@ rate_stages tables quality src dst channels =
 abbrev pub depth_stages : ℕ → ℕ → List Spec
 depth_stages bits channels = if bits == 32 then [] else Depth bits channels ∷ []
 
--- the equaliser of so many channels, where there are sections
+-- the equaliser of frames of `channels` channels, where there are sections
 abbrev pub equaliser_stages : Filters → ℕ → List Spec
 equaliser_stages tables channels =
     if length tables.sections == 0 then [] else Eq channels (length tables.sections) ∷ []
 
--- To another layout and rate. The rate is changed where there are fewer channels: behind the
+-- To another layout and rate. The rate is changed where there are fewer channels: after the
 -- matrix, unless that adds some.
 abbrev pub converting : Filters → ℕ → Settings → Settings → List Spec
 converting tables quality source target =
@@ -78,7 +78,7 @@ pub record AreRated (one other : Settings) : Type 0 where
   pub client : IsRate one.rate
   pub device : IsRate other.rate
 
--- a client's way into a device, which always has its volume, directly behind the equaliser
+-- a client's way into a device, which always has its volume, directly after the equaliser
 abbrev pub plan_play : Filters → ℕ → Settings → Settings → PlanSeen
 plan_play tables quality client device = record {
   source = client.layout;

@@ -21,7 +21,7 @@ abbrev pub out : PlanSeen → Filters → List Frame → ℕ → Gain → Frame
 out plan tables frames k gain =
     through tables gain plan.stages (stream_of (channels_of plan.source) frames) (pos k)
 
--- so many of them, from frame `from` on, at one gain
+-- `count` of them, from frame `from` on, at one gain
 abbrev pub outs : PlanSeen → Filters → Gain → List Frame → ℕ → ℕ → List Frame
 outs plan tables gain frames from count =
     map (λ k. out plan tables frames k gain) (range_with_len from count)
@@ -30,6 +30,6 @@ outs plan tables gain frames from count =
 abbrev pub rec : PlanSeen → Filters → List Frame → ℕ → Frame
 rec plan tables frames k = out plan tables frames k unity
 
--- so many of them, from frame `from` on
+-- `count` of them, from frame `from` on
 abbrev pub recs : PlanSeen → Filters → List Frame → ℕ → ℕ → List Frame
 recs plan tables frames from count = map (rec plan tables frames) (range_with_len from count)

@@ -15,7 +15,7 @@ use std::marker::Model;
 /// How many stages a plan has at most.
 pub const STAGES: usize = 5;
 
-/// Stages that fit each other, and the layouts before the first and behind the last.
+/// Stages that fit each other, and the layouts before the first and after the last.
 #[derive(Drop)]
 pub struct Plan {
     source: Layout,
@@ -74,7 +74,7 @@ impl Plan {
         Plan::of(layout, layout, ArrayVec::new())
     }
 
-    /// The same plan once more.
+    /// A copy of the plan.
     pub fn copy(&self) -> Plan
         ensures { result ≡ self.now }
     {
@@ -98,7 +98,7 @@ impl Plan {
         self.source
     }
 
-    /// The layout behind the last stage.
+    /// The layout after the last stage.
     pub fn target(&self) -> Layout
         ensures { result ≡ self.now.target }
     {
@@ -129,21 +129,21 @@ impl Plan {
         self.rate().need(outputs)
     }
 
-    /// How many outputs so many frames of the input allow while more may come.
+    /// How many outputs `frames` frames of the input allow while more may come.
     pub fn can(&self, frames: u64) -> u128
         ensures { result ≡ can (rate_in_plan self.now) frames }
     {
         self.rate().can(frames)
     }
 
-    /// How many outputs last as long as so many frames of the input.
+    /// How many outputs last as long as `frames` frames of the input.
     pub fn len(&self, frames: u64) -> u128
         ensures { result ≡ len (rate_in_plan self.now) frames }
     {
         self.rate().len(frames)
     }
 
-    /// How many frames of the input last as long as how many outputs, in lowest terms.
+    /// The numbers of input frames and of outputs that last equally long, in lowest terms.
     pub fn period(&self) -> (u32, u32)
         ensures period { IsPeriod (rate_in_plan self.now) result.0 result.1 }
         ensures same { HasCommonFactor (rate_in_plan self.now).src (rate_in_plan self.now).dst result.0 result.1 }
