@@ -1,4 +1,4 @@
--- The line that tells what an event was answered.
+-- The line that states the reply to an event.
 use Rattle.std.specs.Prelude.{ℕ, List, [], ◌∷◌, ◌++◌, Result, Ok, Err, codes}
 use Rattle.std.specs.Fmt.{decimal}
 use Rattle.hex.specs.Hex.{encode_lower}
@@ -16,7 +16,7 @@ errno_word Inval = codes "inval"
 errno_word BadF = codes "badf"
 errno_word Exist = codes "exist"
 
--- a number of several, behind its name
+-- one of several numbers, after its name
 abbrev pub field : List ℕ → ℕ → List ℕ
 field name number = codes " " ++ name ++ codes "=" ++ decimal number
 
@@ -25,7 +25,7 @@ abbrev pub bytes_text : List ℕ → List ℕ
 bytes_text [] = codes "-"
 bytes_text (byte ∷ bytes) = encode_lower (byte ∷ bytes)
 
--- the text of what an accepted event is answered, and of the bytes that it got
+-- the text of the answer to an accepted event, and of the bytes that it got
 abbrev pub answer_text : Answer → List ℕ → List ℕ
 answer_text Done read = codes "ok"
 answer_text (Number number) read = codes "ok " ++ decimal number

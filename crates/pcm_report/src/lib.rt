@@ -1,4 +1,4 @@
-//! The lines that tell what events were answered, and the texts and numbers that lines are made of.
+//! The lines that state the replies to events, and the texts and numbers that lines are made of.
 //! A line is written into bytes that the caller has, and takes no memory.
 #![tactic(auto)]
 

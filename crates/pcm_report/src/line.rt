@@ -15,7 +15,7 @@ pub const LINE_BYTES: usize = 8320;
 // How many of them are the text of the reply at most.
 const TEXT_BYTES: usize = 8256;
 
-/// Writes the line of the event of a number to the front of `out`. Answers how many bytes it has.
+/// Writes the line of the reply to event `number` to the front of `out`. Returns how many bytes it has.
 pub fn write_line(number: u32, reply: &ReplyBuf, out: &mut [u8]) -> usize
     requires room { LINE_BYTES ≤ length out.old }
     ensures line { take result out.new ≡ reply_line number reply.now }

@@ -1,4 +1,4 @@
-//! Texts that are put into a slice one behind another.
+//! Texts that are put into a slice one after another.
 
 ghost use Rattle.std.specs.Prelude.{◌≡◌, ◌+◌, ◌*◌, ◌≤◌, length};
 ghost use Rattle.std.specs.Fmt.{decimal};
@@ -9,7 +9,7 @@ ghost use Rattle.pcm_report.specs.Texts.{IsPut};
 /// How many digits a number has at most.
 pub const DIGITS: usize = 20;
 
-/// Puts a text at a place. Answers the place behind it.
+/// Puts a text at a place. Returns the place after it.
 pub fn put_text(out: &mut [u8], at: usize, text: &str) -> usize
     requires room { at + length text.now ≤ length out.old }
     ensures put { IsPut text.now at result out.old out.new }
@@ -20,7 +20,7 @@ pub fn put_text(out: &mut [u8], at: usize, text: &str) -> usize
     end
 }
 
-/// Puts a number at a place, in decimal. Answers the place behind it.
+/// Puts a number at a place, in decimal. Returns the place after it.
 pub fn put_number(out: &mut [u8], at: usize, number: u64) -> usize
     requires room { at + DIGITS ≤ length out.old }
     ensures put { IsPut (decimal number) at result out.old out.new }
@@ -29,7 +29,7 @@ pub fn put_number(out: &mut [u8], at: usize, number: u64) -> usize
     put_text(out, at, itoa::Buffer::new().format(number))
 }
 
-// Puts a number behind a space, its name and an equals sign.
+// Puts a space, a name, an equals sign and a number.
 pub(crate) fn put_field(out: &mut [u8], at: usize, name: &str, number: u64) -> usize
     requires room { at + length name.now + DIGITS + 2 ≤ length out.old }
     ensures put { IsPut (field name.now number) at result out.old out.new }
