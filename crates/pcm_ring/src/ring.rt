@@ -58,7 +58,7 @@ impl ByteRing {
         self.size - self.fill()
     }
 
-    /// Puts bytes at the back until the ring is full. Answers how many of `bytes` went in.
+    /// Puts bytes at the back until the ring is full. Returns how many of `bytes` went in.
     pub fn put(&mut self, bytes: &[u8]) -> usize
         ensures count { result ≡ min (length bytes.now) (free_bytes self.old) }
         ensures kept { self.new
@@ -68,7 +68,7 @@ impl ByteRing {
         self.buffer.fill_from_slice(&bytes[..count])
     }
 
-    /// Fills `out` from its start with the bytes that have waited longest. Answers how many there were.
+    /// Fills `out` from its start with the bytes that have waited longest. Returns how many there were.
     pub fn take(&mut self, out: &mut [u8]) -> usize
         ensures count { result ≡ min (length out.old) (length self.old.bytes) }
         ensures moved { out.new ≡ take result self.old.bytes ++ drop result out.old }
