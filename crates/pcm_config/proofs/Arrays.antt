@@ -8,11 +8,11 @@ use Rattle.toml.specs.View.{view, items_view}
 use Rattle.toml.specs.declared.value.Value.{Value}
 use Rattle.pcm_config.specs.Lookups.{as_array_of, each_as, or_empty, table_seen, tables_seen, values_of, with_first}
 
--- values, and more behind them if those are there
+-- values, and more after them if those are there
 abbrev pub joined : {B : Type 0} → List B → Option (List B) → Option (List B)
 joined done more = option_map (λ others. done ++ others) more
 
--- the values from an index on that are still to be read, behind those that were
+-- the values from an index on that are still to be read, after those that were
 abbrev pub IsRead : {A B : Type 0} → (A → Option B) → List A → ℕ → List B → Type 0
 IsRead as_kind values index done = joined done (each_as as_kind (drop index values)) ≡ each_as as_kind values
 

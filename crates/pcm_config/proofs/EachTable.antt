@@ -23,12 +23,12 @@ Reader A = Members → Result A ConfigRefusal
 abbrev with_one : {A : Type 0} → Result A ConfigRefusal → Result (List A) ConfigRefusal → Result (List A) ConfigRefusal
 with_one one others = one >>= (λ first. others >>= (λ rest. Ok (first ∷ rest)))
 
--- what was read, and more behind it if that isn't refused
+-- what was read, and more after it if that isn't refused
 abbrev pub with_more : {A : Type 0} → List A → Result (List A) ConfigRefusal → Result (List A) ConfigRefusal
 with_more done (Ok others) = Ok (done ++ others)
 with_more done (Err refusal) = Err refusal
 
--- the tables from an index on are still to be read, behind those before
+-- the tables from an index on are still to be read, after those before
 abbrev pub AreRead : {A : Type 0} → Reader A → List Value → ℕ → List A → Type 0
 AreRead read values index done = with_more done (each_read read (tables_seen (drop index values))) ≡ each_read read (tables_seen values)
 
@@ -63,7 +63,7 @@ table-refused read values index done value refusal within at known before =
     sym (first-behind read values index done value within at before)
     ∙ ap (λ first. with_more done (with_one first (each_read read (tables_seen (drop (index + 1) values))))) known
 
--- what is said of the first that comes to nothing is said of all
+-- the fault of the first table that isn't read is the fault of all
 pub all-refused : {A : Type 0} (read : Reader A) (values : List Value) (index : ℕ) (done : List A) (value : Value) (fault : ConfigFault)
     → index < length values → value ≡ get_or values index value → Reads {A = A} (Err fault) (read (table_seen value)) → AreRead read values index done
     → Reads {A = List A} (Err fault) (each_read read (tables_seen values))
@@ -86,7 +86,7 @@ within most count found few same = grind (arith, nat_tests)
 few-are : {A : Type 0} (P : A → Type 0) (most count : ℕ) (list : List A) → nat_lt most count ≡ false → AreKept P count list → AreFew most P list
 few-are P most count list few kept = record { count = within most count (length list) few kept.0; each = kept.1 }
 
--- only so many were read, each of which is what it must be
+-- at most `most` were read, each of which is what it must be
 pub few-kept : {A : Type 0} (most : ℕ) (place : ConfigPlace) (P : A → Type 0) (read : Reader A) → ((table : Members) → IfOk (read table) P)
     → (tables : List Members) → IfOk (few_read most place read tables) (AreFew most P)
 few-kept most place P read known tables =

@@ -27,7 +27,7 @@ any-seen test (key ∷ keys) = ap (λ b. test key.now || b) (any-seen test keys)
 abbrev pub files_seen : List Entry → Option (List FilePath)
 files_seen entries = files_of (entries_of (members_view entries))
 
--- one file more, from the front of those behind
+-- one file more, from the front of those that follow
 pub joined-file : (files : List FilePath) (name path : List ℕ) (more : Option (List FilePath))
     → joined (files ++ record { name = name; path = path } ∷ []) more ≡ joined files (with_file name (Some path) more)
 joined-file files name path None = refl

@@ -1,4 +1,4 @@
--- What code that may run out of memory answers.
+-- What code that may run out of memory returns.
 use Rattle.std.specs.Prelude.{◌≡◌, Result, Ok, Err}
 use Rattle.pcm_config.specs.declared.fault.ConfigFault.{ConfigFault}
 use Rattle.pcm_config.specs.declared.fault.ConfigFault.TheVariants.{Refused, Memory}

@@ -68,7 +68,7 @@ has_capture files (Some name) = is_named files name
 abbrev pub can_mix : Device → Bool
 can_mix device = nat_le (mix_frames (unfiltered device)) MIX_FRAMES
 
--- whether the mix has a slot for each channel that plays, and behind those for each with a mapped area
+-- whether the mix has a slot for each channel that plays, and after those for each with a mapped area
 abbrev pub has_slots : Device → Bool
 has_slots device = nat_le (mixed_slots (unfiltered device)) SLOTS
 

@@ -41,7 +41,7 @@ has_each keys table = list_all (λ key. is_some (get_member key table)) keys
 
 -- ---- what is read
 
--- tables, of which there are only so many at a place
+-- tables, of which there are at most `most` at a place
 abbrev pub few : ℕ → ConfigPlace → List Members → Result (List Members) ConfigRefusal
 few most place tables = if nat_lt most (length tables) then fault_at Count place else Ok tables
 
@@ -53,13 +53,13 @@ each_read read (table ∷ tables) = do
   others ← each_read read tables
   Ok (first ∷ others)
 
--- and of those of which there are only so many
+-- and of those of which there are at most `most`
 abbrev pub few_read : {A : Type 0} → ℕ → ConfigPlace → (Members → Result A ConfigRefusal) → List Members → Result (List A) ConfigRefusal
 few_read most place read tables = do
   counted ← few most place tables
   each_read read counted
 
--- only so many, each of which is what it must be
+-- at most `most` items, each of which is what it must be
 pub record AreFew {A : Type 0} (most : ℕ) (P : A → Type 0) (list : List A) : Type 0 where
   pub count : length list ≤ most
   pub each : All P list

@@ -28,11 +28,11 @@ abbrev pub in_range : ℕ → ℕ → ℤ → Option ℕ
 in_range least most (pos number) = if nat_le least number && nat_le number most then Some number else None
 in_range least most (negsuc number) = None
 
--- a coefficient, if it is at most so far from 0
+-- a coefficient, if it is at most `most` from 0
 abbrev pub as_coef : ℤ → ℤ → Option ℤ
 as_coef most number = if int_le (neg_ℤ most) number && int_le number most then Some number else None
 
--- the layout with so many channels
+-- the layout with this many channels
 abbrev pub layout_with : ℤ → Option Layout
 layout_with (pos channels) = layout_of channels
 layout_with (negsuc number) = None

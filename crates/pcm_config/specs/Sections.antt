@@ -59,6 +59,6 @@ section_in table =
     if not (has_each section_keys table) then fault_at Missing Eq
     else numbers_of table >>= settled_section
 
--- the sections of tables, of which there are only so many
+-- the sections of tables, of which there are no more than `SECTIONS`
 abbrev pub sections_in : List Members → Result (List Section) ConfigRefusal
 sections_in tables = few_read SECTIONS Eq section_in tables

@@ -116,6 +116,6 @@ unfoldable pub filter_in : Members → Result Table ConfigRefusal
 filter_in table =
     filter_with (get_member (codes "src") table) (get_member (codes "dst") table) (get_member (codes "shift") table) (get_member (codes "rows") table)
 
--- the filters of tables, of which there are only so many
+-- the filters of tables, of which there are no more than `FILTERS`
 abbrev pub filters_in : List Members → Result (List Table) ConfigRefusal
 filters_in tables = few_read FILTERS Tables filter_in tables

@@ -14,7 +14,7 @@ use std::marker::Model;
 pub enum Container {
     /// Frames alone.
     Raw,
-    /// Frames behind the header of a wave.
+    /// Frames after the header of a wave.
     Wav,
 }
 

@@ -11,7 +11,7 @@ use crate::{ConfigKind, ConfigPlace, ConfigRefusal};
 use pcm_format::Layout;
 use toml::Table;
 
-// What a table settles of a layout: that with so many channels, or this one where none stands at the place.
+// What a table settles of a layout: that with the channels at the place, or this one where none stands there.
 pub(crate) fn layout_in(
     table: Option<&Table>,
     place: ConfigPlace,
@@ -25,7 +25,7 @@ pub(crate) fn layout_in(
     }
 }
 
-// The layout with so many channels.
+// The layout with this many channels.
 fn layout_with(channels: i64) -> Option<Layout>
     ensures { result ≡ layout_with channels }
 {

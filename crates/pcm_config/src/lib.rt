@@ -1,4 +1,4 @@
-//! A configuration's text to what is settled of a run.
+//! Reads the text of a configuration, which settles the device, its files and its filters.
 //! Every key may be left out, and a text is refused for the first fault that applies.
 #![tactic(auto)]
 

@@ -81,7 +81,7 @@ pub(crate) fn has_each(table: Option<&Table>, keys: &[&str]) -> bool
     keys.iter().all(|key| member_of(table, key).is_some())
 }
 
-// Tables, of which there are only so many at a place.
+// Tables, of which there are at most `most` at a place.
 pub(crate) fn few(
     tables: &[Value],
     most: usize,

@@ -49,7 +49,7 @@ pub(crate) fn in_range(least: u32, most: u32, number: i64) -> Option<u32>
     }
 }
 
-// A coefficient, if it is at most so far from 0.
+// A coefficient, if it is at most `most` from 0.
 pub(crate) fn as_coef(most: i32, number: i64) -> Option<i32>
     ensures { result ≡ as_coef most number }
 {

@@ -1,4 +1,4 @@
-//! The walk over a configuration, judgement after judgement.
+//! Reads a configuration, one judgement after another.
 
 ghost use Rattle.std.specs.Prelude.{◌≡◌, IfOk, option_copied};
 ghost use Rattle.pcm_desk.specs.Device.{IsInLimits};
@@ -69,7 +69,7 @@ pub(crate) struct Parts<'a> {
 /// Reads a configuration: all that it settles, or the first fault that applies.
 #[tactic(auto, unfolding(crate::specs::Configs::config_read))]
 pub fn config_of(alloc: Global, bytes: &[u8]) -> Result<Config, ConfigFault>
-    // Only memory is free: else the answer is the one that the text determines.
+    // Only whether memory runs out is open: else the text determines the result.
     ensures read { Reads result (config_read bytes.now) }
 
     // What a configuration keeps.

@@ -30,7 +30,7 @@ pub(crate) trait Entry: Drop {
         ensures { Reads result (read (members_seen table.entry)) };
 }
 
-// The filters of tables, of which there are only so many.
+// The filters of tables, of which there are no more than `FILTERS`.
 pub(crate) fn filters_in(alloc: Global, tables: &[Value]) -> Result<Vec<Table>, ConfigFault>
     ensures read { Reads (as_seen (λ filters. filters.items) result) (filters_in (tables_seen tables.now)) }
     ensures limits { IfOk result (λ filters. AreFew FILTERS IsTable filters.items) }
@@ -38,7 +38,7 @@ pub(crate) fn filters_in(alloc: Global, tables: &[Value]) -> Result<Vec<Table>, 
     each_of(alloc, few(tables, FILTERS, ConfigPlace::Tables)?)
 }
 
-// The sections of tables, of which there are only so many.
+// The sections of tables, of which there are no more than `SECTIONS`.
 pub(crate) fn sections_in(alloc: Global, tables: &[Value]) -> Result<Vec<Section>, ConfigFault>
     ensures read { Reads (as_seen (λ sections. sections.items) result) (sections_in (tables_seen tables.now)) }
     ensures limits { IfOk result (λ sections. AreFew SECTIONS IsSection sections.items) }
