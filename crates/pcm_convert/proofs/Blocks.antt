@@ -45,7 +45,7 @@ no_filters-fit = record { count = omega arith; each = All-nil IsTable; few = ome
 pub conversion-fits : (source target : Settings) → IsRate source.rate → IsRate target.rate → IsPlan (conversion_plan source target)
 conversion-fits source target from to = record-fits no_filters 1 target source no_filters-fit to from
 
--- so many frames fill a block, wherever a conversion stands
+-- this many frames fill a block, wherever a conversion stands
 abbrev pub block_need : Settings → Settings → ℕ
 block_need source target = need (rate_in_plan (conversion_plan source target)) (BLOCK + 1)
 
@@ -96,7 +96,7 @@ abbrev pub PullsFor : {B : Type 0} → (B → Kept) → Filters → Gain → Boo
 PullsFor kept tables gain no_more waiting old new pulled out_old out_new =
     (x : List Frame) (zeros before : ℕ) → ChainStands kept tables old x zeros before → IsPastTheEnd no_more zeros waiting → Pulls kept tables gain no_more BLOCK waiting old new x before pulled out_old out_new
 
--- what a conversion has given behind a block, of whose body m bytes were read and e frames eaten
+-- what a conversion has given after a block, of whose body m bytes were read and e frames eaten
 pub record IsBlock {B : Type 0} (kept : B → Kept) (source target : Settings) (body : List ℕ) (e m given : ℕ) (new : ChainOf B) (pulled : Pulled) (ring : List ℕ) (samples : List ℤ) : Type 0 where
   pub read : m ≤ length body
   pub count : pulled.given ≡ block_count source target body given

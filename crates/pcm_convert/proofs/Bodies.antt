@@ -92,7 +92,7 @@ frames-bits settings bytes below =
     let place : get_or (range_with_len 0 count) k d ≡ k = get_or-range_with_len 0 count k d here ∙ omega arith in
     rw place (frame-bits settings bytes k below here))
 
--- frames of so many bits are samples of so many
+-- frames of `bits` bits are samples of as many
 pub interleaved-bits : (bits : ℕ) (list : List Frame) → HaveBits bits list → All (FitsBits bits) (interleaved list)
 interleaved-bits bits [] have = All-nil (FitsBits bits)
 interleaved-bits bits (frame ∷ list) have =
@@ -111,7 +111,7 @@ spelled-interleaved format (frame ∷ list) =
 length-frame : (format : Format) (c : ℕ) (frame : Frame) → length frame ≡ c → length (spelled_frame format frame) ≡ c * bytes_of format
 length-frame format c frame has = length-flat_map-spelled format frame ∙ ap (λ n. n * bytes_of format) has
 
--- so many frames have so many times these
+-- frames have the bytes of one, times their number
 pub length-bytes : (format : Format) (c : ℕ) (list : List Frame) → HaveChannels c list → length (spelled_frames format list) ≡ length list * (c * bytes_of format)
 length-bytes format c [] have = omega arith
 length-bytes format c (frame ∷ list) have =
@@ -123,7 +123,7 @@ length-bytes format c (frame ∷ list) have =
       length-bytes format c list (All-tail P frame list have),
     )
 
--- the bytes behind the first frames are those of the frames behind
+-- the bytes after the first frames are those of the other frames
 pub bytes-drop : (format : Format) (c n : ℕ) (list : List Frame) → HaveChannels c list → drop (n * (c * bytes_of format)) (spelled_frames format list) ≡ spelled_frames format (drop n list)
 bytes-drop format c zero list have = let none : zero * (c * bytes_of format) ≡ 0 = omega arith in ap (λ m. drop m (spelled_frames format list)) none
 bytes-drop format c (suc n) [] have = drop_all (suc n * (c * bytes_of format)) [] (omega arith)

@@ -61,7 +61,7 @@ block-recs source target bytes given n from to count =
     (sym (part-from (rec (conversion_plan source target) no_filters (frames source bytes)) given (block_count source target bytes given) all within))
     ∙ sym (block-frames source target bytes given from to)
 
--- it stands behind those before it
+-- it stands after those before it
 pub block-joined : (source target : Settings) (bytes : List ℕ) (given : ℕ)
     → take (given * frame_bytes target) (converted_body source target bytes) ++ block_after source target bytes given
     ≡ take ((given + block_count source target bytes given) * frame_bytes target) (converted_body source target bytes)

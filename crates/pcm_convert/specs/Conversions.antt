@@ -26,7 +26,7 @@ all_converted source target bytes =
 abbrev pub converted_body : Settings → Settings → List ℕ → List ℕ
 converted_body source target bytes = spelled_frames target.format (all_converted source target bytes)
 
--- how many frames the next block has once so many were given
+-- how many frames the next block has once `given` were given
 abbrev pub block_count : Settings → Settings → List ℕ → ℕ → ℕ
 block_count source target bytes given = min BLOCK (converted_frames source target bytes - given)
 

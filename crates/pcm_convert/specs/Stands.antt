@@ -21,8 +21,8 @@ target_in conversion = conversion.target
 abbrev pub HoldsRack : {B : Type 0} → (B → ℕ) → RackOf B → ConversionOf B → Type 0
 HoldsRack mark rack conversion = HasRack mark rack conversion.chain
 
--- A conversion has given so many frames of a body: its chain has eaten the first whole frames, and the bytes behind them, as
--- far as they were read, wait in the ring. Silence is eaten only behind the last frame.
+-- A conversion has given `given` frames of a body: its chain has eaten the first whole frames, and the bytes after them, as far
+-- as they were read, wait in the ring. Silence is eaten only after the last frame.
 pub record ConversionStands {B : Type 0} (kept : B → Kept) (conversion : ConversionOf B) (body : List ℕ) (given : ℕ)
     : Type 0 where
   pub eaten : ℕ

@@ -69,7 +69,7 @@ impl<B: Feeder> ConversionOf<B> {
     {
         let tables = Tables::none(alloc);
         let plan = plan_record(&target, &source, QUALITY, &tables);
-        // So many frames are enough for a block, wherever the conversion stands.
+        // This many frames are enough for a block, wherever the conversion stands.
         let frames = plan.need(BLOCK as u64 + 1) as usize;
         let ring = ByteRing::new(alloc, frames * source.frame_bytes())?;
         let samples = Fixed::new(vec![in alloc; 0i32; BLOCK * target.layout.channels()]?);
@@ -109,7 +109,7 @@ impl<B: Feeder> ConversionOf<B> {
     }
 
     /// Puts the next bytes of the converted body at the front of `out`, at most `BLOCK` frames, and
-    /// answers how many bytes they are: none once all were given. Takes no memory.
+    /// returns how many bytes they are: none once all were given. Takes no memory.
     pub fn next_block(&mut self, body: &[u8], out: &mut [u8]) -> usize
         requires stands { IsUnderWay B.kept self.old body.now }
         requires room { BLOCK * frame_bytes (target_in self.old) ≤ length out.old }
