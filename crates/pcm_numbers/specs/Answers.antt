@@ -1,4 +1,4 @@
--- What an event is answered, as numbers.
+-- The answer to an event, as numbers.
 use Rattle.std.specs.Prelude.{ℕ, ℤ, pos, neg_ℤ}
 use Rattle.pcm_oss.specs.declared.reply.Answer.{Answer}
 use Rattle.pcm_oss.specs.declared.reply.Answer.TheVariants.{Done, Number, Space, Pointer, Errors, Got}
@@ -15,7 +15,7 @@ use Rattle.pcm_numbers.specs.declared.fault.NumbersFault.TheVariants.{Memory}
 abbrev pub four : ℕ → ℕ → ℕ → ℕ → AnswerNumbers
 four first second third fourth = record { first = first; second = second; third = third; fourth = fourth }
 
--- the numbers of an answer, in the order of its fields, and 0 behind them
+-- the numbers of an answer, in the order of its fields, and 0 after them
 abbrev pub answer_numbers : Answer → AnswerNumbers
 answer_numbers Done = four 0 0 0 0
 answer_numbers (Number number) = four number 0 0 0

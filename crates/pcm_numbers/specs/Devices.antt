@@ -21,7 +21,7 @@ abbrev pub ◌>>=◌ : {A B : Type 0} → Option A → (A → Option B) → Opti
 None >>= next = None
 Some value >>= next = next value
 
--- whether a stream can have so many frames per second
+-- whether a stream can have this many frames per second
 abbrev pub is_rate : ℕ → Bool
 is_rate rate = nat_le RATE_LEAST rate && nat_le rate RATE_MOST
 
@@ -64,8 +64,8 @@ has_limits device =
 abbrev pub within_limits : Device → Option Device
 within_limits device = if has_limits device then Some device else None
 
--- The device of numbers: first the frames that are handed over are such as there are, then those that are mixed, which have the
--- same format, and then the whole is within the limits.
+-- The device of numbers: first there are such frames as the device's, then such as those of the mix, which have the same format,
+-- and then the whole is within the limits.
 unfoldable pub device_from : DeviceNumbers → Option Device
 device_from numbers = do
   settings ← stream_settings numbers.format numbers.channels numbers.rate

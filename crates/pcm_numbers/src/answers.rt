@@ -1,4 +1,4 @@
-//! What an event is answered, as numbers.
+//! The answer to an event, as numbers.
 
 ghost use Rattle.std.specs.Prelude.{◌≡◌};
 ghost use Rattle.pcm_numbers.specs.Answers.{answer_numbers, four, refusal_number};
@@ -6,7 +6,7 @@ ghost use Rattle.pcm_numbers.specs.Answers.{answer_numbers, four, refusal_number
 use crate::refusals::{AGAIN, BAD_DESCRIPTOR, BUSY, EXISTS, INVALID};
 use pcm_oss::{Answer, Errno};
 
-/// An answer as numbers, in the order of its fields. Those that it has no use for are 0.
+/// An answer as numbers, in the order of its fields. Unused numbers are 0.
 #[repr(C)]
 #[derive(Clone, Copy, Debug, PartialEq, Eq)]
 pub struct AnswerNumbers {

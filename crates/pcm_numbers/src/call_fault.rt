@@ -14,7 +14,7 @@ pub enum CallFault {
     Argument,
     /// The engine has no step left for it.
     Worn,
-    /// The room for what is handed over is too small.
+    /// The room for the frames of a hand-over is too small.
     Room,
 }
 

@@ -15,13 +15,13 @@ use pcm_oss::{SLOTS, Way};
 pub struct DeviceNumbers {
     /// The sample format by its code, as `SNDCTL_DSP_SETFMT` has it.
     pub format: u32,
-    /// Samples of a frame that is handed over.
+    /// Samples of a frame of the device.
     pub channels: u32,
-    /// Frames per second that are handed over.
+    /// Frames per second of the device.
     pub rate: u32,
-    /// Samples of a frame that is mixed, or 0 for as many as the device has.
+    /// Samples of a frame of the mix, or 0 for as many as the device has.
     pub mix_channels: u32,
-    /// Frames per second that are mixed, or 0 for as many as the device has.
+    /// Frames per second of the mix, or 0 for as many as the device has.
     pub mix_rate: u32,
     /// Frames of the device's ring.
     pub ring_frames: u32,
@@ -112,7 +112,7 @@ fn slots_fit(device: &Device) -> bool
         && u64::from(device.record_slots) <= most
 }
 
-/// The settings of a stream with this code of a format, so many channels and this rate in frames per second.
+/// The settings of a stream with this code of a format, this many channels and this rate in frames per second.
 #[tactic(auto, unfolding(crate::specs::Devices::stream_settings))]
 pub fn settings_from(format: u32, channels: u32, rate: u32) -> Option<Settings>
     ensures value { result ≡ stream_settings format channels rate }
@@ -130,7 +130,7 @@ pub fn settings_from(format: u32, channels: u32, rate: u32) -> Option<Settings>
     })
 }
 
-/// Whether a stream can have so many frames per second.
+/// Whether a stream can have this many frames per second.
 pub fn is_rate(rate: u32) -> bool
     ensures { result ≡ is_rate rate }
 {

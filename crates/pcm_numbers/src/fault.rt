@@ -1,4 +1,4 @@
-//! Why no tables come of numbers.
+//! Why numbers make no tables.
 
 ghost use Rattle.std.specs.Prelude.{◌≡◌};
 ghost use Rattle.pcm_numbers.specs.Answers.{fault_number};
@@ -6,7 +6,7 @@ ghost use Rattle.pcm_numbers.specs.Answers.{fault_number};
 use crate::refusals::{NO_MEMORY, WRONG_ARGUMENT};
 use std::alloc::AllocError;
 
-/// Why no tables come of numbers.
+/// Why numbers make no tables.
 #[derive(Clone, Copy, Debug, PartialEq, Eq)]
 pub enum NumbersFault {
     /// The allocator refused.

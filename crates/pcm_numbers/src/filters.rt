@@ -105,7 +105,7 @@ fn are_coefs(coefs: &[i32]) -> bool
     coefs.iter().all(|coef| is_coef(*coef))
 }
 
-// Whether a coefficient is at most so far from 0.
+// Whether a coefficient is at most `COEF_MOST` from 0.
 fn is_coef(coef: i32) -> bool
     ensures { result ≡ is_coef coef }
 {

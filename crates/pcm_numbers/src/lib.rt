@@ -1,5 +1,5 @@
 //! Devices, filters, requests and answers as numbers alone, for callers whose language has no types of this one.
-//! What can't be had of such numbers is refused before any memory is taken.
+//! Numbers that make none of these are refused before any memory is taken.
 #![tactic(auto)]
 
 mod answers;

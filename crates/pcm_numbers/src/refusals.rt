@@ -18,13 +18,13 @@ pub const EXISTS: i32 = -5;
 /// Memory ran out.
 pub const NO_MEMORY: i32 = -6;
 
-/// An argument is none that there is.
+/// An argument is invalid.
 pub const WRONG_ARGUMENT: i32 = -7;
 
 /// There is no engine, or one already where one is to be made.
 pub const NOT_AN_ENGINE: i32 = -9;
 
-/// The room for what is handed over is too small.
+/// The room for the frames of a hand-over is too small.
 pub const SHORT_ROOM: i32 = -10;
 
 /// The engine has taken all its steps.

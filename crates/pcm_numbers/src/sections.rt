@@ -54,7 +54,7 @@ fn are_output_coefs(section: &SectionNumbers) -> bool
     is_section_coef(section.a1) && is_section_coef(section.a2)
 }
 
-// Whether a coefficient is at most so far from 0.
+// Whether a coefficient is at most `SECTION_COEF_MOST` from 0.
 fn is_section_coef(coef: i32) -> bool
     ensures { result ≡ is_section_coef coef }
 {
