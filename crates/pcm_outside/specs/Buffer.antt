@@ -15,7 +15,7 @@ pub record Buffer : Type 0 where
 abbrev pub empty_buffer : ℕ → Buffer
 empty_buffer room = record { room = room; bytes = []; calls = record { made = 0; listed = [] }; faults = 0 }
 
--- what a `Sink` says of a buffer, which always tells
+-- what a `Sink` shows of a buffer, always with its bytes
 abbrev pub buffer_seen : Buffer → SinkSeen
 buffer_seen buffer = record { tells = true; bytes = buffer.bytes; faults = buffer.faults }
 

@@ -5,6 +5,6 @@ use Rattle.std.specs.Prelude.{ℕ, ◌+◌, ◌-◌, ◌^◌, ◌≤◌, min}
 abbrev pub raised : ℕ → ℕ
 raised count = min (count + 1) (2 ^ 64 - 1)
 
--- a failure was counted between two moments, as far as the count can tell
+-- a failure was counted between two moments, as far as the count can show
 abbrev pub Rose : ℕ → ℕ → Type 0
 Rose before now = raised before ≤ now

@@ -1,10 +1,10 @@
--- What a contract sees of the real forms, which tell no contents, and of a writer.
+-- What a contract sees of the real forms, which show no contents, and of a writer.
 use Rattle.std.specs.Prelude.{ℕ, Bool, false, List, [], Option, None}
 use Rattle.std.specs.Io.KnownBytes.{Appends}
 use Rattle.pcm_outside.specs.Files.{FilesSeen, IsPrefixOf}
 use Rattle.pcm_outside.specs.Sink.{SinkSeen}
 
--- of files that don't tell: whether one stands created, the two counts, and the name whose read failed last
+-- of files that show no contents: whether one stands created, the two counts, and the name whose read failed last
 abbrev pub untold_files : Bool → ℕ → ℕ → Option (List ℕ) → FilesSeen
 untold_files stands read_faults write_faults failed = record {
   tells = false;
@@ -16,11 +16,11 @@ untold_files stands read_faults write_faults failed = record {
   failed = failed;
 }
 
--- of a sink that doesn't tell: how often a put failed
+-- of a sink that shows no bytes: how often a put failed
 abbrev pub untold_sink : ℕ → SinkSeen
 untold_sink faults = record { tells = false; bytes = []; faults = faults }
 
--- the bytes that a writer tells grew by a part of the piece
+-- the bytes that a writer shows grew by a part of the piece
 pub record AppendsPart (old new : Option (List ℕ)) (piece : List ℕ) : Type 0 where
   pub part : List ℕ
   pub front : IsPrefixOf part piece

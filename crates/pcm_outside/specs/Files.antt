@@ -2,7 +2,7 @@
 use Rattle.std.specs.Prelude.{◌≡◌, ◌≢◌, ◌⊎◌, ℕ, ◌≤◌, Bool, false, IsTrue, List, [], ◌++◌, take, Option, Some, None}
 use Rattle.pcm_outside.specs.Counts.{Rose}
 
--- Names are lists of bytes. What `tells` doesn't hold of has no content and no name last created.
+-- Names are lists of bytes. Where `tells` is false there is no content, and no name last created.
 pub record FilesSeen : Type 0 where
   pub tells : Bool
   pub content : List ℕ → Option (List ℕ)

@@ -53,7 +53,7 @@ is_created folder name = option_map_or (λ created. bytes_eq created name) folde
 abbrev pub content_of : Folder → List ℕ → Option (List ℕ)
 content_of folder name = if is_created folder name then Some folder.written else bytes_named folder.added name
 
--- what a `Files` says of a folder, which always tells
+-- what a `Files` shows of a folder, always with its contents
 abbrev pub folder_seen : Folder → FilesSeen
 folder_seen folder = record {
   tells = true;

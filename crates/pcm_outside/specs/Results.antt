@@ -7,7 +7,7 @@ use Rattle.pcm_outside.specs.declared.outside.WriteFault.{WriteFault}
 use Rattle.pcm_outside.specs.Files.{FilesSeen, Appends, Creates, FailsToAppend, FailsToCreate, FailsToRead, NoReadFails, OnlyAppends, OnlyReads, OnlyWrites, ReadsFile}
 use Rattle.pcm_outside.specs.Sink.{SinkSeen, FailsToPut, OnlyPuts, Puts}
 
--- a read of the first bytes of a name, so many at most
+-- a read of the first `most` bytes of a name, or all where there are fewer
 pub record DoesRead (old new : FilesSeen) (name : List ℕ) (most : ℕ) (result : Result (Vec ℕ Global) ReadFault) : Type 0 where
   pub only : OnlyReads old new
   pub ok : IfOk result (λ bytes. ReadsFile old name most bytes.items)

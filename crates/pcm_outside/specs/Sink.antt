@@ -2,7 +2,7 @@
 use Rattle.std.specs.Prelude.{◌≡◌, ℕ, ◌≤◌, Bool, IsTrue, List, ◌++◌}
 use Rattle.pcm_outside.specs.Files.{FailsPartway}
 
--- What `tells` doesn't hold of has no bytes.
+-- Where `tells` is false there are no bytes.
 pub record SinkSeen : Type 0 where
   pub tells : Bool
   pub bytes : List ℕ

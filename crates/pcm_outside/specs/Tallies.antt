@@ -1,4 +1,4 @@
--- What a contract sees of the forms that only count bytes: nothing is told, and nothing ever failed.
+-- What a contract sees of the forms that only count bytes: no contents are shown, and nothing ever failed.
 use Rattle.std.specs.Prelude.{ℕ, ◌+◌, ◌-◌, ◌^◌, Bool, min, None}
 use Rattle.pcm_outside.specs.Files.{FilesSeen}
 use Rattle.pcm_outside.specs.Sink.{SinkSeen}

@@ -1,5 +1,5 @@
 //! What the outside is to the core: files that are read and one that is written, and a sink for lines.
-//! The forms in memory tell their contents and fail where told to; the real forms are the edge to the system.
+//! The forms in memory show contracts their contents and fail where asked to; the real forms are the edge to the system.
 #![tactic(auto)]
 
 mod byte_count;

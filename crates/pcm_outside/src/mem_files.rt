@@ -183,7 +183,7 @@ impl Files for MemFiles {
             → self.new ≡ after_failed_read self.old name.now }
     {
         let is_listed = self.calls.count();
-        // The room for the name is taken before the read, so that a failed read can always be told.
+        // The room for the name is taken before the read, so that a failed read can always be recorded.
         let Ok(failing) = Vec::from_slice(alloc, name.as_bytes()) else {
             return Err(ReadFault::Memory);
         };

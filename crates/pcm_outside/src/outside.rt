@@ -45,7 +45,7 @@ pub trait Sink {
     /// What was put, where it is known, and how often a put failed.
     ghost seen: { Self → SinkSeen };
 
-    /// Puts a piece behind all that was put before.
+    /// Puts a piece after all that was put before.
     fn put(&mut self, piece: &[u8]) -> Result<(), WriteFault>
         ensures { DoesPut (seen self.old) (seen self.new) piece.now result };
 }

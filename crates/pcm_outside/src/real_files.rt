@@ -8,7 +8,7 @@ use crate::transfer::{read_front, write_whole};
 use std::alloc::Global;
 use std::{fs, rt};
 
-/// The files of the system, reached through the runtime. They tell no contents.
+/// The files of the system, reached through the runtime. They show no contents.
 #[derive(Drop)]
 pub struct RealFiles<'a, R: rt::Files> {
     rt: &'a R,
@@ -75,7 +75,7 @@ impl<'a, R: rt::Files> Files for RealFiles<'a, R> {
         (option_map vec_items f.failed) };
 
     fn read(&mut self, alloc: Global, name: &str, most: usize) -> Result<Vec<u8>, ReadFault> {
-        // The room for the name is taken before the read, so that a failed read can always be told.
+        // The room for the name is taken before the read, so that a failed read can always be recorded.
         let Ok(failing) = Vec::from_slice(alloc, name.as_bytes()) else {
             return Err(ReadFault::Memory);
         };

@@ -6,7 +6,7 @@ use crate::outside::{Sink, WriteFault};
 use crate::transfer::write_whole;
 use std::io;
 
-/// Standard output, reached through the runtime. It doesn't tell what was put.
+/// Standard output, reached through the runtime. It doesn't show what was put.
 #[derive(Drop)]
 pub struct RealSink<'a, R: Print> {
     rt: &'a R,

@@ -25,7 +25,7 @@ impl Model for Room {
 }
 
 impl Room {
-    /// Takes the memory for so many bytes, of which none is put.
+    /// Takes the memory for `room` bytes, of which none is put.
     pub(crate) fn new(alloc: Global, room: usize) -> Result<Room, AllocError>
         ensures { IfOk result (λ made. made ≡ record { room = room; bytes = [] }) }
     {
@@ -40,21 +40,21 @@ impl Room {
         &self.bytes[..self.count]
     }
 
-    /// Whether there is no room for so many bytes more.
+    /// Whether there is no room for `more` more bytes.
     pub(crate) fn lacks(&self, more: usize) -> bool
         ensures { result ≡ nat_lt self.now.room (length self.now.bytes + more) }
     {
         self.bytes[..].len() - self.count < more
     }
 
-    /// Puts none.
+    /// Drops all that was put.
     pub(crate) fn clear(&mut self)
         ensures { self.new ≡ record self.old { bytes = [] } }
     {
         self.count = 0;
     }
 
-    /// Puts a piece behind what was put before.
+    /// Puts a piece after what was put before.
     pub(crate) fn put(&mut self, piece: &[u8])
         requires { length self.old.bytes + length piece.now ≤ self.old.room }
         ensures { self.new ≡ record self.old { bytes = self.old.bytes ++ piece.now } }
