@@ -24,11 +24,11 @@ told worth = if nat_lt worth 16 then Some worth else None
 told-some : (worth : ℕ) → worth < 16 → told worth ≡ Some worth
 told-some worth small = grind (arith, nat_tests)
 
--- any other tells that there is none
+-- any other worth says that there is none
 told-none : (worth : ℕ) → 16 ≤ worth → told worth ≡ None
 told-none worth great = grind (arith, nat_tests)
 
--- what a byte is worth tells its digit, and what it stands for
+-- what a byte is worth gives its digit, if it is one
 pub worth-told : (byte : ℕ) → told (unwrap_or (hex_digit_value byte) 16) ≡ hex_digit_value byte
 worth-told byte = grind (arith, nat_tests)
 

@@ -19,11 +19,11 @@ use Rattle.pcm_script.specs.Words.{begins_comment, is_blank, is_word}
 abbrev pub words_in : List (List ℕ) → List (List ℕ)
 words_in parts = take_while (λ word. not (begins_comment word)) (filter is_word parts)
 
--- what is kept of words and of the parts behind them
+-- what is kept of words and of the parts after them
 abbrev pub with_parts : List (List ℕ) → List (List ℕ) → List (List ℕ)
 with_parts kept parts = take KEPT (kept ++ words_in parts)
 
--- what is dropped behind the first ones makes no difference to them
+-- what is dropped after the first ones makes no difference to them
 take-first : {X : Type 0} (n : ℕ) (xs ys : List X) → take n (take n xs ++ ys) ≡ take n (xs ++ ys)
 take-first zero xs ys = refl
 take-first (suc n) [] ys = refl
@@ -63,7 +63,7 @@ abbrev pub parts_of : Option (Bor (List ℕ)) → List (List ℕ)
 parts_of None = []
 parts_of (Some text) = slice_split is_blank text.now
 
--- the first part of a text, and those behind it
+-- the first part of a text, and those after it
 pub parts_of-first : (text part : List ℕ) (behind : Option (Bor (List ℕ)))
     → MatchOption behind (slice_split is_blank text ≡ part ∷ []) (λ more. slice_split is_blank text ≡ part ∷ slice_split is_blank more.now)
     → slice_split is_blank text ≡ part ∷ parts_of behind
@@ -79,7 +79,7 @@ kept-full kept part full =
 pub kept-empty : (kept : List (List ℕ)) (part : List ℕ) → is_word part ≡ false → length kept ≤ KEPT → kept ≡ take KEPT (kept ++ filter is_word (part ∷ []))
 kept-empty kept part empty short = rw empty (sym (ap (take KEPT) (append-nil kept) ∙ take_all KEPT kept short))
 
--- no command has six words behind it
+-- no command has six words after it
 asked_by-six : (device : DeviceSeen) (files : List DataFileSeen) (command : Command) (a b c d e f : List ℕ) (more : List (List ℕ))
     → asked_by device files command (a ∷ b ∷ c ∷ d ∷ e ∷ f ∷ more) ≡ Err Count
 unfolding open_line write_line send_line poke_line read_line ioctl_line close_line mixer_line interrupt_line

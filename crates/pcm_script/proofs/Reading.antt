@@ -18,7 +18,7 @@ use Rattle.pcm_script.specs.Words.{lines_of, words_of}
 abbrev pub with_lines : DeviceSeen → List DataFileSeen → Script → ℕ → List (List ℕ) → Result Script Refusal
 with_lines device files script number lines = collected device script number (lines_read device files lines)
 
--- the same of the lines that are left, in a text behind those before, if there is one
+-- the same of the lines that are left, in a text after those before, if there is one
 abbrev pub with_rest : DeviceSeen → List DataFileSeen → Script → ℕ → Option (Bor (List ℕ)) → Result Script Refusal
 with_rest device files script number None = with_lines device files script number []
 with_rest device files script number (Some text) = with_lines device files script number (lines_of text.now)
@@ -32,11 +32,11 @@ pub left_of-less : (text : List ℕ) (behind : Option (Bor (List ℕ))) → IfSo
 left_of-less text None shorter = omega arith
 left_of-less text (Some more) shorter = omega (arith, shorter)
 
--- the first line of a text, and what is behind it
+-- the first line of a text, and what follows it
 abbrev pub IsCut : List ℕ → List ℕ → Option (Bor (List ℕ)) → Type 0
 IsCut text first behind = MatchOption behind (lines_of text ≡ first ∷ []) (λ more. lines_of text ≡ first ∷ lines_of more.now)
 
--- what a first line gives, and then the lines behind it
+-- what a first line gives, and then the lines after it
 then_rest : DeviceSeen → List DataFileSeen → ℕ → Option (Bor (List ℕ)) → Result Script ScriptKind → Result Script Refusal
 then_rest device files number behind more = at_line number more >>= (λ script. with_rest device files script (number + 1) behind)
 

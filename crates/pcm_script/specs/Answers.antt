@@ -1,4 +1,4 @@
--- What code that may run out of memory answers.
+-- What code that may run out of memory returns.
 use Rattle.std.specs.Prelude.{◌≡◌, Result, Ok, Err}
 use Rattle.pcm_script.specs.declared.fault.ScriptKind.{ScriptKind}
 use Rattle.pcm_script.specs.declared.fault.Refusal.{Refusal}
@@ -14,7 +14,7 @@ Gives shown (Ok value) judged = judged ≡ Ok (shown value)
 Gives shown (Err (Refused kind)) judged = judged ≡ Err kind
 Gives shown (Err Memory) judged = Unit {0}
 
--- the same of a value that is left behind
+-- the same of a value that is left by a call
 abbrev pub Leaves : {A B : Type 0} → B → Result A LineFault → Result B ScriptKind → Type 0
 Leaves value answer judged = Gives (λ _. value) answer judged
 

@@ -31,12 +31,12 @@ event_at place (Whole event) = event
 abbrev pub frames_asked : LineEvent → ℕ
 frames_asked line = frames_taken (event_at 0 line)
 
--- whether a script has room for one event more, which takes so many frames
+-- whether a script has room for one event more, which takes `frames` frames
 abbrev pub has_room : DeviceSeen → Script → ℕ → Bool
 has_room device script frames =
     nat_lt (length script.events) EVENTS && nat_le ((script.device_frames + frames) * device_frame_bytes device) DEVICE_BYTES
 
--- a script with one event more, whose bytes stand behind those of the events before it
+-- a script with one event more, whose bytes stand after those of the events before it
 abbrev pub script_with : Script → LineEvent → Script
 script_with script line = record {
   events = script.events ++ event_at (length script.inline_bytes) line ∷ [];

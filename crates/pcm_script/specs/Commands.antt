@@ -121,11 +121,11 @@ is_file_named word file = bytes_eq file.name word
 abbrev pub file_in : List DataFileSeen → List ℕ → Result ℕ ScriptKind
 file_in files word = or_fault (position (is_file_named word) files) Name
 
--- so many bytes, which must end within a body
+-- `count` bytes, which must end within a body
 abbrev pub ending_within : ℕ → ℕ → ℕ → Result ℕ ScriptKind
 ending_within size end count = if nat_le end size then Ok count else Err Range
 
--- how many bytes a word asks for, which must be there behind a place of a body
+-- how many bytes a word asks for, which must be there after a place of a body
 abbrev pub length_in : ℕ → ℕ → List ℕ → Result ℕ ScriptKind
 length_in size at word = do
   count ← number_in word

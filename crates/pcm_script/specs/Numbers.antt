@@ -1,4 +1,4 @@
--- Numbers in a script: up to ten decimal digits, or up to eight hexadecimal ones behind `0x`.
+-- Numbers in a script: up to ten decimal digits, or up to eight hexadecimal ones after `0x`.
 use Rattle.std.specs.Prelude.{ℕ, ◌+◌, ◌*◌, Bool, ◌&&◌, nat_le, if◌then◌else◌, List, length, Option, Some, None, Result, Ok, Err, fold, drop, codes, nat_eq}
 use Rattle.std.specs.List.{list_all, starts_with}
 use Rattle.hex.specs.Hex.{hex_digit_value, is_hex_digit}
@@ -18,7 +18,7 @@ digit_of (Some digit) = digit
 abbrev pub digits_value : ℕ → List ℕ → ℕ
 digits_value base digits = fold (λ value digit. value * base + digit_of (hex_digit_value digit)) 0 digits
 
--- digits of a kind, from one to so many of them
+-- digits of a kind, from one to `most` of them
 abbrev pub are_digits : (ℕ → Bool) → ℕ → List ℕ → Bool
 are_digits is_digit most digits = nat_le 1 (length digits) && nat_le (length digits) most && list_all is_digit digits
 

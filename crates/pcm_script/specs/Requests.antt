@@ -67,13 +67,13 @@ name_in_table (Full setter) = name_asked (asked_with setter 0 0)
 abbrev pub request_named : List ℕ → Option Named
 request_named name = find (λ named. bytes_eq (name_in_table named) name) all_requests
 
--- A name behind which nothing stands: a request that has an argument has too few words then.
+-- A name that nothing follows: a request that has an argument has too few words then.
 abbrev pub as_plain : Option Named → Result (Option Request) ScriptKind
 as_plain None = Ok None
 as_plain (Some (Plain request)) = Ok (Some request)
 as_plain (Some (Full setter)) = Err Count
 
--- A name behind which an argument stands: a request that has none has too many words then.
+-- A name that an argument follows: a request that has none has too many words then.
 abbrev pub as_full : Option Named → Result (Option Setter) ScriptKind
 as_full None = Ok None
 as_full (Some (Plain request)) = Err Count

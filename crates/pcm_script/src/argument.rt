@@ -86,7 +86,7 @@ fn is_file_named(file: &DataFile, word: &[u8]) -> bool
     file.name().as_bytes() == word
 }
 
-// How many bytes a word asks for, which must stand behind place `at` of a body of this size.
+// How many bytes a word asks for, which must stand after place `at` of a body of this size.
 pub(crate) fn length_in(size: u64, at: u64, word: &[u8]) -> Result<u64, ScriptKind>
     ensures value { result ≡ length_in size at word.now }
     ensures within { IfOk result (λ count. at + count ≤ size) }

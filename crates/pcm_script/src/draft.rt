@@ -86,7 +86,7 @@ impl Draft {
         Ok(())
     }
 
-    // Whether there is room for one event more, which takes so many frames.
+    // Whether there is room for one event more, which takes `frames` frames.
     fn has_room(&self, device: &Device, frames: u32) -> bool
         ensures { result ≡ has_room (unfiltered device.now) self.now frames }
     {

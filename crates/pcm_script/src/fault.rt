@@ -10,7 +10,7 @@ use thiserror::Error;
 pub enum ScriptKind {
     /// The first word is no command.
     Word,
-    /// The command doesn't have so many words.
+    /// The command doesn't have this many words.
     Count,
     /// There is no number where the command wants one.
     Number,

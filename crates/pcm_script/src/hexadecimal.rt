@@ -53,7 +53,7 @@ pub(crate) fn decode(alloc: Global, word: &[u8]) -> Result<Option<Vec<u8>>, Allo
     Ok(None)
 }
 
-// Writes the bytes of pairs of digits, and answers whether a word is that. No branch depends on a digit: that one was
+// Writes the bytes of pairs of digits, and returns whether a word is that. No branch depends on a digit: that one was
 // none shows in the bits of all of them.
 fn decode_into(word: &[u8], bytes: &mut [u8]) -> bool
     requires { length word.now ≡ 2 * length bytes.old }

@@ -1,4 +1,4 @@
-//! Script text to events.
+//! Reads the text of a script, and gives its events.
 //! A text is accepted exactly where every line is, and refused for its first fault.
 #![tactic(auto)]
 

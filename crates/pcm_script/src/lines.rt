@@ -5,7 +5,7 @@ ghost use Rattle.pcm_script.specs.Words.{lines_of};
 
 use memchr::memchr;
 
-// The first line of a text, and the text behind its line feed, if it has one.
+// The first line of a text, and the text after its line feed, if it has one.
 pub(crate) fn first_line(text: &[u8]) -> (&[u8], Option<&[u8]>)
     ensures lines { MatchOption result.1
         (lines_of text.now ≡ result.0.now ∷ [])

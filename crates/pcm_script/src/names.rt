@@ -121,7 +121,7 @@ pub fn start_group_name() -> &'static [u8]
     b"syncstart"
 }
 
-/// What a line asks of the mixer device, by the word behind its command.
+/// What a line asks of the mixer device, by the word after its command.
 #[derive(Clone, Copy, Debug, PartialEq, Eq)]
 pub enum Control {
     Master,

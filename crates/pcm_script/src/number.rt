@@ -11,7 +11,7 @@ use crate::hexadecimal::worth_of;
 /// How many digits a decimal number has at most.
 pub const DECIMAL_DIGITS: usize = 10;
 
-/// How many digits a hexadecimal number has at most, behind its `0x`.
+/// How many digits a hexadecimal number has at most, after its `0x`.
 pub const HEXADECIMAL_DIGITS: usize = 8;
 
 /// The number of a word of one to ten decimal digits.

@@ -1,4 +1,4 @@
-//! The walk over a script's lines.
+//! Reads a script, line by line.
 
 ghost use Rattle.std.specs.Prelude.{◌≡◌, ◌<◌, ◌≤◌, length, IfOk};
 ghost use Rattle.pcm_desk.specs.declared.limits.TheConstants.{DEVICE_BYTES, EVENTS};
@@ -33,7 +33,7 @@ pub fn script_of(
     requires block { 0 < device.now.block_frames }
     requires ring { device.now.block_frames ≤ device.now.ring_frames }
 
-    // Only memory is free: else the answer is the one that the text, the device and the files determine.
+    // Only whether memory runs out is open: else the text, the device and the files determine the result.
     ensures read { ReadsScript result (script_read (unfiltered device.now) files.now bytes.now) }
 
     // What a script keeps.

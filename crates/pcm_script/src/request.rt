@@ -12,11 +12,11 @@ use pcm_oss::{Event, Request};
 pub enum Named {
     /// A request without an argument.
     Plain(Request),
-    /// What is asked with an argument, which is told behind its name.
+    /// What is asked with an argument, which follows its name.
     Full(Setter),
 }
 
-/// What a line asks, before its descriptor and its argument are told.
+/// What a line asks, without its descriptor and its argument.
 #[derive(Clone, Copy)]
 pub enum Setter {
     SetFmt,

@@ -8,7 +8,7 @@ ghost use Rattle.pcm_script.specs.Words.{begins_comment, is_blank, is_word, lent
 use arrayvec::ArrayVec;
 use memchr::memchr2;
 
-/// How many words of a line are kept. Each command refuses so many alike, so a line needs no memory.
+/// How many words of a line are kept. A line with that many is refused by each command, as are all with more, so a line needs no memory.
 pub const KEPT: usize = 8;
 
 /// The words of a line that are kept.
@@ -31,7 +31,7 @@ pub fn first_words<'a>(line: &'a [u8]) -> Words<'a>
     words
 }
 
-// The part of a text before its first blank, and the text behind that, if it has one.
+// The part of a text before its first blank, and the text after that, if it has one.
 fn first_part(text: &[u8]) -> (&[u8], Option<&[u8]>)
     ensures parts { MatchOption result.1
         (slice_split is_blank text.now ≡ result.0.now ∷ [])
