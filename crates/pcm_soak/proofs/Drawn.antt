@@ -10,7 +10,7 @@ use Rattle.pcm_script.specs.declared.script.Script.{Script}
 use Rattle.pcm_soak.specs.declared.limits.TheConstants.{INLINE_BYTES}
 use Rattle.pcm_soak.specs.Soak.{drawn_events, inline_byte, inline_bytes, soak_events, soak_script}
 
--- the first of those that are still to be drawn comes behind the events so far
+-- the first of those that are still to be drawn comes after the events so far
 pub drawn_events-more : (events : List Event) (left state : ℕ) → 0 < left
     → events ++ drawn_events left state ≡ (events ++ (drawn_event state).value ∷ []) ++ drawn_events (left - 1) (drawn_event state).state
 unfolding drawn_events

@@ -36,7 +36,7 @@ question_for choice =
     else if choice == 2 then GetOPtr
     else GetODelay
 
--- one of so many gets one of so many requests
+-- one of `fds` descriptors gets one of `choices` requests
 abbrev pub request_event : ℕ → ℕ → (ℕ → Request) → Draw Event
 request_event fds choices request_for = do
   fd ← drawn_below fds

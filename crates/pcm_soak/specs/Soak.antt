@@ -37,7 +37,7 @@ first_events =
     ∷ started 5
     ∷ []
 
--- so many events that are drawn from a state on
+-- a number of events that are drawn from a state on
 unfoldable pub drawn_events : ℕ → ℕ → List Event
 drawn_events zero state = []
 drawn_events (suc count) state = (drawn_event state).value ∷ drawn_events count (drawn_event state).state
@@ -46,7 +46,7 @@ drawn_events (suc count) state = (drawn_event state).value ∷ drawn_events coun
 abbrev pub inline_byte : ℕ → ℕ → ℕ
 inline_byte n j = (31 * j * j + 7 * j + n) % 256
 
--- so many of them
+-- `count` of them
 unfoldable pub inline_bytes : ℕ → ℕ → List ℕ
 inline_bytes count n = map (inline_byte n) (range_with_len 0 count)
 

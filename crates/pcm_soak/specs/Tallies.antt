@@ -1,4 +1,4 @@
--- What a run of a script comes to, added up event by event, and the sum of the device's bytes.
+-- What a run of a script adds up to, event by event, and the sum of the device's bytes.
 use Rattle.std.specs.Prelude.{ℕ, ◌+◌, ◌*◌, ◌^◌, ◌≤◌, List, ◌∷◌, Result, Ok, Err}
 use Rattle.std.specs.List.{sum_by}
 use Rattle.pcm_oss.specs.declared.event.Event.{Event}
@@ -18,7 +18,7 @@ abbrev pub number_told : Result Answer Errno → ℕ
 number_told (Ok (Number number)) = number
 number_told told = 0
 
--- the bytes that an event had accepted: those that a write is answered
+-- the bytes that an event had accepted: the answer to a write
 abbrev pub accepted_by : Event → Result Answer Errno → ℕ
 accepted_by (Write fd source at count) told = number_told told
 accepted_by event told = 0
@@ -33,7 +33,7 @@ abbrev pub refused_by : Result Answer Errno → ℕ
 refused_by (Ok answer) = 0
 refused_by (Err errno) = 1
 
--- the shortages that a result tells, of playing and of recording
+-- the shortages that a result reports, of playing and of recording
 abbrev pub errors_by : Result Answer Errno → ℕ
 errors_by (Ok (Errors underruns overruns)) = underruns + overruns
 errors_by told = 0
@@ -56,7 +56,7 @@ tally_all tally events replies = tally
 abbrev pub total : List ℕ → ℕ
 total bytes = sum_by (λ byte. byte) bytes
 
--- what so many events may come to: each adds at most 2 to the power 33 to each count
+-- the most that `events` events add up to: each adds at most 2 to the power 33 to each count
 pub record IsWithin (events : ℕ) (tally : Tally) : Type 0 where
   pub accepted : tally.accepted ≤ 2 ^ 33 * events
   pub read : tally.read ≤ 2 ^ 33 * events

@@ -69,7 +69,7 @@ fn started(fd: u8) -> Event
     Event::Ioctl { fd, request }
 }
 
-// So many of the bytes that are written.
+// `count` of the bytes that are written.
 #[tactic(auto, unfolding(crate::specs::Soak::inline_bytes))]
 fn inline_bytes(alloc: Global, count: usize, n: u32) -> Result<Vec<u8>, AllocError>
     requires { count ≤ INLINE_BYTES }

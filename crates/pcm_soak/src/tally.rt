@@ -1,4 +1,4 @@
-//! What a run of a script comes to, added up.
+//! The sums of a script's replies and of the device's bytes.
 
 ghost use Rattle.std.specs.Prelude.{◌≡◌, ◌+◌, ◌*◌, ◌^◌, ◌<◌, ◌≤◌, ℕ, length};
 ghost use Rattle.pcm_soak.specs.declared.limits.TheConstants.{SOAK_EVENTS};
@@ -6,7 +6,7 @@ ghost use Rattle.pcm_soak.specs.Tallies.{IsWithin, accepted_by, errors_by, no_ta
 
 use pcm_oss::{Answer, Errno, Event, ReplyBuf};
 
-/// The bytes that writes had accepted and that reads got, the events that were refused, the shortages that were told, and
+/// The bytes that writes had accepted and that reads got, the events that were refused, the shortages that were reported, and
 /// the sum of the device's bytes.
 #[derive(Clone, Copy, Debug, PartialEq, Eq)]
 pub struct Tally {
@@ -56,7 +56,7 @@ impl Tally {
     }
 }
 
-// The bytes that a write is answered.
+// The bytes that a write had accepted, which its answer states.
 fn accepted_by(event: &Event, told: Result<Answer, Errno>) -> u32
     ensures { result ≡ accepted_by event.now told }
 {
@@ -84,7 +84,7 @@ fn refused_by(told: Result<Answer, Errno>) -> u64
     if told.is_err() { 1 } else { 0 }
 }
 
-// The shortages that are told, of playing and of recording.
+// The shortages that are reported, of playing and of recording.
 fn errors_by(told: Result<Answer, Errno>) -> u64
     ensures value { result ≡ errors_by told }
     ensures most { result ≤ 2 ^ 33 }
