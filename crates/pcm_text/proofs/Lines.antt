@@ -203,7 +203,7 @@ setting-words (mixes.SetSlot slot volume) small = (decimal-word slot (omega (ari
 setting-words (mixes.GetSlot slot) small = (decimal-word slot (omega (arith, small)), tt)
 setting-words (mixes.Mute slot on) small = (decimal-word slot (omega (arith, small.0)), (decimal-word on (omega (arith, small.1)), tt))
 
--- what stands behind the command of an event that fits is words
+-- what stands after the command of an event that fits is words
 pub arguments-words : (device : DeviceSeen) (pool : Pool) (event : Event) → Fits device pool event → HasSmallNumbers event → IsBytes pool.inline_bytes
     → ((place : ℕ) → place < length pool.files → IsFileNamed pool.files place) → AreWords (arguments_for pool event)
 arguments-words device pool (Open fd way settings) fits small bytes named =

@@ -110,7 +110,7 @@ text-read device files script writable =
 
 -- ---- the same events
 
--- what is written behind what is there asks for the same
+-- what is written after what is there asks for the same
 record AddsTheSame (pool : Pool) (files : List DataFileSeen) (script whole : Script) (events : List Event) : Type 0 where
   pub agains : List Event
   pub more : List ℕ
@@ -118,7 +118,7 @@ record AddsTheSame (pool : Pool) (files : List DataFileSeen) (script whole : Scr
   pub bytes_are : whole.inline_bytes ≡ script.inline_bytes ++ more
   pub same : AskTheSame pool (pool_of files whole) events agains
 
--- bytes that stand behind others and before more
+-- bytes that stand after others and before more
 middle-part : (front part more : List ℕ) (count : ℕ) → length part ≡ count → take count (drop (length front) ((front ++ part) ++ more)) ≡ part
 middle-part front part more count size =
     ap (λ l. take count (drop (length front) l)) (append_assoc front part more) ∙ ap (take count) (drop_at front (part ++ more) (length front) refl)

@@ -68,7 +68,7 @@ digits-word (b ∷ digits) some all = record {
 pub decimal-word : (number : ℕ) → number < 2 ^ 64 → IsOneWord (decimal number)
 decimal-word number small = digits-word (decimal number) (decimal_nonempty number small) (spells-decimal number small).all
 
--- digits are not behind a prefix
+-- decimal digits have no prefix before them
 no-prefix : (digits : List ℕ) → list_all is_decimal_digit digits ≡ true → starts_with nat_eq digits (codes "0x") ≡ false
 no-prefix [] all = refl
 no-prefix (a ∷ []) all = grind (arith, nat_tests)
@@ -104,7 +104,7 @@ bytes-word (b ∷ bytes) all =
       plain = list_all-weaker is_hex_digit is_plain hexadecimal-plain (encode_lower (b ∷ bytes)) plain;
     }
 
--- digits behind a pair of digits are no dash
+-- a word with a pair of digits is no dash
 dash-is_no_pair : (a b : ℕ) (rest : List ℕ) → bytes_eq (a ∷ b ∷ rest) (codes "-") ≡ false
 dash-is_no_pair a b rest = grind (arith, nat_tests)
 

@@ -1,4 +1,4 @@
--- What the text of a script is read back as: the same events, with the bytes of all writes and pokes one behind another.
+-- What the text of a script is read back as: the same events, with the bytes of all writes and pokes one after another.
 use Rattle.std.specs.Prelude.{IfSome, ◌≡◌, ℕ, ◌*◌, ◌^◌, ◌<◌, ◌≤◌, ◌==◌, Bool, true, not, ◌&&◌, List, [], ◌∷◌, length, position, Some, All, slice_get}
 use Rattle.std.specs.List.{list_all}
 use Rattle.hex.specs.Hex.{IsBytes}

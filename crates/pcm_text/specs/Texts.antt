@@ -23,7 +23,7 @@ use Rattle.pcm_script.specs.declared.script.Script.{Script}
 use Rattle.pcm_script.specs.Lines.{pool_of}
 use Rattle.pcm_script.specs.Names.{command_name, control_name, join_name, request_name, start_group_name, way_name}
 
--- words, each behind a space
+-- words, each after a space
 abbrev pub spaced : List (List ℕ) → List ℕ
 spaced [] = []
 spaced (word ∷ words) = 32 ∷ word ++ spaced words
@@ -82,7 +82,7 @@ setting_words (mixes.SetSlot slot volume) = decimal slot ∷ decimal volume ∷ 
 setting_words (mixes.GetSlot slot) = decimal slot ∷ []
 setting_words (mixes.Mute slot on) = decimal slot ∷ decimal on ∷ []
 
--- what stands behind the command of an event; a write has its bytes in hexadecimal, or a dash, and so has a poke
+-- what stands after the command of an event; a write has its bytes in hexadecimal, or a dash, and so has a poke
 abbrev pub arguments_for : Pool → Event → List (List ℕ)
 arguments_for pool (Open fd way settings) = decimal fd ∷ way_name way ∷ settings_words settings
 arguments_for pool (Write fd Inline at count) = decimal fd ∷ bytes_text (bytes_at pool Inline at count) ∷ []

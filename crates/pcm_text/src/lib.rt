@@ -1,4 +1,4 @@
-//! Scripts to text: what the reader of scripts reads back as the same events.
+//! Writes the text of a script, which the reader of scripts reads back as the same events.
 #![tactic(auto)]
 
 mod laws;

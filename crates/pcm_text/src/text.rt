@@ -52,7 +52,7 @@ fn command_for(event: &Event) -> Command
     }
 }
 
-// Writes what stands behind the command of an event.
+// Writes what stands after the command of an event.
 fn push_arguments(
     text: &mut Vec<u8>,
     script: &Script,

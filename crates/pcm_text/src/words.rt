@@ -1,4 +1,4 @@
-//! Words, each written behind a space.
+//! Words, each written after a space.
 
 ghost use Rattle.std.specs.Prelude.{◌≡◌, ◌∷◌, ◌++◌, OnOk};
 ghost use Rattle.std.specs.Fmt.{decimal};
