@@ -32,12 +32,12 @@ IsPlayableRun (Checks inputs) = Unit {0}
 IsPlayableRun (Converts name conversion) = Unit {0}
 IsPlayableRun (Soaks n) = Unit {0}
 
--- the next judgement, behind one that gave a value
+-- the next judgement, after one that gave a value
 after-value : {A B : Type 0} (r : Result A Fault) (next : A → Judged B) (P : A → Type 0) (Q : B → Type 0) → IfOk r P → ((value : A) → P value → IfOk (next value).came Q) → IfOk (came_after r next) Q
 after-value (Ok value) next P Q here there = there value here
 after-value (Err fault) next P Q here there = tt
 
--- or behind any
+-- or after any
 after-all : {A B : Type 0} (r : Result A Fault) (next : A → Judged B) (Q : B → Type 0) → ((value : A) → IfOk (next value).came Q) → IfOk (came_after r next) Q
 after-all (Ok value) next Q there = there value
 after-all (Err fault) next Q there = tt

@@ -1,4 +1,4 @@
--- The forms of words behind the program's name.
+-- The forms of words after the program's name.
 use Rattle.std.specs.Prelude.{ℕ, ◌&&◌, nat_le, if◌then◌else◌, List, [], ◌∷◌, Option, Some, None, codes}
 use Rattle.std.specs.Str.{bytes_eq}
 use Rattle.pcm_format.specs.declared.settings.Settings.{Settings}

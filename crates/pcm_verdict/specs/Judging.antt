@@ -1,4 +1,4 @@
--- Files that are read and judged in turn: the first that stops is the answer.
+-- Files that are read and judged in turn: the first that is refused gives the verdict.
 use Rattle.std.specs.Prelude.{ℕ, List, [], ◌∷◌, ◌++◌, Option, Some, None, Result, Ok, Err}
 use Rattle.pcm_verdict.specs.Faults.{Fault, Missing}
 
@@ -19,7 +19,7 @@ judge came = record { names = []; came = came }
 abbrev pub given : {A : Type 0} → A → Judged A
 given value = judge (Ok value)
 
--- what a judgement reads behind a value, and what comes of it
+-- what a judgement reads after a value, and what comes of it
 abbrev pub names_after : {A B : Type 0} → Result A Fault → (A → Judged B) → List (List ℕ)
 names_after (Ok value) next = (next value).names
 names_after (Err fault) next = []

@@ -56,7 +56,7 @@ abbrev pub check_line : Inputs → List ℕ
 check_line inputs =
     codes "events " ++ decimal (length inputs.script.events) ++ codes " frames " ++ decimal inputs.script.device_frames ++ codes "\n"
 
--- the wave that a conversion gives: its header, the converted frames, and a byte of padding behind an odd number of bytes
+-- the wave that a conversion gives: its header, the converted frames, and a byte of padding after an odd number of bytes
 abbrev pub converted_file : Conversion → List ℕ
 converted_file conversion =
     header_of conversion.target (frames_converted conversion)

@@ -1,4 +1,4 @@
--- What a run of the script that a number makes comes to, on the device of a run without a configuration.
+-- What a run of the script that a number makes adds up to, on the device of a run without a configuration.
 use Rattle.std.specs.Prelude.{ℕ, List, [], ◌++◌, length, codes}
 use Rattle.std.specs.Fmt.{decimal}
 use Rattle.pcm_oss.specs.declared.event.Event.{Event}
@@ -17,19 +17,19 @@ use Rattle.pcm_desk.specs.Device.{DeviceSeen}
 abbrev pub soak_pool : ℕ → Pool
 soak_pool n = pool_of [] (soak_script n)
 
--- what events and their replies come to, and the sum of the bytes that the device gets
+-- what events and their replies add up to, and the sum of the bytes that the device gets
 abbrev pub tally_of : DeviceSeen → Pool → List Event → Tally
 tally_of device pool events =
     record (tally_all no_tally events (replies device pool (story_at_start device) events)) { sum = total (device_text device pool events) }
 
--- what is told of a run: its events, the frames that its interrupts took, and what it came to
+-- the line of a run: its events, the frames that its interrupts took, and what they add up to
 abbrev pub tally_line : ℕ → ℕ → Tally → List ℕ
 tally_line events frames tally =
     codes "events " ++ decimal events ++ codes " frames " ++ decimal frames ++ codes " accepted " ++ decimal tally.accepted
     ++ codes " read " ++ decimal tally.read ++ codes " refused " ++ decimal tally.refused ++ codes " errors " ++ decimal tally.errors
     ++ codes " sum " ++ decimal tally.sum ++ codes "\n"
 
--- what is told of the run of a number
+-- the line of the run of a number
 abbrev pub soak_line : ℕ → List ℕ
 soak_line n =
     tally_line (length (soak_script n).events) (soak_script n).device_frames (tally_of usual_device (soak_pool n) (soak_script n).events)

@@ -59,19 +59,19 @@ file_of config file bytes (Ok wave) =
 abbrev pub bytes_held : List DataFileSeen → ℕ
 bytes_held files = sum_by (λ file. length file.bytes) files
 
--- the bytes of a data file behind these: together they aren't too long
+-- the bytes of a data file after these: together they aren't too long
 abbrev pub file_behind : Config → List DataFileSeen → FilePath → List ℕ → Result DataFileSeen Fault
 file_behind config before file bytes =
     if nat_lt (DATA_BYTES - bytes_held before) (length bytes) then Err (BadWave file.path Long)
     else file_of config file bytes (wave_of bytes)
 
--- a data file is read, and judged behind those that were
+-- a data file is read, and judged after those that were
 abbrev pub file_judged : Contents → Config → List DataFileSeen → FilePath → Judged DataFileSeen
 file_judged content config before file = do
   bytes ← read_file content file.path
   judge (file_behind config before file bytes)
 
--- data files behind those that were read: each is judged before the next is read
+-- data files after those that were read: each is judged before the next is read
 abbrev pub files_behind : Contents → Config → List DataFileSeen → List FilePath → Judged (List DataFileSeen)
 files_behind content config before [] = given before
 files_behind content config before (file ∷ files) = do
