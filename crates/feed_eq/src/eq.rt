@@ -31,7 +31,7 @@ impl Feeder for EqFeeder {
 
     ghost kept = { kept_by_eq };
 
-    // One is as good as another.
+    // All have the same mark.
     ghost mark = { λ _. 0 };
 
     fn kind(&self) -> Kind {
