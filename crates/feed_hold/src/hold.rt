@@ -79,8 +79,8 @@ fn put_among(channels: usize, kept: &[i32], input: &[i32], place: usize, output:
     output.copy_from_slice(&frame[..channels]);
 }
 
-// Puts it for the first outputs of a feed, which rest on the frame kept. By itself, so that the
-// walk over all others chooses no address.
+// Does so for the first outputs of a feed, which use the frame kept. It stands by itself, so that
+// the loop over all other outputs chooses no address.
 #[cold]
 #[inline(never)]
 fn put_early(channels: usize, kept: &[i32], input: &[i32], place: usize, output: &mut [i32])
