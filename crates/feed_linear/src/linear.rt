@@ -86,9 +86,9 @@ fn put_among(channels: usize, kept: &[i32], input: &[i32], point: Point, output:
     Blend::at(point.whole, point.parts).put_frame(frame, next, output);
 }
 
-// Puts it for the first outputs of a feed, which rest on a frame kept. By itself, so that the walk
-// over all others chooses no address, and by its parts, so that none of them is put into memory
-// for it.
+// Does so for the first outputs of a feed, which use a frame kept. It stands by itself, so that the
+// loop over all other outputs chooses no address, and takes a point by its parts, so that none of
+// them is put into memory for it.
 #[cold]
 #[inline(never)]
 fn put_early(
