@@ -46,7 +46,7 @@ impl<I: Interpolator> Feeder for RateFeeder<I> {
 
     ghost kept = { kept_of };
 
-    // One is as good as another.
+    // All have the same mark.
     ghost mark = { λ _. 0 };
 
     fn kind(&self) -> Kind {
