@@ -64,7 +64,7 @@ abbrev pub moved_on_by : Counts → Advance → Counts
 moved_on_by counts advance =
     record { eaten = counts.eaten + advance.eaten; given = counts.given + advance.given }
 
--- and so do they after a block, whatever whole periods were left out then
+-- they stand for all frames after a block too, whatever whole periods were left out then
 abbrev pub StandOn : Rate → Counts → Advance → Counts → Type 0
 StandOn rate counts advance new = (eaten given : ℕ) → StandFor rate counts eaten given
     → StandFor rate new (eaten + advance.eaten) (given + advance.given)

@@ -88,7 +88,7 @@ impl<B: Feeder> ChainOf<B> {
         &self.plan
     }
 
-    /// An empty stream by a plan begins. Takes no memory.
+    /// Begins an empty stream by a plan. Takes no memory.
     pub fn reset(&mut self, plan: &Plan)
         requires kinds { IsOfKinds B.kind self.old }
         ensures plan { plan_in self.new ≡ plan.now }
@@ -105,7 +105,7 @@ impl<B: Feeder> ChainOf<B> {
         self.restart();
     }
 
-    /// An empty stream by the same plan begins. Takes no memory.
+    /// Begins an empty stream by the same plan. Takes no memory.
     pub fn restart(&mut self)
         requires { IsOfKinds B.kind self.old }
         ensures plan { plan_in self.new ≡ plan_in self.old }
