@@ -1,4 +1,4 @@
-//! What is settled of a run.
+//! What a configuration settles for a run.
 
 ghost use Rattle.std.specs.Prelude.{◌≡◌, List, string_bytes, IfOk};
 ghost use Rattle.pcm_config.specs.Configs.{usual_config};
