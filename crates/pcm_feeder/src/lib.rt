@@ -1,5 +1,5 @@
 //! One stage of a chain, under one interface: what it is fitted to, and what it eats and gives.
-//! Whatever box stands in a rack gives the frames of one function of all frames that it has eaten.
+//! Whichever box a rack has, the frames that it gives are one function of all frames that it has eaten.
 #![tactic(auto)]
 
 mod feeder;

@@ -1,4 +1,4 @@
-//! The stages that turn each frame by itself.
+//! The stages that turn each frame into another by itself.
 
 ghost use Rattle.std.specs.Prelude.{◌≡◌, IfOk, IsOk};
 ghost use Rattle.pcm_feeder.specs.Kept.{unfitted};
@@ -78,7 +78,7 @@ impl<M: FrameMap> Feeder for MapFeeder<M> {
 
     ghost kept = { kept_by_map M.stage };
 
-    // One is as good as another.
+    // All have the same mark.
     ghost mark = { λ _. 0 };
 
     fn kind(&self) -> Kind {

@@ -46,7 +46,7 @@ impl Tables {
     ghost use Rattle.pcm_feeder.specs.Filters.{as_filters, no_filters};
     ghost use Rattle.pcm_feeder.specs.Limits.{AreFilters};
 
-    /// Takes a list of filters and one of sections over.
+    /// Makes tables of a list of filters and one of sections.
     pub fn new(list: Vec<Table>, sections: Vec<Section>) -> Self
         requires { AreFilters (as_filters list.items sections.items) }
         ensures { result ≡ as_filters list.items sections.items }
