@@ -8,14 +8,14 @@ use std::boxed::BoxedSlice;
 use std::ops::{DerefSlice, DerefSliceMut, Index, IndexMut};
 
 /// A list whose length is that of the vector that it was made of. Nothing of it lends the vector or
-/// its allocator, and it has no copy: so no function that isn't handed an allocator can take memory by one.
+/// its allocator, and it has no copy: so no function without an allocator can take memory by one.
 #[derive(Debug, Drop)]
 pub struct Fixed<T> {
     items: BoxedSlice<T>,
 }
 
 impl<T> Fixed<T> {
-    /// Takes the elements of a vector over.
+    /// Makes a list of the elements of a vector.
     pub fn new(items: Vec<T>) -> Fixed<T>
         ensures items { fixed_items result ≡ items.items }
         ensures len { fixed_len result ≡ vec_len items }
