@@ -58,8 +58,8 @@ impl Groups {
             && (has_group(&self.play, group) || has_group(&self.recording, group))
     }
 
-    /// A slot asks for a group: for the least that no slot is in by 0, else for this one. Returns the group that it is in then. A way that
-    /// joins none and a group that is not in use are refused first, and then all that comes too late.
+    /// Puts a slot into a group: into the least that no slot is in for 0, else into this one. Returns the number of its group. A way
+    /// that joins none and a group that is not in use are refused first, then a slot that has a group, and a new group where none is free.
     pub fn join(&mut self, way: Way, slot: usize, group: u32) -> Result<u32, Errno>
         requires { slot < SLOTS }
         ensures answer { result ≡ joining self.old way slot group }
@@ -70,7 +70,7 @@ impl Groups {
         Ok(number)
     }
 
-    /// A slot is in no group any more.
+    /// Takes a slot out of its group.
     pub fn leave(&mut self, way: Way, slot: usize)
         requires { slot < SLOTS }
         ensures { self.new ≡ with_group self.old way slot 0 }
@@ -88,7 +88,7 @@ impl Groups {
         members
     }
 
-    /// No slot is in this group any more.
+    /// Takes all slots out of this group.
     pub fn dissolve(&mut self, group: u32)
         ensures { self.new ≡ dissolved group self.old }
     {
@@ -96,7 +96,7 @@ impl Groups {
         dissolve_in(&mut self.recording, group);
     }
 
-    // The group that a slot gets which asks for one.
+    // The group that a slot gets when it asks for one.
     fn number_for(&self, way: Way, slot: usize, group: u32) -> Result<u32, Errno>
         requires { slot < SLOTS }
         ensures { result ≡ joining self.now way slot group }
@@ -121,7 +121,7 @@ impl Groups {
         NUMBERS.iter().copied().find(|group| !self.is_used(*group))
     }
 
-    // A slot is in this group from now on.
+    // Puts a slot into this group, or into none by 0.
     fn set(&mut self, way: Way, slot: usize, group: u32)
         requires { slot < SLOTS }
         ensures { self.new ≡ with_group self.old way slot group }
@@ -170,7 +170,7 @@ fn push_where(members: &mut ArrayVec<(Way, usize), MEMBERS>, is_one: bool, membe
     }
 }
 
-// The slots of a way that are in the group are in none any more.
+// Takes the slots of a way out of the group.
 fn dissolve_in(slots: &mut [u32], group: u32)
     ensures { slots.new ≡ dissolved_in group slots.old }
 {
