@@ -1,4 +1,4 @@
--- The device, the settings of a stream and the way that numbers are.
+-- The device, the settings of a stream and the way that numbers stand for.
 use Rattle.std.specs.Prelude.{ℕ, Bool, ◌&&◌, ◌==◌, nat_le, if◌then◌else◌, Option, Some, None, [], ◌∷◌, List, slice_get}
 use Rattle.pcm_format.specs.declared.settings.Settings.{Settings}
 use Rattle.pcm_format.specs.declared.settings.TheConstants.{RATE_LEAST, RATE_MOST}

@@ -1,4 +1,4 @@
--- The filters that numbers are.
+-- The filters that numbers stand for.
 use Rattle.std.specs.Prelude.{◌≤◌, ℕ, ◌+◌, ◌*◌, ◌%◌, ℤ, neg_ℤ, int_le, Bool, ◌&&◌, ◌||◌, ◌==◌, nat_le, List, length, take, drop}
 use Rattle.std.specs.List.{list_all}
 use Rattle.pcm_feeder.specs.declared.limits.TheConstants.{COEF_MOST, PHASES, SHIFT_MOST, TABLE_COEFS, TAPS}

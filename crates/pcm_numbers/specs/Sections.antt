@@ -1,4 +1,4 @@
--- The sections that numbers are.
+-- The sections that numbers stand for.
 use Rattle.std.specs.Prelude.{ℕ, ℤ, neg_ℤ, int_le, Bool, ◌&&◌, nat_le}
 use Rattle.pcm_feeder.specs.declared.limits.TheConstants.{SECTION_COEF_MOST, SECTION_SHIFT_MOST}
 use Rattle.pcm_feeder.specs.declared.section.Section.{Section}

@@ -1,4 +1,4 @@
--- The filters and the sections of a run that numbers are.
+-- The filters and the sections of a run that numbers stand for.
 use Rattle.std.specs.Prelude.{◌≡◌, ℤ, Bool, true, ◌&&◌, nat_le, if◌then◌else◌, List, length, map, Option, Some, None, is_some, Result, Ok, Err}
 use Rattle.std.specs.List.{list_all}
 use Rattle.pcm_feeder.specs.declared.limits.TheConstants.{FILTERS, SECTIONS}

@@ -1,4 +1,4 @@
-//! A device, the settings of a stream and a way, each of their numbers.
+//! A device, the settings of a stream, and a way, each made from numbers.
 
 ghost use Rattle.std.specs.Prelude.{◌≡◌, IfSome};
 ghost use Rattle.pcm_desk.specs.Device.{HasRates};

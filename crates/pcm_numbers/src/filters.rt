@@ -1,4 +1,4 @@
-//! The filters of numbers, judged before a coefficient is copied.
+//! Filters made from numbers, which are judged before a coefficient is copied.
 
 ghost use Rattle.std.specs.Prelude.{◌≡◌, IfOk, map, true};
 ghost use Rattle.std.specs.List.{list_all};

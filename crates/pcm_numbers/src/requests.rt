@@ -1,11 +1,11 @@
-//! The requests of numbers.
+//! Requests, each made from a number.
 
 ghost use Rattle.std.specs.Prelude.{◌≡◌};
 ghost use Rattle.pcm_numbers.specs.Requests.{mix_request_from, request_from};
 
 use pcm_oss::{MixRequest, Request};
 
-/// The request of a number, in the order of `Request`. One that takes no argument leaves it alone.
+/// The request of a number, in the order of `Request`. One without an argument ignores `argument`.
 pub fn request_from(request: u32, argument: u32) -> Option<Request>
     ensures { result ≡ request_from request argument }
 {

@@ -1,4 +1,4 @@
-//! The sections of numbers.
+//! Sections made from numbers.
 
 ghost use Rattle.std.specs.Prelude.{◌≡◌, IfOk, map};
 ghost use Rattle.std.specs.List.{list_all};

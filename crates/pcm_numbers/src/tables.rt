@@ -1,4 +1,4 @@
-//! The filters and the sections of a run, of numbers.
+//! The filters and the sections of a run, made from numbers.
 
 ghost use Rattle.std.specs.Prelude.{◌≡◌};
 ghost use Rattle.pcm_numbers.specs.Tables.{ComesOf, are_tables, tables_from};
