@@ -70,7 +70,7 @@ pub enum Event {
     Mixer {
         request: MixRequest,
     },
-    /// The device takes `frames` frames out of its ring and wants as many new ones.
+    /// An interrupt: the device takes `frames` frames out of its ring and wants as many new ones.
     Intr {
         frames: u32,
     },
