@@ -50,7 +50,7 @@ pub struct Refusal {
     pub kind: ScriptKind,
 }
 
-/// Why no script came of a text.
+/// Why a text gives no script.
 #[derive(Debug, Drop, Error)]
 pub enum ScriptFault {
     /// The text isn't a script.
