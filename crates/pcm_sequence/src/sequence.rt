@@ -18,7 +18,7 @@ impl<T> Model for Sequence<T> {
 }
 
 impl<T> Sequence<T> {
-    /// Takes the elements of a vector over.
+    /// Makes a list of the elements of a vector.
     pub fn new(items: Vec<T>) -> Self
         ensures { result ≡ items.items }
     {
