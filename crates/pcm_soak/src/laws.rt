@@ -1,4 +1,4 @@
-//! What holds of scripts of numbers: each function here has no work, and its contract is a law.
+//! What holds of the scripts that numbers make: each function here has no work, and its contract is a law.
 
 ghost use Rattle.std.specs.Prelude.{◌≡◌, ◌≤◌, ℕ, [], ◌∷◌, length};
 ghost use Rattle.pcm_oss.specs.declared.event.Event.TheVariants.{Read, Ioctl};
