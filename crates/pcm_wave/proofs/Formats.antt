@@ -1,4 +1,4 @@
--- The test of a wave's format finds just the formats that waves have.
+-- The test of a wave's format accepts only the formats that waves have.
 use Rattle.std.proofs.Common.{◌≡◌, true, inl, inr, refl}
 use Rattle.pcm_format.specs.declared.format.Format.{Format}
 use Rattle.pcm_format.specs.declared.format.Format.TheVariants.{U8, S8, S16Le, S16Be, U16Le, U16Be, S24Le, S24Be, U24Le, U24Be, S32Le, S32Be, U32Le, U32Be}

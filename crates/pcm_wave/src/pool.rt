@@ -1,4 +1,4 @@
-//! Where the bytes of events are found.
+//! The pool: where the bytes of events are found.
 
 ghost use Rattle.std.specs.Prelude.{◌≡◌, length};
 ghost use Rattle.pcm_wave.specs.Pools.{HasBytes, HasSource, bytes_at, source_bytes};
