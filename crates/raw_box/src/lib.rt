@@ -1,5 +1,5 @@
-//! A box of the heap that is out of Rust's hands, as C holds it.
-//! It is one pointer; what stands there, and the right to free it, go with it.
+//! A `Box` as C holds it: one raw pointer, outside of Rust's ownership.
+//! What stands there, and the right to free it, go with the pointer.
 #![tactic(auto)]
 
 mod raw;

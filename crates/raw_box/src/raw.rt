@@ -17,7 +17,7 @@ impl<T> Model for RawBox<T> {
 }
 
 impl<T: Drop> RawBox<T> {
-    /// Takes a box apart.
+    /// Makes a box a raw pointer.
     pub fn of(value: Box<T>) -> RawBox<T>
         ensures value { result.value ≡ value.value }
     {
@@ -26,7 +26,7 @@ impl<T: Drop> RawBox<T> {
         }
     }
 
-    /// Makes the box again. There is one heap, so any `Global` will do.
+    /// Makes the pointer a box again. There is one heap, so any `Global` will do.
     pub fn into_box(self, alloc: Global) -> Box<T>
         ensures value { result.value ≡ self.value }
     {
