@@ -45,7 +45,7 @@ needed-within fitted j count start eaten step at below enough begins =
 pub eaten-few : (c eaten n : ℕ) → 0 < c → eaten * c ≤ n → eaten ≤ n
 eaten-few c eaten n above there = omega (arith, mul-le-mul_left {m = 1} {n = c} eaten (omega arith))
 
--- an output needs no fewer frames than the one before
+-- an output lies no earlier than the one before
 pub step-on : (pace : Pace) (step next : Step) (j : ℕ) → IsStep pace step j → IsStep pace next (j + 1) → step.frames ≤ next.frames
 step-on pace step next j at on = omega (arith, at.frames, on.frames, step-grows (rate_by pace) (phase_by pace) j (j + 1) (omega (arith, pace.paced.target.least)) (omega arith))
 
