@@ -58,7 +58,7 @@ impl Groups {
             && (has_group(&self.play, group) || has_group(&self.recording, group))
     }
 
-    /// Puts a slot into a group: into the least that no slot is in for 0, else into this one. Returns the number of its group. A way
+    /// Puts a slot into a group: by 0 into the least that no slot is in, else into this one. Returns the number of its group. A way
     /// that joins none and a group that is not in use are refused first, then a slot that has a group, and a new group where none is free.
     pub fn join(&mut self, way: Way, slot: usize, group: u32) -> Result<u32, Errno>
         requires { slot < SLOTS }
