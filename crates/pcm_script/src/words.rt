@@ -8,7 +8,7 @@ ghost use Rattle.pcm_script.specs.Words.{begins_comment, is_blank, is_word, lent
 use arrayvec::ArrayVec;
 use memchr::memchr2;
 
-/// How many words of a line are kept. A line with that many is refused by each command, as are all with more, so a line needs no memory.
+/// How many words of a line are kept. Each command refuses that many, as it does more, so a line needs no memory.
 pub const KEPT: usize = 8;
 
 /// The words of a line that are kept.
