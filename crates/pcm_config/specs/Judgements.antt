@@ -1,4 +1,4 @@
--- Judgements one after another: the first that refuses is the answer.
+-- Judgements one after another: the first that refuses is the result.
 use Rattle.std.specs.Prelude.{Option, Some, None, Result, Ok, Err}
 use Rattle.pcm_config.specs.declared.fault.ConfigKind.{ConfigKind}
 use Rattle.pcm_config.specs.declared.fault.ConfigRefusal.{ConfigRefusal}

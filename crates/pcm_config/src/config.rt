@@ -60,7 +60,7 @@ pub struct FilePath {
 /// A list of files.
 pub type FilePaths = Sequence<FilePath>;
 
-/// What is settled of a run: its device, the form of the file that is played to, the files by their names,
+/// A configuration: the device of a run, the form of the file that is played to, the files by their names,
 /// with the one that is recorded from, and the filters of the converters with the sections of the equaliser.
 #[derive(Debug, Drop)]
 pub struct Config {
@@ -71,7 +71,7 @@ pub struct Config {
     pub tables: Tables,
 }
 
-/// What is settled of a run without a configuration. It takes no memory.
+/// The settings of a run without a configuration. They take no memory.
 pub fn default_config(alloc: Global) -> Config
     ensures { result ≡ usual_config }
 {

@@ -68,7 +68,7 @@ pub struct ConfigRefusal {
     pub place: ConfigPlace,
 }
 
-/// Why nothing is settled by a text.
+/// Why a text gives no configuration.
 #[derive(Debug, Drop, Error)]
 pub enum ConfigFault {
     /// The text isn't a configuration.

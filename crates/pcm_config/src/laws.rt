@@ -3,7 +3,7 @@
 ghost use Rattle.std.specs.Prelude.{◌≡◌, [], Ok};
 ghost use Rattle.pcm_config.specs.Configs.{config_read, usual_config};
 
-/// A text without a word settles what is usual.
+/// An empty text is the usual configuration.
 pub fn an_empty_text_is_the_usual()
     ensures { config_read [] ≡ Ok usual_config }
 {}
