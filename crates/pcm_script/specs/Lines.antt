@@ -40,7 +40,7 @@ abbrev pub at_line : ℕ → Result Script ScriptKind → Result Script Refusal
 at_line number (Ok script) = Ok script
 at_line number (Err kind) = Err (record { line = number; kind = kind })
 
--- A script with the lines from a number on, collected one after another. The first that is refused is the answer.
+-- A script with the lines from a number on, collected one after another. The first that is refused is the result.
 unfoldable pub collected : DeviceSeen → Script → ℕ → List (Result (Option LineEvent) ScriptKind) → Result Script Refusal
 collected device script number [] = Ok script
 collected device script number (line ∷ lines) = do

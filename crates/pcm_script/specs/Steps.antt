@@ -1,4 +1,4 @@
--- Judgements one after another: the first that refuses is the answer.
+-- Judgements one after another: the first that refuses is the result.
 use Rattle.std.specs.Prelude.{Result, Ok, Err}
 
 -- the next judgement, if this one gave a value
