@@ -7,7 +7,7 @@ use Rattle.pcm_verdict.specs.Faults.{Fault}
 use Rattle.pcm_verdict.specs.Judging.{◌>>=◌, came_after, judge, or_missing, read_file}
 use Rattle.pcm_inputs.specs.Reads.{Comes}
 
--- a judgement of bytes, of which one more than so many may have shows that they are too long
+-- a judgement that is the same for all bytes that are longer than they may be
 pub record CutsAt {A : Type 0} (judged : List ℕ → Result A Fault) (most : ℕ) : Type 0 where
   pub long : (one other : List ℕ) → most < length one → most < length other → judged one ≡ judged other
 

@@ -81,7 +81,7 @@ conversion-comes name target bytes files came reads is = comes-judged (conversio
 pub conversion-begins : (name : List ℕ) (target : Settings) (files : FilesSeen) → LeadsTo (conversion_part name target) (file_part name) files
 conversion-begins name target files = leads-first (file_part name) (λ content bytes. judge (conversion_of name target bytes)) (λ other. other ≡ name) files (λ other same. same)
 
--- ---- a data file behind others
+-- ---- a data file after others
 
 pub file-long : (config : Config) (before : List DataFileSeen) (file : FilePath) (bytes : List ℕ) → DATA_BYTES - bytes_held before < length bytes → file_behind config before file bytes ≡ Err (BadWave file.path Long)
 file-long config before file bytes long = grind (arith, nat_tests)

@@ -12,7 +12,7 @@ use Rattle.pcm_inputs.specs.Parts.{IsPath, data_behind, data_part}
 use Rattle.pcm_inputs.specs.Reads.{Comes, Ends, GivesValue, OnlyHasRead}
 use Rattle.pcm_inputs.proofs.Parts.{LeadsTo, comes-before, comes-next, ends-later, has_read-later, leads-first, leads-next, leads-on, nothing}
 
--- so many data files of a configuration were read
+-- the first `at` data files of a configuration were read
 pub record HasLoaded (config : Config) (at : ℕ) (loaded : List DataFileSeen) (before now : Outside) : Type 0 where
   pub leads : LeadsTo (data_behind config [] config.files) (data_behind config loaded (drop at config.files)) before.files
   pub comes : (read : List DataFileSeen) → Comes (data_behind config loaded (drop at config.files)) (Ok read) before.files → Comes (data_behind config [] config.files) (Ok read) before.files

@@ -15,7 +15,7 @@ use Rattle.pcm_inputs.proofs.Parts.{LeadsTo, comes-next, leads-first, leads-next
 abbrev AreNames : List ℕ → Option (List ℕ) → List ℕ → Type 0
 AreNames script config name = (name ≡ script) ⊎ MayNameFiles config
 
--- a script behind its configuration and data files
+-- a script after its configuration and data files
 abbrev script_then : Config → List ℕ → Contents → List DataFileSeen → Judged Inputs
 script_then settled name content files = script_judged content settled files name >>= (λ script. given (record { config = settled; files = files; script = script }))
 
@@ -27,7 +27,7 @@ config-allowed script (Some config) name is = inr tt
 pub leads-config : (script : List ℕ) (config : Option (List ℕ)) (files : FilesSeen) → LeadsTo (inputs_part script config) (config_part config) files
 leads-config script config files = leads-first (config_part config) (λ content settled. inputs_under content settled script) (AreNames script config) files (config-allowed script config)
 
--- to what stands behind it
+-- to what follows it
 leads-under : (script : List ℕ) (config : Option (List ℕ)) (settled : Config) (files : FilesSeen) → Comes (config_part config) (Ok settled) files
     → LeadsTo (inputs_part script config) (record { judged = λ content. inputs_under content settled script; may = AreNames script config }) files
 leads-under script config settled files came =

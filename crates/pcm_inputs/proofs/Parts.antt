@@ -12,7 +12,7 @@ use Rattle.pcm_inputs.specs.Reads.{Comes, Ends, IsAmong, IsLine, IsRead, OfFault
 
 -- ---- names
 
--- the place of a name behind others
+-- the place of a name after others
 abbrev place-behind : List (List ℕ) → ℕ → ℕ
 place-behind [] place = place
 place-behind (first ∷ front) place = suc (place-behind front place)
@@ -85,7 +85,7 @@ line-later whole part before between after line only leads (OfFault fault came i
 line-later whole part before between after line only leads (OfRead name read fails is) =
     OfRead name (contents-same whole part before.files between.files only.files leads name read) (fails-later _ _ _ name only.kept fails) is
 
--- an end of a part, behind others, is an end of the whole
+-- an end of a part that follows others is an end of the whole
 pub ends-later : {A B : Type 0} (whole : Part A) (part : Part B) (ending : Ending) (before between after : Outside) → OnlyHasRead before between → LeadsTo whole part before.files
     → Ends part between after ending → Ends whole before after ending
 ends-later whole part Usage before between after only leads ends = ends
@@ -139,7 +139,7 @@ leads-first first next may files allows = record {
   may = allows;
 }
 
--- and to what stands behind a value that the first part gave
+-- and to what follows a value that the first part gave
 pub leads-next : {A B : Type 0} (first : Part A) (next : Contents → A → Judged B) (may behind : List ℕ → Type 0) (files : FilesSeen) (value : A) → Comes first (Ok value) files → ((name : List ℕ) → behind name → may name)
     → LeadsTo (record { judged = λ content. first.judged content >>= next content; may = may }) (record { judged = λ content. next content value; may = behind }) files
 leads-next first next may behind files value came allows = record {
@@ -159,7 +159,7 @@ leads-on one two three files first next = record {
   may = λ name allowed. first.may name (next.may name allowed);
 }
 
--- a value that stands behind a value
+-- the result of the second part, where the first gave a value
 pub comes-next : {A B : Type 0} (first : Part A) (next : Contents → A → Judged B) (may : List ℕ → Type 0) (files : FilesSeen) (value : A) (came : Result B Fault) → Comes first (Ok value) files
     → (IsTrue files.tells → (next files.content value).came ≡ came) → Comes (record { judged = λ content. first.judged content >>= next content; may = may }) came files
 comes-next first next may files value came here there = λ told. ap (λ (r : Result _ Fault). came_after r (next files.content)) (here told) ∙ there told

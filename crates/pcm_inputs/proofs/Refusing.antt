@@ -49,7 +49,7 @@ pub err-as : {T E : Type 0} (P : E → Type 0) (ending : E) (r : Result T E) →
 err-as P ending (Ok made) same holds = tt
 err-as P ending (Err found) same holds = subst P (sym same) holds
 
--- the line of a fault, put behind what was only read
+-- the line of a fault, put after files were only read
 pub tells-behind : (fault : Fault) (ending : Ending) (before between : Outside) (sink : SinkSeen) → OnlyHasRead before between → TellsFault fault ending between.sink sink → TellsFault fault ending before.sink sink
 tells-behind fault ending before between sink only tells = subst (λ (old : SinkSeen). TellsFault fault ending old sink) only.sink tells
 

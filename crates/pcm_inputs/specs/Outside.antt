@@ -14,7 +14,7 @@ pub record Outside : Type 0 where
 abbrev pub outside : FilesSeen → SinkSeen → Outside
 outside files sink = record { files = files; sink = sink }
 
--- what is seen of both before a call and behind it
+-- what is seen of both before and after a call
 pub record Change : Type 0 where
   pub before : Outside
   pub after : Outside

@@ -35,7 +35,7 @@ IsConfig (Some config) name = name ≡ config
 abbrev pub config_part : Option (List ℕ) → Part Config
 config_part config = record { judged = λ content. config_judged content config; may = IsConfig config }
 
--- one data file, behind those that were read
+-- one data file, after those that were read
 abbrev pub data_part : Config → List DataFileSeen → FilePath → Part DataFileSeen
 data_part config before file = record { judged = λ content. file_judged content config before file; may = λ name. name ≡ file.path }
 
@@ -46,7 +46,7 @@ pub record IsPath (config : Config) (name : List ℕ) : Type 0 where
   pub there : slice_get config.files place ≡ Some file
   pub is : name ≡ file.path
 
--- data files behind those that were read
+-- data files after those that were read
 abbrev pub data_behind : Config → List DataFileSeen → List FilePath → Part (List DataFileSeen)
 data_behind config before files = record { judged = λ content. files_behind content config before files; may = IsPath config }
 

@@ -1,4 +1,4 @@
--- What a part of a call comes to that reads files and judges them.
+-- The result of a part of a call that reads files and judges them.
 use Rattle.std.specs.Prelude.{◌≡◌, ℕ, List, IsTrue, Result, Ok, Err, slice_get, Some}
 use Rattle.pcm_outside.specs.Files.{FilesSeen, FailsToRead, NoReadFails, OnlyReads}
 use Rattle.pcm_outside.specs.Sink.{FailsToPut, Puts}
@@ -25,7 +25,7 @@ pub record OnlyHasRead (before after : Outside) : Type 0 where
   pub kept : NoReadFails before.files after.files
   pub sink : after.sink ≡ before.sink
 
--- where the files tell, this comes of a part
+-- where the files tell, this is the result of a part
 abbrev pub Comes : {A : Type 0} → Part A → Result A Fault → FilesSeen → Type 0
 Comes part came files = IsTrue files.tells → (part.judged files.content).came ≡ came
 
@@ -55,7 +55,7 @@ pub record FailsToReadOne {A : Type 0} (part : Part A) (before after : Outside) 
   pub files : OnlyReads before.files after.files
   pub line : Puts before.sink after.sink (cannot_read_line name)
 
--- the line of what a part came to: of a fault, or of a read that failed
+-- the line that reports a part: of a fault, or of a read that failed
 pub data IsLine {A : Type 0} (part : Part A) (old new : FilesSeen) (line : List ℕ) : Type 0 where
   OfFault : (fault : Fault) → Comes part (Err fault) old → line ≡ fault_line fault → IsLine part old new line
   OfRead : (name : List ℕ) → IsRead part old name → FailsToRead old new name → line ≡ cannot_read_line name → IsLine part old new line
@@ -82,7 +82,7 @@ Ends part before after BadWave = RefusesPart part BadWave before after
 Ends part before after CannotWrite = CutsLine part before after
 Ends part before after NoMemory = Lacks before after
 
--- what a part came to
+-- the result of a part
 abbrev pub ComesTo : {A : Type 0} → Part A → Result A Ending → Outside → Outside → Type 0
 ComesTo part (Ok value) before after = GivesValue part value before after
 ComesTo part (Err ending) before after = Ends part before after ending

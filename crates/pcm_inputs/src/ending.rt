@@ -1,4 +1,4 @@
-//! How a call ends that doesn't come to its end.
+//! How a call ends early.
 
 ghost use Rattle.std.specs.Prelude.{◌≡◌};
 

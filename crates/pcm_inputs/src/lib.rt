@@ -1,4 +1,4 @@
-//! What a call asks for, and what it works on: its words, and the files that it reads and judges. Whatever is refused is told in
+//! What a call asks for, and what it works on: its words, and the files that it reads and judges. A refusal is reported in
 //! one line, which names the first fault.
 #![tactic(auto)]
 

@@ -36,7 +36,7 @@ impl Loaded {
         self.left
     }
 
-    /// Keeps a file of so many bytes behind the others.
+    /// Keeps a file of `size` bytes after the others.
     pub fn keep(&mut self, file: DataFile, size: usize) -> Result<(), Ending>
         requires size { size ≡ length file.bytes }
         requires left { size ≤ DATA_BYTES - bytes_held self.old.files.items }

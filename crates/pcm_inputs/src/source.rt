@@ -68,7 +68,7 @@ fn source_of(
     Ok(source)
 }
 
-// Whether so many frames are too long for the body of a wave.
+// Whether the body of a wave has no room for that many frames.
 fn is_long(frames: u128, settings: &Settings) -> bool
     ensures { result ≡ nat_lt BODY_BYTES (frames * frame_bytes settings.now) }
 {
