@@ -1,4 +1,4 @@
--- Runs without a shortage, and scripts that sound alike: slot by slot, since nothing is ever heard of those behind the first.
+-- Runs without a shortage, and scripts that sound alike: slot by slot, since nothing is ever heard of those after the first.
 use Rattle.std.proofs.Common.{◌≡◌, ◌-◌, ℕ, zero, suc, Bool, true, false, cond, List, [], ◌∷◌, Some, None, All, refl, sym, ◌∙◌, ap, arith}
 use Rattle.std.specs.Prelude.{◌≢◌, nat_lt}
 use Rattle.std.proofs.lemmas.Bool.Decides.{nat_tests}
@@ -27,7 +27,7 @@ brief = story_after small_device brief_script
 abbrev behind : Story
 behind = story_after small_device behind_script
 
--- what holds of the first four numbers, and of every number behind them
+-- what holds of the first four numbers, and of every greater one
 by_four : (P : ℕ → Type 0) → P 0 → P 1 → P 2 → P 3 → ((n : ℕ) → P (suc (suc (suc (suc n))))) → (n : ℕ) → P n
 by_four P a b c d more zero = a
 by_four P a b c d more (suc zero) = b
@@ -52,7 +52,7 @@ brief-unbroken = by_four (λ slot. All IsUnbroken (brief.runs slot))
 
 -- ---- nothing is asked of the mixer device
 
--- a fader's gains after events that leave it at its gain, where so many frames were mixed before each
+-- a fader's gains after events that leave it at its gain; each position is how many frames were mixed before
 abbrev kept_at : List ℕ → Gain → List GainSet
 kept_at [] gain = []
 kept_at (position ∷ positions) gain = fader_after position gain gain (kept_at positions gain)

@@ -43,7 +43,7 @@ abbrev pub joined : List (List ℕ) → List ℕ
 joined [] = []
 joined (line ∷ lines) = line ++ 10 ∷ joined lines
 
--- bytes, so many times
+-- bytes, repeated
 abbrev pub times : ℕ → List ℕ → List ℕ
 times zero bytes = []
 times (suc count) bytes = bytes ++ times count bytes
@@ -101,7 +101,7 @@ plainly_played device script = plain_text device (pool_of [] script) script.even
 abbrev pub printed : DeviceSeen → Script → List ℕ
 printed device script = transcript device (pool_of [] script) script.events
 
--- what a script comes to
+-- the story of a script
 abbrev pub story_after : DeviceSeen → Script → Story
 story_after device script = story_of device (pool_of [] script) script.events
 
@@ -121,7 +121,7 @@ gains_in script = (small_story script).gains 0
 abbrev pub spans_in : Script → ℕ → List Span
 spans_in script until = spans_of small_device until (runs_in script)
 
--- so many frames of a run from an index on, mixed from a position on, with so many missing
+-- `count` frames of a run from an index on, mixed from a position on, with `short` missing
 abbrev pub piece : ℕ → ℕ → ℕ → ℕ → Piece
 piece position index count short = record { position = position; index = index; count = count; short = short }
 
@@ -155,7 +155,7 @@ usual_book state written eaten given = book_in usual_settings state written eate
 abbrev pub cut_in : ℕ → ℕ → PlayBook → PlayBook
 cut_in log count book = record book { opening = record book.opening { fragments = record { log = log; count = count } } }
 
--- a book that was told this position
+-- a book whose last answer was this position
 abbrev pub told_at : ℕ → PlayBook → PlayBook
 told_at position book = record book { opening = record book.opening { told = position } }
 

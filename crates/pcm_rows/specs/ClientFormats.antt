@@ -18,7 +18,7 @@ use Rattle.pcm_rows.specs.Calls.{joined, judged}
 abbrev pub at_usual_rate : Format → Layout → Settings
 at_usual_rate format layout = record { format = format; layout = layout; rate = 48000 }
 
--- a client with settings writes once and closes, and so many frames of it are handed over behind the silent ring
+-- a client with settings writes once and closes; after the silent ring `frames` frames of it are handed over
 abbrev pub client_text : List ℕ → List ℕ → List ℕ → List ℕ
 client_text settings hex frames = joined (
     (codes "open 0 play " ++ settings) ∷

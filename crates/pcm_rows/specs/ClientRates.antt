@@ -178,12 +178,12 @@ ahead_frame =
     0 ∷ 1 ∷ 0 ∷ 0 ∷ 1 ∷ 1 ∷ 0 ∷ 0 ∷ 2 ∷ 1 ∷ 0 ∷ 0 ∷ 3 ∷ 1 ∷ 0 ∷ 0
     ∷ 4 ∷ 1 ∷ 0 ∷ 0 ∷ 5 ∷ 1 ∷ 0 ∷ 0 ∷ 6 ∷ 1 ∷ 0 ∷ 0 ∷ 7 ∷ 1 ∷ 0 ∷ 0 ∷ []
 
--- so many frames, each written alone and followed by an interrupt of one frame
+-- `count` frames, each written alone and followed by an interrupt of one frame
 abbrev pub frame_by_frame : ℕ → ℕ → List Event
 frame_by_frame place zero = []
 frame_by_frame place (suc count) = Write 0 Inline place 32 ∷ Intr 1 ∷ frame_by_frame (place + 32) count
 
--- 33 frames at half the rate, over a client's ring that has room for one, and the frame of the mix behind the last one
+-- 33 frames at half the rate, over a client's ring that has room for one, and the frame of the mix after the last one
 abbrev pub ahead_script : Script
 ahead_script = record {
   events = Open 0 Play wide_settings ∷ Ioctl 0 (SetFragment 0x00020004) ∷ frame_by_frame 0 33 ++ Intr 4 ∷ [];

@@ -69,7 +69,7 @@ whole_config = record {
 
 -- ---- the mix
 
--- a ring of so many blocks of 4096 frames, and a rate of the mix
+-- a ring of `blocks` blocks of 4096 frames, and a rate of the mix
 abbrev pub ring_text : String → String → List ℕ
 ring_text blocks rate =
     codes "[device]\nhw_block = 4096\nhw_blocks = " ++ codes blocks

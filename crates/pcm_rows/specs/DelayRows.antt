@@ -1,4 +1,4 @@
--- Runs that the device's ring still holds, and what their clients are told of it.
+-- Runs that the device's ring still holds, and what their clients are answered.
 use Rattle.std.specs.Prelude.{ℕ, List, [], ◌∷◌, ◌++◌, codes, Some, None, true, false}
 use Rattle.pcm_oss.specs.declared.event.Event.{Event}
 use Rattle.pcm_oss.specs.declared.event.Event.TheVariants.{Write, Intr}
@@ -43,8 +43,8 @@ delay_script = record {
   device_frames = 1028;
 }
 
--- Four frames wait, and then a ring of 1024 is before them. Of all mixed, the last frame is behind the 1024; once 24 are left of them, it
--- is one of these.
+-- Four frames wait, and then a ring of 1024 is before them. The last of all mixed frames comes after the 1024; once 24 are left of them,
+-- it is one of these.
 abbrev pub delay_lines : List ℕ
 delay_lines = joined (
     codes "1: ok 0" ∷ codes "2: ok 16" ∷ codes "3: ok 16" ∷ codes "4: ok" ∷ codes "5: ok 4112" ∷
@@ -83,7 +83,7 @@ abbrev pub handed_lines : List ℕ
 handed_lines = joined (
     codes "1: ok 0" ∷ codes "2: ok 16" ∷ codes "3: ok" ∷ codes "4: ok 4" ∷ codes "5: ok 1024" ∷ codes "6: ok" ∷ codes "7: ok 4" ∷ [])
 
--- four frames that drain into a ring of four, and interrupts of one frame behind them
+-- four frames that drain into a ring of four, and interrupts of one frame after them
 abbrev pub held_script : Script
 held_script = record {
   events = opens 0 ∷ Write 0 Inline 0 16 ∷ asks Sync ∷ Intr 4 ∷ Intr 1 ∷ Intr 1 ∷ Intr 1 ∷ Intr 1 ∷ [];

@@ -38,7 +38,7 @@ sixty_four_taps = one_filter 1 64 1 (replicate 31 (pos 0) ++ pos 2 ∷ replicate
 abbrev pub first_feed_by : Filters → Spec → List Frame → ℕ → Turn
 first_feed_by tables spec frames want = turn_of spec (fresh spec) tables unity frames want
 
--- twice the rate by the first filter, with so many taps
+-- twice the rate by the first filter, with `taps` taps
 abbrev pub doubling : ℕ → ℕ → Spec
 doubling channels taps = Poly 24000 48000 channels 0 taps
 
@@ -64,7 +64,7 @@ sums_of first second = made_with both_added (doubling 1 2) (mono (first ∷ seco
 abbrev pub tens : List Frame
 tens = levels (1 ∷ 10 ∷ 100 ∷ [])
 
--- two frames of two channels, and these with their means behind each
+-- two frames of two channels, and the same with the mean of each and the next after it
 abbrev pub two_sided : List Frame
 two_sided = (pos 10 ∷ negsuc 2 ∷ []) ∷ (pos 20 ∷ pos 4 ∷ []) ∷ []
 
@@ -72,7 +72,7 @@ abbrev pub two_sided_doubled : List Frame
 two_sided_doubled =
     (pos 10 ∷ negsuc 2 ∷ []) ∷ (pos 15 ∷ pos 1 ∷ []) ∷ (pos 20 ∷ pos 4 ∷ []) ∷ (pos 10 ∷ pos 2 ∷ []) ∷ []
 
--- a filter of zeros for two rates, with so many taps
+-- a filter of zeros for two rates, with `taps` taps
 abbrev pub zeros_for : ℕ → ℕ → ℕ → Table
 zeros_for src dst taps = record { src = src; dst = dst; phases = 1; taps = taps; shift = 1; coefs = replicate taps (pos 0) }
 

@@ -15,7 +15,7 @@ use Rattle.pcm_rows.specs.MixRows.{half_mixed}
 
 -- ---- a start
 
--- two members with a frame each, of which the first is posted, and which start behind two frames once both are ready
+-- two members with a frame each, of which the first is posted, and which start after two frames once both are ready
 abbrev pub together_text : List ℕ
 together_text = joined (
     codes "open 0 play s16le 2 48000" ∷
@@ -49,7 +49,7 @@ together_lines = joined (
     codes "1: ok 0" ∷ codes "2: ok 1" ∷ codes "3: ok 1" ∷ codes "4: ok 1" ∷ codes "5: ok 4" ∷ codes "6: ok" ∷
     codes "7: refused busy" ∷ codes "8: ok 4" ∷ codes "9: ok 2" ∷ codes "10: ok" ∷ codes "11: ok 1022" ∷ codes "12: ok 3" ∷ [])
 
--- two members that play and one that records, behind four frames of which three are mixed
+-- two members that play and one that records, after four frames, for which three are mixed
 abbrev pub both_ways : Script
 both_ways = record {
   events =

@@ -158,7 +158,7 @@ its_pokes = [] ∷ [] ∷ stereo_bytes (2 ∷ []) ∷ [] ∷ []
 
 -- ---- what is asked of a mapped channel
 
--- a book of such an opening, of which ten frames were taken and four were told
+-- a book of such an opening: ten frames were taken, and the last answer was four frames
 abbrev pub mapped_book : MapState → MapBook
 mapped_book state = record {
   opening = record { settings = usual_settings; fragments = record { log = 4; count = 2 }; trigger = true; told = 16 };

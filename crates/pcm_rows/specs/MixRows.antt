@@ -91,7 +91,7 @@ plan_from settings = parent_plan (mixing_in settings)
 abbrev pub plan_to_two : Layout → List Spec → PlanSeen
 plan_to_two source stages = plan_of source Two (stages ++ Depth 16 2 ∷ [])
 
--- so many channels at half the rate, brought to the device's by lines
+-- `channels` channels at half the rate, brought to the device's by lines
 abbrev pub half_line : ℕ → Spec
 half_line channels = Linear 24000 48000 channels
 
@@ -161,7 +161,7 @@ line_script = record {
 abbrev pub single_script : Script
 single_script = record line_script { events = take 3 line_script.events ++ replicate 12 (Intr 1) }
 
--- what the device gets of them, with what is between them, down to the silence behind
+-- what the device gets of them, with what is between them, down to the silence after them
 abbrev pub line_bytes : List ℕ
 line_bytes = replicate 8 0 ++ little_endian (0 ∷ 50 ∷ 100 ∷ 150 ∷ 200 ∷ 100 ∷ 0 ∷ 0 ∷ [])
 
@@ -208,7 +208,7 @@ loud_pair_script = record {
 
 -- ---- what is mixed, and what is handed over
 
--- a run that starts behind four frames, of which three are mixed, and a volume behind one more
+-- a run that starts after four frames, for which three are mixed, and a volume after one more
 abbrev pub late_play : Script
 late_play = record {
   events = Intr 4 ∷ Open 0 Play half_settings ∷ Write 0 Inline 0 8 ∷ asks Post ∷ Intr 1 ∷ asks (SetPlayVol 0x3264) ∷ [];
@@ -227,11 +227,11 @@ late_play_run = record {
   pieces = piece 3 0 1 0 ∷ [];
 }
 
--- a recording that starts behind four frames, of which three are mixed; its second frame comes with none of the mix
+-- a recording that starts after four frames, for which three are mixed; its second frame comes with none of the mix
 abbrev pub late_recording : List Event
 late_recording = Open 0 Record usual_settings ∷ Intr 4 ∷ Ioctl 0 (SetTrigger 1) ∷ Intr 1 ∷ Intr 1 ∷ Read 0 8 ∷ []
 
--- what it comes to
+-- its story
 abbrev pub late_story : Story
 late_story = story_of half_mixed mic_pool late_recording
 

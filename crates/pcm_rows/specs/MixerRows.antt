@@ -161,7 +161,7 @@ next_script = record {
   device_frames = 8;
 }
 
--- a master that is set behind four frames, of which three are mixed, and a slot behind one more: it is muted, softer and heard again
+-- a master that is set after four frames, for which three are mixed, and a slot after one more: it is muted, softer and heard again
 abbrev pub late_gain_script : Script
 late_gain_script = record {
   events =
@@ -214,7 +214,7 @@ muted_run = record {
 
 -- ---- mapped slots
 
--- behind one channel that plays, a frame of 100 is poked into a mapped one; there is no third slot
+-- after a slot that plays, a frame of 100 is poked into the mapped slot 1; there is no third slot
 abbrev pub mapped_slot_script : Script
 mapped_slot_script = record {
   events =

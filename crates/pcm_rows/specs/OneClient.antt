@@ -24,7 +24,7 @@ drain_text = joined (
 abbrev pub drain_bytes : List ℕ
 drain_bytes = little_endian (1 ∷ 2 ∷ 3 ∷ 4 ∷ 5 ∷ 6 ∷ 7 ∷ 8 ∷ [])
 
--- the four frames behind the silence of a ring of four
+-- the four frames after the silence of a ring of four
 abbrev pub four_frames_heard : List ℕ
 four_frames_heard = replicate 16 0 ++ drain_bytes
 

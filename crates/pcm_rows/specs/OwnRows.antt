@@ -11,7 +11,7 @@ use Rattle.pcm_desk.specs.Desk.{Desk, after, desk_at_start}
 use Rattle.pcm_desk.specs.Usual.{usual_device}
 use Rattle.pcm_rows.specs.Calls.{opens}
 
--- two frames are written, one is mixed and one waits, behind a whole ring of the device; what comes behind the close is another's
+-- two frames are written, one is mixed and one waits, after a whole ring of the device; what follows the close is another's
 abbrev pub among_others : List Event
 among_others = opens 1 ∷ Write 0 Inline 0 8 ∷ Write 1 Inline 8 4 ∷ Ioctl 0 Post ∷ Close 1 ∷ Intr 1 ∷ Ioctl 0 GetODelay ∷ Close 0 ∷ opens 0 ∷ Intr 4 ∷ []
 

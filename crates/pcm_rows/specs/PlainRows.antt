@@ -61,7 +61,7 @@ whole_script = record {
   device_frames = 8;
 }
 
--- the same in three writes, of which the last comes behind a post; and two frames less are mixed
+-- the same in three writes, of which the last comes after a post; and two frames less are mixed
 abbrev pub brief_script : Script
 brief_script = record {
   events = opens 0 ∷ Write 0 Inline 0 3 ∷ Write 0 Inline 3 5 ∷ asks Post ∷ Intr 1 ∷ Write 0 Inline 8 8 ∷ Close 0 ∷ Intr 2 ∷ Intr 3 ∷ [];
@@ -69,7 +69,7 @@ brief_script = record {
   device_frames = 6;
 }
 
--- the same in one write, and a volume that is set behind the last of them
+-- the same in one write, and a volume that is set after the last frame
 abbrev pub behind_script : Script
 behind_script = record {
   events = opens 0 ∷ Write 0 Inline 0 16 ∷ asks Sync ∷ Intr 4 ∷ asks (SetPlayVol 0x3264) ∷ Intr 2 ∷ [];
@@ -77,7 +77,7 @@ behind_script = record {
   device_frames = 6;
 }
 
--- the same behind a frame of silence
+-- the same after a frame of silence
 abbrev pub late_start_script : Script
 late_start_script = record {
   events = opens 0 ∷ Intr 1 ∷ Write 0 Inline 0 16 ∷ Close 0 ∷ Intr 3 ∷ Intr 2 ∷ [];
@@ -87,7 +87,7 @@ late_start_script = record {
 
 -- ---- halts
 
--- a run of four frames is halted behind two, and one of a frame is played behind it
+-- a run of four frames is halted after two, and one of a frame is played after it
 abbrev pub dropped_script : Script
 dropped_script = record {
   events =
@@ -149,7 +149,7 @@ unlimited_trio = trio_script negative_frame loud_frame soft_frame
 
 -- ---- three runs
 
--- One frame at half the rate drains, four are halted behind two frames of the mix, and three are on their way.
+-- One frame at half the rate drains, four are halted after two frames of the mix, and three are on their way.
 abbrev pub three_runs_script : Script
 three_runs_script = record {
   events =

@@ -34,7 +34,7 @@ plan_of source target stages = record { source = source; target = target; stages
 abbrev pub plan_16 : Layout → Layout → List Spec → PlanSeen
 plan_16 source target stages = plan_of source target (stages ++ Volume target ∷ Depth 16 (channels_of target) ∷ [])
 
--- the stages from one channel to two of 16 bits, of which the first is told
+-- the stages from one channel to two of 16 bits, of which the first is given
 abbrev pub stages_after : Spec → List Spec
 stages_after first = first ∷ Matrix One Two ∷ Volume Two ∷ Depth 16 2 ∷ []
 

@@ -24,7 +24,7 @@ mic_bytes =
 abbrev pub mic : DataFileSeen
 mic = record { name = codes "mic"; bytes = mic_bytes; wave = wave_with usual_settings 0 40 }
 
--- what is answers_recorded from
+-- what is recorded from
 abbrev pub mic_pool : Pool
 mic_pool = record { files = mic ∷ []; capture = Some 0; inline_bytes = [] }
 
@@ -88,7 +88,7 @@ mono_recording_script = recording_script (Open 0 Record mono_settings ∷ Ioctl 
 abbrev pub mono_lines : List ℕ
 mono_lines = joined (codes "1: ok 0" ∷ codes "2: ok 131076" ∷ codes "3: ok" ∷ codes "4: ok 2" ∷ codes "5: ok 4 01000200" ∷ [])
 
--- a recording that starts behind two frames, and is read behind the end of what is answers_recorded
+-- a recording that starts two frames before the end of what is captured, and is read past that end
 abbrev pub late_events : List Event
 late_events = Open 0 Record usual_settings ∷ Intr 8 ∷ Read 0 4 ∷ Ioctl 0 (SetTrigger 1) ∷ Intr 3 ∷ Read 0 16 ∷ []
 
@@ -96,7 +96,7 @@ abbrev pub late_lines : List ℕ
 late_lines = joined (
     codes "1: ok 0" ∷ codes "2: ok 8" ∷ codes "3: refused again" ∷ codes "4: ok" ∷ codes "5: ok 3" ∷ codes "6: ok 12 090009000a000a0000000000" ∷ [])
 
--- what is asked of a channel that plays as if it answers_recorded
+-- what is asked of a channel that plays as if it recorded
 abbrev pub other_way_text : List ℕ
 other_way_text = joined (
     codes "open 0 play" ∷

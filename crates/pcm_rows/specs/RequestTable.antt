@@ -27,7 +27,7 @@ use Rattle.pcm_rows.specs.Calls.{cut_in, last_at, opens, set_to, small_device, t
 
 -- ---- tables
 
--- What comes of a request: something is told and the book stays, the book becomes another, or the request is refused.
+-- The outcome of a request: an answer while the book stays, an answer and another book, or a refusal.
 pub data Outcome : Type 0 where
   Tells : Answer → Outcome
   Makes : PlayBook → Answer → Outcome
@@ -55,7 +55,7 @@ turns_in book rows = map (λ row. outcome_turn book row.outcome) rows
 abbrev pub turns_asked : Rate → ℕ → Here → PlayBook → List AskedRow → List (Turn PlayBook)
 turns_asked rate mix_rate here book rows = map (λ row. play_ask rate mix_rate here row.request book) rows
 
--- a book answers the requests of a table as its rows tell
+-- a book answers the requests of a table as its rows say
 abbrev pub AnswersAs : Rate → ℕ → Here → PlayBook → List AskedRow → Type 0
 AnswersAs rate mix_rate here book rows = turns_asked rate mix_rate here book rows ≡ turns_in book rows
 
@@ -91,7 +91,7 @@ inval = Refuses Inval
 
 -- ---- books
 
--- A ring of four fragments of 16 bytes, behind runs of 80 bytes, of which 28 were told. Frames have four bytes.
+-- A ring of four fragments of 16 bytes, after runs of 80 bytes; the last position answered is 28. Frames have four bytes.
 abbrev pub cut_book : PlayState → ℕ → ℕ → PlayBook
 cut_book state written eaten = record (cut_in 4 4 (told_at 28 (usual_book state written eaten eaten))) { done = 80; underruns = 3 }
 
@@ -119,7 +119,7 @@ halted book = record (told_at 0 book) { state = Setup; written = 0; eaten = 0; g
 
 -- ---- what no state changes
 
--- What is told or refused in every state, and what is always done. 3 is the code of no format, and no number of channels.
+-- What is answered or refused in every state, and what is always done. 3 is the code of no format, and no number of channels.
 abbrev pub rows_in_every_state : PlayBook → List AskedRow
 rows_in_every_state book =
     row (SetFmt 0) (number (code_of book.opening.settings.format))
@@ -183,7 +183,7 @@ primed_rows =
     ∷ row Sync (becomes (last_at 12 (record primed_book { state = Draining false })))
     ∷ []
 
--- The ends of five fragments were passed, and the end of one was told.
+-- The ends of five fragments were passed, of which one was answered.
 abbrev pub running_rows : List AskedRow
 running_rows =
     row (SetFmt 0x40) busy
@@ -202,7 +202,7 @@ running_rows =
     ∷ row Sync (becomes (record running_book { state = Draining false }))
     ∷ []
 
--- Nothing is set, and nothing starts or stops; what is told is told as while it ran.
+-- Nothing is set, and nothing starts or stops; answers are those of the channel while it ran.
 abbrev pub draining_rows : List AskedRow
 draining_rows =
     row (SetFmt 0x40) busy

@@ -54,11 +54,11 @@ posted_lines = joined (
     codes "5: ok underruns=1 overruns=0" ∷ codes "6: ok underruns=0 overruns=0" ∷
     codes "7: ok 8" ∷ codes "8: ok 4" ∷ codes "9: ok 4" ∷ [])
 
--- two interrupts were short since the count was told
+-- two interrupts were short since the count was last answered
 abbrev pub posted_book : PlayBook
 posted_book = record (usual_book Running 16 4 4) { underruns = 2; last = 6 }
 
--- frame 2 is mixed at 4, right behind the silence of the two that were missing
+-- frame 2 is mixed at 4, right after the silence of the two that were missing
 abbrev pub posted_run : Run
 posted_run = record {
   settings = usual_settings;
@@ -94,7 +94,7 @@ synced_lines = joined (
     codes "1: ok 0" ∷ codes "2: ok 8" ∷ codes "3: ok" ∷ codes "4: ok 4" ∷
     codes "5: ok underruns=0 overruns=0" ∷ codes "6: ok bytes=8 blocks=0 ptr=8" ∷ codes "7: ok 4" ∷ [])
 
--- its run is over, and eight bytes were played and told
+-- its run is over, and eight bytes were played, which is the last position answered
 abbrev pub synced_book : PlayBook
 synced_book = record (told_at 8 (usual_book Setup 0 0 0)) { done = 8; last = 2 }
 
@@ -145,7 +145,7 @@ cut_post_lines = joined (
 
 -- ---- settings
 
--- one frame drains until it has left the device's ring of four, and one of a single byte is written behind it
+-- one frame drains until it has left the device's ring of four, and one of a single byte is written after it
 abbrev pub changed_text : List ℕ
 changed_text = joined (
     codes "open 0 play s16le 2 48000" ∷
@@ -191,7 +191,7 @@ anew_gains pool = (story_of small_device pool anew_events).gains 0
 
 -- ---- refusals
 
--- settings that are refused while the channel runs, and two requests that are told
+-- settings that are refused while the channel runs, and two requests that are answered
 abbrev pub refused_text : List ℕ
 refused_text = joined (
     codes "open 0 play s16le 2 48000" ∷
@@ -214,7 +214,7 @@ refused_lines = joined (
     codes "1: ok 0" ∷ codes "2: ok 16" ∷ codes "3: ok" ∷ codes "4: refused busy" ∷ codes "5: refused inval" ∷
     codes "6: ok fragments=3 fragstotal=4 fragsize=4096 bytes=16368" ∷ codes "7: ok 16" ∷ [])
 
--- what belongs to recordings, and what every client is told
+-- what belongs to recordings, and what every client may ask
 abbrev pub wrong_way_text : List ℕ
 wrong_way_text = joined (
     codes "open 0 play" ∷
@@ -236,7 +236,7 @@ wrong_way_lines = joined (
     codes "1: ok 0" ∷ codes "2: refused inval" ∷ codes "3: refused inval" ∷ codes "4: refused inval" ∷
     codes "5: ok 1044984" ∷ codes "6: ok 4608" ∷ [])
 
--- a write and a trigger behind a sync
+-- a write and a trigger after a sync
 abbrev pub busy_text : List ℕ
 busy_text = joined (
     codes "open 0 play s16le 2 48000" ∷
@@ -321,7 +321,7 @@ no_bytes_events =
 
 -- ---- halts
 
--- a posted stream at half the rate is short and halted, and one of a frame drains behind it
+-- a posted stream at half the rate is short and halted, and one of a frame drains after it
 abbrev pub halted_text : List ℕ
 halted_text = joined (
     codes "open 0 play s16le 2 24000" ∷
@@ -357,7 +357,7 @@ halted_lines = joined (
     codes "5: ok bytes=8 blocks=0 ptr=8" ∷ codes "6: ok" ∷ codes "7: ok bytes=0 blocks=0 ptr=0" ∷
     codes "8: ok 4" ∷ codes "9: ok" ∷ codes "10: ok 4" ∷ codes "11: ok underruns=1 overruns=0" ∷ codes "12: ok 4" ∷ [])
 
--- its book behind the halt, and at the end
+-- its book after the halt, and at the end
 abbrev pub halted_book : PlayBook
 halted_book = record (book_in half_settings Setup 0 0 0) { underruns = 1; last = 2 }
 
@@ -375,7 +375,7 @@ dropped_run = record {
   pieces = piece 0 0 2 2 ∷ [];
 }
 
--- the stream behind it, which begins with its own first frame
+-- the stream after it, which begins with its own first frame
 abbrev pub second_run : Run
 second_run = record {
   settings = half_settings;
@@ -408,13 +408,13 @@ run_of_two start drained dropped pieces = record {
 abbrev pub synced_run : Run
 synced_run = run_of_two (Some 0) true None (piece 4 2 0 0 ∷ piece 0 0 2 0 ∷ [])
 
--- a run that started with the mix and gave so many frames at once: whether no more came, and where it was dropped
+-- a run that started with the mix and gave `count` frames at once: whether no more came, and where it was dropped
 abbrev pub run_begun : ℕ → Bool → Option ℕ → Run
 run_begun count drained dropped = run_of_two (Some 0) drained dropped (piece 0 0 count 0 ∷ [])
 
 -- ---- volumes
 
--- four frames of 100 and -3, and a volume of 100 and 50 behind the first two
+-- four frames of 100 and -3, and a volume of 100 and 50 after the first two
 abbrev pub softer_text : List ℕ
 softer_text = joined (
     codes "open 0 play s16le 2 48000" ∷

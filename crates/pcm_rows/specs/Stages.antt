@@ -65,7 +65,7 @@ up_and_down = mono (pos 0 ∷ pos 480 ∷ negsuc 480 ∷ pos 160 ∷ [])
 abbrev pub up_and_down_drawn : List Frame
 up_and_down_drawn = mono (pos 0 ∷ pos 441 ∷ negsuc 324 ∷ pos 3 ∷ pos 52 ∷ [])
 
--- -3 and 4, and these with their means behind each
+-- -3 and 4, and the same with the mean of each and the next after it
 abbrev pub rise : List Frame
 rise = mono (negsuc 2 ∷ pos 4 ∷ [])
 

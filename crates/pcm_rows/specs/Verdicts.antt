@@ -1,4 +1,4 @@
--- Files by their names, and what calls over them come to.
+-- Files by their names, and the outcomes of calls over them.
 use Rattle.std.specs.Prelude.{ℕ, List, [], ◌∷◌, ◌++◌, codes, Option, Some, None, length, replicate, take, if◌then◌else◌}
 use Rattle.std.specs.Str.{bytes_eq}
 use Rattle.pcm_format.specs.declared.settings.Settings.{Settings}
@@ -76,7 +76,7 @@ silent_inputs = record {
   script = record { events = Intr 4 ∷ Intr 4 ∷ []; inline_bytes = []; device_frames = 8 };
 }
 
--- its file: 68 bytes stand behind its size, of which 32 are the silence
+-- its file: 68 bytes stand after its size, of which 32 are the silence
 abbrev pub silent_wave : List ℕ
 silent_wave = wave_file (small_number 68) (format_chunk ++ data_chunk (small_number 32) (replicate 32 0))
 

@@ -11,7 +11,7 @@ use Rattle.pcm_wave.specs.Waves.{wave_with}
 abbrev pub small_number : ℕ → List ℕ
 small_number n = n ∷ 0 ∷ 0 ∷ 0 ∷ []
 
--- a file of the form WAVE, with what it tells as its size, and its chunks
+-- a file of the form WAVE, with the size that it states, and its chunks
 abbrev pub wave_file : List ℕ → List ℕ → List ℕ
 wave_file size chunks = codes "RIFF" ++ size ++ codes "WAVE" ++ chunks
 
@@ -40,7 +40,7 @@ format_chunk_at rate = codes "fmt " ++ small_number 16 ++ (1 ∷ 0 ∷ 2 ∷ 0 �
 abbrev pub frame_of_two : List ℕ
 frame_of_two = 1 ∷ 0 ∷ 2 ∷ 0 ∷ []
 
--- a "data" chunk that tells a size
+-- a "data" chunk that states a size
 abbrev pub data_chunk : List ℕ → List ℕ → List ℕ
 data_chunk size body = codes "data" ++ size ++ body
 
@@ -48,7 +48,7 @@ data_chunk size body = codes "data" ++ size ++ body
 abbrev pub frame_chunk : List ℕ
 frame_chunk = data_chunk (small_number 4) frame_of_two
 
--- the small wave: 40 bytes stand behind the size of the file
+-- the small wave: 40 bytes stand after the size of the file
 abbrev pub small_wave : List ℕ
 small_wave = wave_file (small_number 40) (format_chunk ++ frame_chunk)
 
@@ -67,11 +67,11 @@ extensible_chunk named =
     ++ (22 ∷ 0 ∷ 16 ∷ 0 ∷ 3 ∷ 0 ∷ 0 ∷ 0 ∷ [])
     ++ (named ∷ 0 ∷ 0 ∷ 0 ∷ 0 ∷ 0 ∷ 0x10 ∷ 0 ∷ 0x80 ∷ 0 ∷ 0 ∷ 0xaa ∷ 0 ∷ 0x38 ∷ 0x9b ∷ 0x71 ∷ [])
 
--- the file of the chunks, whose size isn't told
+-- the file of the chunks, which states 0 as its size
 abbrev pub wave_of_chunks : List ℕ → List ℕ
 wave_of_chunks chunks = wave_file (small_number 0) chunks
 
--- the small wave, whose "data" chunk tells another size
+-- the small wave, whose "data" chunk states another size
 abbrev pub wave_telling : List ℕ → List ℕ
 wave_telling size = wave_of_chunks (format_chunk ++ data_chunk size frame_of_two)
 

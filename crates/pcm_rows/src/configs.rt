@@ -80,7 +80,7 @@ pub fn sections_that_are_refused()
     ensures most { config_read (section_keyed "shift = 29\n" "a2 = 1\n") ≡ fault_at Range Eq }
     ensures coef { config_read (section_keyed "shift = 1\n" "a2 = 536870913\n") ≡ fault_at Coef Eq }
     ensures negative { config_read (section_keyed "shift = 1\n" "a2 = -536870913\n") ≡ fault_at Coef Eq }
-    // A section is judged wholly before the next, the filters before all of them, and the container behind.
+    // A section is judged wholly before the next, the filters before all of them, and the container after them.
     ensures first { config_read (section_keyed "shift = 0\n" "a2 = 1\n" ++ keyless_text) ≡ fault_at Range Eq }
     ensures filter { config_read (keyless_text ++ rowless_text) ≡ fault_at Missing Tables }
     ensures container { config_read (wave_with_keys "format = \"s16be\"\n" ++ keyless_text) ≡ fault_at Missing Eq }
@@ -168,7 +168,7 @@ pub fn containers_and_captures()
     ensures capture { config_in "[device]\ncapture = \"room\"\n[files]\nrooms = \"x\"\n" ≡ fault_at Capture DeviceCapture }
 {}
 
-/// The first fault that applies is told: the values in their order, then the whole.
+/// The first fault that applies is reported: the values in their order, then the whole.
 pub fn first_fault_of_a_configuration()
     ensures rate { config_in "[device]\ncontainer = 1\nrate = 1\nhw_block = 0\n" ≡ fault_at Range DeviceRate }
     ensures capture { config_in "[device]\ncapture = 1\n[vchans]\nplay = 0\n" ≡ fault_at Kind DeviceCapture }

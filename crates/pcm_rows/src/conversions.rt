@@ -28,7 +28,7 @@ pub fn conversion_changes_the_format()
     ensures fewer { converted_body (wide_at 8000) (mono_at 8000) two_of_24_bits ≡ 1 ∷ 0 ∷ 0xff ∷ 0xff ∷ [] }
 {}
 
-/// One channel goes to both sides, and both sides come to their mean.
+/// One channel goes to both sides, and both sides become their mean.
 pub fn conversion_changes_the_channels()
     ensures more { converted_body (mono_at 8000) (stereo_at 8000) (100 ∷ 0 ∷ []) ≡ stereo_bytes (100 ∷ []) }
     ensures fewer { converted_body (stereo_at 8000) (mono_at 8000) (100 ∷ 0 ∷ 200 ∷ 0 ∷ []) ≡ 150 ∷ 0 ∷ [] }
@@ -46,7 +46,7 @@ pub fn conversion_lasts_as_long()
     ensures { converted_frames (stereo_at 44100) (stereo_at 48000) hundredth_body ≡ 480 }
 {}
 
-/// A block is as many of the bytes as are left behind those that were given.
+/// A block has only the bytes that are left after those given.
 pub fn block_after_three_frames()
     ensures last { block_after half_settings usual_settings step_body 3 ≡ stereo_bytes (50 ∷ []) }
     ensures none { block_after half_settings usual_settings step_body 4 ≡ [] }

@@ -57,7 +57,7 @@ pub fn channels_are_filtered_apart()
     ensures frames { made_with two_taps (doubling 2 2) two_sided 4 ≡ two_sided_doubled }
 {}
 
-/// Four taps are the frame before an output, the one under it and two behind it. Before the first
+/// Four taps are the frame before an output, the one under it and two after it. Before the first
 /// frame and past the last there is silence.
 pub fn four_taps_reach_around()
     ensures frames { made_with four_taps (doubling 1 4) tens 6 ≡ twice_each (pos 432 ∷ pos 321 ∷ pos 210 ∷ []) }
@@ -115,7 +115,7 @@ pub fn plans_of_a_device_with_filters()
     ensures low { (filtered_plan 1).stages ≡ line_from 24000 ∷ Volume One ∷ [] }
 {}
 
-/// A filter rounds to the nearest of 32 bits, and the depth behind it rounds down: 20, 9, -13, -24,
+/// A filter rounds to the nearest of 32 bits, and the depth after it rounds down: 20, 9, -13, -24,
 /// -18 and -6 quarters of 65536 become 5, 2, -4, -6, -5 and -2 of 16 bits on both sides.
 pub fn plan_triples_the_rate()
     ensures stages { tripling_plan.stages ≡ stages_after tripling }

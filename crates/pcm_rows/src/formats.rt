@@ -35,7 +35,7 @@ pub fn six_channels_to_two()
     ensures lines { printed usual_device surround_script ≡ client_lines (codes "12") (codes "1") }
 {}
 
-/// What three full positions come to on one side is limited before the mix, and the centre alone
+/// The sum of three full positions on one side is limited before the mix, and the centre alone
 /// on the other side is 23169.
 pub fn loud_channels_are_limited()
     ensures verdict { client_judged "s16le 6 48000" "ff7f0000ff7f0000ff7f0000" "1" ≡ accepted loud_script }
@@ -43,7 +43,7 @@ pub fn loud_channels_are_limited()
     ensures lines { printed usual_device loud_script ≡ client_lines (codes "12") (codes "1") }
 {}
 
-/// The sides of eight channels come to the front with a weight of 46341: 4096 and 2896 are 6992,
+/// The sides of eight channels are added to the front with a weight of 46341: 4096 and 2896 are 6992,
 /// and below zero the sum is rounded down.
 pub fn eight_channels_to_two()
     ensures verdict { client_judged "u8 8 48000" "907080c080809070" "1" ≡ accepted eight_script }

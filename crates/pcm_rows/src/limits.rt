@@ -41,7 +41,7 @@ pub fn limits_of_a_run()
     ensures handed { DEVICE_BYTES ≡ 268435456 }
 {}
 
-/// What an opening has that names nothing, and what is told of all that can be had.
+/// The settings of an open that names none, and the answers of all formats and capabilities.
 pub fn numbers_of_an_opening()
     ensures settings { OPENING ≡ record { rate = 8000; format = U8; layout = One } }
     ensures fragments { FRAGMENTS ≡ record { log = 12; count = 4 } }

@@ -1,4 +1,4 @@
-//! Mapped channels: what the device takes of an area that is written to meanwhile, and what their clients are told.
+//! Mapped channels: what the device takes of an area that is written to meanwhile, and what their clients are answered.
 #![tactic(auto, unfolding(crate::proofs::Computing::row))]
 
 ghost use Rattle.std.specs.Prelude.{◌≡◌, ◌∷◌, ◌++◌, [], replicate};
@@ -42,12 +42,12 @@ pub fn an_area_among_others()
     ensures pokes_alone { own_pokes (pool_of [] lone_script) 5 lone_script.events ≡ its_pokes }
 {}
 
-/// Where another format is set, the area is silent anew, in that format.
+/// Where another format is set, the area is silent again, in that format.
 pub fn another_format_silences_the_area()
     ensures { (story_after small_mapped recut_script).areas 0 ≡ replicate 32 128 }
 {}
 
-/// Bytes behind the last one are the first ones again, in the middle of a sample too: here of samples of three bytes in an area of 32.
+/// Bytes past the last one are the first ones again, in the middle of a sample too: here of samples of three bytes in an area of 32.
 pub fn bytes_go_round_in_an_area()
     ensures middle { area_bytes (range_with_len 0 32) 30 3 ≡ 30 ∷ 31 ∷ 0 ∷ [] }
     ensures twice { area_bytes (7 ∷ 8 ∷ []) 5 4 ≡ 8 ∷ 7 ∷ 8 ∷ 7 ∷ [] }
@@ -68,14 +68,14 @@ pub fn silence_of_an_area()
     ensures low { silent_byte U16Be 31 ≡ 0 }
 {}
 
-/// Mapped channels are numbered behind all that may play.
+/// Mapped channels are numbered after all that may play.
 pub fn numbers_of_mapped_channels()
     ensures playing { slot_number 4 Play 3 ≡ 3 }
     ensures first { slot_number 4 Map 0 ≡ 4 }
     ensures third { slot_number 4 Map 2 ≡ 6 }
 {}
 
-/// Of ten frames that were taken of an area of eight the next byte is the ninth. No space is told, nor a delay, and settings are settled.
+/// After ten frames were taken of an area of eight, the next byte is the ninth. Space and delay are refused, and no settings can be set.
 pub fn requests_of_a_mapped_channel_that_runs()
     ensures { replies_of running_map mapped_requests ≡ running_replies }
 {}

@@ -1,4 +1,4 @@
-//! The mixer device: the gains of slots and of all that is mixed, and what is told of them.
+//! The mixer device: the gains of slots and of all that is mixed, and what is answered of them.
 #![tactic(auto, unfolding(crate::proofs::Computing::row))]
 
 ghost use Rattle.std.specs.Prelude.{◌≡◌, ◌∷◌, ◌++◌, [], replicate};
@@ -73,14 +73,14 @@ pub fn left_and_right_are_told_apart()
     ensures mean { played mono_mixed (side_script (SetSlot 0 100)) ≡ replicate 16 0 ++ stereo_bytes (100 ∷ []) }
 {}
 
-/// The run of a muted slot goes on: its first two frames pass unheard, it is told as far, and its shortages are counted.
+/// The run of a muted slot goes on: its first two frames pass unheard, its position counts them, and its shortages are counted.
 pub fn a_muted_slot_goes_on()
     ensures device { played small_device muted_script ≡ muted_bytes }
     ensures lines { printed small_device muted_script ≡ muted_lines }
     ensures runs { (small_story muted_script).runs 0 ≡ muted_run ∷ [] }
 {}
 
-/// A mapped slot has its number behind all that may play, and half of 100 is heard of it.
+/// A mapped slot has its number after all that may play, and half of 100 is heard of it.
 pub fn a_mapped_slot_has_a_gain()
     ensures device { played small_mapped mapped_slot_script ≡ replicate 16 0 ++ stereo_bytes (50 ∷ []) }
     ensures lines { printed small_mapped mapped_slot_script ≡ mapped_slot_lines }

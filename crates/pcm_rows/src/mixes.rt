@@ -90,7 +90,7 @@ pub fn nothing_mixed_is_no_shortage()
     ensures mixed { (story_after half_mixed starving_script).desk.mixed ≡ 4 }
 {}
 
-/// Between 0, 100 and 200 of the mix the device gets 50 and 150, and behind them lines go down to
+/// Between 0, 100 and 200 of the mix the device gets 50 and 150, and after them lines go down to
 /// silence. A hold gives each of them twice.
 pub fn lines_between_mixed_frames()
     ensures frames { device_frames line_mixed (mix_with (levels (0 ∷ 100 ∷ 200 ∷ []))) 4 0 4
@@ -116,14 +116,14 @@ pub fn the_mix_is_limited_first()
         ≡ replicate 8 0 ++ little_endian (32767 ∷ 16383 ∷ 0 ∷ 0 ∷ []) }
 {}
 
-/// A run starts behind the frames that were mixed, and there a volume is set: three are mixed for the
+/// A run starts after the frames that were mixed, and there a volume is set: three are mixed for the
 /// first four, and a fourth for the fifth.
 pub fn runs_go_by_what_is_mixed()
     ensures runs { (story_after half_mixed late_play).runs 0 ≡ late_play_run ∷ [] }
     ensures gains { (story_after half_mixed late_play).gains 0 ≡ softer_from 4 ∷ unity_from 3 ∷ [] }
 {}
 
-/// A recording starts behind the frames that were handed over, and an interrupt that mixes none brings
+/// A recording starts after the frames that were handed over, and an interrupt that mixes none brings
 /// it a frame.
 pub fn recordings_go_by_what_is_handed_over()
     ensures start { (late_story.recordings 0).start ≡ 4 }

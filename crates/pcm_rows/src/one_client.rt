@@ -21,7 +21,7 @@ pub fn one_silent_block()
     ensures lines { printed usual_device silent_script ≡ codes "1: ok 1024\n" }
 {}
 
-/// A close starts what is less than a fragment, and all of it is heard behind the silent ring.
+/// A close starts what is less than a fragment, and all of it is heard after the silent ring.
 pub fn drain_below_a_fragment()
     ensures verdict { judged usual_device drain_text ≡ accepted drain_script }
     ensures device { played usual_device drain_script ≡ ring_of_silence ++ drain_bytes }
@@ -59,7 +59,7 @@ pub fn part_of_a_frame_is_dropped()
     ensures lines { printed small_device part_script ≡ part_lines }
 {}
 
-/// A run starts at its close, behind the frames mixed before, and each opening of a slot sets its gain.
+/// A run starts at its close, after the frames mixed before, and each opening of a slot sets its gain.
 pub fn late_close_starts_late()
     ensures runs { runs_in late_script ≡ late_run ∷ [] }
     ensures gains { gains_in late_script ≡ unity_from 8 ∷ unity_from 0 ∷ [] }

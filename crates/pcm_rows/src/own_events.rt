@@ -1,4 +1,4 @@
-//! What one client is told among others.
+//! What one client is answered among others.
 #![tactic(auto, unfolding(crate::proofs::Computing::row))]
 
 ghost use Rattle.std.specs.Prelude.{◌≡◌};
@@ -7,7 +7,7 @@ ghost use Rattle.pcm_desk.specs.OwnEvents.{channel_begun, own_events, own_replie
 ghost use Rattle.pcm_desk.specs.Usual.{usual_device, usual_settings};
 ghost use Rattle.pcm_rows.specs.OwnRows.{among_others, by_itself, desk_of_one, its_events, its_replies};
 
-/// A client is told the same among others and by itself, at whatever descriptor.
+/// A client gets the same answers among others and by itself, at any descriptor.
 pub fn client_among_others()
     ensures among { own_events 0 among_others ≡ its_events }
     ensures alone { own_events 5 by_itself ≡ its_events }

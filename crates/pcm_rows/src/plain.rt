@@ -13,7 +13,7 @@ ghost use Rattle.pcm_rows.specs.SeveralClients.{loud_frame};
 ghost use Rattle.pcm_rows.specs.Stages.{half_right};
 ghost use Rattle.pcm_rows.specs.PlainRows.{sides, heard, drawn, step_frames, four_frames, whole_script, brief_script, behind_script, late_start_script, dropped_script, dropped_bytes, dip_script, dip_bytes, two_script, two_bytes, limited_trio, unlimited_trio, three_runs_script, three_runs_bytes, drained_frames, closing_frames};
 
-/// Four frames are heard from where their run starts on, behind the silent ring, however their
+/// Four frames are heard from where their run starts on, after the silent ring, however their
 /// writes were cut and wherever the interrupts stopped.
 pub fn frames_are_heard_from_the_start()
     ensures device { played small_device whole_script ≡ four_frames_heard }
@@ -58,7 +58,7 @@ pub fn sums_of_slots_are_limited()
 {}
 
 /// A run that is short is set back by what is missing, and so it isn't heard as its start alone
-/// would tell.
+/// would say.
 pub fn short_run_is_heard_otherwise()
     ensures short { HasNoShortage (small_story posted_script) → ⊥ }
     ensures device { played small_device posted_script ≡ posted_bytes }
@@ -93,8 +93,8 @@ pub fn other_starts_sound_otherwise()
     ensures otherwise { SoundAlike small_device 6 (small_story whole_script) (small_story late_start_script) → ⊥ }
 {}
 
-/// A run is heard until it drains, until it is dropped, or as far as is told; what starts later isn't
-/// told yet.
+/// A run is heard until it drains, until it is dropped, or up to the position asked for; what starts
+/// later isn't there yet.
 pub fn spans_of_three_runs()
     ensures device { played small_device three_runs_script ≡ three_runs_bytes }
     ensures plain { plainly_played small_device three_runs_script ≡ three_runs_bytes }

@@ -26,7 +26,7 @@ pub fn rate_is_changed_at_the_fewer_channels()
     ensures fewer { plan_by_lines (sixteen_bits Six 24000) usual_settings ≡ plan_16 Six Two (Matrix Six Two ∷ Linear 24000 48000 2 ∷ []) }
 {}
 
-/// Two channels come to one before the rate changes, and a device of 32 bits has no depth. Each stage
+/// Two channels become one before the rate changes, and a device of 32 bits has no depth. Each stage
 /// rounds down, so that the other order would give other frames.
 pub fn downmix_comes_before_the_rate()
     ensures plan { downmix_plan ≡ plan_of Two One (Matrix Two One ∷ Linear 24000 48000 1 ∷ Volume One ∷ []) }

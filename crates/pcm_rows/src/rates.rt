@@ -26,7 +26,7 @@ pub fn drain_gives_its_tail()
     ensures runs { runs_in tail_script ≡ tail_run ∷ [] }
 {}
 
-/// Two channels come to one before the rate changes, each time rounded down: 0, 0, 1 and 0.
+/// Two channels become one before the rate changes, each time rounded down: 0, 0, 1 and 0.
 pub fn downmix_at_half_the_rate()
     ensures verdict { judged narrow_device downmix_text ≡ accepted downmix_script }
     ensures device { played narrow_device downmix_script

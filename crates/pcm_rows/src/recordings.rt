@@ -19,7 +19,7 @@ pub fn mono_recording()
     ensures lines { answers_recorded mono_recording_script ≡ mono_lines }
 {}
 
-/// A recording begins where the device is, a read starts none, and silence follows what is answers_recorded.
+/// A recording begins where the device is, a read starts none, and silence follows what is captured.
 pub fn recording_begins_where_the_device_is()
     ensures lines { transcript usual_device mic_pool late_events ≡ late_lines }
 {}

@@ -11,7 +11,7 @@ ghost use Rattle.pcm_oss.specs.Fragments.{fragments_asked, fragments_told};
 ghost use Rattle.pcm_oss.specs.Volumes.{gain_of, is_volume};
 ghost use Rattle.pcm_desk.specs.declared.opening.TheConstants.{ALL_FORMATS};
 
-/// All formats are told by the sum of their codes.
+/// The answer of all formats is the sum of their codes.
 pub fn codes_of_all_formats()
     ensures sum { sum_by code_of all_formats ≡ ALL_FORMATS }
     ensures value { ALL_FORMATS ≡ 1044984 }

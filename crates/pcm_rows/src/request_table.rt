@@ -18,7 +18,7 @@ ghost use Rattle.pcm_desk.specs.declared.here.Here.{Here};
 ghost use Rattle.pcm_rows.specs.Calls.{last_at, small_device};
 ghost use Rattle.pcm_rows.specs.RequestTable.{AnswersAs, AnswersThere, asked_there, twelve_mixed, cut_book, setup_book, primed_book, running_book, draining_book, full_book, rows_in_every_state, setup_rows, primed_rows, running_rows, draining_rows, full_rows, full_running_book, full_running_rows, part_book, part_rows, played_book, ended_book, half_rate, half_given, accepts, refuses, done, new_desk, closed_desk};
 
-/// Some requests are answered alike in every state, whatever the book and its rate: what tells of
+/// Some requests are answered alike in every state, whatever the book and its rate: what asks for
 /// settings and counts, what is outside its set, a volume, and a halt.
 pub fn requests_in_every_state()
     ensures { (rate : Rate) (mix_rate : ℕ) (here : Here) (book : PlayBook)
@@ -65,7 +65,7 @@ pub fn what_is_played_is_over_at_once()
 {}
 
 /// Where one of them is still in the ring, it goes on. Then the delay counts up to that one, and not
-/// what is mixed behind it.
+/// what is mixed after it.
 pub fn what_the_ring_holds_drains()
     ensures synced { asked_there Sync (played_book Running 9) ≡ done (played_book (Draining false) 9) }
     ensures closed { close_turn unchanged twelve_mixed (played_book Running 9) ≡ played_book (Draining true) 9 }

@@ -11,8 +11,8 @@ ghost use Rattle.pcm_rows.specs.ClientRates.{step_doubled};
 ghost use Rattle.pcm_rows.specs.OneClient.{four_frames_heard, two_frames_heard};
 ghost use Rattle.pcm_rows.specs.Requests.{asks, runs_of_two, run_of_two, run_begun, posted_text, posted_script, posted_bytes, posted_lines, posted_book, posted_run, synced_text, synced_script, synced_lines, synced_book, synced_run, synced_tail_text, synced_tail_script, synced_tail_lines, cut_post_text, cut_post_script, cut_post_lines, refused_text, refused_script, refused_lines, wrong_way_text, wrong_way_script, wrong_way_lines, busy_text, busy_script, busy_lines, both_ends_text, both_ends_script, both_ends_lines, small_ring_text, small_ring_script, small_ring_lines, small_ring_book, half_frame_events, half_frame_book, no_bytes_events, halted_text, halted_script, halted_bytes, halted_lines, halted_book, halted_over_book, dropped_run, second_run, softer_text, softer_script, softer_bytes, softer_lines, changed_text, changed_script, changed_bytes, changed_lines, anew_events, anew_gains};
 
-/// A post starts less than a fragment. The shortage that follows is told once, and what comes late
-/// is heard late.
+/// A post starts less than a fragment. The shortage that follows is answered once, and what comes
+/// late is heard late.
 pub fn shortage_is_told_once()
     ensures verdict { judged small_device posted_text ≡ accepted posted_script }
     ensures device { played small_device posted_script ≡ posted_bytes }
@@ -46,7 +46,7 @@ pub fn cut_behind_a_post()
     ensures lines { printed small_device cut_post_script ≡ cut_post_lines }
 {}
 
-/// A refused request changes nothing, and what the channel is set to is told while it runs.
+/// A refused request changes nothing, and the settings are answered while the channel runs.
 pub fn refusals_change_nothing()
     ensures verdict { judged small_device refused_text ≡ accepted refused_script }
     ensures device { played small_device refused_script ≡ [] }
@@ -61,7 +61,7 @@ pub fn requests_of_the_wrong_way()
     ensures lines { printed small_device wrong_way_script ≡ wrong_way_lines }
 {}
 
-/// Nothing is written behind a sync, and the trigger stays as it is, until all is played.
+/// Nothing is written after a sync, and the trigger stays as it is, until all is played.
 pub fn draining_refuses_busy()
     ensures verdict { judged small_device busy_text ≡ accepted busy_script }
     ensures lines { printed small_device busy_script ≡ busy_lines }

@@ -28,7 +28,7 @@ pub fn line_for_each_request()
     ensures numbered { judged usual_device (ask_lines numbered_words) ≡ accepted (ask_script numbered_requests) }
 {}
 
-/// What is asked of the mixer device has no descriptor, and a volume is asked for where none is told. Whether
+/// A request to the mixer device has no descriptor, and asks for a volume where it names none. Whether
 /// there is such a slot is no matter of the text.
 pub fn lines_of_the_mixer_device()
     ensures verdict { judged usual_device mixer_text ≡ accepted mixer_script }

@@ -7,7 +7,7 @@ ghost use Rattle.pcm_wave.specs.Headers.{header_of};
 ghost use Rattle.pcm_wave.specs.Waves.{wave_of};
 ghost use Rattle.pcm_rows.specs.Waves.{extensible_chunk, format_chunk, format_chunk_at, format_of, frame_chunk, frame_of_two, list_chunk, odd_chunk, read_from, short_format, small_number, small_wave, stereo_settings, wave_of_chunks, wave_telling};
 
-/// One frame of two channels: the header is the 44 bytes that a hand writes, and the body stands behind them.
+/// One frame of two channels: the header is the 44 bytes that a hand writes, and the body stands after them.
 pub fn small_wave()
     ensures read { wave_of small_wave ≡ read_from 44 }
     ensures written { header_of stereo_settings 1 ++ frame_of_two ≡ small_wave }
