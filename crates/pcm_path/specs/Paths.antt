@@ -61,7 +61,7 @@ pub record IsEmpty {B : Type 0} (kept : B → Kept) (path : PathOf B) : Type 0 w
   pub begins : (filters : Filters) → ChainStands kept filters path.chain [] 0 0
   pub records : (filters : Filters) → HasRecorded kept filters path.chain []
 
--- buffers for a block of so many frames of a device's mix: one that holds the frames of a channel, and one whose samples have its bits
+-- buffers for a block of n frames of a device's mix: one that holds the frames of a channel, and one whose samples have its bits
 pub record HoldBlock (device : Device) (n : ℕ) (frames sum : List ℤ) : Type 0 where
   pub frames_whole : length frames ≡ n * channels_of device.mix.layout
   pub sum_whole : length sum ≡ n * channels_of device.mix.layout

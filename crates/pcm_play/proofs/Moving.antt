@@ -240,7 +240,7 @@ takes-written old here count accepted turn answer is ok taken =
       is = ap (λ (t : Turn PlayBook). t.book) is ∙ done.is ∙ ap (λ n. accepting here.mixed n old.book) (sym (taken ∙ ap (min count) free));
     }
 
--- a channel that took so many bytes from the front of `more`
+-- a channel that took `accepted` bytes from the front of `more`
 pub moves-taking : {B : Type 0} (kind : B → Kind) (kept : B → Kept) (filters : Filters) (more : List ℕ) (mixed accepted : ℕ) (old new : PlayChannelOf B) → new.path.device ≡ old.path.device → new.path.chain ≡ old.path.chain → new.path.ring.bytes ≡ old.path.ring.bytes ++ take accepted more → new.book ≡ accepting mixed accepted old.book
     → accepted ≤ length more → accepted ≤ RING_BYTES → is_draining old.book.state ≡ false → is_play_free old.book.state ≡ false → old.book.eaten * frame_bytes old.book.opening.settings ≤ old.book.written → PlayMoves kind kept filters more 0 old new
 moves-taking {B = B} kind kept filters more mixed accepted old new device chain ring is within room busy held there =

@@ -32,7 +32,7 @@ abbrev pub IsPlayServed : {B : Type 0} → Filters → PlayChannelOf B → Type 
 IsPlayServed filters channel = is_play_free channel.book.state ≡ false → IsPlayPlanned filters channel
 
 -- A channel stands for a book and all bytes that were accepted in its run: those that were not eaten wait in the ring, and
--- the chain has eaten the others. It is fed silence once no more comes, behind the last frame. Of a free one's chain nothing is said.
+-- the chain has eaten the others. Once no more comes it is fed silence, after the last frame. Of a free one's chain nothing is said.
 pub record PlayStands {B : Type 0} (kept : B → Kept) (filters : Filters) (channel : PlayChannelOf B) (book : PlayBook) (bytes : List ℕ) : Type 0 where
   pub book_is : channel.book ≡ book
   pub count : length bytes ≡ book.written
@@ -53,7 +53,7 @@ pub record IsPlayReady {B : Type 0} (kind : B → Kind) (kept : B → Kept) (fil
   pub planned : IsPlayServed filters channel
   pub stands : PlayStandsForSome kept filters channel
 
--- whatever bytes a channel stands for, it adds what the rules say of them, at a gain, to a block of so many frames
+-- whatever bytes a channel stands for, it adds what the rules say of them, at a gain, to a block of n frames
 abbrev pub AddsTo : {B : Type 0} → (B → Kept) → Filters → Device → ℕ → Gain → List ℤ → List ℤ → PlayChannelOf B → Type 0
 AddsTo kept filters device n gain old new channel = (bytes : List ℕ) → PlayStands kept filters channel channel.book bytes → new ≡ turned (seen filters device) n gain channel.book bytes old
 
@@ -82,7 +82,7 @@ pub record IsPlayUnopened {B : Type 0} (kind : B → Kind) (kept : B → Kept) (
   pub planned : IsPlayPlanned filters channel
   pub stands : PlayStands kept filters channel channel.book []
 
--- What an event leaves of a channel, which may take bytes from the front of `more` and give so many frames: whatever bytes
+-- What an event leaves of a channel, which may take bytes from the front of `more` and give `frames` frames: whatever bytes
 -- it stood for, it stands for these and what it took, or for none where its run is over.
 pub record PlayMoves {B : Type 0} (kind : B → Kind) (kept : B → Kept) (filters : Filters) (more : List ℕ) (frames : ℕ) (old new : PlayChannelOf B) : Type 0 where
   pub kinds : HasBoxes kind old.path → HasBoxes kind new.path

@@ -111,7 +111,7 @@ impl<B: Feeder> PlayChannelOf<B> {
         Ok(answer)
     }
 
-    /// Does what a request asks, where the mix and the device are. Where nothing of a run is left, the ring and the chain begin anew, as
+    /// Does what a request asks, where the mix and the device are. Where nothing of a run is left, the ring and the chain begin again, as
     /// the book says.
     pub fn ioctl(&mut self, tables: &Tables, request: Request, here: Here) -> Result<Answer, Errno>
         requires kinds { HasBoxes B.kind self.old.path }
