@@ -34,7 +34,7 @@ area-turned area from count =
     (λ i below. ap (λ place. get_or area place 0) (mod-add-mod from (length area) i))
     ∙ sym (area-places area from count)
 
--- behind the last byte comes the first
+-- after the last byte comes the first
 area-round : (area : List ℕ) (count : ℕ) → area_bytes area (length area) count ≡ area_bytes area 0 count
 area-round area count = sym (area-turned area (length area) count) ∙ ap (λ from. area_bytes area from count) (mod_self (length area))
 

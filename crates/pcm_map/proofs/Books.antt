@@ -72,7 +72,7 @@ need-few rate given n near few =
     let most : n * (48 * rate.dst) / rate.dst ≡ n * 48 = ap (λ k. k / rate.dst) (let e : n * (48 * rate.dst) ≡ n * 48 * rate.dst = omega arith in e) ∙ mul-div_cancel (n * 48) near.ratio.dst in
     omega (arith, apart, place, most, near.lookahead)
 
--- what so many frames need fits 64 bits, in bytes too
+-- what `given` frames need fits 64 bits, in bytes too
 pub need-fits : (rate : Rate) (settings : Settings) (given : ℕ) → IsNear rate → given < 2 ^ 50 → need rate given * frame_bytes settings < 2 ^ 62
 need-fits rate settings given near few =
     let most = need-near rate given near in

@@ -55,7 +55,7 @@ use Rattle.pcm_path.proofs.Paths.{front-written}
 
 -- ---- samples
 
--- more bytes behind leave the samples that those before allow
+-- more bytes after them leave the samples that those before allow
 samples-append : (device : DeviceSeen) (gain : Gain) (settings : Settings) (bytes more : List ℕ) (from count : ℕ) → IsPlan (play_plan_between device settings)
     → from + count ≤ can (rate_in_plan (play_plan_between device settings)) (whole_frames settings (length bytes))
     → given_samples device gain settings (bytes ++ more) from count ≡ given_samples device gain settings bytes from count
@@ -188,12 +188,12 @@ ring-filled filters n old new items size from z ring book size_is items_are from
     ∙ ap (λ (bytes : List ℕ). record (empty_ring RING_BYTES) { bytes = bytes })
     (taken-counted (area_of old) (take size items) from (taken_of old.book) count old.book.eaten (need rate (old.book.given + n)) (frame_bytes settings) list_is from_is counted)
 
--- and behind it none
+-- and after it none
 pub ring-again : (middle last : Ring) (count : ℕ) (more : List ℕ) → middle ≡ record (empty_ring RING_BYTES) { bytes = more } → last ≡ without_bytes count middle → count ≡ length more → last ≡ empty_ring RING_BYTES
 ring-again middle last count more filled taken all =
     taken ∙ ap (without_bytes count) filled ∙ ap (λ (bytes : List ℕ). record (empty_ring RING_BYTES) { bytes = bytes }) (drop_all count more (omega arith))
 
--- samples that are written behind others, up to the end
+-- samples that are written after others, up to the end
 pub put-behind : (a : ℕ) (list piece : List ℤ) → take a list ++ (piece ++ drop (length list - a) (drop a list)) ≡ take a list ++ piece
 put-behind a list piece =
     ap (λ (rest : List ℤ). take a list ++ (piece ++ rest)) (drop_all (length list - a) (drop a list) (omega (arith, length-drop a list)))

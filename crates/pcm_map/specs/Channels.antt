@@ -51,13 +51,13 @@ pub record IsMapReady {B : Type 0} (kind : B → Kind) (kept : B → Kept) (filt
   pub planned : IsMapServed filters channel
   pub stands : MapStandsForSome kept filters channel
 
--- the frames that a channel gives by an interrupt that mixes so many, and the bytes that it takes for them, fit their counts
+-- a channel that gives `frames` frames by an interrupt has room for them in its counts, and for the bytes that it takes for them
 pub record CountsFit {B : Type 0} (filters : Filters) (frames : ℕ) (channel : MapChannelOf B) : Type 0 where
   pub given : channel.book.given + frames < 2 ^ 64
   pub taken : need (map_rate_at (seen filters channel.path.device) channel.book) (channel.book.given + frames)
       * frame_bytes channel.book.opening.settings < 2 ^ 64
 
--- whatever bytes were taken before, a channel adds to a block of so many frames what the rules say of them and of its area, at a gain
+-- whatever bytes were taken before, a channel adds to a block of n frames what the rules say of them and of its area, at a gain
 abbrev pub MapAddsTo : {B : Type 0} → (B → Kept) → Filters → Device → ℕ → Gain → List ℤ → List ℤ → MapChannelOf B → Type 0
 MapAddsTo kept filters device n gain old new channel = (bytes : List ℕ) → MapStands kept filters channel channel.book bytes
     → new ≡ map_turned (seen filters device) n gain channel.book bytes (area_of channel) old
@@ -76,7 +76,7 @@ pub record IsMapUnopened {B : Type 0} (kind : B → Kind) (kept : B → Kept) (f
   pub stands : MapStands kept filters channel channel.book []
   pub area : area_of channel ≡ silent_area channel.book.opening
 
--- What an event leaves of a channel, which may take these bytes of the area and give so many frames: whatever bytes it stood for, it
+-- What an event leaves of a channel, which may take these bytes of the area and give `frames` frames: whatever bytes it stood for, it
 -- stands for these and what it took, or for none where its run is over.
 pub record MapMoves {B : Type 0} (kind : B → Kind) (kept : B → Kept) (filters : Filters) (more : List ℕ) (frames : ℕ) (old new : MapChannelOf B) : Type 0 where
   pub kinds : HasBoxes kind old.path → HasBoxes kind new.path
@@ -84,6 +84,6 @@ pub record MapMoves {B : Type 0} (kind : B → Kind) (kept : B → Kept) (filter
   pub stands : (bytes : List ℕ) → MapStands kept filters old old.book bytes → MapStands kept filters new new.book (take (taken_of new.book) (bytes ++ more))
   pub given : new.book.given ≤ old.book.given + frames
 
--- an interrupt that mixes so many frames takes what stands in the area
+-- an interrupt that mixes n frames takes what stands in the area
 abbrev pub MapTakes : {B : Type 0} → (B → Kind) → (B → Kept) → Filters → ℕ → MapChannelOf B → MapChannelOf B → Type 0
 MapTakes kind kept filters n old new = MapMoves kind kept filters (area_taken (seen filters old.path.device) n old.book (area_of old)) n old new

@@ -16,7 +16,7 @@ use Rattle.pcm_path.specs.Paths.{HasBoxes}
 use Rattle.pcm_map.specs.declared.channel.MapChannelOf.{MapChannelOf}
 use Rattle.pcm_map.specs.Channels.{area_of, MapStands}
 
--- a started channel's book once it gave so many frames more
+-- a started channel's book once it gave n frames more
 abbrev pub book_giving : {B : Type 0} → Filters → ℕ → MapChannelOf B → MapBook
 book_giving filters n channel = map_gives (map_rate_at (seen filters channel.path.device) channel.book) n channel.book
 

@@ -56,7 +56,7 @@ fn fill_silent(bytes: &mut [u8], format: Format)
     }
 }
 
-/// Puts `count` bytes of an area into a ring, from the byte at `from` on. Behind the last byte of the area comes the first.
+/// Puts `count` bytes of an area into a ring, from the byte at `from` on. After the last byte of the area comes the first.
 pub fn put_round(ring: &mut ByteRing, area: &[u8], from: u64, count: usize)
     requires some { 0 < length area.now }
     requires room { count ≤ free_bytes ring.old }

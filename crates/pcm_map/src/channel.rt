@@ -125,8 +125,8 @@ impl<B: Feeder> MapChannelOf<B> {
         Ok(answer)
     }
 
-    /// Does what a request asks. Where it hasn't started, the chain begins anew, and another format, other channels or other fragments make
-    /// the area silent.
+    /// Does what a request asks. Where it hasn't started, the chain begins again, and another format, other channels or other fragments
+    /// make the area silent.
     pub fn ioctl(&mut self, tables: &Tables, request: Request) -> Result<Answer, Errno>
         requires kinds { HasBoxes B.kind self.old.path }
         requires planned { IsMapServed tables.now self.old }

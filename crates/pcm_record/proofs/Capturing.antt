@@ -110,7 +110,7 @@ capture-fits filters n channel d few =
 pub pushed-is : {B : Type 0} (filters : Filters) (old : RecordChannelOf B) (samples : List ℤ) → IsRecordPlanned filters old → pushed_frames (plan_in old.path.chain) samples ≡ frames_of (channels_of old.path.device.settings.layout) samples
 pushed-is filters old samples planned = ap (λ (p : PlanSeen). pushed_frames p samples) planned.plan_is
 
--- so many they are
+-- they are n frames
 pub pushed-count : {B : Type 0} (filters : Filters) (old : RecordChannelOf B) (n : ℕ) (samples : List ℤ) → IsRecordPlanned filters old → length samples ≡ n * channels_of old.path.device.settings.layout → length (pushed_frames (plan_in old.path.chain) samples) ≡ n
 pushed-count filters old n samples planned whole =
     let layout = old.path.device.settings.layout in

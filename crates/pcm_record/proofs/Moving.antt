@@ -63,7 +63,7 @@ moves-ended kind kept filters old new kinds planned none empty = record {
   kept = omega (arith, none.kept_none);
 }
 
--- a channel of whose bytes so many were read, or whose state alone changed
+-- a channel of which `count` bytes were read, or whose state alone changed
 pub moves-read : {B : Type 0} (kind : B → Kind) (kept : B → Kept) (filters : Filters) (count : ℕ) (old new : RecordChannelOf B) → new.path.device ≡ old.path.device → new.path.chain ≡ old.path.chain → new.path.ring.bytes ≡ drop count old.path.ring.bytes → Reads count old.book new.book
     → (is_record_free new.book.state ≡ false → is_record_free old.book.state ≡ false) → RecordMoves kind kept filters [] 0 old new
 moves-read {B = B} kind kept filters count old new device chain ring r held = record {

@@ -32,14 +32,14 @@ stands-empty kept filters channel none empty = record {
   records = λ used. empty.records filters;
 }
 
--- what a channel stands for, told by equal lists
+-- what a channel stands for, by equal lists
 pub stands-as : {B : Type 0} (kept : B → Kept) (filters : Filters) (channel : RecordChannelOf B) (bytes same_bytes : List ℕ) (frames same_frames : List Frame) → same_bytes ≡ bytes → same_frames ≡ frames
     → RecordStands kept filters channel channel.book bytes frames → RecordStands kept filters channel channel.book same_bytes same_frames
 stands-as kept filters channel bytes same_bytes frames same_frames b f s =
     subst (λ list. RecordStands kept filters channel channel.book list same_frames) (sym b)
     (subst (λ list. RecordStands kept filters channel channel.book bytes list) (sym f) s)
 
--- the counts of a book stay, but for so many bytes more that were read
+-- the counts of a book stay, but for `count` more bytes that were read
 pub record Reads (count : ℕ) (old new : RecordBook) : Type 0 where
   pub settings : new.opening.settings ≡ old.opening.settings
   pub captured : new.captured ≡ old.captured
@@ -55,7 +55,7 @@ reads-count count old new is = record {
   read = ap (λ (b : RecordBook). b.read) is;
 }
 
--- a channel of whose bytes so many were read stands for the same bytes
+-- a channel of which `count` bytes were read stands for the same bytes
 pub stands-read : {B : Type 0} (kept : B → Kept) (filters : Filters) (old new : RecordChannelOf B) (count : ℕ) (bytes : List ℕ) (frames : List Frame) → new.path.chain ≡ old.path.chain → new.path.ring.bytes ≡ drop count old.path.ring.bytes → Reads count old.book new.book
     → (is_record_free new.book.state ≡ false → is_record_free old.book.state ≡ false) → RecordStands kept filters old old.book bytes frames → RecordStands kept filters new new.book bytes frames
 stands-read {B = B} kept filters old new count bytes frames chain ring r held s = record {

@@ -58,7 +58,7 @@ pub record IsRecordReady {B : Type 0} (kind : B → Kind) (kept : B → Kept) (f
   pub planned : IsRecordServed filters channel
   pub stands : RecordStandsForSome kept filters channel
 
--- the frames that a channel captures of so many more, and those that come of them, fit their counts
+-- a channel that captures `frames` frames more has room for them in its counts, and for those that come of them
 pub record CaptureFits {B : Type 0} (filters : Filters) (frames : ℕ) (channel : RecordChannelOf B) : Type 0 where
   pub captured : channel.book.captured + frames < 2 ^ 64
   pub given : can (record_rate_at (seen filters channel.path.device) channel.book) (channel.book.captured + frames) < 2 ^ 64
@@ -77,7 +77,7 @@ pub record IsRecordUnopened {B : Type 0} (kind : B → Kind) (kept : B → Kept)
   pub planned : IsRecordPlanned filters channel
   pub stands : RecordStands kept filters channel channel.book [] []
 
--- What an event leaves of a channel that may capture `input`, of which so many frames of the client are kept: whatever bytes and
+-- What an event leaves of a channel that may capture `input`, of which `count` frames of the client are kept: whatever bytes and
 -- frames it stood for, it stands for these with what was kept and captured, or for none where its recording is over.
 pub record RecordMoves {B : Type 0} (kind : B → Kind) (keeps : B → Kept) (filters : Filters) (input : List Frame) (count : ℕ) (old new : RecordChannelOf B) : Type 0 where
   pub kinds : HasBoxes kind old.path → HasBoxes kind new.path

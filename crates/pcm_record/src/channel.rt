@@ -106,7 +106,7 @@ impl<B: Feeder> RecordChannelOf<B> {
         Ok(answer)
     }
 
-    /// Does what a request asks. Where the channel isn't running then, the ring and the chain begin anew, as the book says.
+    /// Does what a request asks. Where the channel isn't running then, the ring and the chain begin again, as the book says.
     pub fn ioctl(&mut self, tables: &Tables, request: Request) -> Result<Answer, Errno>
         requires kinds { HasBoxes B.kind self.old.path }
         requires planned { IsRecordServed tables.now self.old }
@@ -136,7 +136,7 @@ impl<B: Feeder> RecordChannelOf<B> {
         self.path.restart();
     }
 
-    /// Captures so many frames of the device, which are `input`, where the channel is running: all go through the chain, and of the
+    /// Captures `frames` frames of the device, which are `input`, where the channel is running: all go through the chain, and of the
     /// frames that come of them the first ones are kept, as many as have room.
     pub fn capture(&mut self, tables: &Tables, frames: usize, input: &[i32])
         requires few { frames ≤ RING_FRAMES }

@@ -2,7 +2,7 @@ use Rattle.std.proofs.Common.{◌≤◌, ◌-◌}
 use Rattle.pcm_map.specs.Pieces.{MapGives}
 use Rattle.pcm_map.proofs.channel.MapChannelOf.give.Given as goal
 
--- so many frames were given
+-- the first `done` frames were given
 abbrev pub invariant-loop-done : goal.invariant-loop-done
 invariant-loop-done g l = record {
   within : l.done ≤ l.fn.n;
