@@ -73,7 +73,7 @@ raised-channels device samples =
     let c = channels_of (mix_settings device).layout in
     subst (HaveChannels c) (raised-frames device samples) (frames_of-channels c (raised device samples))
 
--- so many are mixed
+-- they are the frames that are mixed for n of the device
 mixed-frames : (device : DeviceSeen) (samples : List ℤ) (handed n : ℕ) → AreMixedFor device samples handed n
     → length (frames_of (channels_of (mix_settings device).layout) samples) ≡ mixed_by device handed n
 mixed-frames device samples handed n mixed =
@@ -99,7 +99,7 @@ made-nothing kept device chain begins = record {
   exactly = begins;
 }
 
--- it has made so many frames more, where it stands so
+-- it has made n frames more, where it stands so
 made-more : {B : Type 0} (kept : B → Kept) (device : DeviceSeen) (old new : ChainOf B) (samples : List ℤ) (n : ℕ)
     (x : List Frame) (handed : ℕ) → IsDevice device → All (FitsBits (bits_of (mix_settings device).format)) samples
     → HasMade kept device old x handed → AreMixedFor device samples handed n
@@ -144,7 +144,7 @@ straight-makes kept device chain samples n planned straight fits x handed made m
           ∙ straight-behind device x frames straight) ∙ interleaved-frames_of c samples whole);
     }
 
--- they are so many samples of its own
+-- they are n frames of the device
 pub straight-length : {B : Type 0} (kept : B → Kept) (device : DeviceSeen) (chain : ChainOf B) (samples : List ℤ)
     (n : ℕ) → is_straight device ≡ true → CanMake kept device chain samples n
     → length samples ≡ n * channels_of (device_settings device).layout
@@ -154,7 +154,7 @@ straight-length kept device chain samples n straight can =
 
 -- ---- another one
 
--- a buffer of so many of its frames is filled by so many
+-- a buffer of n of its frames is filled by n
 fills : (device : DeviceSeen) (plan : PlanSeen) (out : List ℤ) (n : ℕ) → plan ≡ parent_plan device
     → length out ≡ n * channels_of (device_settings device).layout → filling_frames plan out ≡ n
 fills device plan out n is long =

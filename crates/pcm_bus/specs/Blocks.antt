@@ -20,7 +20,7 @@ use Rattle.pcm_play.specs.declared.channel.PlayChannelOf.{PlayChannelOf}
 use Rattle.pcm_map.specs.declared.channel.MapChannelOf.{MapChannelOf}
 use Rattle.pcm_bus.specs.Slots.{AllMapStand, AllPlayStand, map_books_of, play_books_of}
 
--- the samples of so many frames of silence
+-- the samples of n frames of silence
 abbrev pub silent_samples : Settings → ℕ → List ℤ
 silent_samples settings n = replicate (n * channels_of settings.layout) (pos 0)
 
@@ -53,7 +53,7 @@ block_bytes settings block = flat_map (spelled settings.format) block
 abbrev pub silent_ring : DeviceSeen → List ℕ
 silent_ring device = block_bytes (device_settings device) (silent_samples (device_settings device) (ring_frames device))
 
--- the bytes of a ring that has handed its n oldest frames over, and got these samples behind the rest
+-- the bytes of a ring that has handed over its n oldest frames, and got these samples after the rest
 abbrev pub turned_ring : Settings → ℕ → List ℤ → List ℕ → List ℕ
 turned_ring settings n block bytes = drop (n * frame_bytes settings) bytes ++ block_bytes settings block
 
@@ -74,7 +74,7 @@ pub record AllStand {B : Type 0} (kept : B → Kept) (filters : Filters) (channe
   pub playing : AllPlayStand kept filters channels sources.played
   pub mapped : AllMapStand kept filters maps sources.taken sources.areas
 
--- the gains of the mapped slots, behind so many that play
+-- the gains of the mapped slots, after `slots` slots that play
 abbrev pub map_gains : Levels → ℕ → ℕ → Gain
 map_gains mixer slots slot = slot_gain mixer (slots + slot)
 

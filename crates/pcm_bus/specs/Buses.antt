@@ -22,8 +22,8 @@ pub record HasMadeSome {B : Type 0} (kept : B → Kept) (device : DeviceSeen) (c
 abbrev pub mixed_at_once : {B : Type 0} → DeviceSeen → ℕ → ℕ → Levels → List (PlayChannelOf B) → List (MapChannelOf B) → Sources → List Frame
 mixed_at_once device handed n mixer channels maps sources = raised_frames device (whole_block device (mixed_by device handed n) mixer channels maps sources)
 
--- What an interrupt of n frames means to whoever knows all frames that are mixed by its end: the chain has made what is handed over of
--- them, and the device's ring gets the plan's next frames over them.
+-- What an interrupt of n frames means for all frames that are mixed by its end: the chain has made of them what is handed over, and the
+-- device's ring gets the plan's next frames over them.
 pub record TurnsTo {B : Type 0} (kept : B → Kept) (device : DeviceSeen) (handed n : ℕ) (chain : ChainOf B) (all : List Frame) (old new : List ℕ) : Type 0 where
   pub made : HasMade kept device chain all (handed + n)
   pub ring : new ≡ turned_ring (device_settings device) n (interleaved (recs (parent_plan device) (filters_of device) all handed n)) old

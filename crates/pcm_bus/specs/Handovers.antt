@@ -22,13 +22,13 @@ abbrev pub raised_frames : DeviceSeen → List ℤ → List Frame
 raised_frames device samples =
     map (full_frame device) (frames_of (channels_of (mix_settings device).layout) samples)
 
--- samples are the frames that are mixed for n of the device, where so many were handed over before
+-- samples are the frames that are mixed for n of the device, where `handed` were handed over before
 abbrev pub AreMixedFor : DeviceSeen → List ℤ → ℕ → ℕ → Type 0
 AreMixedFor device samples handed n =
     length samples ≡ mixed_by device handed n * channels_of (mix_settings device).layout
 
--- The frames x were mixed, at 32 bits, and the chain has made as many frames of the device of them as
--- were handed over, by feeds or, where they are the same frames, as they passed it by.
+-- The frames x were mixed, at 32 bits. Of them as many frames of the device were made as were handed over: by the chain's
+-- feeds or, where they are the same frames, past the chain.
 pub record HasMade {B : Type 0} (kept : B → Kept) (device : DeviceSeen) (chain : ChainOf B)
     (x : List Frame) (handed : ℕ) : Type 0 where
   pub bits : HaveBits 32 x
@@ -44,15 +44,15 @@ pub record CanMake {B : Type 0} (kept : B → Kept) (device : DeviceSeen) (chain
   pub made : HasMade kept device chain frames handed
   pub enough : AreMixedFor device samples handed n
 
--- What handing n frames over means to whoever knows the frames x that were mixed before and how many
--- were handed over: the chain has made these too, and they are the plan's next ones over all frames.
+-- What it means to hand over n frames, by the frames x that were mixed before and how many were handed
+-- over: the chain has made these n too, and they are the plan's next ones over all frames.
 pub record MakesMore {B : Type 0} (kept : B → Kept) (device : DeviceSeen) (samples : List ℤ) (n : ℕ)
     (chain : ChainOf B) (x : List Frame) (handed : ℕ) (given : List ℤ) : Type 0 where
   pub made : HasMade kept device chain (x ++ raised_frames device samples) (handed + n)
   pub frames : given ≡ interleaved
       (recs (parent_plan device) (filters_of device) (x ++ raised_frames device samples) handed n)
 
--- it means that to whoever knows them
+-- it means that whatever frames were mixed and handed over before
 abbrev pub MakesOn : {B : Type 0} → (B → Kept) → DeviceSeen → List ℤ → ℕ
     → ChainOf B → ChainOf B → List ℤ → Type 0
 MakesOn kept device samples n old new given =

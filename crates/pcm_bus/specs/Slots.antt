@@ -37,7 +37,7 @@ ChangesAt {X = X} how slot old new = (other : X) → how (slice_index_or old slo
 abbrev pub OthersStay : {X : Type 0} → ℕ → List X → List X → Type 0
 OthersStay {X = X} slot old new = (at : ℕ) (other : X) → at ≢ slot → slice_index_or new at other ≡ slice_index_or old at other
 
--- the book of a channel once n frames were mixed, where so many were before
+-- the book of a channel once n frames were mixed, after `mixed` before
 abbrev pub Mixes : {B : Type 0} → DeviceSeen → ℕ → ℕ → PlayChannelOf B → PlayChannelOf B → Type 0
 Mixes device mixed n old new = new.book ≡ mixing device mixed n old.book
 
@@ -46,14 +46,14 @@ abbrev pub AllPlayStand : {B : Type 0} → (B → Kept) → Filters → List (Pl
 AllPlayStand kept filters channels streams = (slot : ℕ) (other : PlayChannelOf _) → slot < length channels
     → PlayStands kept filters (slice_index_or channels slot other) (slice_index_or channels slot other).book (streams slot)
 
--- a channel of this device is ready for an interrupt that mixes so many frames, and its counts have room for them
+-- a channel of this device is ready for an interrupt that mixes `frames` frames, and its counts have room for them
 pub record IsPlayDue {B : Type 0} (kind : B → Kind) (keeps : B → Kept) (filters : Filters) (device : Device) (frames : ℕ) (channel : PlayChannelOf B) : Type 0 where
   pub own : channel.path.device ≡ device
   pub ready : IsPlayReady kind keeps filters channel
   pub given : channel.book.given + frames < 2 ^ 64
   pub counted : channel.book.done + channel.book.written < 2 ^ 64
 
--- what an interrupt that mixes so many frames, where others were mixed before, leaves of the channels of a device
+-- what an interrupt that mixes `frames` frames, after `mixed` before, leaves of the channels of a device
 pub record AreMixed {B : Type 0} (kind : B → Kind) (kept : B → Kept) (filters : Filters) (device : Device) (mixed frames : ℕ) (old new : List (PlayChannelOf B)) : Type 0 where
   pub own : PlayAreOf device new
   pub moves : Each (PlayMoves kind kept filters [] frames) old new
@@ -77,13 +77,13 @@ abbrev pub AllMapStand : {B : Type 0} → (B → Kept) → Filters → List (Map
 AllMapStand kept filters channels taken areas = (slot : ℕ) (other : MapChannelOf _) → slot < length channels
     → MapStandsWith kept filters (taken slot) (areas slot) (slice_index_or channels slot other)
 
--- a channel of this device is ready for an interrupt that mixes so many frames, and its counts have room for them
+-- a channel of this device is ready for an interrupt that mixes `frames` frames, and its counts have room for them
 pub record IsMapDue {B : Type 0} (kind : B → Kind) (keeps : B → Kept) (filters : Filters) (device : Device) (frames : ℕ) (channel : MapChannelOf B) : Type 0 where
   pub own : channel.path.device ≡ device
   pub ready : IsMapReady kind keeps filters channel
   pub counted : CountsFit filters frames channel
 
--- what an interrupt that mixes so many frames leaves of a channel: it takes what stands in the area, which stays
+-- what an interrupt that mixes `frames` frames leaves of a channel: it takes what stands in the area, which stays
 pub record MapPlays {B : Type 0} (kind : B → Kind) (kept : B → Kept) (filters : Filters) (device : Device) (frames : ℕ) (old new : MapChannelOf B) : Type 0 where
   pub book : new.book ≡ map_mixing (seen filters device) frames old.book
   pub moves : MapTakes kind kept filters frames old new

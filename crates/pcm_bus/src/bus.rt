@@ -77,8 +77,9 @@ impl<B: Feeder> BusOf<B> {
         })
     }
 
-    /// An interrupt of `n` frames, where so many were handed over before, and the mix was here: the ring hands its oldest ones over, and
-    /// gets those behind the rest that the chain makes of what all channels give at the gains of the mixer device. Answers how many frames were mixed. Takes no memory.
+    /// An interrupt of `n` frames, after `handed` were handed over, and where the mix was here: the ring hands over its oldest frames.
+    /// After the rest it gets those that the chain makes of what all channels give at the gains of the mixer device. Answers how many
+    /// frames were mixed. Takes no memory.
     pub fn turn(
         &mut self,
         tables: &Tables,
@@ -202,7 +203,7 @@ fn turn<B: Feeder>(
     count
 }
 
-// How many frames an interrupt of `n` mixes, where so many were handed over before.
+// How many frames an interrupt of `n` mixes, after `handed` were handed over.
 fn mixed_by<B: Feeder>(
     device: Device,
     tables: &Tables,

@@ -79,7 +79,7 @@ fn mix_slot<B: Feeder>(
     channels[slot].refill(tables, n, here, gain, frames, sum);
 }
 
-// Adds the frames of each mapped channel to a block of `n` frames, at the gain of its slot, which is one of those behind so many that play.
+// Adds the frames of each mapped channel to a block of `n` frames, at the gain of its slot. These slots come after `slots` that play.
 // The other buffer holds one channel's part meanwhile.
 fn mix_maps<B: Feeder>(
     device: Device,
@@ -130,8 +130,8 @@ fn mix_map<B: Feeder>(
     maps[slot].refill(tables, n, gain, frames, sum);
 }
 
-/// Mixes a block of `n` frames from silence on, behind what was mixed before: first of the channels that play, and then of the mapped ones, each
-/// at the gain of its slot; and all of it gets the gain of what is mixed, once it is limited. `part` holds the frames of one channel meanwhile.
+/// Mixes a block of `n` frames from silence on, after what was mixed before: first of the channels that play, then of the mapped ones, each
+/// at the gain of its slot. All of it, once limited, gets the gain of what is mixed. `part` holds the frames of one channel meanwhile.
 pub fn mix_block<B: Feeder>(
     device: Device,
     tables: &Tables,
@@ -163,7 +163,7 @@ pub fn mix_block<B: Feeder>(
     }
 }
 
-/// Hands the oldest frames of a full ring over, as many as `out` holds, and puts a block of as many behind the rest. The bytes are
+/// Hands over the oldest frames of a full ring, as many as `out` holds, and puts a block of as many after the rest. The bytes are
 /// scratch.
 pub fn turn_ring(
     settings: Settings,

@@ -20,7 +20,7 @@ has-room count channels width most room is few within =
     let same : count * width ≡ count * channels = ap (λ k. count * k) is in
     omega (arith, same, less, within)
 
--- and so many samples are cut
+-- and `count` frames of it are cut
 front : (buffer : List ℤ) (count channels width : ℕ) → width ≡ channels → count * width ≤ length buffer → length (take (count * width) buffer) ≡ count * channels
 front buffer count channels width is room =
     let same : count * width ≡ count * channels = ap (λ k. count * k) is in
