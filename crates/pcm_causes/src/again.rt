@@ -1,10 +1,10 @@
-//! Files that are read anew.
+//! Files that are read again.
 
 use pcm_outside::read_front;
 use std::alloc::Global;
 use std::{fs, rt};
 
-/// Opens a file of the system, and tells how many bytes it has. What is no regular file could wait for bytes that never come, so
+/// Opens a file of the system, and returns it with its length. What is no regular file could wait for bytes that never come, so
 /// it isn't opened again.
 pub(crate) fn reopened<R: rt::Files>(rt: &R, name: &str) -> Option<(R::File, u64)> {
     let seen = fs::metadata(rt, name).ok()?;

@@ -1,4 +1,4 @@
-//! The cause behind each status that a fault ends with.
+//! The cause of each status that a fault ends with.
 
 use crate::config_cause::config_cause;
 use crate::script_cause::script_cause;
@@ -7,7 +7,7 @@ use crate::wave_cause::wave_cause;
 use std::alloc::Global;
 use std::rt;
 
-/// What stands behind a status and the line that was printed with it, under these words. None where nothing more is known, and
+/// The cause of a status and of the line that was printed with it, under these words. None where nothing more is known, and
 /// where memory runs out.
 pub fn cause_of<R: rt::Files>(
     rt: &R,

@@ -9,7 +9,7 @@ const CHUNKS: u32 = 4096;
 // Where the first chunk stands.
 const FIRST_CHUNK: u64 = 12;
 
-// Where the body of a chunk begins, and how many bytes its head tells of it.
+// Where the body of a chunk begins, and how many bytes its head states.
 #[derive(Clone, Copy)]
 pub(crate) struct Chunk {
     pub(crate) body: u64,
@@ -29,7 +29,7 @@ pub(crate) fn chunk_named<F: Read + Seek>(file: &mut F, name: [u8; 4]) -> Option
         if head.starts_with(&name) {
             return Some(Chunk { body, size });
         }
-        // Behind an odd body stands one byte more.
+        // One byte more follows an odd body.
         place = body.saturating_add(u64::from(size) + u64::from(size) % 2);
     }
     None

@@ -11,7 +11,7 @@ use pcm_reasons::{config_reason, shown};
 use std::alloc::Global;
 use std::rt;
 
-/// The line of the fault that a line tells of, or how long the text is.
+/// The line of the text with the fault that was printed as `line`, or how long the text is.
 pub(crate) fn config_cause<R: rt::Files>(
     rt: &R,
     alloc: Global,
@@ -38,7 +38,7 @@ fn long_configuration<R: rt::Files>(rt: &R, alloc: Global, name: &str) -> Option
     format!(in alloc; "configuration of {size} bytes: a configuration has {most} at most").ok()
 }
 
-// Whether a refusal is told by these words.
+// Whether a refusal has these words.
 fn is_told(refusal: ConfigRefusal, told: &str) -> bool {
     match told.split_once(" ") {
         Some((kind, place)) => kind == refusal.kind.word() && place == refusal.place.word(),

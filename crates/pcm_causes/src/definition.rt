@@ -8,7 +8,7 @@ use crate::own_key::has_own_key;
 use pcm_config::{ConfigFault, ConfigKind, ConfigPlace, ConfigRefusal, config_of};
 use std::alloc::Global;
 
-// The bytes that are read for a search at most. It reads the text again for each line behind the one that it finds, and a text of
+// The bytes that are read for a search at most. It reads the text again for each line after the one that it finds, and a text of
 // many keys takes some 150 nanoseconds a byte: a second and a quarter.
 pub(crate) const WORK: usize = 8388608;
 
@@ -33,7 +33,7 @@ pub fn definition_at(alloc: Global, text: &[u8], refusal: ConfigRefusal) -> Opti
     None
 }
 
-// Whether a text is read, as far as the judgement goes that a refusal tells of, and doesn't have that fault.
+// Whether a text is read as far as the judgement that a refusal reports, and doesn't have that fault.
 fn is_without(alloc: Global, text: &[u8], refusal: ConfigRefusal) -> Option<bool>
     ensures { IfSome result (λ holds. IsTrue holds → config_read text.now ≢ Err refusal) }
 {
@@ -47,8 +47,8 @@ fn is_without(alloc: Global, text: &[u8], refusal: ConfigRefusal) -> Option<bool
     }
 }
 
-// Whether a refusal can be told in place of another that is there too, and be gone further down: a filter misses keys until all
-// of them were read, and is judged before what comes behind it; so is a section.
+// Whether a refusal can be reported in place of another that is there too, and be gone further down: a filter misses keys until all
+// of them were read, and is judged before what comes after it; so is a section.
 fn hides(told: ConfigRefusal, refusal: ConfigRefusal) -> bool {
     match (told.kind, told.place) {
         (ConfigKind::Missing, ConfigPlace::Tables) => is_judged_behind_filters(refusal),
@@ -74,7 +74,7 @@ fn is_judged_behind_sections(refusal: ConfigRefusal) -> bool {
     }
 }
 
-// Whether a kind tells of the value at a key of a filter or a section.
+// Whether a kind is about the value at a key of a filter or a section.
 fn is_of_a_value(kind: ConfigKind) -> bool {
     matches!(
         kind,

@@ -5,7 +5,7 @@ use crate::lines::line_end;
 use pcm_config::{ConfigFault, ConfigKind, ConfigPlace, ConfigRefusal, config_of};
 use std::alloc::Global;
 
-// The text with a fault whose definition begins at a place. Where keys or files are wrong, more of them may stand behind that, so
+// The text with a fault whose definition begins at a place. Where keys or files are wrong, more of them may stand after that, so
 // it ends there. None where the search would take long, or memory runs out.
 pub(crate) fn judged_text<'a>(
     alloc: Global,

@@ -1,4 +1,4 @@
-//! What stands behind the line of a fault, for whoever has to mend it. The files are read anew for that, so what is told is what
+//! The cause of the line of a fault, for anyone who has to mend it. The files are read again for that, so what is said is of what
 //! they hold by then.
 #![tactic(auto)]
 

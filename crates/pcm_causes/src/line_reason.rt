@@ -21,7 +21,7 @@ const KINDS: [ScriptKind; 7] = [
     ScriptKind::Long,
 ];
 
-// Why a line of a text is refused for the kind that is told by its word, and what would be right. None where that can't be found,
+// Why a line of a text is refused for the kind that this word names, and what would be right. None where that can't be found,
 // as of files that were changed since.
 pub(crate) fn line_reason<R: rt::Files>(
     rt: &R,

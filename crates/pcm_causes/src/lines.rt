@@ -36,7 +36,7 @@ pub(crate) fn line_end(text: &[u8], begun: usize) -> usize {
     place
 }
 
-// The number, from 1 on, of the line that comes behind a text.
+// The number, from 1 on, of the line that comes after a text.
 pub(crate) fn number_behind(text: &[u8]) -> usize {
     let mut line = 1usize;
     for byte in text {
@@ -47,7 +47,7 @@ pub(crate) fn number_behind(text: &[u8]) -> usize {
     line
 }
 
-// The number, from 1 on, of the character that comes behind a text in its line.
+// The number, from 1 on, of the character that comes after a text in its line.
 pub(crate) fn column_behind(text: &[u8]) -> usize {
     let mut column = 1usize;
     for byte in text {

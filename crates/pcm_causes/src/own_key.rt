@@ -1,10 +1,10 @@
-//! Whether a configuration tells what is judged beside other values.
+//! Whether a configuration states what is judged beside other values.
 
 use pcm_config::{ConfigPlace, ConfigRefusal};
 use std::alloc::Global;
 use toml::Value;
 
-// Whether a refusal is of the rate of the mix or of how many channels are mapped, and a text tells that. The rate is judged
+// Whether a refusal is of the rate of the mix or of how many channels are mapped, and a text states that. The rate is judged
 // beside the rate and the ring of the device, and the mapped channels beside those that play, so what is looked for is their own
 // definition, wherever those stand.
 pub(crate) fn has_own_key(alloc: Global, text: &[u8], refusal: ConfigRefusal) -> bool {

@@ -14,7 +14,7 @@ pub(crate) enum Said {
     Three(&'static str, u64, &'static str, u64, &'static str, u64, &'static str),
 }
 
-// What is said of a file, behind its name.
+// What is said of a file, after its name.
 pub(crate) fn said_of(alloc: Global, name: &str, said: Said) -> Option<String> {
     match said {
         Said::Words(words) => format!(in alloc; "{name}: {words}").ok(),

@@ -1,4 +1,4 @@
-//! What a configuration settles, which is read anew.
+//! What a configuration settles, which is read again.
 
 use crate::again::content;
 use pcm_config::{Config, config_of, default_config};

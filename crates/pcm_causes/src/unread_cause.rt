@@ -35,7 +35,7 @@ fn first_byte_fault<R: rt::Files>(rt: &R, name: &str) -> Option<Error> {
     }
 }
 
-// The words of an error without the number that stands behind them.
+// The words of an error without the number after them.
 fn without_number(said: &str) -> &str {
     match said.split_once(" (os error ") {
         Some((words, _)) => words,

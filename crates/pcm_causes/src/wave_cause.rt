@@ -45,7 +45,7 @@ fn other_form<F: Read + Seek>(alloc: Global, name: &str, file: &mut F) -> Option
     }
 }
 
-// What a file of so many bytes tells of the kind of its fault.
+// What is said of a file of `size` bytes, by the kind of its fault.
 fn kind_said<F: Read + Seek>(kind: &str, file: &mut F, size: u64) -> Option<Said> {
     match kind {
         "notriff" => Some(Said::One("", size, " bytes, and a wave has more")),
@@ -86,7 +86,7 @@ fn long_said(size: u64) -> Said {
     )
 }
 
-// The first bytes of a format, and how many its chunk tells.
+// The first bytes of a format, and how many its chunk states.
 #[derive(Drop)]
 struct FormatBytes {
     bytes: [u8; FORMAT_BYTES],

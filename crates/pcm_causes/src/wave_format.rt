@@ -17,7 +17,7 @@ const PCM_TAG: u32 = 1;
 
 const EXTENSIBLE_TAG: u32 = 0xFFFE;
 
-// The first number of a format that isn't supported, in the order in which they are judged. Its chunk tells so many bytes.
+// The first number of a format that isn't supported, in the order in which they are judged. Its chunk states `size` bytes.
 pub(crate) fn format_fault(format: &[u8], size: u32) -> Said
     requires { length format.now ≡ FORMAT_BYTES }
 {
@@ -120,7 +120,7 @@ fn frame_said(bits: u32, frame: u32, channels: u32) -> Said {
     )
 }
 
-// The rate and the channels that a format tells.
+// The rate and the channels that a format states.
 pub(crate) fn shape_of(format: &[u8]) -> (u32, u32)
     requires { length format.now ≡ FORMAT_BYTES }
 {

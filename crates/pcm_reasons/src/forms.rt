@@ -3,7 +3,7 @@
 use pcm_script::{Command, Control, Named, request_named};
 use std::alloc::{AllocError, Global};
 
-/// The forms of a command, where its words behind it may tell more.
+/// The forms of a command. The words after it may narrow them.
 pub fn forms_of(
     alloc: Global,
     command: Command,

@@ -1,4 +1,4 @@
-//! Why a word of a script or a value of a configuration is refused, and what would be right, as a line tells it.
+//! Why a word of a script or a value of a configuration is refused, and what would be right, as a line says it.
 #![tactic(auto)]
 
 mod array_reason;

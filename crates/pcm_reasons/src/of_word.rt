@@ -15,7 +15,7 @@ struct WrongWord<'a> {
     word: &'a [u8],
 }
 
-/// Why the first word is wrong that is so in this way, behind a command, and what would be right. `body` is how long the file is
+/// Why the first word is wrong that is so in this way, after a command, and what would be right. `body` is how long the file is
 /// that a send names.
 pub fn word_reason(
     alloc: Global,

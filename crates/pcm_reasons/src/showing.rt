@@ -11,7 +11,7 @@ const DIGITS: [char; 16] = [
     '0', '1', '2', '3', '4', '5', '6', '7', '8', '9', 'a', 'b', 'c', 'd', 'e', 'f',
 ];
 
-/// A line as it can be shown: what isn't a plain character of ASCII is told by its number, and a long line is cut.
+/// A line as it can be shown: what isn't a tab or a plain character of ASCII is written by its number, and a long line is cut.
 pub fn shown(alloc: Global, line: &[u8]) -> Result<String, AllocError> {
     let mut text = String::new(alloc);
     show(&mut text, line, SHOWN)?;
@@ -33,7 +33,7 @@ pub fn quoted(alloc: Global, word: &[u8]) -> Result<String, AllocError> {
     Ok(text)
 }
 
-/// Shows the first bytes behind a text.
+/// Shows the first bytes after a text.
 fn show(text: &mut String, bytes: &[u8], most: usize) -> Result<(), AllocError> {
     for byte in bytes.iter().take(most) {
         show_byte(text, *byte)?;
@@ -41,7 +41,7 @@ fn show(text: &mut String, bytes: &[u8], most: usize) -> Result<(), AllocError> 
     Ok(())
 }
 
-/// Puts a word behind those that a list has.
+/// Puts a word after those that a list has.
 pub(crate) fn list(text: &mut String, word: &[u8]) -> Result<(), AllocError> {
     if !text.as_str().is_empty() {
         text.push_str(", ")?;

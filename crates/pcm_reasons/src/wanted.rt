@@ -7,7 +7,7 @@ use pcm_script::{
     Command, Control, Named, ScriptKind, Setter, number_in, request_named, way_named,
 };
 
-// What a word behind a command must be.
+// What a word after a command must be.
 #[derive(Clone, Copy, PartialEq, Eq)]
 pub(crate) enum Wanted {
     Descriptor,
@@ -72,7 +72,7 @@ const MIXER: &[Wanted] = &[Wanted::Control, Wanted::Number, Wanted::Number];
 
 const INTR: &[Wanted] = &[Wanted::Frames];
 
-// What the words behind a command must be, from left to right.
+// What the words after a command must be, from left to right.
 pub(crate) fn wanted_of(command: Command, arguments: &[&[u8]]) -> &'static [Wanted] {
     match command {
         Command::Open => OPEN,
