@@ -45,7 +45,7 @@ appends-only a b c one two = record {
 pub appends-on : (a b c : FilesSeen) (one two : List ℕ) → OnlyAppends a b → Appends a b one → Appends b c two → Appends a c (one ++ two)
 appends-on a b c one two only first next = record { grows = grows-on a b c one two only first.grows next.grows; write_faults = next.write_faults ∙ first.write_faults }
 
--- an append that failed behind one that didn't
+-- an append that failed after one that didn't
 pub fails-behind : (a b c : FilesSeen) (one two : List ℕ) → OnlyAppends a b → Appends a b one → FailsToAppend b c two → FailsToAppend a c (one ++ two)
 fails-behind a b c one two only first fails = record {
   rose = rose_later _ _ _ first.write_faults fails.rose;

@@ -19,7 +19,7 @@ use Rattle.pcm_converting.proofs.Appending.{appends-on, appends-only, fails-befo
 abbrev pub first_frames : Settings → Settings → List ℕ → ℕ → List ℕ
 first_frames source target body given = take (given * frame_bytes target) (converted_body source target body)
 
--- so many frames of a body were converted, and their bytes were appended
+-- the first `given` frames of a body were converted, and their bytes were appended
 pub record HasAppended {B : Type 0} (kept : B → Kept) (conversion : ConversionOf B) (source target : Settings) (body : List ℕ) (given : ℕ) (old new : FilesSeen) : Type 0 where
   pub source_is : source_in conversion ≡ source
   pub target_is : target_in conversion ≡ target
@@ -27,7 +27,7 @@ pub record HasAppended {B : Type 0} (kept : B → Kept) (conversion : Conversion
   pub only : OnlyAppends old new
   pub appended : Appends old new (first_frames source target body given)
 
--- so many frames are left of a body, and the buffer has room for a block
+-- `left` frames are left of a body, and the buffer has room for a block
 pub record IsAppending {B : Type 0} (kept : B → Kept) (conversion : ConversionOf B) (block : List ℕ) (source target : Settings) (body : List ℕ) (frames left : ℕ) (old new : FilesSeen) : Type 0 where
   pub within : left ≤ frames
   pub room : length block ≡ BLOCK * frame_bytes target
@@ -137,7 +137,7 @@ pub all-appended : {B : Type 0} (kept : B → Kept) (conversion : ConversionOf B
 all-appended kept conversion source target body given old new from to all has =
     subst (λ (b : List ℕ). Appends old new b) (blocks-whole source target body given from to all) has.appended
 
--- ---- the padding behind a body
+-- ---- the padding after a body
 
 pub padded : {E : Type 0} (r : Result (Unit {0}) E) (old between new : FilesSeen) (head body padding padding_as : List ℕ) → OnlyAppends old between → Appends old between (head ++ body) → padding ≡ padding_as
     → OnOk r (Appends between new padding) → OnOk r (Appends old new (head ++ (body ++ padding_as)))

@@ -22,7 +22,7 @@ use pcm_outside::{Files, Sink, WriteFault};
 use pcm_wave::{DataFile, header};
 use std::alloc::{AllocError, Global};
 
-/// Converts a wave into the file of a name: its header, the converted body block by block, and a byte of padding behind
+/// Converts a wave into the file of a name: its header, the converted body block by block, and a byte of padding after
 /// an odd number of bytes. All memory is taken before the file is created.
 pub fn convert_wave<B: Feeder, F: Files, K: Sink>(
     alloc: Global,
@@ -138,7 +138,7 @@ fn append_body<B: Feeder, F: Files>(
     Ok(())
 }
 
-// Appends the byte behind an odd number of bytes.
+// Appends the byte after an odd number of bytes.
 fn append_padding<F: Files>(files: &mut F, size: usize) -> Result<(), WriteFault>
     requires { IsTrue (F.seen files.old).stands }
     ensures { DoesAppend (F.seen files.old) (F.seen files.new) (replicate (padding size) 0) result }

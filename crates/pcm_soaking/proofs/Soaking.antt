@@ -1,4 +1,4 @@
--- A run of a number's script by one event more, and what it comes to.
+-- A run of a number's script by one event more, and its tally.
 use Rattle.std.proofs.Common.{◌≡◌, ℕ, ◌+◌, ◌^◌, ◌<◌, ◌≤◌, All, slice_index_or, List, [], ◌∷◌, ◌++◌, length, sym, ◌∙◌, ap, refl, subst, arith}
 use Rattle.pcm_fixed.specs.Fixed.{fixed_len}
 use Rattle.std.proofs.Math.Nat.{mul-le-mul_right}
@@ -32,7 +32,7 @@ use Rattle.pcm_soaking.proofs.Running.{handed-more, length-push, length-replies,
 
 -- ---- one event more in a tally
 
--- one event and its reply more, behind all others
+-- one event and its reply more, after all others
 tally_all-more : (tally : Tally) (events : List Event) (said : List Reply) (event : Event) (reply : Reply) → length said ≡ length events
     → tally_all tally (events ++ event ∷ []) (said ++ reply ∷ []) ≡ tallied (tally_all tally events said) event reply
 tally_all-more tally [] [] event reply same = refl
@@ -40,7 +40,7 @@ tally_all-more tally [] (one ∷ said) event reply same = absurd (omega arith)
 tally_all-more tally (first ∷ events) [] event reply same = absurd (omega arith)
 tally_all-more tally (first ∷ events) (one ∷ said) event reply same = tally_all-more (tallied tally first one) events said event reply (omega arith)
 
--- what a run comes to by one event more, of which the device gets a piece
+-- the tally of a run with one event more, of which the device gets a piece
 tally_of-more : (device : DeviceSeen) (pool : Pool) (events : List Event) (event : Event) (piece : List ℕ)
     → device_text device pool (events ++ event ∷ []) ≡ device_text device pool events ++ piece
     → tally_of device pool (events ++ event ∷ [])
@@ -62,7 +62,7 @@ tally_of-more device pool events event piece bytes =
 pub IsWithin-none : (tally : Tally) → tally ≡ no_tally → IsWithin 0 tally
 IsWithin-none tally none = subst (IsWithin 0) (sym none) (record { accepted = omega arith; read = omega arith; refused = omega arith; errors = omega arith })
 
--- what so many events may come to, more may
+-- a tally within the bounds of few events is within those of more
 pub IsWithin-more : (few many : ℕ) (tally : Tally) → few ≤ many → IsWithin few tally → IsWithin many tally
 IsWithin-more few many tally more within = record {
   accepted = omega (arith, within.accepted);
@@ -169,7 +169,7 @@ soak-few n script files events is = omega (arith, ap (λ (list : List Event). le
 pub soak-runs : (n : ℕ) (script : Script) (files : List DataFileSeen) (events : List Event) → IsSoak n script files events → CanRun SOAK_EVENTS usual_device (pool_of files script) events
 soak-runs n script files events is = record { fits = soak-fits n script files events is; captures = tt; count = soak-few n script files events is }
 
--- the line of what they came to
+-- the line of their tally
 pub soak-told : (n : ℕ) (script : Script) (files : List DataFileSeen) (events again : List Event) (tally : Tally) → IsSoak n script files events → again ≡ script.events
     → tally ≡ tally_of usual_device (pool_of files script) events → tally_line (length again) script.device_frames tally ≡ soak_line n
 soak-told n script files events again tally is again_same tally_is =

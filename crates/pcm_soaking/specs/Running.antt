@@ -10,7 +10,7 @@ use Rattle.pcm_feeder.specs.Kept.{Kept}
 use Rattle.pcm_engine.specs.declared.engine.EngineOf.{EngineOf}
 use Rattle.pcm_engine.specs.Engines.{AreReady, Stands, device_of}
 
--- events that a device can be stepped through: at most so many, which fit it, with the frames that it captures in the pool
+-- events that a device can be stepped through: at most `most`, which fit it, with the frames that it captures in the pool
 pub record CanRun (most : ℕ) (device : DeviceSeen) (pool : Pool) (events : List Event) : Type 0 where
   pub fits : All (Fits device pool) events
   pub captures : IsCaptureIn (device_settings device).layout pool

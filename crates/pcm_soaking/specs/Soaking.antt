@@ -1,4 +1,4 @@
--- How far the run of a number's script has come, and what it is to tell.
+-- How far the run of a number's script has come, and the line that it is to print.
 use Rattle.std.specs.Prelude.{◌≡◌, ℕ, ◌*◌, ◌^◌, ◌≤◌, List, length}
 use Rattle.pcm_fixed.specs.Fixed.{fixed_len}
 use Rattle.pcm_oss.specs.declared.event.Event.{Event}
@@ -19,7 +19,7 @@ use Rattle.pcm_soaking.specs.declared.tally_line.TheConstants.{TALLY_BYTES}
 abbrev pub ring_room : DeviceSeen → ℕ
 ring_room device = ring_frames device * device_frame_bytes device
 
--- so many events of a script that a number makes were run, and what they came to was added up
+-- these events of a script that a number makes were run, and their tally was added up
 pub record HasSoaked {B : Type 0} (kind : B → Kind) (kept : B → Kept) (soak : SoakOf B) (pool : Pool) (events : List Event) : Type 0 where
   pub engine : RanThrough kind kept soak.engine usual_device pool events
   pub tally : soak.tally ≡ tally_of usual_device pool events
@@ -28,7 +28,7 @@ pub record HasSoaked {B : Type 0} (kind : B → Kind) (kept : B → Kept) (soak 
   pub room : fixed_len soak.block ≡ ring_room usual_device
   pub line_room : fixed_len soak.line ≡ TALLY_BYTES
 
--- the line that tells what these events came to, and how many frames their interrupts take
+-- the line of the tally of these events, and of how many frames their interrupts take
 abbrev pub line_of : ℕ → Pool → List Event → List ℕ
 line_of frames pool events = tally_line (length events) frames (tally_of usual_device pool events)
 

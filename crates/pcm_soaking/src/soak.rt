@@ -1,4 +1,4 @@
-//! The run of a script that a number makes: what it comes to is added up, and told in one line.
+//! The run of a script that a number makes: its tally is added up, and reported in one line.
 
 ghost use Rattle.std.specs.Prelude.{◌+◌, ◌<◌, [], IfErr, IfOk, OnErr, OnOk, length, take};
 ghost use Rattle.pcm_outside.specs.Sink.{FailsToPut, Puts};
@@ -24,7 +24,7 @@ use pcm_soak::{Tally, soak_script};
 use pcm_wave::{DataFiles, Pool};
 use std::alloc::{AllocError, Global};
 
-/// The engine of such a run, with what its events came to so far.
+/// The engine of such a run, with the tally of its events so far.
 #[derive(Drop)]
 pub struct SoakOf<B> {
     engine: EngineOf<B>,
@@ -53,7 +53,7 @@ impl<B: Feeder> SoakOf<B> {
         })
     }
 
-    // Steps the engine through one event, and counts what it came to.
+    // Steps the engine through one event, and adds it to the tally.
     fn step_at(&mut self, events: &[Event], pool: &Pool, at: usize)
         requires there { at < length events.now }
         requires events { CanRun SOAK_EVENTS usual_device pool.now events.now }
@@ -69,7 +69,7 @@ impl<B: Feeder> SoakOf<B> {
     }
 }
 
-/// Runs the script that a number makes, and then tells what it came to. All memory is taken before the first event.
+/// Runs the script that a number makes, and then reports its tally. All memory is taken before the first event.
 pub fn run_soak<B: Feeder, K: Sink>(
     alloc: Global,
     racks: RacksOf<B>,
@@ -103,7 +103,7 @@ pub fn run_soak<B: Feeder, K: Sink>(
     }
 }
 
-// Runs all events, and puts the line that tells what they came to. It takes no memory, so it fails at the put alone.
+// Runs all events, and puts the line of their tally. It takes no memory, so it fails at the put alone.
 fn tell_soak<B: Feeder, K: Sink>(
     soak: &mut SoakOf<B>,
     events: &[Event],

@@ -1,4 +1,4 @@
-//! The line that tells what a run came to. It is written without memory, into bytes that the caller has.
+//! The line of a run's tally. It is written without memory, into bytes that the caller has.
 
 ghost use Rattle.std.specs.Prelude.{◌≡◌, ◌+◌, ◌++◌, ◌≤◌, length, take};
 ghost use Rattle.std.specs.Fmt.{decimal};
@@ -28,7 +28,7 @@ pub fn write_tally(events: u64, frames: u64, tally: &Tally, out: &mut [u8]) -> u
     put_text(out, at, "\n")
 }
 
-// Puts a number behind what it counts.
+// Puts a number after what it counts.
 fn put_count(out: &mut [u8], at: usize, name: &str, number: u64) -> usize
     requires room { at + length name.now + DIGITS ≤ length out.old }
     ensures put { IsPut (name.now ++ decimal number) at result out.old out.new }

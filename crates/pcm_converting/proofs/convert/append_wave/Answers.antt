@@ -32,7 +32,7 @@ returns-in_default-append_body g c =
           (fails-before _ _ (converted_body (source_in old) (target_in old) c.args.body.now) _ failed.err);
     }
 
--- so many bytes are counted in 64 bits
+-- the bytes of all frames are counted in 64 bits
 pub overflow_mul-frames : goal.overflow_mul-frames
 overflow_mul-frames g c =
     let frames : c.args.frames ≤ 4294967295 = omega (arith, c.ranges.frames.fits) in

@@ -27,7 +27,7 @@ conversion_of-requires-clause-source g c =
     let rate : IsRate c.wave.result.rate = record { least = read.least; most = read.most } in
     subst (λ (s : Settings). IsRate s.rate) (sym c.settings.ensures) rate
 
--- as many frames as a header may tell
+-- as many frames as a header may state
 pub overflow_cast-frames : goal.overflow_cast-frames
 overflow_cast-frames g c =
     let conversion : Conversion = record { source = c.args.source.now; target = c.args.target } in
