@@ -18,7 +18,7 @@ use pcm_replay::dsp_main;
 use std::alloc::Global;
 
 /// Makes the racks of a run, and does with them what the words ask for. The status that the program ends with.
-// No function hands boxes out, so the run stands behind the making of its racks.
+// No function returns boxes, so the run is called where its racks are made.
 pub fn run_boxed<F: Files, K: Sink>(
     alloc: Global,
     words: &[String],

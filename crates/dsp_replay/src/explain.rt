@@ -2,8 +2,8 @@
 
 use pcm_causes::cause_of;
 
-/// Says what happened where no line of its own was printed, and what stands behind the line of a fault. Where that can't be written
-/// either, the status alone tells.
+/// Says what happened where no line of its own was printed, and the cause of the line of a fault. Where that can't be written
+/// either, there is only the status.
 pub(crate) fn explain(rt: &HostRuntime, words: &[String], status: u8, line: &[u8], is_file: bool) {
     match (status, words) {
         (3..=6, _) => {

@@ -1,4 +1,4 @@
--- What a call that came to its end leaves of what its words ask for.
+-- What a call that was done to its end leaves, by what its words ask for.
 use Rattle.std.proofs.Common.{◌≡◌, ℕ, List, Option, Some, Ok, sym, ap, ◌∙◌, subst}
 use Rattle.pcm_feeder.specs.declared.kind.Kind.{Kind}
 use Rattle.pcm_feeder.specs.Kept.{Kept}

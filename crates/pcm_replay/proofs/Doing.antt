@@ -1,4 +1,4 @@
--- What a command comes to: of what it reads, and then of what it writes.
+-- The outcome of a command: of what it reads, and then of what it writes.
 use Rattle.std.proofs.Common.{◌≡◌, ℕ, List, Option, None, Some, Ok, IsTrue, refl, sym, ap, ◌∙◌, subst}
 use Rattle.pcm_format.specs.declared.settings.Settings.{Settings}
 use Rattle.pcm_outside.specs.Files.{FilesSeen, OnlyReads}
@@ -145,7 +145,7 @@ cuts-conversion name conversion NoMemory before after cut = cut
 
 -- ---- the words that spell it
 
--- what a command comes to, its words come to
+-- the outcome of a command is the verdict of its words
 pub verdict-of : (words : List (List ℕ)) (spells : Spells words) (accepted : Accepted) (files : FilesSeen) → Comes (command_part spells.command) (Ok accepted) files → IsTrue files.tells
     → verdict_on words files ≡ Ok accepted
 verdict-of words spells accepted files came told = ap (λ (command : Option Command). (if_command files.content command).came) spells.is ∙ came told

@@ -26,7 +26,7 @@ plain-run call leaves = λ name inputs is whole.
     subst (λ (body : List ℕ). WritesAll (record { file = Some (record { name = name; bytes = header_in inputs ++ body }); lines = replies_printed inputs }) call.before call.after)
     (plain-body (device_seen inputs.config) (story_in inputs) valid whole) (leaves name inputs is)
 
--- the stories of two runs under one configuration, told by that of the first
+-- two runs that sound alike under one configuration give the same bytes, as far as both go
 alike-run-bodies : (inputs other : Inputs) → IsPlayable inputs → IsPlayable other → PlayAlike inputs other → AgreeInCommon (device_bytes_in inputs) (device_bytes_in other)
 alike-run-bodies inputs other one two alike =
     let device : DeviceSeen = device_seen inputs.config in

@@ -157,7 +157,7 @@ of-command content (ConvertWave input out target) = of-next (conversion_judged c
     (of-read content input (conversion_of input target) (of-conversion input target)) (λ conversion. tt)
 of-command content (SoakRun n) = tt
 
--- ---- the statuses that a verdict may come to
+-- ---- the statuses with which a verdict may end
 
 may-not_read : (verdict : Result Accepted Fault) → ComesOfFiles verdict → MayEnd verdict 3
 may-not_read (Ok accepted) of = inr (inl refl)

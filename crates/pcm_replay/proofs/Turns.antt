@@ -48,7 +48,7 @@ first-none playback outside stands none = record {
   put = record { grows = λ told. sym (append-nil outside.sink.bytes); faults = refl };
 }
 
--- what the next event left behind those before it
+-- what the next event left after those before it
 pub first-more : (playback : Playback) (done : ℕ) (before between after : Outside) → WritesFirst playback done before between → OnlyAdds between after → WritesNext playback done between after
     → WritesFirst playback (done + 1) before after
 first-more playback done before between after first only next = record {
@@ -62,7 +62,7 @@ first-more playback done before between after first only next = record {
       });
 }
 
--- so many events were run on a device, and left all that they were to leave
+-- the first `done` events were run on a device, and left all that they were to leave
 pub record IsPlaying {B : Type 0} (kind : B → Kind) (kept : B → Kept) (replay : ReplayOf B) (device : DeviceSeen) (pool : Pool) (events : List Event) (done : ℕ) (before now : Outside) : Type 0 where
   pub played : HasPlayed kind kept replay pool events done
   pub device_is : device_of replay.engine ≡ device
@@ -81,7 +81,7 @@ pub record HasHeader (name head : List ℕ) (before : Outside) (created headed :
 header-faults : (name head : List ℕ) (before : Outside) (created headed : FilesSeen) → HasHeader name head before created headed → headed.write_faults ≡ before.files.write_faults
 header-faults name head before created headed h = h.head_appended.write_faults ∙ h.creates.write_faults
 
--- what is behind the header stands in the file behind it
+-- what follows the header stands in the file after it
 behind-header : (name head piece : List ℕ) (before : Outside) (created headed new : FilesSeen) → HasHeader name head before created headed → Grows headed new piece → HasWritten name (head ++ piece) before.files new
 behind-header name head piece before created headed new h grows =
     has_written name (head ++ piece) before.files created new h.only h.creates (grows-on created headed new head piece h.head_only h.head_appended.grows grows)
@@ -110,7 +110,7 @@ cut-turn name head playback before between after created headed done bytes line 
       put = puts_more-on before.sink between.sink after.sink (lines_until playback done) failed.part first.only.sink first.put.grows failed.grows;
     })
 
--- an event of a run was cut short, behind the header and the events before it
+-- an event of a run was cut short, after the header and the events before it
 pub cut-events : (name head : List ℕ) (playback : Playback) (before after : Outside) (created headed : FilesSeen) → HasHeader name head before created headed → CutsEvents playback (outside headed before.sink) after
     → CutsRun name head playback before after
 cut-events name head playback before after created headed h cut =

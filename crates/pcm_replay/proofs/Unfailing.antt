@@ -72,7 +72,7 @@ unfailing call ending status named ends = λ told quiet.
     (λ three. quiet (inl (ended-as call ending CannotRead status named three ends).read.read.rose))
     (λ seven. quiet (inr (cut-rose call (ended-as call ending CannotWrite status named seven ends))))
 
--- what came to its end
+-- what was done to its end
 pub done-unfailing : {B : Type 0} (kind : B → Kind) (kept : B → Kept) (call : Call) (engine : Option (EngineOf B)) (status : ℕ) → status ≡ 0 → DoesWords kind kept call engine → EndsUnfailing call status
 done-unfailing kind kept call engine status done does = λ told quiet.
     subst (λ (v : Result Accepted Fault). MayEndUnfailing v status)

@@ -1,4 +1,4 @@
--- What a call leaves that came to its end, by what its words ask for.
+-- What a call that was done to its end leaves, by what its words ask for.
 use Rattle.std.specs.Prelude.{◌≡◌, ◌++◌, ℕ, List, Some, IsSomeAnd, Option}
 use Rattle.pcm_feeder.specs.declared.kind.Kind.{Kind}
 use Rattle.pcm_feeder.specs.Kept.{Kept}
@@ -43,7 +43,7 @@ abbrev pub LeavesPlain : Call → Type 0
 LeavesPlain call = (name : List ℕ) (inputs : Inputs) → AsksFor call (Runs name inputs)
     → HasNoShortage (story_in inputs) → WritesAll (plain_output name inputs) call.before call.after
 
--- the file of a run was written whole: behind its header stand bytes that are those of another run's device, as far as both go
+-- the file of a run was written whole: after its header stand bytes that are those of another run's device, as far as both go
 pub record WritesLike (name : List ℕ) (inputs other : Inputs) (old new : FilesSeen) : Type 0 where
   pub body : List ℕ
   pub written : WritesWhole (record { name = name; bytes = header_in inputs ++ body }) old new

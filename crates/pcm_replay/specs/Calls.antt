@@ -1,4 +1,4 @@
--- A call of the program, as a clause sees it: its words, and the outside before it and behind it.
+-- A call of the program, as a clause sees it: its words, and the outside before and after it.
 use denote.Triple.Both.{Both}
 use Rattle.std.specs.Prelude.{ℕ, List, String, map, string_bytes}
 use Rattle.std.specs.Borrow.{Bor}

@@ -10,7 +10,7 @@ use Rattle.pcm_replay.specs.Playback.{Playback, bytes_until, lines_until, playba
 use Rattle.pcm_replay.specs.Turns.{IsNext}
 use Rattle.pcm_converting.specs.Written.{CutAtAppend, CutAtCreate, CutsOutput, HasWritten, WritesWhole}
 
--- where a run was cut short: behind so many events, in what the next one gives, of which a part was written
+-- where a run was cut short: after `done` events, in what the next one gives, of which a part was written
 pub record CutPlace (playback : Playback) : Type 0 where
   pub done : ℕ
   pub bytes : List ℕ
@@ -18,8 +18,8 @@ pub record CutPlace (playback : Playback) : Type 0 where
   pub next : IsNext playback done bytes line
   pub part : List ℕ
 
--- Behind the header the file has the bytes of some events and a part of the next one's; the lines of these events were put,
--- and nothing behind them.
+-- After the header the file has the bytes of some events and a part of the next one's; the lines of these events were put,
+-- and nothing after them.
 pub record CutInBytes (name head : List ℕ) (playback : Playback) (before after : Outside) : Type 0 where
   pub rose : Rose before.files.write_faults after.files.write_faults
   pub place : CutPlace playback

@@ -91,7 +91,7 @@ abbrev pub LeavesEngine : {B : Type 0} → Option (EngineOf B) → Option (Engin
 LeavesEngine None old new = new ≡ old
 LeavesEngine (Some engine) old new = new ≡ Some engine
 
--- what a call did that came to its end
+-- a call that was done to its end, and what became of its engine
 pub record Finishes {B : Type 0} (kind : B → Kind) (kept : B → Kept) (ran : Lent (Option (EngineOf B))) (call : Call) : Type 0 where
   pub engine : Option (EngineOf B)
   pub does : DoesWords kind kept call engine

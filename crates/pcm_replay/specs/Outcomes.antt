@@ -14,11 +14,11 @@ use Rattle.pcm_replay.specs.Cuts.{CutsCall}
 use Rattle.pcm_inputs.specs.declared.ending.Ending.{Ending}
 use Rattle.pcm_inputs.specs.declared.ending.Ending.TheVariants as endings
 
--- what the words come to, over the contents of the files
+-- the verdict of the words, over the contents of the files
 abbrev pub verdict_on : List (List ℕ) → FilesSeen → Result Accepted Fault
 verdict_on words files = verdict words files.content
 
--- what a call comes to by its words, over what the files held before it
+-- the verdict of a call by its words, over what the files held before it
 abbrev pub verdict_of : Call → Result Accepted Fault
 verdict_of call = verdict_on call.words call.before.files
 
@@ -40,7 +40,7 @@ pub record Spells (words : List (List ℕ)) : Type 0 where
 abbrev pub part_of : {words : List (List ℕ)} → Spells words → Part Accepted
 part_of spells = command_part spells.command
 
--- an accepted call is of the command that the words spell, and where the files tell, it is what they come to
+-- an accepted call is of the command that the words spell, and where the files tell, it is their verdict
 pub record IsNamed (words : List (List ℕ)) (files : FilesSeen) (accepted : Accepted) : Type 0 where
   pub spells : Spells words
   pub is_of : IsOf spells.command accepted
@@ -129,7 +129,7 @@ IsRefusedBy (Err fault) = Unit {0}
 abbrev pub IsStatus : ℕ → Type 0
 IsStatus status = (status ≡ 0) ⊎ ((status ≡ 2) ⊎ ((status ≡ 3) ⊎ ((status ≡ 4) ⊎ ((status ≡ 5) ⊎ ((status ≡ 6) ⊎ ((status ≡ 7) ⊎ (status ≡ 8)))))))
 
--- the statuses that a fault may come to
+-- the statuses with which a fault may end
 abbrev pub MayRefuse : Fault → ℕ → Type 0
 MayRefuse Usage status = (status ≡ 2) ⊎ ((status ≡ 7) ⊎ (status ≡ 8))
 MayRefuse (Missing name) status = (status ≡ 3) ⊎ ((status ≡ 7) ⊎ (status ≡ 8))
@@ -137,12 +137,12 @@ MayRefuse (BadConfig refusal) status = (status ≡ 4) ⊎ ((status ≡ 3) ⊎ ((
 MayRefuse (BadScript refusal) status = (status ≡ 5) ⊎ ((status ≡ 3) ⊎ ((status ≡ 7) ⊎ (status ≡ 8)))
 MayRefuse (BadWave name kind) status = (status ≡ 6) ⊎ ((status ≡ 3) ⊎ ((status ≡ 7) ⊎ (status ≡ 8)))
 
--- the statuses that a verdict may come to
+-- the statuses with which a verdict may end
 abbrev pub MayEnd : Result Accepted Fault → ℕ → Type 0
 MayEnd (Ok accepted) status = (status ≡ 0) ⊎ ((status ≡ 3) ⊎ ((status ≡ 7) ⊎ (status ≡ 8)))
 MayEnd (Err fault) status = MayRefuse fault status
 
--- where the files tell, the status is one that the verdict may come to
+-- where the files tell, the status is one with which the verdict may end
 abbrev pub MayEndAs : Call → ℕ → Type 0
 MayEndAs call status = IsTrue call.before.files.tells → MayEnd (verdict_of call) status
 
@@ -154,7 +154,7 @@ MayRefuseUnfailing (BadConfig refusal) status = (status ≡ 4) ⊎ (status ≡ 8
 MayRefuseUnfailing (BadScript refusal) status = (status ≡ 5) ⊎ (status ≡ 8)
 MayRefuseUnfailing (BadWave name kind) status = (status ≡ 6) ⊎ (status ≡ 8)
 
--- the statuses of a verdict where none failed: what is accepted comes to its end, or lacks memory
+-- the statuses of a verdict where none failed: what is accepted is done to its end, or lacks memory
 abbrev pub MayEndUnfailing : Result Accepted Fault → ℕ → Type 0
 MayEndUnfailing (Ok accepted) status = (status ≡ 0) ⊎ (status ≡ 8)
 MayEndUnfailing (Err fault) status = MayRefuseUnfailing fault status

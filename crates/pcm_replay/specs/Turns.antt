@@ -5,7 +5,7 @@ use Rattle.pcm_outside.specs.Sink.{FailsToPut, OnlyPuts, Puts}
 use Rattle.pcm_inputs.specs.Outside.{Outside}
 use Rattle.pcm_replay.specs.Playback.{Playback, bytes_until, lines_until}
 
--- what one event gives behind so many: the bytes that it hands over, and its line
+-- what one event gives after `done` others: the bytes that it hands over, and its line
 pub record IsNext (playback : Playback) (done : ℕ) (bytes line : List ℕ) : Type 0 where
   pub there : done < length playback.events
   pub bytes_are : bytes_until playback (done + 1) ≡ bytes_until playback done ++ bytes

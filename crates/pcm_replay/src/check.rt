@@ -1,4 +1,4 @@
-//! What is told of a script that is judged and not run.
+//! What is reported of a script that is judged and not run.
 
 ghost use Rattle.std.specs.Prelude.{IfErr, OnOk};
 ghost use Rattle.pcm_outside.specs.Sink.{Puts};
@@ -10,7 +10,7 @@ use pcm_inputs::{Ending, Inputs};
 use pcm_outside::{Sink, WriteFault};
 use std::alloc::Global;
 
-/// Tells how many events a script has, and how many frames its interrupts take.
+/// Reports how many events a script has, and how many frames its interrupts take.
 pub fn tell_script<K: Sink>(alloc: Global, inputs: &Inputs, out: &mut K) -> Result<(), Ending>
     ensures ok { OnOk result (Puts (K.seen out.old) (K.seen out.new) (check_line (inputs_seen inputs.now))) }
     ensures err { IfErr result (CutsLines (check_line (inputs_seen inputs.now)) (K.seen out.old) (K.seen out.new)) }

@@ -28,7 +28,7 @@ play_at-requires-clause-events g c =
 pub play_at-requires-clause-played : goal.play_at-requires-clause-played
 play_at-requires-clause-played g c = c.loop-at.invariant.played
 
--- an event was cut short, behind those so far
+-- an event was cut short, after those so far
 pub returns-in_default-clause-err : goal.returns-in_default-clause-err
 returns-in_default-clause-err g c = record {
   done = c.loop-at.at;
