@@ -1,4 +1,4 @@
--- What is told of a session that is held.
+-- What is answered of a session that is held.
 use Rattle.std.proofs.Common.{◌≡◌, ℤ, Option, Result, Some, sym, subst, FitsSigned, w32}
 use mir.Val.{of_z, to_z}
 use Rattle.std.proofs.lemmas.Int.{to_z-of_z}

@@ -1,4 +1,4 @@
--- What a call of C comes to: a call of the session that is held, if there is one.
+-- The effect of a call of C: a call of the session that is held, if there is one.
 use Rattle.std.specs.Prelude.{Option, Some, None}
 use Rattle.pcm_engine_c.specs.declared.handle.Handle.{Handle}
 use Rattle.pcm_engine_c.specs.declared.session.Session.{Session}

@@ -23,7 +23,7 @@ abbrev pub value_in : Option (Box Session) → Option Session
 value_in (Some box) = Some box.value
 value_in None = None
 
--- the session behind a pointer with the right to free it, and that it is ready; or nothing
+-- the session at a pointer with the right to free it, and that it is ready; or nothing
 abbrev pub owned : (Session → Type 0) → Ptr → Option Session → Fml
 owned ready at (Some session) = fex (ready session) (λ is. heap_owns session_row at session)
 owned ready at None = ftrue

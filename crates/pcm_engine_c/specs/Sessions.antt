@@ -31,8 +31,8 @@ pub record IsNew {B : Type 0} (kept : B → Kept) (device : DeviceNumbers) (filt
 abbrev pub is_possible : DeviceNumbers → List FilterNumbers → List ℤ → List SectionNumbers → Bool
 is_possible device filters coefs sections = is_some (device_from device) && is_some (tables_from filters coefs sections)
 
--- What making an engine comes to. Where there is one already, nothing is made, and that is told. Else 0 says that there is one of these numbers now;
--- that of a wrong argument, that there can be none; and that of want of memory, the only other, that there could be one.
+-- The result of making an engine. Where there is one already, nothing is made, and the number says so. Else 0 says that there is one of
+-- these numbers now; that of a wrong argument, that there can be none; and that of want of memory, the only other, that there could be one.
 pub record IsMade {B : Type 0} (engine_in : Session → EngineOf B) (kept : B → Kept) (device : DeviceNumbers) (filters : List FilterNumbers) (coefs : List ℤ) (sections : List SectionNumbers) (old new : Option Session) (result : ℤ) : Type 0 where
   pub there : IsSome old → (new ≡ old) × (result ≡ call_fault_number Engine)
   pub made : old ≡ None → result ≡ pos 0 → IfSome new (λ session. IsNew kept device filters coefs sections (engine_in session))

@@ -1,10 +1,10 @@
--- What a question of C is answered: 0 and what is told, or a number below 0 and nothing.
+-- What a question of C is answered: 0 and the answer, or a number below 0 and nothing.
 use Rattle.std.specs.Prelude.{◌≡◌, ℕ, ℤ, pos, min, Result, Ok, Err}
 use Rattle.pcm_desk.specs.Device.{DeviceSeen}
 use Rattle.pcm_desk.specs.Desk.{Desk}
 use Rattle.pcm_session.specs.Questions.{WaitTold}
 
--- what is told stands in its place, or this is as it was
+-- the answer stands in its place, or this is as it was
 abbrev pub IsTold : {X : Type 0} → Result X ℤ → ℤ → X → X → Type 0
 IsTold (Ok numbers) result old new = (result ≡ pos 0) × (new ≡ numbers)
 IsTold (Err number) result old new = (result ≡ number) × (new ≡ old)

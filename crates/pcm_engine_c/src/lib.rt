@@ -474,7 +474,7 @@ fn wait_number(told: Result<u64, i32>) -> i64
     }
 }
 
-// Puts what is told where it belongs, and answers 0; or answers why nothing is told.
+// Puts an answer where it belongs, and returns 0; or returns the number of why there is none.
 fn tell<X: Copy>(told: Result<X, i32>, out: &mut X) -> i32
     ensures { IsTold told result out.old out.new }
 {
