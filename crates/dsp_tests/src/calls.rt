@@ -1,4 +1,4 @@
-//! One call over the forms in memory, and what it is to come to.
+//! One call over the forms in memory, and its expected outcome.
 
 use crate::boxes::boxes;
 use pcm_feeder::Racks;
@@ -19,16 +19,16 @@ pub const FOUR_FRAMES_PRINTED: &[u8] = b"1: ok 0\n2: ok 16\n3: ok\n4: ok 1024\n5
 /// What is heard of it.
 pub const FOUR_FRAMES_HEARD: &[u8] = b"\x01\0\x02\0\x03\0\x04\0\x05\0\x06\0\x07\0\x08\0";
 
-/// What the device file holds: a head, bytes of silence, and what is heard behind them.
+/// What the device file holds: a head, bytes of silence, and what is heard after them.
 pub type Content = (&'static [u8], usize, &'static [u8]);
 
-/// What a call is to come to: the status, what is printed, and the device file, if it is there.
+/// The expected outcome of a call: the status, what is printed, and the device file, if it is there.
 pub type Expected = (u8, &'static [u8], Option<Content>);
 
 /// Files by their names.
 pub type Held = &'static [(&'static str, &'static [u8])];
 
-/// The files that are there, the words, and what the call is to come to.
+/// The files that are there, the words, and the expected outcome of the call.
 pub type Row = (Held, &'static [&'static str], Expected);
 
 /// The room of the files and of the sink, and the call of each that fails, where 0 is none.
@@ -40,7 +40,7 @@ pub type Faults = (Held, &'static [&'static str], &'static [(Fault, Expected)]);
 // Room that is enough for each run here, and no call that fails.
 const NO_FAULT: Fault = (ROOM, ROOM, 0, 0);
 
-/// The first row whose call comes to something else.
+/// The first row whose call has another outcome.
 pub fn first_wrong(alloc: Global, rows: &[Row]) -> Result<Option<usize>, AllocError> {
     for (at, (held, words, expected)) in rows.iter().enumerate() {
         if !comes_to(alloc, held, words, NO_FAULT, *expected)? {
@@ -50,7 +50,7 @@ pub fn first_wrong(alloc: Global, rows: &[Row]) -> Result<Option<usize>, AllocEr
     Ok(None)
 }
 
-/// The first fault by which a call comes to something else than is told beside it.
+/// The first fault by which a call has another outcome than the one beside it.
 pub fn first_wrong_fault(
     alloc: Global,
     held: Held,
@@ -65,7 +65,7 @@ pub fn first_wrong_fault(
     Ok(None)
 }
 
-// Whether a call comes to that.
+// Whether a call has that outcome.
 fn comes_to(
     alloc: Global,
     held: Held,
@@ -99,8 +99,8 @@ fn sink(alloc: Global, room: usize, put: u32) -> Result<MemSink, AllocError> {
     Ok(out)
 }
 
-// How many frames the engine has handed over that a call leaves: those of the script's interrupts, and of a soak those that its line tells. A
-// call that ends with another status than 0 leaves no engine, and neither do the other commands.
+// How many frames the engine that a call leaves has handed over: those of the script's interrupts, or those in the line of a soak.
+// A call that ends with another status than 0 leaves no engine, and neither do the other commands.
 fn handed_by(held: Held, words: &[&str], status: u8) -> Option<u64> {
     if status != 0 {
         None
@@ -150,7 +150,7 @@ fn number_in(line: &[u8]) -> u64 {
     number
 }
 
-// Whether a call with these words ends with that status, and leaves an engine that has handed over so many frames, or none.
+// Whether a call with these words ends with that status, and leaves an engine that has handed over `handed` frames, or none.
 fn ends_with(
     alloc: Global,
     words: &[&str],

@@ -1,5 +1,5 @@
 //! Tests of the program's call over the forms in memory: whole runs, and each outer call that fails.
-//! They hold what no clause of `dsp_main` says: that a call with ample memory comes to its end, and the words of its lines.
+//! They hold what no clause of `dsp_main` says: that a call with ample memory is done to its end, and the words of its lines.
 #![tactic(auto)]
 
 #[cfg(test)]

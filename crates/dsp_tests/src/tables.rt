@@ -14,7 +14,7 @@ const TABLES: [&[Row]; 6] = [
     &recordings::ROWS,
 ];
 
-// The first row that comes to something else, behind the number of its table.
+// The first row with another outcome, after the number of its table.
 fn first_wrong_row(alloc: Global) -> Result<Option<(usize, usize)>, AllocError> {
     for (table, rows) in TABLES.iter().enumerate() {
         if let Some(row) = first_wrong(alloc, rows)? {
@@ -30,7 +30,7 @@ fn calls_come_to_what_is_told(rt: HostRuntime) -> Result<(), Fail> {
     Ok(())
 }
 
-// The first fault by which a call comes to something else, behind the number of the call.
+// The first fault by which a call has another outcome, after the number of the call.
 fn first_wrong_call(alloc: Global) -> Result<Option<(usize, usize)>, AllocError> {
     for (call, (held, words, rows)) in faults::TABLES.iter().enumerate() {
         if let Some(row) = first_wrong_fault(alloc, held, words, rows)? {

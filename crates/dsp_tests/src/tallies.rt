@@ -8,7 +8,7 @@ use pcm_replay::tally_main;
 use std::alloc::{AllocError, Global};
 use std::test::Fail;
 
-// The words, and what is told: the status, the bytes that were appended, and those that were put.
+// The words, and the outcome: the status, the bytes that were appended, and those that were put.
 type Row = (&'static [&'static str], (u8, u64, u64));
 
 // All files are empty: a script has no events, a configuration no keys, and no wave is one.
@@ -20,7 +20,7 @@ const ROWS: [Row; 5] = [
     (&["convert", "w", "o", "48000", "s16le", "2"], (6, 0, 33)),
 ];
 
-// What is told of a call with these words.
+// The outcome of a call with these words.
 fn told(alloc: Global, words: &[&str]) -> Result<Option<(u8, u64, u64)>, AllocError> {
     let Ok(racks) = Racks::of_boxes(alloc, boxes(alloc)?) else {
         return Ok(None);
@@ -33,7 +33,7 @@ fn told(alloc: Global, words: &[&str]) -> Result<Option<(u8, u64, u64)>, AllocEr
     Ok(Some((status, files.total(), out.total())))
 }
 
-// The first row of which something else is told.
+// The first row with another outcome.
 fn first_wrong(alloc: Global) -> Result<Option<usize>, AllocError> {
     for (at, (words, expected)) in ROWS.iter().enumerate() {
         if told(alloc, words)? != Some(*expected) {

@@ -2,7 +2,7 @@
 
 use crate::calls::Row;
 
-/// One frame of two channels of 16 bits at 48000 frames each second, behind a header.
+/// One frame of two channels of 16 bits at 48000 frames each second, after a header.
 pub const ONE_FRAME: &[u8] =
     b"RIFF\x28\0\0\0WAVEfmt \x10\0\0\0\x01\0\x02\0\x80\xbb\0\0\0\xee\x02\0\x04\0\x10\0data\x04\0\0\0\x01\0\x02\0";
 
@@ -14,11 +14,11 @@ pub const STEP: &[u8] =
 pub const STEP_DOUBLED: &[u8] =
     b"RIFF\x34\0\0\0WAVEfmt \x10\0\0\0\x01\0\x02\0\x80\xbb\0\0\0\xee\x02\0\x04\0\x10\0data\x10\0\0\0\0\0\0\0\x32\0\x32\0\x64\0\x64\0\x32\0\x32\0";
 
-// And as one channel of bytes, of which there is an odd number with a byte of padding behind it.
+// And as one channel of bytes, of which there is an odd number with a byte of padding after it.
 const ONE_FRAME_IN_BYTES: &[u8] =
     b"RIFF\x26\0\0\0WAVEfmt \x10\0\0\0\x01\0\x01\0\x80\xbb\0\0\x80\xbb\0\0\x01\0\x08\0data\x01\0\0\0\x80\0";
 
-// Eight frames of silence behind a header.
+// Eight frames of silence after a header.
 const SILENT_WAVE: &[u8] =
     b"RIFF\x44\0\0\0WAVEfmt \x10\0\0\0\x01\0\x02\0\x80\xbb\0\0\0\xee\x02\0\x04\0\x10\0data\x20\0\0\0\0\0\0\0\0\0\0\0\0\0\0\0\0\0\0\0\0\0\0\0\0\0\0\0\0\0\0\0\0\0\0\0";
 
@@ -56,7 +56,7 @@ pub const RUNS: [Row; 4] = [
             )),
         ),
     ),
-    // The frames stand behind a header.
+    // The frames stand after a header.
     (
         &[
             ("s", b"intr 4\nintr 4\n"),

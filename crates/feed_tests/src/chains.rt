@@ -45,7 +45,7 @@ const ROWS: [Row; 4] = [
         left: 1,
         samples: [0, 0, 256, 128, -256, -128, 32512, 16256],
     },
-    // FL, FR, FC, LFE, BL and BR of two frames, and a part of one. The volume is the only stage behind the matrix.
+    // FL, FR, FC, LFE, BL and BR of two frames, and a part of one. The volume is the only stage after the matrix.
     Row {
         client: (Format::S24Be, Layout::Six, 48000),
         device: (Format::S32Le, Layout::Two, 48000),

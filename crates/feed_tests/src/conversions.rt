@@ -16,7 +16,7 @@ type End = (Format, Layout, u32);
 type Row<'a> = (End, End, &'a [u8], u128, &'a [u8]);
 
 const ROWS: [Row<'static>; 2] = [
-    // A line goes on to silence behind the last frame, and a part of a frame is not heard.
+    // A line goes on to silence after the last frame, and a part of a frame is not heard.
     (
         (Format::S16Le, Layout::Two, 24000),
         (Format::S16Le, Layout::One, 48000),
@@ -45,7 +45,7 @@ fn settings(end: End) -> Settings
     }
 }
 
-// Whether a conversion counts and gives what a row says, in one block, and nothing behind it.
+// Whether a conversion counts and gives what a row says, in one block, and nothing after it.
 fn is_right<B: Feeder>(
     alloc: Global,
     seven: SevenOf<B>,
@@ -62,7 +62,7 @@ fn is_right<B: Feeder>(
     Ok(conversion.count(body) == *frames && block.get(..given) == Some(*want))
 }
 
-// The first row whose conversion comes to something else.
+// The first row whose conversion has another outcome.
 fn first_wrong(alloc: Global) -> Result<Option<usize>, AllocError> {
     for (at, row) in ROWS.iter().enumerate() {
         if !is_right(alloc, seven(alloc, Kind::Volume)?, row)? {

@@ -54,7 +54,7 @@ fn sound(alloc: Global) -> Result<Vec<i32>, AllocError> {
     Ok(samples)
 }
 
-// Feeds frames of two channels by turns, each with the next numbers of frames offered and wanted at most, and tells how many
+// Feeds frames of two channels by turns, each with the next numbers of frames offered and wanted at most, and answers how many
 // samples moved in all.
 fn fed<B: Feeder>(
     feeder: &mut B,

@@ -34,7 +34,7 @@ const INPUT: [i32; 8] = [
 ];
 
 const ROWS: [Row; 6] = [
-    // A line uses the frame behind the one that an output lies on: outputs 1 to 4 need 2, 2, 3 and 3 frames.
+    // A line uses the frame after the one that an output lies on: outputs 1 to 4 need 2, 2, 3 and 3 frames.
     Row {
         source: (Format::S32Le, 24000),
         target: (Format::S16Le, 48000),
@@ -107,7 +107,7 @@ fn plan_between(source: &Settings, target: &Settings, tables: &Tables) -> Plan
     plan_record(target, source, 1, tables)
 }
 
-// Fills `out` where the chain needs just the frames of `input` for that, behind so many given. Answers whether it does.
+// Fills `out` where the chain needs just the frames of `input` for that, after `given` frames. Answers whether it does.
 fn may_give<B: Feeder>(
     chain: &mut ChainOf<B>,
     tables: &Tables,

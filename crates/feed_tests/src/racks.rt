@@ -67,7 +67,7 @@ pub fn seven(alloc: Global, kind: Kind) -> Result<Seven, AllocError> {
     })
 }
 
-// The boxes of so many racks. Those at one place have this kind for their volume.
+// The boxes of `count` racks. Those at one place have this kind for their volume.
 fn boxes(
     alloc: Global,
     count: usize,
@@ -94,7 +94,7 @@ const ROWS: [Row; 4] = [
         Err(RackFault::Count(WrongCount { found: 32 })),
     ),
     (33, 32, Kind::Depth, Err(RackFault::WrongBox(WRONG))),
-    // A wrong box is told before the number.
+    // A wrong box is reported before the number.
     (34, 0, Kind::Depth, Err(RackFault::WrongBox(WRONG))),
 ];
 

@@ -8,8 +8,8 @@ use pcm_rate::{Rate, UNCHANGED};
 // A state, frames of four bytes that were eaten, frames of the mix that were given for them, and bytes that wait.
 type Stage = (PlayState, u16, u16, u16);
 
-// A book of the usual device's settings whose first run is at a stage, and gave its last frame before a position, behind so many
-// bytes that were played.
+// A book of the usual device's settings whose first run is at a stage, and gave its last frame before the position `last`, after
+// `done` bytes that were played.
 fn book(stage: Stage, last: u16, done: u16) -> PlayBook
     ensures written { result.done + result.written < 2 ^ 32 }
     ensures given { result.given < 2 ^ 32 }
@@ -32,7 +32,7 @@ const CLOSED: PlayState = PlayState::Draining { closed: true };
 
 const OPEN: PlayState = PlayState::Draining { closed: false };
 
-// A stage, and frames wanted where a hundred were mixed; then the stage, shortages, and the position behind the last frame.
+// A stage, and frames wanted where a hundred were mixed; then the stage, shortages, and the position after the last frame.
 type Row = (Stage, u16, Stage, u32, u16);
 
 const AT_THE_RATE: [Row; 10] = [
@@ -92,7 +92,7 @@ const AT_HALF_THE_RATE: [Row; 10] = [
     ((OPEN, 2, 2, 3), 2, (OPEN, 2, 4, 3), 0, 102),
 ];
 
-// A stage, the position behind its last frame, and how many frames have left the ring; then the stage, and the bytes of a run that
+// A stage, the position after its last frame, and how many frames have left the ring; then the stage, and the bytes of a run that
 // is over.
 type End = (Stage, u16, i16, Stage, u16);
 
@@ -112,7 +112,7 @@ const HALF: Rate = Rate {
     lookahead: 1,
 };
 
-// The first row at a rate that comes to something else.
+// The first row at a rate that has another outcome.
 fn first_wrong(rate: Rate, rows: &[Row]) -> Option<usize>
     requires { IsRatio rate }
 {
@@ -129,7 +129,7 @@ fn first_wrong(rate: Rate, rows: &[Row]) -> Option<usize>
     None
 }
 
-// The first end that comes to something else.
+// The first end that has another outcome.
 fn first_wrong_end(ends: &[End]) -> Option<usize> {
     for (at, (stage, last, passed, after, done)) in ends.iter().enumerate() {
         let here = Here {

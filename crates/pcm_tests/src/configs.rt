@@ -111,7 +111,7 @@ const ROWS: [Row; 19] = [
     ),
 ];
 
-// A text so many times, and another.
+// A text `times` times, and another after it.
 fn repeated(alloc: Global, times: usize, text: &[u8], last: &[u8]) -> Result<Vec<u8>, AllocError> {
     let mut texts = Vec::new(alloc);
     for _ in 0..times {
@@ -121,14 +121,14 @@ fn repeated(alloc: Global, times: usize, text: &[u8], last: &[u8]) -> Result<Vec
     Ok(texts)
 }
 
-// Whether what a row's text comes to is what it is to come to.
+// Whether the outcome of a row's text is the one expected.
 fn is_right(alloc: Global, row: &Row) -> Result<bool, AllocError> {
     let (times, text, last, expected) = row;
     let text = repeated(alloc, *times, text, last)?;
     Ok(outcome(alloc, &text) == *expected)
 }
 
-// The first row that comes to something else.
+// The first row with another outcome.
 fn first_wrong(alloc: Global) -> Result<Option<usize>, AllocError> {
     for (at, row) in ROWS.iter().enumerate() {
         if !is_right(alloc, row)? {

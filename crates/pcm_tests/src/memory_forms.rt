@@ -93,7 +93,7 @@ const PUTS: [(&[u8], bool, &[u8]); 6] = [
     (b"e", false, b"abcd"),
 ];
 
-// The first put that comes to something else.
+// The first put with another outcome.
 fn first_wrong_put(sink: &mut MemSink) -> Option<usize> {
     for (at, row) in PUTS.iter().enumerate() {
         let (piece, succeeds, bytes) = *row;

@@ -77,7 +77,7 @@ const ROWS: [(Row, Option<&[i32]>); 8] = [
     ((0, 0, 65536, 65536, 0), None),
 ];
 
-// Whether a filter comes to what it is to come to.
+// Whether the outcome of a filter is the one expected.
 fn is_right(alloc: Global, row: &Row, expected: Option<&[i32]>) -> bool {
     match (outcome(alloc, row), expected) {
         (Ok(tables), Some(coefs)) => have(&tables, row, coefs),
@@ -86,7 +86,7 @@ fn is_right(alloc: Global, row: &Row, expected: Option<&[i32]>) -> bool {
     }
 }
 
-// The first filter that comes to something else.
+// The first filter with another outcome.
 fn first_wrong(alloc: Global) -> Option<usize> {
     ROWS.iter()
         .position(|(row, expected)| !is_right(alloc, row, *expected))

@@ -14,7 +14,7 @@ fn is_written<R: rt::Files>(alloc: Global, files: &mut RealFiles<R>, name: &str)
     is_none && files.append(b"abc").is_ok() && files.append(b"def").is_ok()
 }
 
-// Whether the bytes at the front of a file, at most so many, are these.
+// Whether the bytes at the front of a file, at most `most`, are these.
 fn reads<R: rt::Files>(
     alloc: Global,
     files: &mut RealFiles<R>,

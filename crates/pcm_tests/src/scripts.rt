@@ -82,7 +82,7 @@ const TEXTS: [Row; 53] = [
     (b"mixer mute 0 -1", Err((1, "number"))),
 ];
 
-// The first text that comes to something else.
+// The first text with another outcome.
 fn first_wrong(alloc: Global) -> Option<usize> {
     for (at, (text, expected)) in TEXTS.iter().enumerate() {
         if outcome(alloc, text) != *expected {
@@ -97,7 +97,7 @@ fn texts(rt: HostRuntime) {
     assert_eq!(rt; first_wrong(rt.alloc()), None);
 }
 
-// How a text begins, a part that follows so many times, how it ends, and what is to come of it.
+// How a text begins, a part and how often it follows, how the text ends, and the outcome.
 type LongRow = (&'static [u8], usize, &'static [u8], &'static [u8], Outcome);
 
 // The greatest number of events and the longest text are cases of corpus/.
@@ -131,7 +131,7 @@ fn text_of(alloc: Global, row: &LongRow) -> Result<Vec<u8>, AllocError> {
     Ok(text)
 }
 
-// The first long text that comes to something else.
+// The first long text with another outcome.
 fn first_wrong_limit(alloc: Global) -> Result<Option<usize>, AllocError> {
     for (at, row) in LIMITS.iter().enumerate() {
         let text = text_of(alloc, row)?;

@@ -8,7 +8,7 @@ use std::test::Fail;
 const MONO: &[u8] =
     b"RIFF\x26\0\0\0WAVEfmt \x10\0\0\0\x01\0\x01\0\x40\x1f\0\0\x40\x1f\0\0\x01\0\x08\0data\x02\0\0\0\x80\xff";
 
-// One frame of six channels of 24 bits at 48000 frames each second, as an extensible format, behind a text of three bytes.
+// One frame of six channels of 24 bits at 48000 frames each second, as an extensible format, after a text of three bytes.
 const SURROUND: &[u8] =
     b"RIFF\x58\0\0\0WAVELIST\x03\0\0\0abc\0fmt \x28\0\0\0\xfe\xff\x06\0\x80\xbb\0\0\0\x2f\x0d\0\x12\0\x18\0\x16\0\x18\0\x3f\0\0\0\x01\0\0\0\0\0\x10\0\x80\0\0\xaa\0\x38\x9b\x71data\x12\0\0\0abcdefghijklmnopqr";
 

@@ -6,7 +6,7 @@ use Rattle.pcm_chain.specs.Chains.{plan_in}
 use Rattle.pcm_chain.specs.Gives.{GivesExactly}
 use Rattle.feed_tests.proofs.gives.give_pieces.Given as goal
 
--- the chain has given just what the pieces so far came to
+-- the chain has given just what the pieces so far add up to
 abbrev pub invariant-loop-at : goal.invariant-loop-at
 invariant-loop-at g l = record {
   given : l.given ≤ 4;
